@@ -1,0 +1,23 @@
+// The script edition: document 01, "Numbers" and "The script of a part".
+ghost use mathlib.Core.Path.{_≡_};
+ghost use Rattle.words.specs.Edition.{partWords};
+
+// The full edition. Its numbers are associated constants.
+pub struct Edition;
+
+impl Edition {
+    // Lanes of 32 bits.
+    pub const LANES: usize = 256;
+    // Slots of level 0: 32 to a lane.
+    pub const SLOTS: usize = 8192;
+    // Levels above level 0: 2 to this power is the number of slots.
+    pub const LEVELS: u32 = 13;
+
+    // The length of a part's script in words, for any numbers of rounds and stages.
+    pub fn part_words(rounds: u32, stages: u32) -> u64
+        ensures { λ r. ⌜ r ≡ partWords 256 rounds stages ⌝ }
+    {
+        let n = Edition::LANES as u64;
+        n + 2 * n * rounds as u64 + 20 * n * stages as u64 + 40 * n
+    }
+}

@@ -1,0 +1,4 @@
+// Bits and halves of 32-bit words, the four units, the script edition, the refusals' numbers.
+pub mod edition;
+pub mod refusals;
+pub mod units;
