@@ -1,0 +1,48 @@
+-- The marked small set as one list with one claim: what the definitions give is what document 01 says.
+-- Assumes nothing.
+use mathlib.Core.Path.{_≡_, refl}
+use mathlib.Core.List.{List, [], _∷_, _++_}
+use Prim.Native.Nat.{ℕ, _^_}
+use Rattle.words.specs.Bit.{popIn}
+use Rattle.reads.specs.ReadSet.{total, pairsFrom, pairForm, brokenFrom}
+use Rattle.reads.specs.Search.{piecesIn, insertPiece, ordered, joined, firstRoom, tryFrom, firstWin, longest}
+use Rattle.reads.specs.Local.{maskIn, later, localAt, roundFrom, spotFrom, localOf}
+use Rattle.reads.specs.Outcome.{packed, readSet, fitted, outcome}
+use Rattle.marked.specs.Reads.{same, ask, positions, seen, readRounds}
+
+-- what the definitions give, and what document 01 says
+pub record Example : Type 0 where
+  pub got : List ℕ
+  pub said : List ℕ
+
+unfoldable pub marked : List Example
+marked =
+    -- M1 empty read set: 3
+    record { got = readRounds [] []; said = 0 ∷ 3 ∷ 0 ∷ [] }
+    -- M2 the listing's set: local positions 1, 0, 32, 64
+    ∷ record {
+      got = readRounds (0 ∷ 3 ∷ 1 ∷ 32 ∷ 2 ^ 31 ∷ 1 ∷ []) (ask 0 0 ∷ ask 0 1 ∷ ask 1 5 ∷ ask (2 ^ 31) 0 ∷ []);
+      said = 1 ∷ 1 ∷ 0 ∷ 32 ∷ 64 ∷ [];
+    }
+    -- M3 256 words of 17 bits: one each
+    ∷ record { got = readRounds (same 256 0 131071) (ask 0 16 ∷ ask 1 16 ∷ ask 255 16 ∷ []); said = 1 ∷ 0 ∷ 32 ∷ 8160 ∷ [] }
+    -- M4 257 of them: 4
+    ∷ record { got = readRounds (same 257 0 131071) []; said = 0 ∷ 4 ∷ 0 ∷ [] }
+    -- M5 words 0..255 of one bit, word 256 of 32 bits: word 256 in lane 0, word 255 in lane 1 round 1; rounds 2
+    ∷ record {
+      got = readRounds (same 256 0 1 ++ (256 ∷ 4294967295 ∷ [])) (ask 256 31 ∷ ask 256 0 ∷ ask 255 0 ∷ ask 0 0 ∷ []);
+      said = 2 ∷ 0 ∷ 31 ∷ 32 ∷ 33 ∷ [];
+    }
+    ∷ []
+
+unfoldable pub given : List Example → List (List ℕ)
+given [] = []
+given (e ∷ es) = e .got ∷ given es
+
+unfoldable pub told : List Example → List (List ℕ)
+told [] = []
+told (e ∷ es) = e .said ∷ told es
+
+pub marked-right : given marked ≡ told marked
+unfolding marked given told same positions seen popIn total pairsFrom pairForm brokenFrom piecesIn insertPiece ordered joined firstRoom tryFrom firstWin longest maskIn later localAt roundFrom spotFrom localOf packed readSet fitted outcome
+marked-right = refl

@@ -1,0 +1,7 @@
+pub mod ReadSet
+pub mod Asked
+pub mod Search
+pub mod Words
+pub mod Local
+pub mod Packing
+pub mod Outcome

@@ -1,0 +1,84 @@
+-- The search: document 01, "Read rounds", second paragraph, sentence by sentence. L is the number of lanes.
+-- Assumes nothing.
+use mathlib.Core.Bool.{true, false}
+use mathlib.Core.Option.{Option, none, some}
+use mathlib.Core.List.{List, [], _∷_, _++_}
+use Prim.Native.Nat.{ℕ, zero, suc, _+_, _/_, max}
+use lib.Dec.{leb, eqb}
+use lib.ListN.{length, getD, set, take, drop, replicate}
+use Rattle.reads.specs.ReadSet.{Pair, bits, total}
+
+-- "Cut the list into pieces of that size, the last maybe shorter": at most f pieces, of size k
+unfoldable pub piecesIn : ℕ → ℕ → List Pair → List (List Pair)
+piecesIn zero k ps = []
+piecesIn (suc f) k [] = []
+piecesIn (suc f) k (p ∷ ps) = take k (p ∷ ps) ∷ piecesIn f k (drop k (p ∷ ps))
+
+abbrev pub pieces : ℕ → List Pair → List (List Pair)
+pieces k ps = piecesIn (length ps) k ps
+
+-- "order pieces by total mask bits, most first, equal totals keeping their order": a piece that stood before all of the given ones takes its
+-- place before the first whose total is not above its own
+unfoldable pub insertPiece : List Pair → List (List Pair) → List (List Pair)
+insertPiece p [] = p ∷ []
+insertPiece p (q ∷ qs) = elim (leb (total q) (total p)) [ true ↦ p ∷ q ∷ qs | false ↦ q ∷ insertPiece p qs ]
+
+unfoldable pub ordered : List (List Pair) → List (List Pair)
+ordered [] = []
+ordered (p ∷ ps) = insertPiece p (ordered ps)
+
+-- lists one after the other
+unfoldable pub joined : List (List Pair) → List Pair
+joined [] = []
+joined (l ∷ ls) = l ++ joined ls
+
+-- a lane: its pairs, round by round
+abbrev pub Lane : Type 0
+Lane = List Pair
+
+-- "the next one round"
+abbrev pub next : ℕ → ℕ → ℕ
+next L j = elim (eqb (j + 1) L) [ true ↦ 0 | false ↦ j + 1 ]
+
+-- "the first lane, going round from the current one, whose bits plus the pair's are at most 32": f lanes from lane j are looked at. The bits
+-- of a lane are summed anew each time, as the Rust does.
+unfoldable pub firstRoom : ℕ → ℕ → List Lane → ℕ → ℕ → Option ℕ
+firstRoom L zero lanes b j = none
+firstRoom L (suc f) lanes b j = elim (leb (total (getD lanes j []) + b) 32) [ true ↦ some j | false ↦ firstRoom L f lanes b (next L j) ]
+
+-- a pair at the end of lane i
+abbrev pub push : List Lane → ℕ → Pair → List Lane
+push lanes i p = set lanes i (getD lanes i [] ++ p ∷ [])
+
+-- How a try ends: all is placed, or no lane had room for the next pair. The lanes are as they then stand.
+pub data Tried : Type 0 where
+  all : List Lane → Tried
+  stuck : List Lane → Tried
+
+-- "Each pair goes to [that lane]; the current lane becomes the next one round. If all lanes lack room the try ends at once."
+unfoldable pub tryFrom : ℕ → List Pair → List Lane → ℕ → Tried
+tryFrom L [] lanes j = all lanes
+tryFrom L (p ∷ ps) lanes j =
+    elim (firstRoom L L lanes (bits p) j) [
+      | none ↦ stuck lanes
+      | some i ↦ tryFrom L ps (push lanes i p) (next L i)
+    ]
+
+-- "Start at lane 0"
+abbrev pub try : ℕ → List Pair → ℕ → Tried
+try L ps k = tryFrom L (joined (ordered (pieces k ps))) (replicate L []) 0
+
+-- "Try piece sizes n, n/2, n/4 .. down to 1 (whole division)." "The first try that places all is the result." f sizes at most.
+unfoldable pub firstWin : ℕ → List Pair → ℕ → ℕ → Option (List Lane)
+firstWin L ps zero k = none
+firstWin L ps (suc f) zero = none
+firstWin L ps (suc f) (suc k) = elim (try L ps (suc k)) [ all lanes ↦ some lanes | stuck lanes ↦ firstWin L ps f (suc k / 2) ]
+
+-- fourteen sizes are enough for 8192 pairs
+abbrev pub lanesOf : ℕ → List Pair → Option (List Lane)
+lanesOf L ps = firstWin L ps 14 (length ps)
+
+-- "rounds is the longest lane"
+unfoldable pub longest : List Lane → ℕ
+longest [] = 0
+longest (l ∷ ls) = max (length l) (longest ls)

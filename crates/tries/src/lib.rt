@@ -1,0 +1,1 @@
+// The lanes: the search for room, and one try.
