@@ -1,0 +1,1 @@
+// The plan record: its words, and refusal 5.
