@@ -3,7 +3,7 @@
 use mathlib.Core.Path.{_≡_, refl, sym, ap, ap₂, _∙_, subst}
 use mathlib.Core.Bool.{Bool, true, false}
 use mathlib.Core.List.{List}
-use mathlib.Core.Logic.{_≢_, _⊎_, inl, inr, ⊎-elim}
+use mathlib.Core.Logic.{_⊎_, inl, inr, ⊎-elim}
 use Prim.Native.Nat.{ℕ, zero, suc, _+_, _-_, _*_, _/_, _%_, _^_, _≤_, _<_, min, max}
 use native.Mathlib.Nat.{mod-lt, mod-eq-of-lt, div-eq-of-lt, pow-suc, mul-comm, lt-of-lt-of-le, add-zero, not-suc-le-zero, le-of-suc-le-suc, eq-or-lt-of-le, max-zero, sub-zero}
 use native.Mathlib.Decide.{ℕ-discrete}
