@@ -6,7 +6,8 @@ use mathlib.Core.List.{List, [], _∷_}
 use Prim.Native.Nat.{ℕ, zero, suc, _+_, _*_, _-_, _/_, _^_}
 use lib.Dec.{leb, ltb, eqb}
 use lib.ListN.{getD, set, replicate}
-use Rattle.record.specs.Record.{blocksOf, majorsOf, layoutOf, countAt, partsBefore, stagesOf, sumTo}
+use Rattle.words.specs.Sum.{sumTo}
+use Rattle.record.specs.Record.{blocksOf, majorsOf, layoutOf, countAt, partsBefore, stagesOf}
 use Rattle.counts.specs.Counts.{srams, writeOuts}
 
 -- "the block of least total cost, lowest number on a tie": the best of the first n + 1 costs

@@ -5,7 +5,8 @@ use mathlib.Core.Option.{Option, none, some}
 use mathlib.Core.List.{List, [], _∷_, _++_, map}
 use Prim.Native.Nat.{ℕ, zero, suc, _+_, _*_, _-_, _/_, _^_}
 use lib.Dec.{leb, eqb}
-use Rattle.record.specs.Record.{partsOf, endpointsOf, endpointKind, endpointX, endpointY, locationsOf, locationAt, sumTo}
+use Rattle.words.specs.Sum.{sumTo}
+use Rattle.record.specs.Record.{partsOf, endpointsOf, endpointKind, endpointX, endpointY, locationsOf, locationAt}
 use Rattle.record.specs.Tests.{firstNot, lowest, Place}
 
 -- An activation is a pair (d, en), as one number d·2^32 + en; its pin is d / 2, its key 2·en + d % 2.

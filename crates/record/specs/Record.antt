@@ -19,6 +19,7 @@ use mathlib.Core.List.{List}
 use Prim.Native.Nat.{ℕ, zero, suc, _+_, _*_, _-_}
 use lib.Dec.{leb}
 use lib.ListN.{length, getD}
+use Rattle.words.specs.Sum.{sumTo}
 
 -- word i of a record, the lowest byte first; 0 where the record does not have the whole of it
 unfoldable pub wordAt : List ℕ → ℕ → ℕ
@@ -27,11 +28,6 @@ wordAt d i =
       | true ↦ getD d (4 * i) 0 + 256 * getD d (4 * i + 1) 0 + 65536 * getD d (4 * i + 2) 0 + 16777216 * getD d (4 * i + 3) 0
       | false ↦ 0
     ]
-
--- the sum of f over the numbers below n
-unfoldable pub sumTo : (ℕ → ℕ) → ℕ → ℕ
-sumTo f zero = 0
-sumTo f (suc n) = sumTo f n + f n
 
 -- ---- the head
 

@@ -8,13 +8,9 @@ use borrow.Author.Tests.{ne-eqb}
 use lib.Bits.{bitOr}
 use lib.Count.{ones, ones-step, ones-cat}
 use lib.Pow.{pow-pos, pow-lt, shr-le, shr-shr, split}
+use Rattle.words.specs.Sum.{sumTo}
 use Rattle.words.specs.Bit.{bit, popIn, pop, withBit}
 use Rattle.words.proofs.BitLaws.{bit-first, bit-suc, bit-lt, bit-or, bit-pow}
-
--- the sum of f over the numbers below n
-unfoldable pub sumTo : (ℕ → ℕ) → ℕ → ℕ
-sumTo f zero = 0
-sumTo f (suc n) = sumTo f n + f n
 
 -- ---- the machine's count
 
