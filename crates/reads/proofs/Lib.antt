@@ -1,2 +1,4 @@
 pub mod SearchLaws
 pub mod PackingLaws
+pub mod SetLaws
+pub mod RoundLaws

@@ -18,7 +18,7 @@ use Rattle.reads.proofs.SearchLaws.{next-lt, room-found, win-first}
 
 -- ---- how often a pair stands
 
-times-nil : (w m : ℕ) → times w m [] ≡ 0
+pub times-nil : (w m : ℕ) → times w m [] ≡ 0
 unfolding times
 times-nil w m = refl
 
@@ -46,7 +46,7 @@ pieces-joined (suc f) (suc k) (p ∷ ps) h l =
     ap (λ (r : List Pair). take (suc k) (p ∷ ps) ++ r) (pieces-joined f (suc k) (drop k ps) h (omega (arith, length-drop k ps)))
     ∙ take-append-drop (suc k) (p ∷ ps)
 
-times-joined : (w m : ℕ) (p : List Pair) (ps : List (List Pair)) → times w m (joined (p ∷ ps)) ≡ times w m p + times w m (joined ps)
+pub times-joined : (w m : ℕ) (p : List Pair) (ps : List (List Pair)) → times w m (joined (p ∷ ps)) ≡ times w m p + times w m (joined ps)
 unfolding joined
 times-joined w m p ps = times-append w m p (joined ps)
 
