@@ -2,3 +2,4 @@ pub mod SearchLaws
 pub mod PackingLaws
 pub mod SetLaws
 pub mod RoundLaws
+pub mod SectionWordLaws
