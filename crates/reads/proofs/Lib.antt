@@ -3,3 +3,4 @@ pub mod PackingLaws
 pub mod SetLaws
 pub mod RoundLaws
 pub mod SectionWordLaws
+pub mod LocalLaws
