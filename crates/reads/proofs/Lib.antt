@@ -4,3 +4,4 @@ pub mod SetLaws
 pub mod RoundLaws
 pub mod SectionWordLaws
 pub mod LocalLaws
+pub mod ReadTurnLaws

@@ -29,7 +29,7 @@ use Rattle.reads.proofs.SetLaws.{times-here, times-cases, mask-one}
 abbrev pub localIn : Lane → ℕ → ℕ → ℕ
 localIn l r k = total (later l r) + pop (maskIn l r / 2 ^ (k + 1))
 
-pop-zero : pop 0 ≡ 0
+pub pop-zero : pop 0 ≡ 0
 unfolding popIn
 pop-zero = refl
 
