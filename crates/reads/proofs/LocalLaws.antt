@@ -5,7 +5,7 @@ use mathlib.Core.Path.{_≡_, refl, sym, ap, ap₂, _∙_}
 use mathlib.Core.Bool.{Bool, true, false}
 use mathlib.Core.Option.{Option, none, some}
 use mathlib.Core.List.{List, [], _∷_}
-use mathlib.Core.Logic.{_⊎_, ⊎-elim}
+use mathlib.Core.Logic.{⊎-elim}
 use Prim.Native.Nat.{ℕ, zero, suc, _+_, _-_, _*_, _/_, _^_, _≤_, _<_}
 use native.Mathlib.Nat.{add-zero, zero-add, not-suc-le-zero, le-of-suc-le-suc, eq-or-lt-of-le}
 use native.Mathlib.Omega.{arith}
@@ -25,9 +25,13 @@ use Rattle.reads.proofs.SetLaws.{times-here, times-cases, mask-one}
 
 -- ---- positions in one lane
 
--- a local position less 32·lane
-abbrev pub localIn : Lane → ℕ → ℕ → ℕ
-localIn l r k = total (later l r) + pop (maskIn l r / 2 ^ (k + 1))
+-- a local position less 32·lane: what it is where the lane is the only one
+unfoldable pub localIn : Lane → ℕ → ℕ → ℕ
+localIn l r k = localAt (l ∷ []) 0 r k
+
+pub local-at : (lanes : List Lane) (i r k : ℕ) → localAt lanes i r k ≡ 32 * i + localIn (getD lanes i []) r k
+unfolding localIn localAt
+local-at lanes i r k = omega arith
 
 pub pop-zero : pop 0 ≡ 0
 unfolding popIn
@@ -48,13 +52,16 @@ later-more (p ∷ l) (suc r) (suc q) h = later-more l r q (le-of-suc-le-suc h)
 
 module _ (l : Lane) (r k : ℕ) (small : maskIn l r < 2 ^ 32) (set : bit (maskIn l r) k ≡ 1) where
   pub local-lt : localIn l r k < total l
+  unfolding localIn localAt
   local-lt = omega (arith, later-total l r, pop-fewer (maskIn l r) k small set)
 
   -- below every bit of an earlier round, and below the lower bits of its own
   pub local-later : (q j : ℕ) → q < r → localIn l r k < localIn l q j
+  unfolding localIn localAt
   local-later q j h = omega (arith, later-more l q r h, pop-fewer (maskIn l r) k small set)
 
   pub local-higher : (j : ℕ) → j < k → localIn l r k < localIn l r j
+  unfolding localIn localAt
   local-higher j h =
       let m = maskIn l r in
       let d = k - (j + 1) in
@@ -63,6 +70,10 @@ module _ (l : Lane) (r k : ℕ) (small : maskIn l r < 2 ^ 32) (set : bit (maskIn
       let there : bit (m / 2 ^ (j + 1)) d ≡ 1 = bit-shr m (j + 1) d ∙ ap (bit m) e ∙ set in
       let cut : pop (m / 2 ^ (j + 1) / 2 ^ (d + 1)) ≡ pop (m / 2 ^ (k + 1)) = ap pop (shr-shr m (j + 1) (d + 1) ∙ ap (λ (x : ℕ). m / 2 ^ x) f) in
       omega (arith, pop-fewer (m / 2 ^ (j + 1)) d (omega (arith, shr-le m (j + 1))) there)
+
+pub local-in : (l : Lane) (r k : ℕ) → localIn l r k ≡ total (later l r) + pop (maskIn l r / 2 ^ (k + 1))
+unfolding localIn localAt
+local-in l r k = zero-add _
 
 -- two requested bits of a lane at one position are one
 lane-own : (l : Lane) (r k q j : ℕ) → maskIn l r < 2 ^ 32 → bit (maskIn l r) k ≡ 1 → maskIn l q < 2 ^ 32 → bit (maskIn l q) j ≡ 1 → localIn l r k ≡ localIn l q j
@@ -192,10 +203,6 @@ pub record Spotted (L : ℕ) (lanes : List Lane) (w m : ℕ) : Type 0 where
 pub local-some : (L : ℕ) (lanes : List Lane) (w m k : ℕ) (s : Spotted L lanes w m) → localOf lanes w k ≡ some (localAt lanes (s .spot .lane) (s .spot .round) k)
 unfolding localOf
 local-some L lanes w m k s = rw (s .found, localOf)
-
-pub local-at : (lanes : List Lane) (i r k : ℕ) → localAt lanes i r k ≡ 32 * i + localIn (getD lanes i []) r k
-unfolding localAt
-local-at lanes i r k = refl
 
 -- bit k of word w is requested
 pub record Requested (ps : List Pair) (w k : ℕ) : Type 0 where

@@ -7,7 +7,7 @@ use mathlib.Core.Option.{none, some}
 use mathlib.Core.List.{List, [], _∷_}
 use Prim.Native.Nat.{ℕ, zero, suc, _+_, _-_, _*_, _/_, _%_, _^_, _≤_, _<_}
 use native.Mathlib.Nat.{add-zero, zero-add, add-suc, suc-add, not-suc-le-zero, le-of-suc-le-suc, mul-le-mul-right}
-use native.Mathlib.Numerals.{one-add, add-one}
+use native.Mathlib.Numerals.{one-add}
 use native.Mathlib.Omega.{arith}
 use borrow.Author.Tests.{eqb-true, eqb-false, eq-eqb, ne-eqb}
 use lib.Arith.{digits-lt}
@@ -21,12 +21,12 @@ use Rattle.words.proofs.PopLaws.{sumTo, popIn-ones, pop-ones}
 use Rattle.reads.specs.ReadSet.{Pair, total, broken}
 use Rattle.reads.specs.Search.{Lane, longest}
 use Rattle.reads.specs.Words.{readSection}
-use Rattle.reads.specs.Local.{wordIn, maskIn, later, localOf}
+use Rattle.reads.specs.Local.{maskIn, later, localOf}
 use Rattle.reads.specs.Packing.{times, Packing}
 use Rattle.reads.specs.ReadTurn.{appendBit, appended, laneWord}
 use Rattle.reads.proofs.RoundLaws.{longest-ge}
 use Rattle.reads.proofs.SectionWordLaws.{section-word, section-mask}
-use Rattle.reads.proofs.LocalLaws.{localIn, pop-zero, Requested, Located, located}
+use Rattle.reads.proofs.LocalLaws.{localIn, local-in, pop-zero, Requested, Located, located}
 
 -- ---- one round
 
@@ -170,7 +170,7 @@ module _ (W M : ℕ → ℕ) (R : ℕ) (l : Lane) (masks : (r : ℕ) → r < R �
       let here : M r ≡ maskIn l r = masks r (omega arith) in
       let after : total (later l r) ≡ sumTo (λ (q : ℕ). pop (M (suc r + q))) n =
       sym (sum-total (later l r) n (omega (arith, later-length l r))) ∙ sum-ext _ _ n (λ x g. ap pop (later-mask l r x ∙ sym (masks (suc r + x) (omega arith)))) in
-      ap (λ (x : ℕ). bit (laneWord W M x) (localIn l r k)) (sym all)
+      ap₂ (λ (x y : ℕ). bit (laneWord W M x) y) (sym all) (local-in l r k)
       ∙ rw (after, ← here) (lane-bit W M r n k (rw here small) (rw here set))
 
 -- ---- all lanes of a packing
