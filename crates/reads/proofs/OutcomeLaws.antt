@@ -70,7 +70,8 @@ pub record Sound (L : ℕ) (ps : List Pair) (lanes : List Lane) : Type 0 where
   pub rounds : (0 < longest lanes) × (longest lanes ≤ 32)
   pub positions : OwnPositions L ps lanes
 
-pub placed-sound : (L : ℕ) (ws : List ℕ) (lanes : List Lane) → 0 < L → ((x : ℕ) → getD ws x 0 < 2 ^ 32) → readSet L (pairsOf ws) ≡ placed lanes → Sound L (pairsOf ws) lanes
+pub placed-sound : (L : ℕ) (ws : List ℕ) (lanes : List Lane)
+    → 0 < L → ((x : ℕ) → getD ws x 0 < 2 ^ 32) → readSet L (pairsOf ws) ≡ placed lanes → Sound L (pairsOf ws) lanes
 placed-sound L ws lanes h fits e =
     let p = placed-passed L (pairsOf ws) lanes e in
     let packs = lanes-packing L (pairsOf ws) lanes (p .found) h in

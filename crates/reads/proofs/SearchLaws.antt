@@ -9,8 +9,8 @@ use Prim.Native.Nat.{ℕ, zero, suc, _+_, _-_, _/_, _^_, _≤_, _<_}
 use native.Mathlib.Nat.{zero-lt-suc, not-suc-le-zero, lt-of-le-of-lt, lt-of-lt-of-le, div-one, zero-div}
 use native.Mathlib.Numerals.{one-add, sub-one}
 use native.Mathlib.Omega.{arith}
-use borrow.Author.Tests.{leb-true, leb-false, eqb-false, eq-eqb, ne-eqb, le-leb, lt-leb}
-use lib.Dec.{leb, eqb, lit<}
+use borrow.Author.Tests.{leb-true, eqb-false, eq-eqb, ne-eqb, le-leb, lt-leb}
+use lib.Dec.{eqb, lit<}
 use lib.ListN.{length, getD}
 use lib.Pow.{pow-mono, shr-shr}
 use Rattle.reads.specs.ReadSet.{Pair, total}
@@ -87,7 +87,8 @@ module _ (L : ℕ) (ps : List Pair) where
   win-fuel (suc f) zero (suc k) h l = absurd (omega arith)
   win-fuel (suc f) (suc g) (suc k) h l = go (try L ps (suc k)) refl (win-fuel f g (suc k / 2) (omega arith) (omega arith))
     where
-      go : (t : Tried) → try L ps (suc k) ≡ t → firstWin L ps f (suc k / 2) ≡ firstWin L ps g (suc k / 2) → firstWin L ps (suc f) (suc k) ≡ firstWin L ps (suc g) (suc k)
+      go : (t : Tried) → try L ps (suc k) ≡ t → firstWin L ps f (suc k / 2) ≡ firstWin L ps g (suc k / 2)
+          → firstWin L ps (suc f) (suc k) ≡ firstWin L ps (suc g) (suc k)
       go (all lanes) t r = win-all f (suc k) lanes (zero-lt-suc k) t ∙ sym (win-all g (suc k) lanes (zero-lt-suc k) t)
       go (stuck lanes) t r = win-stuck f (suc k) lanes (zero-lt-suc k) t ∙ r ∙ sym (win-stuck g (suc k) lanes (zero-lt-suc k) t)
 
