@@ -13,10 +13,9 @@ fn word_of(a: u8, b: u8, c: u8, e: u8) -> u32
 
 // Word i of a record; 0 where the record does not have the whole of it.
 pub fn word_at(d: &[u8], i: usize) -> u32
-    requires { ⌜ i < 2 ^ 60 ⌝ }
     ensures { λ r. ⌜ r ≡ wordAt (now (d .entry)) i ⌝ }
 {
-    if 4 * i + 4 <= d.len() {
+    if i < d.len() / 4 {
         word_of(d[4 * i], d[4 * i + 1], d[4 * i + 2], d[4 * i + 3])
     } else {
         0
@@ -77,7 +76,7 @@ pub fn room_words(d: &[u8]) -> usize
 
 // How many locations a body at word b has, with n stages and e endpoints.
 pub fn locations_in(d: &[u8], b: usize, n: usize, e: usize) -> usize
-    requires { ⌜ (b < 2 ^ 59) × (n ≤ 255) × (e ≤ 8192) ⌝ }
+    requires { ⌜ (b < 2 ^ 62) × (n ≤ 255) × (e ≤ 8192) ⌝ }
     ensures { λ r. ⌜ (r ≡ locationsIn (now (d .entry)) b n e) × (r < 2 ^ 41) ⌝ }
 {
     let mut sum = 0;
@@ -89,7 +88,7 @@ pub fn locations_in(d: &[u8], b: usize, n: usize, e: usize) -> usize
 
 // How long that body is.
 pub fn body_words(d: &[u8], b: usize, n: usize, e: usize) -> usize
-    requires { ⌜ (b < 2 ^ 59) × (n ≤ 255) × (e ≤ 8192) ⌝ }
+    requires { ⌜ (b < 2 ^ 62) × (n ≤ 255) × (e ≤ 8192) ⌝ }
     ensures { λ r. ⌜ (r ≡ bodyWords (now (d .entry)) b n e) × (r < 2 ^ 42) ⌝ }
 {
     3 * e + n + 16383 * n + locations_in(d, b, n, e) + 17664
