@@ -1,1 +1,2 @@
-// The plan record: its words, and refusal 5.
+// The plan record: its words, where they stand, and refusal 5. Document 01, "Plan ranges".
+pub mod places;
