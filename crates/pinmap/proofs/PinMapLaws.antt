@@ -1,0 +1,2 @@
+-- Laws of the map. Assumes nothing.
+use Prim.Native.Nat.{ℕ}
