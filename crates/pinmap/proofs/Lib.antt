@@ -1,1 +1,2 @@
 pub mod PinMapLaws
+pub mod ProbeLoop

@@ -27,7 +27,7 @@ abbrev pub valueAt : List ℕ → ℕ → ℕ
 valueAt t i = getD t (2 * i + 1) 0
 
 -- where probing for pin p begins among c slots, and the next slot round
-unfoldable pub home : ℕ → ℕ → ℕ
+abbrev pub home : ℕ → ℕ → ℕ
 home c p = p * 2654435769 % 2 ^ 32 % c
 
 unfoldable pub next : ℕ → ℕ → ℕ

@@ -1,8 +1,8 @@
 // Pins to numbers in lent words, by open addressing with linear probing. Zeros are the empty map.
 ghost use mathlib.Core.Path.{_≡_};
-ghost use Prim.Native.Nat.{_-_, _<_, _^_};
-ghost use lib.ListN.{length, replicate};
-ghost use Rattle.pinmap.specs.PinMap.{capacity, home, next, slotOf, putAnswer, putIn, putThere, look, foundOf};
+ghost use Prim.Native.Nat.{_+_, _*_, _-_, _<_, _^_};
+ghost use lib.ListN.{length, set, replicate};
+ghost use Rattle.pinmap.specs.PinMap.{capacity, keyAt, valueAt, home, next, slotOf, putAnswer, putIn, putThere, look, foundOf};
 use words::units::Pin;
 
 // Where probing for a pin ends.
@@ -41,6 +41,37 @@ pub fn next_slot(slots: usize, i: usize) -> usize
     if i + 1 == slots { 0 } else { i + 1 }
 }
 
+// The key of slot i, and its value.
+pub fn key_of(t: &[u32], i: usize) -> u32
+    requires { ⌜ i < capacity (now t) ⌝ }
+    ensures { λ r. ⌜ r ≡ keyAt (now (t .entry)) i ⌝ }
+{
+    t[2 * i]
+}
+
+pub fn value_of(t: &[u32], i: usize) -> u32
+    requires { ⌜ i < capacity (now t) ⌝ }
+    ensures { λ r. ⌜ r ≡ valueAt (now (t .entry)) i ⌝ }
+{
+    t[2 * i + 1]
+}
+
+// Gives slot i to a pin.
+pub fn take_slot(t: &mut [u32], i: usize, p: Pin)
+    requires { ⌜ (i < capacity (now t)) × (p .0 < 2 ^ 32 - 1) ⌝ }
+    ensures { λ _. ⌜ now (t .exit) ≡ set (now (t .entry)) (2 * i) (p .0 + 1) ⌝ }
+{
+    t[2 * i] = p.0 + 1;
+}
+
+// Stores slot i's value.
+pub fn store_value(t: &mut [u32], i: usize, v: u32)
+    requires { ⌜ i < capacity (now t) ⌝ }
+    ensures { λ _. ⌜ now (t .exit) ≡ set (now (t .entry)) (2 * i + 1) v ⌝ }
+{
+    t[2 * i + 1] = v;
+}
+
 // The first slot, going round from the pin's home, that is free or has the pin.
 pub fn probe(t: &[u32], p: Pin) -> Slot
     requires { ⌜ p .0 < 2 ^ 32 - 1 ⌝ }
@@ -54,10 +85,11 @@ pub fn probe(t: &[u32], p: Pin) -> Slot
     let mut i = home_slot(slots, p);
     let mut left = slots;
     while 0 < left {
-        if t[2 * i] == 0 {
+        let found = key_of(t, i);
+        if found == 0 {
             return Slot::Free(i);
         }
-        if t[2 * i] == key {
+        if found == key {
             return Slot::Taken(i);
         }
         i = next_slot(slots, i);
@@ -85,12 +117,12 @@ pub fn put(t: &mut [u32], p: Pin, v: u32) -> PutAnswer
 {
     match probe(t, p) {
         Slot::Free(i) => {
-            t[2 * i] = p.0 + 1;
-            t[2 * i + 1] = v;
+            take_slot(t, i, p);
+            store_value(t, i, v);
             PutAnswer::Stored
         }
         Slot::Taken(i) => {
-            t[2 * i + 1] = v;
+            store_value(t, i, v);
             PutAnswer::Stored
         }
         Slot::Nowhere => PutAnswer::Full,
@@ -103,7 +135,7 @@ pub fn look_up(t: &[u32], p: Pin) -> Found
     ensures { λ r. ⌜ r ≡ foundOf (look (now (t .entry)) (p .0)) ⌝ }
 {
     match probe(t, p) {
-        Slot::Taken(i) => Found::Value(t[2 * i + 1]),
+        Slot::Taken(i) => Found::Value(value_of(t, i)),
         Slot::Free(_) => Found::Missing,
         Slot::Nowhere => Found::Missing,
     }
@@ -115,6 +147,6 @@ pub fn put_where_there(t: &mut [u32], p: Pin, v: u32)
     ensures { λ _. ⌜ now (t .exit) ≡ putThere (now (t .entry)) (p .0) v ⌝ }
 {
     if let Slot::Taken(i) = probe(t, p) {
-        t[2 * i + 1] = v;
+        store_value(t, i, v);
     }
 }
