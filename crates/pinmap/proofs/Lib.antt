@@ -1,2 +1,2 @@
 pub mod PinMapLaws
-pub mod ProbeLoop
+pub mod CodeLaws

@@ -135,8 +135,8 @@ pub fn look_up(t: &[u32], p: Pin) -> Found
     ensures { λ r. ⌜ r ≡ foundOf (look (now (t .entry)) (p .0)) ⌝ }
 {
     match probe(t, p) {
-        Slot::Taken(i) => Found::Value(value_of(t, i)),
         Slot::Free(_) => Found::Missing,
+        Slot::Taken(i) => Found::Value(value_of(t, i)),
         Slot::Nowhere => Found::Missing,
     }
 }
@@ -146,7 +146,9 @@ pub fn put_where_there(t: &mut [u32], p: Pin, v: u32)
     requires { ⌜ p .0 < 2 ^ 32 - 1 ⌝ }
     ensures { λ _. ⌜ now (t .exit) ≡ putThere (now (t .entry)) (p .0) v ⌝ }
 {
-    if let Slot::Taken(i) = probe(t, p) {
-        store_value(t, i, v);
+    match probe(t, p) {
+        Slot::Free(_) => {}
+        Slot::Taken(i) => store_value(t, i, v),
+        Slot::Nowhere => {}
     }
 }
