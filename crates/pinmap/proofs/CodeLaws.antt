@@ -12,7 +12,7 @@ use Rattle.pinmap.specs.declared.PutAnswer.the-variants.{Stored, Full}
 use Rattle.pinmap.specs.declared.Found.{Found}
 use Rattle.pinmap.specs.declared.Found.the-variants.{Value, Missing}
 use Rattle.pinmap.specs.PinMap.{capacity, keyAt, valueAt, home, next, probeFrom, slotOf, lookAt, look, foundOf, putAt, putIn, answerAt, putAnswer, putThereAt, putThere}
-use Rattle.pinmap.proofs.PinMapLaws.{probe-none, probe-free, probe-taken, probe-on, slot-start, slot-free, slot-taken}
+use Rattle.pinmap.proofs.ProbeLaws.{probe-none, probe-free, probe-taken, probe-on, slot-start, slot-free, slot-taken}
 
 -- the loop of `probe`: what is left of the probe ends where the whole one does, for the pin of the key
 abbrev pub Probing : List ℕ → ℕ → ℕ → ℕ → Type 0

@@ -1,2 +1,3 @@
+pub mod ProbeLaws
 pub mod PinMapLaws
 pub mod CodeLaws

@@ -1,5 +1,5 @@
 use mathlib.Core.Path.{sym}
-use Rattle.pinmap.proofs.PinMapLaws.{next-wrap, next-step}
+use Rattle.pinmap.proofs.ProbeLaws.{next-wrap, next-step}
 use borrow.Author.Needs.{needs}
 use Rattle.pinmap.proofs.next_slot.Statement.{statement}
 use Rattle.pinmap.proofs.next_slot.Tie as tie

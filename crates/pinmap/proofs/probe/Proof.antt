@@ -3,7 +3,7 @@ use Prim.Native.Nat.{ℕ, _+_, _-_, _≤_, _<_}
 use native.Mathlib.Omega.{arith}
 use lib.ListN.{length, getD}
 use Rattle.pinmap.specs.PinMap.{capacity}
-use Rattle.pinmap.proofs.PinMapLaws.{home-lt, next-lt, slot-none}
+use Rattle.pinmap.proofs.ProbeLaws.{home-lt, next-lt, slot-none}
 use Rattle.pinmap.proofs.CodeLaws.{Probing, probing-start, probing-free, probing-taken, probing-on, probing-over}
 use borrow.Author.Needs.{needs}
 use Rattle.pinmap.proofs.probe.Statement.{statement}
