@@ -167,11 +167,11 @@ module _ (t u : List ℕ) (size : capacity u ≡ capacity t) (kept : (j : ℕ) �
   take-free p e (free z) = here e
   take-free p {i = i} {k = k} e (on {f = f} n m r) = on {f = f} {s = Taken k} (λ z. n (sym (kept i n) ∙ z)) (λ z. m (sym (kept i n) ∙ z)) (rw size (take-free p e r))
 
-  slot-kept : (q k : ℕ) → slotOf t q ≡ Taken k → slotOf u q ≡ Taken k
+  pub slot-kept : (q k : ℕ) → slotOf t q ≡ Taken k → slotOf u q ≡ Taken k
   unfolding slotOf
   slot-kept q k e = rw size (probed-is (keep-taken q (slot-probed t q (Taken k) e)))
 
-  slot-given : (p k : ℕ) → keyAt u k ≡ p + 1 → slotOf t p ≡ Free k → slotOf u p ≡ Taken k
+  pub slot-given : (p k : ℕ) → keyAt u k ≡ p + 1 → slotOf t p ≡ Free k → slotOf u p ≡ Taken k
   unfolding slotOf
   slot-given p k g e = rw size (probed-is (take-free p g (slot-probed t p (Free k) e)))
 

@@ -102,7 +102,10 @@ pub record Entry : Type 0 where
   pub pin : ℕ
   pub value : ℕ
 
--- what stands for pin q after one entry more, and the last value put for it, o where none is
+abbrev pub entry : ℕ → ℕ → Entry
+entry p v = record { pin = p; value = v }
+
+-- what stands for pin q after one entry, and after many, where o stood before: the last one's value
 abbrev pub replaced : Entry → ℕ → Option ℕ → Option ℕ
 replaced e q o = elim (eqb q (e .pin)) [ true ↦ some (e .value) | false ↦ o ]
 
@@ -113,7 +116,28 @@ lastFrom o (e ∷ es) q = lastFrom (replaced e q o) es q
 abbrev pub lastPut : List Entry → ℕ → Option ℕ
 lastPut es q = lastFrom none es q
 
--- the words after them
+-- the same where entries only renew what is there
+unfoldable pub renewed : Option ℕ → List Entry → ℕ → Option ℕ
+renewed none es q = none
+renewed (some w) es q = lastFrom (some w) es q
+
+-- the words after many puts, and after many puts where the pin is there
 unfoldable pub afterPuts : List ℕ → List Entry → List ℕ
 afterPuts t [] = t
 afterPuts t (e ∷ es) = afterPuts (putIn t (e .pin) (e .value)) es
+
+unfoldable pub afterRenewals : List ℕ → List Entry → List ℕ
+afterRenewals t [] = t
+afterRenewals t (e ∷ es) = afterRenewals (putThere t (e .pin) (e .value)) es
+
+-- a table that finds just what was put
+pub record Holds (t : List ℕ) (puts : List Entry) : Type 0 where
+  pub good : Good t
+  pub finds : (q : ℕ) → look t q ≡ lastPut puts q
+  pub few : used t ≤ length puts
+
+-- the same where renewals came after the puts
+pub record Renewed (t : List ℕ) (puts renewals : List Entry) : Type 0 where
+  pub good : Good t
+  pub finds : (q : ℕ) → look t q ≡ renewed (lastPut puts q) renewals q
+  pub few : used t ≤ length puts
