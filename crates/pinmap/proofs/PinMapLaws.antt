@@ -1,5 +1,5 @@
--- Laws of the map. What a put does to a table is one record (`Changed`), whether the slot was free or taken: THE MAP LAW (`put-look`,
--- `put-good`) follows from it. Then how many slots are taken, and many puts one after the other (`Holds`, `Renewed`).
+-- Laws of the map. What a put does to a table is one record (`Changed`), whether the slot was free or taken: THE MAP LAW (`map-law`)
+-- follows from it. Then how many slots are taken, and when a put is refused.
 -- Assumes nothing.
 use mathlib.Core.Path.{_≡_, refl, sym, ap, _∙_}
 use mathlib.Core.Bool.{Bool, true, false}
@@ -85,7 +85,7 @@ nowhere-taken : (s : Slot) (k : ℕ) → s ≡ Nowhere → s ≡ Taken k → ⊥
 nowhere-taken s k a b = let z : _≡_ {A = ℕ} 0 1 = cc in omega arith
 
 -- what is not taken is not found
-look-none : (t : List ℕ) (q : ℕ) → ((k : ℕ) → slotOf t q ≡ Taken k → ⊥) → look t q ≡ none
+pub look-none : (t : List ℕ) (q : ℕ) → ((k : ℕ) → slotOf t q ≡ Taken k → ⊥) → look t q ≡ none
 unfolding lookAt
 look-none t q n = go (slotOf t q) refl
   where
@@ -191,8 +191,11 @@ there-length t p v = go (slotOf t p)
 
 -- ---- a put where the pin is there
 
-replaced-other : (p v q : ℕ) (o : Option ℕ) → (q ≡ p → ⊥) → replaced (entry p v) q o ≡ o
-replaced-other p v q o n = rw (ne-eqb q p n, replaced)
+pub replaced-same : (e : Entry) (q : ℕ) (o : Option ℕ) → q ≡ e .pin → replaced e q o ≡ some (e .value)
+replaced-same e q o h = rw (eq-eqb q (e .pin) h, replaced)
+
+pub replaced-other : (e : Entry) (q : ℕ) (o : Option ℕ) → (q ≡ e .pin → ⊥) → replaced e q o ≡ o
+replaced-other e q o n = rw (ne-eqb q (e .pin) n, replaced)
 
 -- one renewal is a replacement, unless nothing was there
 renew-some : (p v q w : ℕ) → renewed (some w) (entry p v ∷ []) q ≡ replaced (entry p v) q (some w)
@@ -202,7 +205,7 @@ renew-some p v q w = refl
 renew-other : (p v q : ℕ) (o : Option ℕ) → (q ≡ p → ⊥) → renewed o (entry p v ∷ []) q ≡ o
 unfolding renewed lastFrom
 renew-other p v q none n = refl
-renew-other p v q (some w) n = renew-some p v q w ∙ replaced-other p v q (some w) n
+renew-other p v q (some w) n = renew-some p v q w ∙ replaced-other (entry p v) q (some w) n
 
 -- nothing is renewed where the pin is not there
 renew-none : (t : List ℕ) (p v q : ℕ) → look t p ≡ none → look t q ≡ renewed (look t q) (entry p v ∷ []) q
@@ -218,7 +221,7 @@ renew-there t p v q w h = go (eqb q p) refl
   where
     go : (x : Bool) → eqb q p ≡ x → replaced (entry p v) q (look t q) ≡ renewed (look t q) (entry p v ∷ []) q
     go true e = rw (eqb-true q p e, h, renew-some)
-    go false e = replaced-other p v q (look t q) (eqb-false q p e) ∙ sym (renew-other p v q (look t q) (eqb-false q p e))
+    go false e = replaced-other (entry p v) q (look t q) (eqb-false q p e) ∙ sym (renew-other p v q (look t q) (eqb-false q p e))
 
 -- After a put where the pin is there, the pins that are found are those of before, and just this one's value is new.
 pub there-law : (t : List ℕ) (p v : ℕ) → Good t → Good (putThere t p v) × ((q : ℕ) → look (putThere t p v) q ≡ renewed (look t q) (entry p v ∷ []) q)
@@ -238,7 +241,7 @@ there-law t p v good = go (slotOf t p) refl
 -- ---- how many slots are taken
 
 module _ (t : List ℕ) (n : ℕ) where
-  used-free-step : keyAt t n ≡ 0 → usedTo t (suc n) ≡ usedTo t n
+  pub used-free-step : keyAt t n ≡ 0 → usedTo t (suc n) ≡ usedTo t n
   unfolding usedTo
   used-free-step e = rw (eq-eqb (keyAt t n) 0 e, usedTo)
 
