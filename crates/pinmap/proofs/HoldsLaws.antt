@@ -10,14 +10,10 @@ use native.Mathlib.Omega.{arith}
 use lib.Dec.{eqb}
 use lib.ListN.{length, getD, replicate, length-append, length-replicate}
 use lib.Seq.{append-snoc}
-use borrow.Author.Tests.{eqb-true, eqb-false, eq-eqb, ne-eqb}
-use Rattle.pinmap.specs.declared.Slot.{Slot}
-use Rattle.pinmap.specs.declared.Slot.the-variants.{Free, Taken, Nowhere}
-use Rattle.pinmap.specs.declared.PutAnswer.{PutAnswer}
-use Rattle.pinmap.specs.declared.PutAnswer.the-variants.{Stored, Full}
-use Rattle.pinmap.specs.PinMap.{capacity, keyAt, slotOf, look, putIn, putAnswer, putThere, usedTo, used, Good, Entry, entry, replaced, lastFrom, lastPut, renewed, afterPuts, afterRenewals, Holds, Renewed}
+use Rattle.pinmap.specs.declared.PutAnswer.the-variants.{Stored}
+use Rattle.pinmap.specs.PinMap.{capacity, look, putIn, putAnswer, putThere, usedTo, used, Good, Entry, entry, replaced, lastFrom, lastPut, renewed, afterPuts, afterRenewals, Holds, Renewed}
 use Rattle.pinmap.proofs.ProbeLaws.{slot-taken}
-use Rattle.pinmap.proofs.PinMapLaws.{look-none, map-law, replaced-same, replaced-other, there-law, put-length, there-length, used-new, used-there, used-renewed, used-free-step, room-stored}
+use Rattle.pinmap.proofs.PinMapLaws.{look-none, map-law, replaced-same, replaced-other, there-law, put-length, used-new, used-there, used-renewed, used-free-step, room-stored}
 
 -- ---- the empty map
 
@@ -109,6 +105,10 @@ holds-put t puts p v h a =
       few = rw length-append (omega (arith, used-most t p v a, h .few));
     }
 
+-- the same for a loop that counts its puts
+pub holds-more : (t : List ℕ) (puts : List Entry) (p v : ℕ) → Holds t puts → length puts < capacity t → Holds (putIn t p v) (puts ++ (entry p v ∷ []))
+holds-more t puts p v h l = holds-put t puts p v h (holds-room t puts p h l)
+
 pub holds-puts : (t : List ℕ) (puts es : List Entry) → Holds t puts → length puts + length es ≤ capacity t → Holds (afterPuts t es) (puts ++ es)
 unfolding afterPuts
 holds-puts t puts [] h l = rw append-nil h
@@ -120,7 +120,7 @@ holds-puts t puts (e ∷ es) h l =
 
 -- What is found after puts into zeros is the last value put; a pin never put is not found.
 pub puts-look : (n : ℕ) (puts : List Entry) (q : ℕ) → length puts ≤ n / 2 → look (afterPuts (replicate n 0) puts) q ≡ lastPut puts q
-puts-look n puts q l = holds-puts (replicate n 0) [] puts (holds-none n) (rw length-replicate l) .finds q
+puts-look n puts q l = holds-puts (replicate n 0) [] puts (holds-none n) (rw length-replicate (omega arith)) .finds q
 
 -- ---- renewals of the pins that are there
 

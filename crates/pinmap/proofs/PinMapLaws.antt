@@ -4,20 +4,18 @@
 use mathlib.Core.Path.{_≡_, refl, sym, ap, _∙_}
 use mathlib.Core.Bool.{Bool, true, false}
 use mathlib.Core.Option.{Option, none, some}
-use mathlib.Core.List.{List, [], _∷_, _++_}
-use Prim.Native.Nat.{ℕ, zero, suc, _+_, _*_, _-_, _/_, _≤_, _<_}
-use native.Mathlib.Nat.{zero-lt-suc, not-suc-le-zero}
-use native.Mathlib.Numerals.{add-one}
+use mathlib.Core.List.{List, [], _∷_}
+use Prim.Native.Nat.{ℕ, zero, suc, _+_, _*_, _<_}
+use native.Mathlib.Nat.{not-suc-le-zero}
 use native.Mathlib.Omega.{arith}
-use lib.Dec.{eqb, leb}
-use lib.ListN.{length, getD, set, replicate, length-set, length-replicate}
+use lib.Dec.{eqb}
+use lib.ListN.{length, set, length-set}
 use lib.Seq.{getD-set-same, getD-set-other}
 use borrow.Author.Tests.{eqb-true, eqb-false, eq-eqb, ne-eqb}
 use Rattle.pinmap.specs.declared.Slot.{Slot}
 use Rattle.pinmap.specs.declared.Slot.the-variants.{Free, Taken, Nowhere}
-use Rattle.pinmap.specs.declared.PutAnswer.{PutAnswer}
 use Rattle.pinmap.specs.declared.PutAnswer.the-variants.{Stored, Full}
-use Rattle.pinmap.specs.PinMap.{capacity, keyAt, valueAt, slotOf, lookAt, look, putAt, putIn, answerAt, putAnswer, putThereAt, putThere, usedTo, used, Good, Entry, entry, replaced, lastFrom, lastPut, renewed, afterPuts, afterRenewals, Holds, Renewed}
+use Rattle.pinmap.specs.PinMap.{capacity, keyAt, valueAt, slotOf, lookAt, look, putAt, putIn, answerAt, putAnswer, putThereAt, putThere, usedTo, used, Good, Entry, entry, replaced, lastFrom, renewed}
 use Rattle.pinmap.proofs.ProbeLaws.{slot-free, slot-taken, slot-nowhere, slot-kept, slot-given}
 
 -- ---- a table whose slot i has pin p and value v now, where the slot was free or p's
@@ -120,12 +118,15 @@ module _ (t u : List ℕ) (p i v : ℕ) (good : Good t) (c : Changed t u p i v) 
           let key : keyAt t k ≡ q + 1 = slot-taken t q k e .1 in
           let stays : keyAt u k ≡ keyAt t k = c .kept k (λ (z : keyAt t k ≡ 0). omega (arith, key, z)) in
           rw (e, slot-kept t u (c .size) (c .kept) q k e, c .values k (apart q k n (stays ∙ key)))
+
       back : (k : ℕ) → slotOf u q ≡ Taken k → slotOf t q ≡ Taken k
       back k e =
           let at : (k < capacity u) × (keyAt u k ≡ q + 1) = slot-taken u q k e in
           good k q (rw (c .size) at (at .0)) (sym (c .keys k (apart q k n (at .1))) ∙ at .1)
+
       absent : ((k : ℕ) → slotOf t q ≡ Taken k → ⊥) → look u q ≡ look t q
       absent m = look-none u q (λ k e. m k (back k e)) ∙ sym (look-none t q m)
+
       go : (s : Slot) → slotOf t q ≡ s → look u q ≡ look t q
       go (Free j) e = absent (λ k f. free-taken (slotOf t q) j k e f)
       go (Taken k) e = there k e

@@ -1,21 +1,18 @@
 -- Probing. A probe is seen as a relation (`Probed`), so that each law goes by its steps: where it ends, what it passed, and what a
 -- change of the table leaves of it.
 -- Assumes nothing.
-use mathlib.Core.Path.{_≡_, refl, sym, ap, subst, _∙_}
+use mathlib.Core.Path.{_≡_, refl, sym, subst, _∙_}
 use mathlib.Core.Bool.{Bool, true, false}
-use mathlib.Core.Option.{Option, none, some}
-use mathlib.Core.List.{List, [], _∷_, _++_}
-use Prim.Native.Nat.{ℕ, zero, suc, _+_, _*_, _-_, _/_, _%_, _^_, _≤_, _<_}
+use mathlib.Core.List.{List}
+use Prim.Native.Nat.{ℕ, zero, suc, _+_, _-_, _≤_, _<_}
 use native.Mathlib.Nat.{mod-lt, zero-lt-suc, not-suc-le-zero}
-use native.Mathlib.Numerals.{add-one, sub-one}
+use native.Mathlib.Numerals.{sub-one}
 use native.Mathlib.Omega.{arith}
 use lib.Dec.{eqb, leb}
-use lib.ListN.{length, getD, set, replicate, length-set, length-replicate, getD-replicate}
-use lib.Seq.{getD-set-same, getD-set-other}
 use borrow.Author.Tests.{leb-true, leb-false, eqb-true, eqb-false, eq-eqb, ne-eqb}
 use Rattle.pinmap.specs.declared.Slot.{Slot}
 use Rattle.pinmap.specs.declared.Slot.the-variants.{Free, Taken, Nowhere}
-use Rattle.pinmap.specs.PinMap.{capacity, keyAt, valueAt, home, next, probeFrom, slotOf, lookAt, look, putAt, putIn, answerAt, putAnswer, putThereAt, putThere, usedTo, used, Good, Entry, replaced, lastFrom, lastPut, afterPuts}
+use Rattle.pinmap.specs.PinMap.{capacity, keyAt, home, next, probeFrom, slotOf}
 
 -- ---- slots
 
@@ -174,7 +171,6 @@ module _ (t u : List ℕ) (size : capacity u ≡ capacity t) (kept : (j : ℕ) �
   pub slot-given : (p k : ℕ) → keyAt u k ≡ p + 1 → slotOf t p ≡ Free k → slotOf u p ≡ Taken k
   unfolding slotOf
   slot-given p k g e = rw size (probed-is (take-free p g (slot-probed t p (Free k) e)))
-
 
 -- ---- the pin is nowhere exactly where every slot is taken by other pins
 

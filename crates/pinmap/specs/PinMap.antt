@@ -4,7 +4,7 @@
 use mathlib.Core.Path.{_≡_}
 use mathlib.Core.Bool.{true, false}
 use mathlib.Core.Option.{Option, none, some}
-use mathlib.Core.List.{List, [], _∷_, _++_}
+use mathlib.Core.List.{List, [], _∷_}
 use Prim.Native.Nat.{ℕ, zero, suc, _+_, _*_, _/_, _%_, _^_, _≤_, _<_}
 use lib.Dec.{eqb}
 use lib.ListN.{length, getD, set}
@@ -38,8 +38,8 @@ unfoldable pub probeFrom : List ℕ → ℕ → ℕ → ℕ → Slot
 probeFrom t p zero i = Nowhere
 probeFrom t p (suc f) i =
     elim (eqb (keyAt t i) 0) [
-      true ↦ Free i
-    | false ↦ elim (eqb (keyAt t i) (p + 1)) [ true ↦ Taken i | false ↦ probeFrom t p f (next (capacity t) i) ]
+      | true ↦ Free i
+      | false ↦ elim (eqb (keyAt t i) (p + 1)) [ true ↦ Taken i | false ↦ probeFrom t p f (next (capacity t) i) ]
     ]
 
 unfoldable pub slotOf : List ℕ → ℕ → Slot
