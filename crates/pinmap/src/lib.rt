@@ -15,18 +15,20 @@ pub enum Slot {
     Nowhere,
 }
 
+// Full: every slot is taken by other pins.
 pub enum PutAnswer {
     Stored,
     Full,
 }
 
+// What is found for a pin.
 pub enum Found {
     Value(u32),
     Missing,
 }
 
 // The slot that probing for a pin begins at.
-pub fn home_slot(slots: usize, p: Pin) -> usize
+fn home_slot(slots: usize, p: Pin) -> usize
     requires { ⌜ 0 < slots ⌝ }
     ensures { λ r. ⌜ r ≡ home slots (p .0) ⌝ }
 {
@@ -34,7 +36,7 @@ pub fn home_slot(slots: usize, p: Pin) -> usize
 }
 
 // The next slot round.
-pub fn next_slot(slots: usize, i: usize) -> usize
+fn next_slot(slots: usize, i: usize) -> usize
     requires { ⌜ i < slots ⌝ }
     ensures { λ r. ⌜ r ≡ next slots i ⌝ }
 {
@@ -42,14 +44,14 @@ pub fn next_slot(slots: usize, i: usize) -> usize
 }
 
 // The key of slot i, and its value.
-pub fn key_of(t: &[u32], i: usize) -> u32
+fn key_of(t: &[u32], i: usize) -> u32
     requires { ⌜ i < capacity (now t) ⌝ }
     ensures { λ r. ⌜ r ≡ keyAt (now (t .entry)) i ⌝ }
 {
     t[2 * i]
 }
 
-pub fn value_of(t: &[u32], i: usize) -> u32
+fn value_of(t: &[u32], i: usize) -> u32
     requires { ⌜ i < capacity (now t) ⌝ }
     ensures { λ r. ⌜ r ≡ valueAt (now (t .entry)) i ⌝ }
 {
@@ -57,7 +59,7 @@ pub fn value_of(t: &[u32], i: usize) -> u32
 }
 
 // Gives slot i to a pin.
-pub fn take_slot(t: &mut [u32], i: usize, p: Pin)
+fn take_slot(t: &mut [u32], i: usize, p: Pin)
     requires { ⌜ (i < capacity (now t)) × (p .0 < 2 ^ 32 - 1) ⌝ }
     ensures { λ _. ⌜ now (t .exit) ≡ set (now (t .entry)) (2 * i) (p .0 + 1) ⌝ }
 {
@@ -65,7 +67,7 @@ pub fn take_slot(t: &mut [u32], i: usize, p: Pin)
 }
 
 // Stores slot i's value.
-pub fn store_value(t: &mut [u32], i: usize, v: u32)
+fn store_value(t: &mut [u32], i: usize, v: u32)
     requires { ⌜ i < capacity (now t) ⌝ }
     ensures { λ _. ⌜ now (t .exit) ≡ set (now (t .entry)) (2 * i + 1) v ⌝ }
 {
@@ -73,7 +75,7 @@ pub fn store_value(t: &mut [u32], i: usize, v: u32)
 }
 
 // The first slot, going round from the pin's home, that is free or has the pin.
-pub fn probe(t: &[u32], p: Pin) -> Slot
+fn probe(t: &[u32], p: Pin) -> Slot
     requires { ⌜ p .0 < 2 ^ 32 - 1 ⌝ }
     ensures { λ r. ⌜ r ≡ slotOf (now (t .entry)) (p .0) ⌝ }
 {

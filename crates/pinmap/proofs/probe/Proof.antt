@@ -39,14 +39,14 @@ returns-2 c =
     let k = c .before in
     let l = k .before .before in
     let s = l .before .before .before .before .before .args in
-    probing-free (s .t .now) (l .loop .left) (l .loop .i) (k .key-of .result) (k .before .loop-test .taken) (k .key-of .ensures) (s .p .0) (c .if2 .taken) (l .loop .inv .2)
+    probing-free (s .t .now) (l .loop .left) (l .loop .i) (k .key-of .result) (omega arith) (k .key-of .ensures) (s .p .0) (c .if2 .taken) (l .loop .inv .2)
 
 returns-3 : tie.Need-returns-3 Inv-loop μ-loop
 returns-3 c =
     let k = c .before .before in
     let l = k .before .before in
     let s = l .before .before .before .before .before .args in
-    probing-taken (s .t .now) (l .loop .left) (l .loop .i) (k .key-of .result) (k .before .loop-test .taken) (k .key-of .ensures) (s .p .0) (c .if3 .taken) (l .loop .inv .2)
+    probing-taken (s .t .now) (l .loop .left) (l .loop .i) (k .key-of .result) (omega arith) (k .key-of .ensures) (s .p .0) (c .if3 .taken) (l .loop .inv .2)
 
 next-slot-requires : tie.Need-next-slot-requires Inv-loop μ-loop
 next-slot-requires c κs = search needs
@@ -62,7 +62,7 @@ loop-again c =
     let k = c .before .before .before in
     let l = k .before .before in
     let s = l .before .before .before .before .before .args in
-    let g = probing-on (s .t .now) (l .loop .left) (l .loop .i) (k .key-of .result) (k .before .loop-test .taken) (k .key-of .ensures) _ (c .before .before .if2 .left) (c .before .if3 .left) (l .loop .inv .2) in
+    let g = probing-on (s .t .now) (l .loop .left) (l .loop .i) (k .key-of .result) (omega arith) (k .key-of .ensures) _ (c .before .before .if2 .left) (c .before .if3 .left) (l .loop .inv .2) in
     rw (c .next-slot .ensures) (next-lt _ _ (l .loop .inv .0), omega arith, g)
 
 returns-4 : tie.Need-returns-4 Inv-loop μ-loop
