@@ -53,7 +53,8 @@ module _ (t : List ℕ) (p : ℕ) (s : Slot) (told : s ≡ slotOf t p) where
   look-nowhere e = rw (← told, e)
 
   module _ (v : ℕ) (u : List ℕ) where
-    pub put-free : (i : ℕ) (m : List ℕ) → s ≡ Free i → m ≡ set t (2 * i) (p + 1) → u ≡ set m (2 * i + 1) v → (Stored ≡ putAnswer t p) × (u ≡ putIn t p v)
+    pub put-free : (i : ℕ) (m : List ℕ) → s ≡ Free i → m ≡ set t (2 * i) (p + 1) → u ≡ set m (2 * i + 1) v
+        → (Stored ≡ putAnswer t p) × (u ≡ putIn t p v)
     unfolding putAt answerAt
     put-free i m e a b = rw (← told, e) (refl, b ∙ rw a)
 

@@ -15,7 +15,7 @@ use borrow.Author.Tests.{eqb-true, eqb-false, eq-eqb, ne-eqb}
 use Rattle.pinmap.specs.declared.Slot.{Slot}
 use Rattle.pinmap.specs.declared.Slot.the-variants.{Free, Taken, Nowhere}
 use Rattle.pinmap.specs.declared.PutAnswer.the-variants.{Stored, Full}
-use Rattle.pinmap.specs.PinMap.{capacity, keyAt, valueAt, slotOf, lookAt, look, putAt, putIn, answerAt, putAnswer, putThereAt, putThere, usedTo, used, Good, Entry, entry, replaced, lastFrom, renewed}
+use Rattle.pinmap.specs.PinMap.{capacity, keyAt, valueAt, slotOf, lookAt, look, putAt, putIn, answerAt, putAnswer, putThereAt, putThere, usedTo, used, HasOther, Good, Entry, entry, replaced, lastFrom, renewed}
 use Rattle.pinmap.proofs.ProbeLaws.{slot-free, slot-taken, slot-nowhere, slot-kept, slot-given}
 
 -- ---- a table whose slot i has pin p and value v now, where the slot was free or p's
@@ -267,7 +267,8 @@ used-same t u zero e = refl
 used-same t u (suc n) e =
     omega (arith, used-step t u n 0 (e n (omega arith)) (omega (arith, used-same t u n (λ j h. e j (omega arith)))))
 
-used-more : (t u : List ℕ) (i n : ℕ) → i < n → keyAt t i ≡ 0 → (keyAt u i ≡ 0 → ⊥) → ((j : ℕ) → (j ≡ i → ⊥) → keyAt u j ≡ keyAt t j) → usedTo u n ≡ 1 + usedTo t n
+used-more : (t u : List ℕ) (i n : ℕ) → i < n → keyAt t i ≡ 0 → (keyAt u i ≡ 0 → ⊥) → ((j : ℕ) → (j ≡ i → ⊥) → keyAt u j ≡ keyAt t j)
+    → usedTo u n ≡ 1 + usedTo t n
 used-more t u i zero h z k e = absurd (not-suc-le-zero h)
 used-more t u i (suc n) h z k e = go (eqb i n) refl (λ (l : i < n). used-more t u i n l z k e)
   where
@@ -326,16 +327,16 @@ used-renewed t p v = go (slotOf t p)
 
 -- ---- a put is refused exactly where every slot is taken by other pins
 
-pub full-taken : (t : List ℕ) (p : ℕ) → putAnswer t p ≡ Full → (i : ℕ) → i < capacity t → (keyAt t i ≡ 0 → ⊥) × (keyAt t i ≡ p + 1 → ⊥)
+pub full-taken : (t : List ℕ) (p : ℕ) → putAnswer t p ≡ Full → (i : ℕ) → i < capacity t → HasOther t p i
 unfolding answerAt
 full-taken t p h = go (slotOf t p) refl h
   where
-    go : (s : Slot) → slotOf t p ≡ s → answerAt s ≡ Full → (i : ℕ) → i < capacity t → (keyAt t i ≡ 0 → ⊥) × (keyAt t i ≡ p + 1 → ⊥)
+    go : (s : Slot) → slotOf t p ≡ s → answerAt s ≡ Full → (i : ℕ) → i < capacity t → HasOther t p i
     go (Free i) e a = let z : _≡_ {A = ℕ} 0 1 = cc in absurd (omega arith)
     go (Taken i) e a = let z : _≡_ {A = ℕ} 0 1 = cc in absurd (omega arith)
     go Nowhere e a = slot-nowhere t p e
 
-pub taken-full : (t : List ℕ) (p : ℕ) → ((i : ℕ) → i < capacity t → (keyAt t i ≡ 0 → ⊥) × (keyAt t i ≡ p + 1 → ⊥)) → putAnswer t p ≡ Full
+pub taken-full : (t : List ℕ) (p : ℕ) → ((i : ℕ) → i < capacity t → HasOther t p i) → putAnswer t p ≡ Full
 unfolding answerAt
 taken-full t p h = go (slotOf t p) refl
   where

@@ -12,7 +12,7 @@ use lib.Dec.{eqb, leb}
 use borrow.Author.Tests.{leb-true, leb-false, eqb-true, eqb-false, eq-eqb, ne-eqb}
 use Rattle.pinmap.specs.declared.Slot.{Slot}
 use Rattle.pinmap.specs.declared.Slot.the-variants.{Free, Taken, Nowhere}
-use Rattle.pinmap.specs.PinMap.{capacity, keyAt, home, next, probeFrom, slotOf}
+use Rattle.pinmap.specs.PinMap.{capacity, keyAt, home, next, probeFrom, slotOf, HasOther}
 
 -- ---- slots
 
@@ -52,7 +52,8 @@ probe-taken t p (suc f) i h e =
     let n : keyAt t i ≡ 0 → ⊥ = λ z. omega arith in
     rw (ne-eqb (keyAt t i) 0 n, eq-eqb (keyAt t i) (p + 1) e, probeFrom)
 
-pub probe-on : (t : List ℕ) (p f i : ℕ) → 0 < f → (keyAt t i ≡ 0 → ⊥) → (keyAt t i ≡ p + 1 → ⊥) → probeFrom t p f i ≡ probeFrom t p (f - 1) (next (capacity t) i)
+pub probe-on : (t : List ℕ) (p f i : ℕ) → 0 < f → (keyAt t i ≡ 0 → ⊥) → (keyAt t i ≡ p + 1 → ⊥)
+    → probeFrom t p f i ≡ probeFrom t p (f - 1) (next (capacity t) i)
 unfolding probeFrom
 probe-on t p zero i h n m = absurd (not-suc-le-zero h)
 probe-on t p (suc f) i h n m = rw (ne-eqb (keyAt t i) 0 n, ne-eqb (keyAt t i) (p + 1) m, probeFrom, sub-one)
@@ -65,7 +66,8 @@ data Probed (t : List ℕ) (p : ℕ) : ℕ → ℕ → Slot → Type 0 where
   here : {f i : ℕ} → keyAt t i ≡ p + 1 → Probed t p (suc f) i (Taken i)
   on : {f i : ℕ} {s : Slot} → (keyAt t i ≡ 0 → ⊥) → (keyAt t i ≡ p + 1 → ⊥) → Probed t p f (next (capacity t) i) s → Probed t p (suc f) i s
 
-probed-step : (t : List ℕ) (p f i : ℕ) → Probed t p f (next (capacity t) i) (probeFrom t p f (next (capacity t) i)) → Probed t p (suc f) i (probeFrom t p (suc f) i)
+probed-step : (t : List ℕ) (p f i : ℕ) → Probed t p f (next (capacity t) i) (probeFrom t p f (next (capacity t) i))
+    → Probed t p (suc f) i (probeFrom t p (suc f) i)
 unfolding probeFrom
 probed-step t p f i r = go (eqb (keyAt t i) 0) refl (eqb (keyAt t i) (p + 1)) refl
   where
@@ -117,12 +119,12 @@ module _ (t : List ℕ) (p : ℕ) where
   taken-in (on n m r) h = taken-in r (next-lt _ _ h)
 
   -- where it ends nowhere, each slot that it could reach is taken by another pin
-  passed : (k : ℕ) {f i : ℕ} → Probed t p f i Nowhere → i < capacity t → k < capacity t → Reach (capacity t) i k f → (keyAt t k ≡ 0 → ⊥) × (keyAt t k ≡ p + 1 → ⊥)
+  passed : (k : ℕ) {f i : ℕ} → Probed t p f i Nowhere → i < capacity t → k < capacity t → Reach (capacity t) i k f → HasOther t p k
   passed k {i = i} over hi hk r = absurd (reach-none (capacity t) i k hi r)
-  passed k {i = i} (on {f = f} n m s) hi hk r = go (eqb k i) refl (λ (g : Reach (capacity t) (next (capacity t) i) k f). passed k s (next-lt _ _ hi) hk g)
+  passed k {i = i} (on {f = f} n m s) hi hk r =
+      go (eqb k i) refl (λ (g : Reach (capacity t) (next (capacity t) i) k f). passed k s (next-lt _ _ hi) hk g)
     where
-      go : (x : Bool) → eqb k i ≡ x → (Reach (capacity t) (next (capacity t) i) k f → (keyAt t k ≡ 0 → ⊥) × (keyAt t k ≡ p + 1 → ⊥))
-          → (keyAt t k ≡ 0 → ⊥) × (keyAt t k ≡ p + 1 → ⊥)
+      go : (x : Bool) → eqb k i ≡ x → (Reach (capacity t) (next (capacity t) i) k f → HasOther t p k) → HasOther t p k
       go true e ih = rw (eqb-true k i e) (n, m)
       go false e ih = ih (reach-on (capacity t) i k f hi hk (eqb-false k i e) r)
 
@@ -158,11 +160,13 @@ slot-taken t p i e = taken-in t p (slot-probed t p (Taken i) e) (home-in t p (λ
 module _ (t u : List ℕ) (size : capacity u ≡ capacity t) (kept : (j : ℕ) → (keyAt t j ≡ 0 → ⊥) → keyAt u j ≡ keyAt t j) where
   keep-taken : (q : ℕ) {f i k : ℕ} → Probed t q f i (Taken k) → Probed u q f i (Taken k)
   keep-taken q {i = i} (here e) = here (kept i (λ (z : keyAt t i ≡ 0). omega (arith, e, z)) ∙ e)
-  keep-taken q {i = i} {k = k} (on {f = f} n m r) = on {f = f} {s = Taken k} (λ z. n (sym (kept i n) ∙ z)) (λ z. m (sym (kept i n) ∙ z)) (rw size (keep-taken q r))
+  keep-taken q {i = i} {k = k} (on {f = f} n m r) =
+      on {f = f} {s = Taken k} (λ z. n (sym (kept i n) ∙ z)) (λ z. m (sym (kept i n) ∙ z)) (rw size (keep-taken q r))
 
   take-free : (p : ℕ) {f i k : ℕ} → keyAt u k ≡ p + 1 → Probed t p f i (Free k) → Probed u p f i (Taken k)
   take-free p e (free z) = here e
-  take-free p {i = i} {k = k} e (on {f = f} n m r) = on {f = f} {s = Taken k} (λ z. n (sym (kept i n) ∙ z)) (λ z. m (sym (kept i n) ∙ z)) (rw size (take-free p e r))
+  take-free p {i = i} {k = k} e (on {f = f} n m r) =
+      on {f = f} {s = Taken k} (λ z. n (sym (kept i n) ∙ z)) (λ z. m (sym (kept i n) ∙ z)) (rw size (take-free p e r))
 
   pub slot-kept : (q k : ℕ) → slotOf t q ≡ Taken k → slotOf u q ≡ Taken k
   unfolding slotOf
@@ -172,8 +176,8 @@ module _ (t u : List ℕ) (size : capacity u ≡ capacity t) (kept : (j : ℕ) �
   unfolding slotOf
   slot-given p k g e = rw size (probed-is (take-free p g (slot-probed t p (Free k) e)))
 
--- ---- the pin is nowhere exactly where every slot is taken by other pins
+-- ---- a pin is nowhere only where every slot is taken by another
 
-pub slot-nowhere : (t : List ℕ) (p : ℕ) → slotOf t p ≡ Nowhere → (k : ℕ) → k < capacity t → (keyAt t k ≡ 0 → ⊥) × (keyAt t k ≡ p + 1 → ⊥)
+pub slot-nowhere : (t : List ℕ) (p : ℕ) → slotOf t p ≡ Nowhere → (k : ℕ) → k < capacity t → HasOther t p k
 slot-nowhere t p e k h =
     passed t p k (slot-probed t p Nowhere e) (home-lt (capacity t) p (omega arith)) h (λ g. omega arith, λ g. omega arith)

@@ -92,6 +92,10 @@ usedTo t (suc n) = elim (eqb (keyAt t n) 0) [ true ↦ usedTo t n | false ↦ su
 abbrev pub used : List ℕ → ℕ
 used t = usedTo t (capacity t)
 
+-- slot i is taken by another pin than p
+abbrev pub HasOther : List ℕ → ℕ → ℕ → Type 0
+HasOther t p i = (keyAt t i ≡ 0 → ⊥) × (keyAt t i ≡ p + 1 → ⊥)
+
 -- what every put keeps: probing for a pin that has a slot finds that slot
 unfoldable pub Good : List ℕ → Type 0
 Good t = (i q : ℕ) → i < capacity t → keyAt t i ≡ q + 1 → slotOf t q ≡ Taken i

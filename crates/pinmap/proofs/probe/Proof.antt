@@ -62,7 +62,8 @@ loop-again c =
     let k = c .before .before .before in
     let l = k .before .before in
     let s = l .before .before .before .before .before .args in
-    let g = probing-on (s .t .now) (l .loop .left) (l .loop .i) (k .key-of .result) (omega arith) (k .key-of .ensures) _ (c .before .before .if2 .left) (c .before .if3 .left) (l .loop .inv .2) in
+    let g = probing-on (s .t .now) (l .loop .left) (l .loop .i) (k .key-of .result) (omega arith) (k .key-of .ensures) _
+    (c .before .before .if2 .left) (c .before .if3 .left) (l .loop .inv .2) in
     rw (c .next-slot .ensures) (next-lt _ _ (l .loop .inv .0), omega arith, g)
 
 returns-4 : tie.Need-returns-4 Inv-loop μ-loop
