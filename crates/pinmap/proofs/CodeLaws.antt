@@ -32,13 +32,21 @@ module _ (t : List ℕ) (left i found : ℕ) (some-left : 0 < left) (read : foun
 pub probing-over : (t : List ℕ) (p left i : ℕ) → left ≡ 0 → Probing t (p + 1) left i → Nowhere ≡ slotOf t p
 probing-over t p left i z g = sym (probe-none t p i) ∙ (rw z at (g p refl))
 
+-- where a probe ends is a slot
+abbrev pub Within : Slot → ℕ → Type 0
+Within (Free i) c = i < c
+Within (Taken i) c = i < c
+Within Nowhere c = Unit
+
 -- the functions that go by what `probe` told, s
 module _ (t : List ℕ) (p : ℕ) (s : Slot) (told : s ≡ slotOf t p) where
-  pub free-lt : (i : ℕ) → s ≡ Free i → i < capacity t
-  free-lt i e = slot-free t p i (sym told ∙ e) .0
-
-  pub taken-lt : (i : ℕ) → s ≡ Taken i → i < capacity t
-  taken-lt i e = slot-taken t p i (sym told ∙ e) .0
+  pub within : Within s (capacity t)
+  within = go s told
+    where
+      go : (r : Slot) → r ≡ slotOf t p → Within r (capacity t)
+      go (Free i) e = slot-free t p i (sym e) .0
+      go (Taken i) e = slot-taken t p i (sym e) .0
+      go Nowhere e = tt
 
   pub look-free : (i : ℕ) → s ≡ Free i → Missing ≡ foundOf (look t p)
   unfolding lookAt

@@ -1,7 +1,7 @@
 -- `pinmap::look_up` meets its contract: one law of CodeLaws for each end of the probe.
 -- Assumes nothing.
 use borrow.Author.Needs.{needs}
-use Rattle.pinmap.proofs.CodeLaws.{taken-lt, look-free, look-taken, look-nowhere}
+use Rattle.pinmap.proofs.CodeLaws.{within, look-free, look-taken, look-nowhere}
 use Rattle.pinmap.proofs.look_up.Statement.{statement}
 use Rattle.pinmap.proofs.look_up.Tie as tie
 
@@ -19,7 +19,7 @@ value-of-requires c κs =
     let i = c .before in
     let a = i .before .before in
     let s = a .before .before .args in
-    taken-lt (s .t .now) (s .p .0) (a .probe .result) (a .probe .ensures) _ (i .i .given .1)
+    rw (i .i .given .1) at (within (s .t .now) (s .p .0) (a .probe .result) (a .probe .ensures))
 
 enum-told-2 : tie.Need-enum-told-2
 enum-told-2 c = search needs

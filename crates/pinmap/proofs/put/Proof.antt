@@ -2,7 +2,7 @@
 -- Assumes nothing.
 use lib.ListN.{length-set}
 use borrow.Author.Needs.{needs}
-use Rattle.pinmap.proofs.CodeLaws.{free-lt, taken-lt, put-free, put-taken, put-nowhere}
+use Rattle.pinmap.proofs.CodeLaws.{within, put-free, put-taken, put-nowhere}
 use Rattle.pinmap.proofs.put.Statement.{statement}
 use Rattle.pinmap.proofs.put.Tie as tie
 
@@ -17,7 +17,7 @@ take-slot-requires c κs =
     let i = c .before .before in
     let a = i .before .before in
     let s = a .before .before .before in
-    (free-lt (s .args .t .now) (s .args .p .0) (a .probe .result) (a .probe .ensures) _ (i .i .given .1), s .pre)
+    (rw (i .i .given .1) at (within (s .args .t .now) (s .args .p .0) (a .probe .result) (a .probe .ensures)), s .pre)
 
 store-value-requires : tie.Need-store-value-requires
 store-value-requires c κs =
@@ -25,7 +25,7 @@ store-value-requires c κs =
     let i = m .before .before .before in
     let a = i .before .before in
     let s = a .before .before .before .args in
-    let h = free-lt (s .t .now) (s .p .0) (a .probe .result) (a .probe .ensures) _ (i .i .given .1) in
+    let h = rw (i .i .given .1) at (within (s .t .now) (s .p .0) (a .probe .result) (a .probe .ensures)) in
     rw (m .take-slot .ensures) (simp length-set h)
 
 enum-known-i-2 : tie.Need-enum-known-i-2
@@ -36,7 +36,7 @@ store-value-requires-2 c κs =
     let i = c .before .before in
     let a = i .before .before in
     let s = a .before .before .before .args in
-    taken-lt (s .t .now) (s .p .0) (a .probe .result) (a .probe .ensures) _ (i .i2 .given .1)
+    rw (i .i2 .given .1) at (within (s .t .now) (s .p .0) (a .probe .result) (a .probe .ensures))
 
 enum-told : tie.Need-enum-told
 enum-told c = search needs

@@ -1,7 +1,7 @@
 -- `pinmap::put_where_there` meets its contract: one law of CodeLaws for each end of the probe.
 -- Assumes nothing.
 use borrow.Author.Needs.{needs}
-use Rattle.pinmap.proofs.CodeLaws.{taken-lt, there-free, there-taken, there-nowhere}
+use Rattle.pinmap.proofs.CodeLaws.{within, there-free, there-taken, there-nowhere}
 use Rattle.pinmap.proofs.put_where_there.Statement.{statement}
 use Rattle.pinmap.proofs.put_where_there.Tie as tie
 
@@ -19,7 +19,7 @@ store-value-requires c κs =
     let i = c .before .before in
     let a = i .before .before in
     let s = a .before .before .before .args in
-    taken-lt (s .t .now) (s .p .0) (a .probe .result) (a .probe .ensures) _ (i .i .given .1)
+    rw (i .i .given .1) at (within (s .t .now) (s .p .0) (a .probe .result) (a .probe .ensures))
 
 enum-told-2 : tie.Need-enum-told-2
 enum-told-2 c = search needs
