@@ -1,3 +1,8 @@
+-- `lane_load`: the part that is lent is the lane's row.
+-- Assumes nothing.
+use mathlib.Core.Path.{_≡_}
+use Prim.Native.Nat.{_+_, _*_, _-_}
+use native.Mathlib.Omega.{arith}
 use borrow.Author.Needs.{needs}
 use Rattle.tries.proofs.lane_load.Statement.{statement}
 use Rattle.tries.proofs.lane_load.Tie as tie
@@ -31,11 +36,15 @@ part-row-load-end c = search needs
 
 -- src/lib.rt:57:5
 row-load-requires : tie.Need-row-load-requires
-row-load-requires c κs = search needs
+row-load-requires c κs =
+    let n : 32 * c .before .before .before .args .j + 32 - 32 * c .before .before .before .args .j ≡ 32 = omega arith in
+    rw n (c .before .before .before .pre .row)
 
 -- src/lib.rt:51:1
 returns : tie.Need-returns
-returns c = search needs
+returns c =
+    let n : 32 * c .before .before .before .before .args .j + 32 - 32 * c .before .before .before .before .args .j ≡ 32 = omega arith in
+    rw n at (c .row-load .ensures)
 
 pub lane-load-spec : {M : Type 1} → statement M
 lane-load-spec =

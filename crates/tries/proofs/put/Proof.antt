@@ -1,3 +1,6 @@
+-- `put`: the store is behind the pairs that the lane's sum counted.
+-- Assumes nothing.
+use mathlib.Core.Path.{refl}
 use borrow.Author.Needs.{needs}
 use Rattle.tries.proofs.put.Statement.{statement}
 use Rattle.tries.proofs.put.Tie as tie
@@ -39,7 +42,7 @@ same-length c = search needs
 
 -- src/lib.rt:79:1
 returns : tie.Need-returns
-returns c = search needs
+returns c = rw (c .before .lane-load .ensures .1) refl
 
 pub put-spec : {M : Type 1} → statement M
 put-spec =
