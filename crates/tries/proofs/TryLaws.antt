@@ -134,3 +134,71 @@ module _ {ws : List ℕ} {L : ℕ} {rest : List ℕ} {goal : Tried} where
             let q : LaneAt (next L i) ≡ Full = sym (rw e at (placed .0)) ∙ f in
             let z : _≡_ {A = ℕ} 0 1 = cc in
             absurd (omega arith)
+
+-- ---- the two loops
+
+-- Pairs p to e of a piece, and the pieces after it, are still to be placed, as they were from p₀ on: whatever the try was to end in, it is to
+-- end in now.
+abbrev pub Piece : (ws : List ℕ) (L p₀ e : ℕ) (room₀ : List ℕ) (cur₀ p : ℕ) (room : List ℕ) (cur : ℕ) → Type 0
+Piece ws L p₀ e room₀ cur₀ p room cur =
+    (rest : List ℕ) (goal : Tried) (tail : List Pair)
+    → Held ws L rest goal (slice p₀ e (pairsOf ws) ++ tail) room₀ cur₀ → Held ws L rest goal (slice p e (pairsOf ws) ++ tail) room cur
+
+module _ {ws room₀ : List ℕ} {L k : ℕ} (ready : Ready ws room₀ L k) where
+  pub held-start : (keys : List ℕ) → Held ws L (drop (32 * L) room₀) (triedOf L k ws keys) (runOf k (pairsOf ws) keys) room₀ 0
+  held-start keys =
+      let t : room₀ ≡ tableOf (replicate L []) ++ drop (32 * L) room₀ =
+          sym (take-append-drop (32 * L) room₀) ∙ ap (λ (x : List ℕ). x ++ drop (32 * L) room₀) (ready .empty ∙ sym (table-empty L)) in
+      let q = kept-empty ws L in
+      record {
+        filled = filled-of q _ t;
+        rest-is = refl;
+        lane = ready .some-lanes;
+        ends = ap (λ (x : List Lane). tryFrom L (runOf k (pairsOf ws) keys) x 0) (filled-lanes q _ t);
+      }
+
+  module _ {rest : List ℕ} {goal : Tried} where
+    -- what `place` asks
+    pub held-placeable : {run : List Pair} {room : List ℕ} {cur : ℕ} → Held ws L rest goal run room cur → (p : ℕ) → p < length ws / 2 → Placeable ws room L cur p
+    held-placeable h p l = record {
+      lane = h .lane;
+      few = ready .few;
+      pairs = ready .pairs;
+      pair = l;
+      some-bits = ready .masks p l;
+      filled = h .filled;
+    }
+
+    -- a key is read, and its piece comes next
+    pub run-step : (keys : List ℕ) (t : ℕ) {room : List ℕ} {cur : ℕ} → t < length keys → Held ws L rest goal (runOf k (pairsOf ws) (drop t keys)) room cur
+        → (i e : ℕ) → i ≡ getD keys t 0 % 8192 → e ≡ min (i * k + k) (length ws / 2)
+        → Held ws L rest goal (slice (i * k) e (pairsOf ws) ++ runOf k (pairsOf ws) (drop (t + 1) keys)) room cur
+    unfolding runOf
+    run-step keys t h H i e ei ee =
+        let d : drop t keys ≡ getD keys t 0 ∷ drop (t + 1) keys = drop-cons keys t 0 h ∙ rw (add-one t) in
+        let n : length (pairsOf ws) ≡ length ws / 2 = omega (arith, pairs-length 0 ws, ready .whole) in
+        let q : pieceOf k (pairsOf ws) i ≡ slice (i * k) e (pairsOf ws) = piece-slice k (pairsOf ws) i ∙ rw (n, ee) in
+        rw (← q, ei) (rw d at H)
+
+  -- a pair is placed, and the one after it comes next
+  pub piece-step : (p₀ e : ℕ) (room : List ℕ) (cur₀ p : ℕ) (room₁ : List ℕ) (cur : ℕ) → Piece ws L p₀ e room cur₀ p room₁ cur → p < e → e ≤ length ws / 2
+      → (r : Search) (room₂ : List ℕ) → Placed ws room₁ L cur p r room₂ → (j : ℕ) → r ≡ LaneAt j → Piece ws L p₀ e room cur₀ (p + 1) room₂ j
+  piece-step p₀ e room cur₀ p room₁ cur P h l r room₂ placed j f rest goal tail H =
+      held-step (rw (span-step ws p e h l) at (P rest goal tail H)) r room₂ placed (pair-drawn ws (ready .whole) (ready .masks) p (omega arith)) j f
+
+-- the piece is through
+pub run-next : {ws : List ℕ} {L : ℕ} {rest : List ℕ} {goal : Tried} (p e : ℕ) (tail : List Pair) {room : List ℕ} {cur : ℕ} → e ≤ p
+    → Held ws L rest goal (slice p e (pairsOf ws) ++ tail) room cur → Held ws L rest goal tail room cur
+run-next {ws} p e tail h H = rw (slice-none p e (pairsOf ws) h) at H
+
+-- so are all
+pub run-ended : {ws : List ℕ} {L : ℕ} {rest : List ℕ} {goal : Tried} (k : ℕ) (keys : List ℕ) (t : ℕ) {room : List ℕ} {cur : ℕ} → length keys ≤ t
+    → Held ws L rest goal (runOf k (pairsOf ws) (drop t keys)) room cur → Ended goal rest true room
+unfolding runOf
+run-ended k keys t h H = held-all (rw (drop-of-length-le keys h) at H)
+
+-- a piece's place is a small number
+pub piece-small : (x k : ℕ) → k ≤ 8192 → x % 8192 * k ≤ 67108864
+piece-small x k h =
+    let m : x % 8192 ≤ 8192 = omega arith in
+    le-trans (mul-le-mul-left (x % 8192) h) (omega arith)
