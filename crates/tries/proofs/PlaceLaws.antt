@@ -3,7 +3,7 @@
 use mathlib.Core.Path.{_≡_, refl, sym, ap, _∙_}
 use mathlib.Core.Option.{Option, none, some}
 use mathlib.Core.List.{List, _++_}
-use Prim.Native.Nat.{ℕ, _+_, _*_, _≤_, _<_}
+use Prim.Native.Nat.{ℕ, _+_, _*_, _<_}
 use native.Mathlib.Omega.{arith}
 use lib.ListN.{getD, drop}
 use Rattle.words.specs.Bit.{pop}
@@ -15,7 +15,7 @@ use Rattle.tries.specs.Table.{tableOf}
 use Rattle.tries.specs.Decoded.{pairAt, lanesAt, putIn}
 use Rattle.tries.specs.Tries.{foundOf, laneFor, nextOf, lanesAfter, Searched, Puttable, Placeable}
 use Rattle.reads.proofs.SearchLaws.{room-found}
-use Rattle.tries.proofs.TableLaws.{row-in, filled-in-room, filled-named, filled-free, filled-put}
+use Rattle.tries.proofs.TableLaws.{filled-in-room, filled-named, filled-row, filled-free, filled-put}
 
 -- ---- the answer as the code says it
 
@@ -43,7 +43,6 @@ module _ (set room : List ℕ) (L cur p : ℕ) (h : Placeable set room L cur p) 
   pub place-search : Searched set room L cur b
   place-search = record {
     in-room = filled-in-room (h .filled);
-    few = h .few;
     named = filled-named (h .filled);
     lane = h .lane;
     mask = rw eb (pop-le _);
@@ -64,7 +63,7 @@ module _ (set room : List ℕ) (L cur p : ℕ) (h : Placeable set room L cur p) 
 
       pub place-put : Puttable set room j p
       place-put = record {
-        lane = row-in place-search j place-lt;
+        lane = filled-row (h .filled) j place-lt;
         free = filled-free (h .filled) j _ place-lt (h .some-bits) (room-found L L (lanesAt set room L) _ cur j (h .lane) found .1);
         pair = omega arith;
       }

@@ -6,14 +6,14 @@ use Prim.Native.Nat.{ℕ, zero, suc, _+_, _*_, _-_, _/_, _≤_, _<_, zero-le}
 use native.Mathlib.Nat.{zero-add, suc-add, not-suc-le-zero, le-of-suc-le-suc}
 use native.Mathlib.Numerals.{add-one, sub-one}
 use native.Mathlib.Omega.{arith}
-use lib.ListN.{length, getD, set, take, drop, replicate, length-append, length-set, length-drop, length-take, length-replicate, drop-of-length-le, take-append-drop, replicate-append-replicate, List·getD-append}
-use lib.Seq.{drop-cons, set-append-left, take-at, drop-at, drop-drop, getD-append-add, getD-take, getD-drop}
+use lib.ListN.{length, getD, set, take, drop, replicate, length-append, length-set, length-drop, length-take, length-replicate, drop-of-length-le, replicate-append-replicate, List·getD-append}
+use lib.Seq.{drop-cons, set-append-left, take-at, drop-at, drop-drop, getD-take, getD-drop}
 use Rattle.words.specs.Bit.{pop}
 use Rattle.reads.specs.ReadSet.{Pair, bits, total}
 use Rattle.reads.specs.Search.{Lane, push}
 use Rattle.reads.proofs.PackingLaws.{total-append}
 use Rattle.tries.specs.Table.{row, tableOf}
-use Rattle.tries.specs.Tries.{Named, RowIn, Searched}
+use Rattle.tries.specs.Tries.{RowIn}
 use Rattle.tries.specs.Decoded.{pairAt, laneOf, rowAt, lanesAt, putIn, Each, Drawn, Sound, Kept, Filled}
 use Rattle.tries.proofs.PairLaws.{total-le}
 
@@ -75,15 +75,15 @@ lane-at ws t (suc L) (suc j) h =
 pub row-bits-le : (ws t : List ℕ) (j : ℕ) → total (laneOf ws (rowAt t j)) ≤ 1024
 row-bits-le ws t j = omega (arith, total-le (laneOf ws (rowAt t j)), row-short ws (rowAt t j), length-take 32 (drop (32 * j) t))
 
-pub row-in : {set room : List ℕ} {L from b : ℕ} → Searched set room L from b → (j : ℕ) → j < L → RowIn set room j
-row-in {set} {room} h j l = record {
-  few = omega arith;
+-- a row whose words name pairs of the set
+pub row-in : (ws t : List ℕ) (L : ℕ) → 32 * L ≤ length t → ((i : ℕ) → i < 32 * L → getD t i 0 ≤ length ws / 2) → (j : ℕ) → j < L → RowIn ws t j
+row-in ws t L r n j l = record {
   in-room = omega arith;
   row = record {
-    short = omega (arith, length-take 32 (drop (32 * j) room));
+    short = omega (arith, length-take 32 (drop (32 * j) t));
     named = λ i k.
-        let s : i < 32 = omega (arith, length-take 32 (drop (32 * j) room)) in
-        rw (row-at-word room j i s) (h .named (32 * j + i) (omega arith));
+        let s : i < 32 = omega (arith, length-take 32 (drop (32 * j) t)) in
+        rw (row-at-word t j i s) (n (32 * j + i) (omega arith));
   };
 }
 
@@ -244,6 +244,9 @@ module _ {ws t : List ℕ} {L : ℕ} (h : Filled ws t L) where
       let m : i < length (tableOf (lanesAt ws t L)) = omega (arith, filled-length) in
       let g : getD t i 0 ≡ getD (tableOf (lanesAt ws t L)) i 0 = ap (λ (x : List ℕ). getD x i 0) (h .table) ∙ List·getD-append (tableOf (lanesAt ws t L)) (drop (32 * L) t) 0 i m in
       rw g (each-at (Names ws) (tableOf (lanesAt ws t L)) i 0 (table-named ws (lanesAt ws t L) (h .kept .sound)) m)
+
+  pub filled-row : (j : ℕ) → j < L → RowIn ws t j
+  filled-row j l = row-in ws t L filled-in-room filled-named j l
 
   -- a lane with room has a free word, and the pair that is put there is in the lane
   pub filled-free : (j b : ℕ) → j < L → 0 < b → total (getD (lanesAt ws t L) j []) + b ≤ 32 → length (laneOf ws (rowAt t j)) < 32

@@ -4,23 +4,23 @@ use mathlib.Core.Path.{_≡_, refl, sym, ap, _∙_}
 use mathlib.Core.Bool.{Bool, true, false}
 use mathlib.Core.Option.{Option, none, some}
 use mathlib.Core.List.{List, [], _∷_, _++_}
-use Prim.Native.Nat.{ℕ, zero, suc, _+_, _*_, _/_, _%_, min, _≤_, _<_}
-use native.Mathlib.Nat.{le-trans, mul-le-mul-left, zero-lt-suc, le-of-suc-le-suc}
+use Prim.Native.Nat.{ℕ, suc, _+_, _*_, _/_, _%_, min, _≤_, _<_}
+use native.Mathlib.Nat.{le-trans, mul-le-mul-left, zero-lt-suc}
 use native.Mathlib.Numerals.{add-one}
 use native.Mathlib.Omega.{arith}
-use lib.ListN.{length, getD, take, drop, replicate, length-append, drop-of-length-le, take-append-drop}
+use lib.ListN.{length, getD, drop, replicate, length-append, drop-of-length-le, take-append-drop}
 use lib.Seq.{slice, drop-cons}
 use Rattle.words.specs.Bit.{pop}
-use Rattle.reads.specs.ReadSet.{Pair, bits, total, pairsOf}
-use Rattle.reads.specs.Search.{Lane, next, firstRoom, push, Tried, all, stuck, tryFrom}
+use Rattle.reads.specs.ReadSet.{Pair, bits, pairsOf}
+use Rattle.reads.specs.Search.{Lane, next, firstRoom, push, Tried, stuck, tryFrom}
 use Rattle.reads.proofs.SearchLaws.{next-lt, room-found}
 use Rattle.tries.specs.declared.Search.{Search}
 use Rattle.tries.specs.declared.Search.the-variants.{Lane as LaneAt, Full}
 use Rattle.tries.specs.Table.{tableOf, pieceOf, runOf}
-use Rattle.tries.specs.Decoded.{pairAt, lanesAt, Each, Drawn, Sound, Kept, Filled}
-use Rattle.tries.specs.Tries.{foundOf, laneFor, nextOf, lanesAfter, isAll, lanesIn, triedOf, Placeable, Ready}
+use Rattle.tries.specs.Decoded.{pairAt, lanesAt, Each, Drawn, Kept, Filled}
+use Rattle.tries.specs.Tries.{laneFor, isAll, lanesIn, triedOf, Placeable, Ready}
 use Rattle.tries.proofs.PairLaws.{pairs-length, pairs-at, slice-none, span-step, piece-slice}
-use Rattle.tries.proofs.TableLaws.{each-append, each-take, each-drop, drawn-thin, kept-sound, kept-push, kept-empty, table-length, table-empty, filled-lanes, filled-rest, filled-of, filled-in-room}
+use Rattle.tries.proofs.TableLaws.{each-append, each-take, each-drop, drawn-thin, kept-sound, kept-push, kept-empty, table-length, table-empty, filled-lanes, filled-rest, filled-of}
 use Rattle.tries.proofs.PlaceLaws.{Placed}
 
 -- ---- what any try keeps of the lanes
@@ -51,8 +51,8 @@ module _ (ws : List ℕ) (whole : length ws % 2 ≡ 0) (masks : (p : ℕ) → p 
   pub pairs-drawn : Each (Drawn ws) (pairsOf ws)
   pairs-drawn =
       each-of (pairsOf ws) (λ i h.
-          let l : i < length ws / 2 = omega (arith, pairs-length 0 ws) in
-          rw (pairs-at ws i (pairAt ws 0) l) (pair-drawn i l))
+      let l : i < length ws / 2 = omega (arith, pairs-length 0 ws) in
+      rw (pairs-at ws i (pairAt ws 0) l) (pair-drawn i l))
 
   pub run-drawn : (k : ℕ) (keys : List ℕ) → Each (Drawn ws) (runOf k (pairsOf ws) keys)
   unfolding runOf
@@ -63,6 +63,14 @@ module _ (ws : List ℕ) (whole : length ws % 2 ≡ 0) (masks : (p : ℕ) → p 
   -- the lanes of a try of it
   pub tried-kept : (L k : ℕ) (keys : List ℕ) → 0 < L → Kept ws L (lanesIn (triedOf L k ws keys))
   tried-kept L k keys h = try-kept ws L (runOf k (pairsOf ws) keys) (replicate L []) 0 h (run-drawn k keys) (kept-empty ws L)
+
+  -- the words that a try of it leaves say its lanes
+  module _ (L k : ℕ) (keys : List ℕ) (some-lanes : 0 < L) {t : List ℕ} (rest : List ℕ) (e : t ≡ tableOf (lanesIn (triedOf L k ws keys)) ++ rest) where
+    pub tried-filled : Filled ws t L
+    tried-filled = filled-of (tried-kept L k keys some-lanes) rest e
+
+    pub tried-lanes : lanesAt ws t L ≡ lanesIn (triedOf L k ws keys)
+    tried-lanes = filled-lanes (tried-kept L k keys some-lanes) rest e
 
 -- kept lanes have at most 32 pairs
 pub kept-thin : {ws : List ℕ} {L : ℕ} {lanes : List Lane} → Kept ws L lanes → (j : ℕ) → j < L → length (getD lanes j []) ≤ 32
@@ -148,7 +156,7 @@ module _ {ws room₀ : List ℕ} {L k : ℕ} (ready : Ready ws room₀ L k) wher
   pub held-start : (keys : List ℕ) → Held ws L (drop (32 * L) room₀) (triedOf L k ws keys) (runOf k (pairsOf ws) keys) room₀ 0
   held-start keys =
       let t : room₀ ≡ tableOf (replicate L []) ++ drop (32 * L) room₀ =
-          sym (take-append-drop (32 * L) room₀) ∙ ap (λ (x : List ℕ). x ++ drop (32 * L) room₀) (ready .empty ∙ sym (table-empty L)) in
+      sym (take-append-drop (32 * L) room₀) ∙ ap (λ (x : List ℕ). x ++ drop (32 * L) room₀) (ready .empty ∙ sym (table-empty L)) in
       let q = kept-empty ws L in
       record {
         filled = filled-of q _ t;
@@ -162,7 +170,6 @@ module _ {ws room₀ : List ℕ} {L k : ℕ} (ready : Ready ws room₀ L k) wher
     pub held-placeable : {run : List Pair} {room : List ℕ} {cur : ℕ} → Held ws L rest goal run room cur → (p : ℕ) → p < length ws / 2 → Placeable ws room L cur p
     held-placeable h p l = record {
       lane = h .lane;
-      few = ready .few;
       pairs = ready .pairs;
       pair = l;
       some-bits = ready .masks p l;

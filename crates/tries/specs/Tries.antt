@@ -53,14 +53,12 @@ pub record Named (set row : List ℕ) : Type 0 where
 
 -- the same of lane j in the room
 pub record RowIn (set room : List ℕ) (j : ℕ) : Type 0 where
-  pub few : j < 256
   pub in-room : 32 * j + 32 ≤ length room
   pub row : Named set (rowAt room j)
 
 -- what the search asks: so do those of each row
 pub record Searched (set room : List ℕ) (L from b : ℕ) : Type 0 where
   pub in-room : 32 * L ≤ length room
-  pub few : L ≤ 256
   pub named : (i : ℕ) → i < 32 * L → getD room i 0 ≤ length set / 2
   pub lane : from < L
   pub mask : b ≤ 32
@@ -74,7 +72,6 @@ pub record Puttable (set room : List ℕ) (j p : ℕ) : Type 0 where
 -- what a placing of pair p asks, from the current lane on
 pub record Placeable (set room : List ℕ) (L cur p : ℕ) : Type 0 where
   pub lane : cur < L
-  pub few : L ≤ 256
   pub pairs : length set ≤ 16384
   pub pair : p < length set / 2
   pub some-bits : 0 < pop (getD set (2 * p + 1) 0)
@@ -88,5 +85,4 @@ pub record Ready (set room : List ℕ) (L k : ℕ) : Type 0 where
   pub in-room : 32 * L ≤ length room
   pub empty : take (32 * L) room ≡ replicate (32 * L) 0
   pub some-lanes : 0 < L
-  pub few : L ≤ 256
   pub size : k ≤ 8192

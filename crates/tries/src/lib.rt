@@ -1,9 +1,9 @@
 // The lanes: the search for room, and one try.
 ghost use mathlib.Core.Path.{_≡_};
 ghost use mathlib.Core.List.{_++_};
-ghost use Prim.Native.Nat.{_+_, _*_, _/_, _≤_, _<_, min};
+ghost use Prim.Native.Nat.{_*_, _<_, min};
 ghost use lib.ListN.{length, drop};
-ghost use Rattle.reads.specs.ReadSet.{bits, total};
+ghost use Rattle.reads.specs.ReadSet.{total};
 ghost use Rattle.reads.specs.Search.{next, firstRoom};
 ghost use Rattle.tries.specs.Table.{tableOf};
 ghost use Rattle.tries.specs.Decoded.{pairAt, laneOf, rowAt, lanesAt, putIn};
@@ -22,7 +22,7 @@ pub struct Load {
 }
 
 // The next lane round.
-pub fn next_lane(j: usize, lanes: usize) -> usize
+fn next_lane(j: usize, lanes: usize) -> usize
     requires { ⌜ j < lanes ⌝ }
     ensures { λ r. ⌜ r ≡ next lanes j ⌝ }
 {
@@ -30,7 +30,7 @@ pub fn next_lane(j: usize, lanes: usize) -> usize
 }
 
 // The load of a lane, summed over its row: a word is a pair's number and one, and a 0 ends the lane. The mask of pair e - 1 is word 2e - 1.
-pub fn row_load(set: &[u32], row: &[u32]) -> Load
+fn row_load(set: &[u32], row: &[u32]) -> Load
     requires { ⌜ Named (now set) (now row) ⌝ }
     ensures { λ r. ⌜ (r .bits ≡ total (laneOf (now (set .entry)) (now (row .entry)))) × (r .pairs ≡ length (laneOf (now (set .entry)) (now (row .entry)))) ⌝ }
 {
@@ -58,7 +58,7 @@ pub fn lane_load(set: &[u32], room: &[u32], j: usize) -> Load
 }
 
 // The first lane with room for b more bits, going round from lane `from`.
-pub fn find_lane(set: &[u32], room: &[u32], lanes: usize, from: usize, b: u32) -> Search
+fn find_lane(set: &[u32], room: &[u32], lanes: usize, from: usize, b: u32) -> Search
     requires { ⌜ Searched (now set) (now room) lanes from b ⌝ }
     ensures { λ r. ⌜ r ≡ foundOf (firstRoom lanes lanes (lanesAt (now (set .entry)) (now (room .entry)) lanes) b from) ⌝ }
 {
@@ -76,7 +76,7 @@ pub fn find_lane(set: &[u32], room: &[u32], lanes: usize, from: usize, b: u32) -
 }
 
 // Puts pair p behind those of lane j.
-pub fn put(set: &[u32], room: &mut [u32], j: usize, p: usize)
+fn put(set: &[u32], room: &mut [u32], j: usize, p: usize)
     requires { ⌜ Puttable (now set) (now room) j p ⌝ }
     ensures { λ _. ⌜ now (room .exit) ≡ putIn (now (set .entry)) (now (room .entry)) j p ⌝ }
 {
@@ -86,7 +86,7 @@ pub fn put(set: &[u32], room: &mut [u32], j: usize, p: usize)
 }
 
 // Puts pair p into the first lane with room, going round from lane `cur`. The answer is the lane after that one, or Full.
-pub fn place(set: &[u32], room: &mut [u32], lanes: usize, cur: usize, p: usize) -> Search
+fn place(set: &[u32], room: &mut [u32], lanes: usize, cur: usize, p: usize) -> Search
     requires { ⌜ Placeable (now set) (now room) lanes cur p ⌝ }
     ensures { λ r. ⌜ r ≡ foundOf (nextOf lanes (laneFor (now (set .entry)) (now (room .entry)) lanes cur p)) ⌝ }
     ensures { λ r. ⌜ now (room .exit) ≡ tableOf (lanesAfter (laneFor (now (set .entry)) (now (room .entry)) lanes cur p) (lanesAt (now (set .entry)) (now (room .entry)) lanes) (pairAt (now (set .entry)) p)) ++ drop (32 * lanes) (now (room .entry)) ⌝ }
