@@ -1,0 +1,4 @@
+pub mod CopyLaws
+pub mod MergeLaws
+pub mod SearchLaws
+pub mod SortLaws
