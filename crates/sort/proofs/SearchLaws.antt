@@ -1,8 +1,8 @@
 -- A search by halves over a function of the index: where it starts, how it goes right and left, and that it ends at the least index.
 -- Assumes nothing.
-use mathlib.Core.Path.{_≡_, refl, sym, ap, _∙_}
+use mathlib.Core.Path.{_≡_, refl, ap}
 use mathlib.Core.Bool.{Bool, true, false}
-use Prim.Native.Nat.{ℕ, zero, suc, _+_, _-_, _≤_, _<_, zero-le}
+use Prim.Native.Nat.{ℕ, zero, suc, _+_, _≤_, _<_, zero-le}
 use native.Mathlib.Nat.{not-suc-le-zero}
 use native.Mathlib.Numerals.{add-one}
 use native.Mathlib.Omega.{arith}
@@ -40,6 +40,17 @@ module _ (f : ℕ → ℕ) (n x : ℕ) where
     under = b .under;
     over = λ i g k. let s : f middle ≤ f i = m middle i g k in omega arith;
   }
+
+  -- where x stands anywhere, it stands where the search ends
+  pub search-found : (r i : ℕ) → Monotone f n → Between f n x r r → i < n → f i ≡ x → (r < n) × (f r ≡ x)
+  search-found r i m b h e = go (leb r i) refl
+    where
+      go : (t : Bool) → leb r i ≡ t → (r < n) × (f r ≡ x)
+      go true t =
+          let le : r ≤ i = leb-true r i t in
+          let up : f r ≤ f i = m r i le h in
+          (omega arith, omega (arith, b .over r (omega arith) (omega arith)))
+      go false t = absurd (omega (arith, b .under i (leb-false r i t)))
 
 -- the least index is the one that parts what is less than x from what is not
 pub between-least : (f : ℕ → ℕ) (n x r : ℕ) → Between f n x r r → r ≡ least f n x
