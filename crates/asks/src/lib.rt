@@ -1,0 +1,1 @@
+// The read set that asks for given bits.
