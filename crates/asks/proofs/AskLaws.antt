@@ -26,12 +26,13 @@ pub bit-same : (a b : ℕ) → ((k : ℕ) → bit a k ≡ bit b k) → a ≡ b
 bit-same a b h =
     bit-ext (a + b) a b (lt-of-lt-of-le (lt-pow a) (pow-mono (omega arith))) (lt-of-lt-of-le (lt-pow b) (pow-mono (omega arith))) (λ k l. h k)
 
+-- 1 where the test holds
+abbrev pub pick : Bool → ℕ → ℕ
+pick t x = elim t [ true ↦ 1 | false ↦ x ]
+
 pub with-comm : (m a b : ℕ) → withBit (withBit m a) b ≡ withBit (withBit m b) a
 with-comm m a b = bit-same _ _ (λ k. bit-with (withBit m a) b k ∙ ap (pick (eqb k b)) (bit-with m a k) ∙ turned (eqb k b) (eqb k a) (bit m k) ∙ sym (bit-with (withBit m b) a k ∙ ap (pick (eqb k a)) (bit-with m b k)))
   where
-    pick : Bool → ℕ → ℕ
-    pick t x = elim t [ true ↦ 1 | false ↦ x ]
-
     turned : (s t : Bool) (x : ℕ) → pick s (pick t x) ≡ pick t (pick s x)
     turned true true x = refl
     turned true false x = refl
@@ -41,9 +42,6 @@ with-comm m a b = bit-same _ _ (λ k. bit-with (withBit m a) b k ∙ ap (pick (e
 pub with-twice : (m a : ℕ) → withBit (withBit m a) a ≡ withBit m a
 with-twice m a = bit-same _ _ (λ k. bit-with (withBit m a) a k ∙ ap (pick (eqb k a)) (bit-with m a k) ∙ once (eqb k a) (bit m k) ∙ sym (bit-with m a k))
   where
-    pick : Bool → ℕ → ℕ
-    pick t x = elim t [ true ↦ 1 | false ↦ x ]
-
     once : (t : Bool) (x : ℕ) → pick t (pick t x) ≡ pick t x
     once true x = refl
     once false x = refl
@@ -61,6 +59,11 @@ pow-twice a = or-self (2 ^ a)
 pub ask-new : (q : ℕ) → ask q [] ≡ (q / 32) ∷ (2 ^ (q % 32)) ∷ []
 unfolding ask
 ask-new q = refl
+
+-- a last half pair stays
+pub ask-half : (q w : ℕ) → ask q (w ∷ []) ≡ w ∷ []
+unfolding ask
+ask-half q w = refl
 
 module _ (q w m : ℕ) (ws : List ℕ) where
   -- by the two tests: the word is below the first, or it is the first
