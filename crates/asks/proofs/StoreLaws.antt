@@ -8,13 +8,17 @@ use native.Mathlib.Nat.{not-suc-le-zero, le-of-suc-le-suc, one-mul}
 use native.Mathlib.Numerals.{add-one}
 use native.Mathlib.Omega.{arith}
 use lib.Bits.{bitOr}
-use lib.ListN.{length, getD, set, take, drop, length-take, length-set, length-append}
+use lib.ListN.{length, getD, set, take, drop, replicate, length-take, length-set, length-append}
 use lib.Pow.{shl-exact}
 use lib.Seq.{sets, length-sets, getD-take, take-suc, take-all}
 use Rattle.words.specs.Bit.{withBit}
 use Rattle.reads.specs.Asked.{ask, readSetOf}
+use Rattle.sort.specs.Sorted.{sortOf}
+use Rattle.sort.specs.Outcome.{keysAfter, scratchAfter}
+use Rattle.sort.proofs.OutcomeLaws.{keys-done, scratch-done}
+use Rattle.sort.proofs.SortLaws.{sort-length, sort-ascending, sort-adds-none}
 use Rattle.asks.specs.Rising.{Rising, Askable, Gatherable, Settable}
-use Rattle.asks.proofs.AskLaws.{set-snoc}
+use Rattle.asks.proofs.AskLaws.{set-snoc, set-sort}
 use Rattle.asks.proofs.FormLaws.{EachPair, set-each, each-at, set-even, set-rising, set-length-le, ask-longer, ask-end, ask-last}
 
 sets-shift : (x : ℕ) (l : List ℕ) (i : ℕ) (vs : List ℕ) → sets (x ∷ l) (suc i) vs ≡ x ∷ sets l i vs
@@ -67,8 +71,7 @@ module _ (set′ : List ℕ) (n q : ℕ) (a : Askable set′ n q) where
   next-joins m em h e =
       let s = take n set′ in
       let v = bitOr (getD set′ (n - 1) 0) m in
-      let asked : ask q s ≡ set s (n - 1) v = ask-last 0 q s (a .rising) (omega (arith, whole)) (last-is h ∙ e) ∙ rw (whole, getD-take n set′ (n - 1) 0 (omega arith), ← em) in
-      (
+      let asked : ask q s ≡ set s (n - 1) v = ask-last 0 q s (a .rising) (omega (arith, whole)) (last-is h ∙ e) ∙ rw (whole, getD-take n set′ (n - 1) 0 (omega arith), ← em) in (
         sym (ap length asked ∙ length-set s (n - 1) v ∙ whole),
         sym (ap (sets set′ 0) asked ∙ front-set set′ n (n - 1) v (omega arith) (omega (arith, a .room))),
       )
@@ -78,8 +81,7 @@ module _ (set′ : List ℕ) (n q : ℕ) (a : Askable set′ n q) where
   next-new m em h =
       let s = take n set′ in
       let w = q / 32 in
-      let asked : ask q s ≡ s ++ (w ∷ m ∷ []) = rw em (ask-end 0 q s (a .rising) (above h)) in
-      (
+      let asked : ask q s ≡ s ++ (w ∷ m ∷ []) = rw em (ask-end 0 q s (a .rising) (above h)) in (
         sym (ap length asked ∙ length-append s (w ∷ m ∷ []) ∙ ap (λ (k : ℕ). k + 2) whole),
         rw add-one (sym (ap (sets set′ 0) asked ∙ front-take set′ n (w ∷ m ∷ []) (omega (arith, a .room)))),
       )
@@ -159,3 +161,24 @@ module _ (keys set₀ set′ : List ℕ) (n i : ℕ) (ready : Gatherable keys se
   gather-all h =
       let all : take i keys ≡ keys = take-all i keys h in
       (rw all at (g .count), rw all at (g .holds))
+
+-- ---- bits in any order
+
+module _ (keys scratch set′ keys′ : List ℕ) (ready : Settable keys scratch set′) (sorts : keys′ ≡ keysAfter keys scratch) where
+  sorted : keys′ ≡ sortOf keys
+  sorted = sorts ∙ keys-done keys scratch (ready .scratch-room)
+
+  sorted-small : (i : ℕ) → i < length (sortOf keys) → getD (sortOf keys) i 0 < 2 ^ 37
+  sorted-small i h =
+      let from = sort-adds-none keys i (rw sort-length at h) in
+      rw (← (from .2)) (ready .small (from .0) (from .1))
+
+  pub sorted-gatherable : Gatherable keys′ set′
+  sorted-gatherable = rw sorted (record { small = sorted-small; sorted = sort-ascending keys; room = rw sort-length (ready .room) })
+
+  pub read-set-is : (r : ℕ) (scratch′ set″ : List ℕ) → scratch′ ≡ scratchAfter keys scratch → r ≡ length (readSetOf keys′) → set″ ≡ sets set′ 0 (readSetOf keys′)
+      → (r ≡ length (readSetOf keys)) × ((keys′ ≡ sortOf keys)
+      × ((scratch′ ≡ replicate (length keys) 0 ++ drop (length keys) scratch) × (set″ ≡ sets set′ 0 (readSetOf keys))))
+  read-set-is r scratch′ set″ cleared counted stored =
+      let same : readSetOf keys′ ≡ readSetOf keys = ap readSetOf sorted ∙ set-sort keys in
+      (counted ∙ ap length same, (sorted, (cleared ∙ scratch-done keys scratch (ready .scratch-room), stored ∙ ap (sets set′ 0) same)))

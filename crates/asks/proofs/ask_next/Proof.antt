@@ -7,92 +7,69 @@ use borrow.Author.Needs.{needs}
 use Rattle.asks.proofs.StoreLaws.{next-joins, next-new, mask-is}
 use Rattle.asks.proofs.ask_next.Statement.{statement}
 use Rattle.asks.proofs.ask_next.Tie as tie
-use Rattle.asks.proofs.ask_next.Reads as reads
-use Rattle.asks.proofs.ask_next.Lts as lts
 
--- src/lib.rt:16:16
 cast-word : tie.Need-cast-word
 cast-word c = search needs
 
--- src/lib.rt:17:25
 cast-mask : tie.Need-cast-mask
 cast-mask c = search needs
 
--- src/lib.rt:17:16
 shl-mask : tie.Need-shl-mask
 shl-mask c = search needs
 
--- src/lib.rt:19:12
 mul-if2 : tie.Need-mul-if2
 mul-if2 c = search needs
 
--- src/lib.rt:19:12
 slice-read-if2 : tie.Need-slice-read-if2
 slice-read-if2 c = search needs
 
--- src/lib.rt:20:30
 sub-set : tie.Need-sub-set
 sub-set c = search needs
 
--- src/lib.rt:20:26
 mul-set : tie.Need-mul-set
 mul-set c = search needs
 
--- src/lib.rt:20:26
 slice-read-set : tie.Need-slice-read-set
 slice-read-set c = search needs
 
--- src/lib.rt:20:17
 sub-set-2 : tie.Need-sub-set-2
 sub-set-2 c = search needs
 
--- src/lib.rt:20:13
 mul-set-2 : tie.Need-mul-set-2
 mul-set-2 c = search needs
 
--- src/lib.rt:20:13
 slice-write-set : tie.Need-slice-write-set
 slice-write-set c = search needs
 
--- src/lib.rt:21:13
 same-length : tie.Need-same-length
 same-length c = search needs
 
--- src/lib.rt:21:13
 returns : tie.Need-returns
 returns c =
     let start = c .before .before .before .before in
     next-joins (start .args .set .now) (start .args .n) (start .args .q) (start .pre) _ (mask-is (start .args .q)) (c .before .before .before .if1 .taken) (c .before .if2 .taken)
 
--- src/lib.rt:24:5
 mul-set-3 : tie.Need-mul-set-3
 mul-set-3 c = search needs
 
--- src/lib.rt:24:5
 slice-write-set-2 : tie.Need-slice-write-set-2
 slice-write-set-2 c = search needs
 
--- src/lib.rt:25:9
 add-set : tie.Need-add-set
 add-set c = search needs
 
--- src/lib.rt:25:5
 mul-set-4 : tie.Need-mul-set-4
 mul-set-4 c = search needs
 
--- src/lib.rt:25:5
 slice-write-set-3 : tie.Need-slice-write-set-3
 slice-write-set-3 c = simp length-set (omega arith)
 
--- src/lib.rt:26:5
 add-result : tie.Need-add-result
 add-result c = search needs
 
--- src/lib.rt:11:1
 same-length-2 : tie.Need-same-length-2
 same-length-2 c = search needs
 
--- src/lib.rt:11:1
 returns-2 : tie.Need-returns-2
 returns-2 c =
     let start = c .before in

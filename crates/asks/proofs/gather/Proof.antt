@@ -7,9 +7,6 @@ use borrow.Author.Needs.{needs}
 use Rattle.asks.proofs.StoreLaws.{Gathered, gather-start, gather-length, gather-askable, gather-more, gather-all}
 use Rattle.asks.proofs.gather.Statement.{statement}
 use Rattle.asks.proofs.gather.Tie as tie
-use Rattle.asks.proofs.gather.Reads as reads
-use Rattle.asks.proofs.gather.Lts as lts
-use Rattle.asks.proofs.ask_next.Reads as ask-next-reads
 
 abbrev Inv-loop : tie.InvT-loop
 Inv-loop keys set₀ n₀ i₀ set n i = Gathered keys set₀ set n i
@@ -17,34 +14,27 @@ Inv-loop keys set₀ n₀ i₀ set n i = Gathered keys set₀ set n i
 abbrev μ-loop : tie.MeasureT-loop
 μ-loop keys set₀ n₀ i₀ set n i = length keys - i
 
--- src/lib.rt:37:5
 loop-holds : tie.Need-loop-holds Inv-loop μ-loop
 loop-holds c = gather-start _ _
 
--- src/lib.rt:38:30
 mul-ask-next : tie.Need-mul-ask-next Inv-loop μ-loop
 mul-ask-next c = search needs
 
--- src/lib.rt:38:30
 shared-slice-read-ask-next : tie.Need-shared-slice-read-ask-next Inv-loop μ-loop
 shared-slice-read-ask-next c = search needs
 
--- src/lib.rt:38:9
 ask-next-requires : tie.Need-ask-next-requires Inv-loop μ-loop
 ask-next-requires c κs =
     let start = c .before .before .before .before .before .before in
     let l = c .before .before .before .loop in
     gather-askable (start .args .keys .now) (start .args .set .now) (l .set) (l .n) (l .i) (start .pre) (l .inv) (omega arith)
 
--- src/lib.rt:39:9
 add-i : tie.Need-add-i Inv-loop μ-loop
 add-i c = search needs
 
--- src/lib.rt:37:5
 loop-less : tie.Need-loop-less Inv-loop μ-loop
 loop-less c = search needs
 
--- src/lib.rt:37:5
 loop-again : tie.Need-loop-again Inv-loop μ-loop
 loop-again c =
     let start = c .before .before .before .before .before .before .before .before .before in
@@ -52,14 +42,12 @@ loop-again c =
     let asked = c .before .before .ask-next in
     gather-more (start .args .keys .now) (start .args .set .now) (l .set) (l .n) (l .i) (start .pre) (l .inv) _ _ (omega arith) (asked .ensures .0) (asked .ensures .1)
 
--- src/lib.rt:30:1
 same-length : tie.Need-same-length Inv-loop μ-loop
 same-length c =
     let start = c .before .before .before .before in
     let l = c .before .loop in
     gather-length (start .args .keys .now) (start .args .set .now) (l .set) (l .n) (l .i) (start .pre) (l .inv)
 
--- src/lib.rt:30:1
 returns : tie.Need-returns Inv-loop μ-loop
 returns c =
     let start = c .before .before .before .before in
