@@ -2,21 +2,21 @@
 -- bit more. Its length, its last pair, and what asking for a bit at the end does to it.
 -- Assumes nothing.
 use mathlib.Core.Path.{_≡_, refl, sym, ap, _∙_}
-use mathlib.Core.Bool.{Bool, true, false}
-use mathlib.Core.Option.{Option, none, some}
+use mathlib.Core.Bool.{true}
+use mathlib.Core.Option.{none}
 use mathlib.Core.List.{List, [], _∷_, _++_}
 use mathlib.Core.Logic.{_⊎_, inl, inr, ⊎-elim}
 use Prim.Native.Nat.{ℕ, zero, suc, _+_, _*_, _-_, _/_, _%_, _^_, _≤_, _<_}
 use native.Mathlib.Nat.{not-suc-le-zero, mod-lt}
 use native.Mathlib.Omega.{arith}
 use borrow.Author.Tests.{le-leb, lt-ltb}
-use lib.Bits.{bitOr, or-add-and, and-le-l}
+use lib.Bits.{or-add-and, and-le-l}
 use lib.Dec.{leb, ltb}
 use lib.ListN.{length, getD, set}
 use lib.Pow.{pow-pos, pow-lt}
 use Rattle.words.specs.Bit.{withBit}
 use Rattle.words.proofs.BitLaws.{with-lt}
-use Rattle.reads.specs.ReadSet.{Pair, pairsFrom, pairsOf, both, pairForm, brokenFrom, broken}
+use Rattle.reads.specs.ReadSet.{pairsFrom, pairsOf, pairForm, brokenFrom, broken}
 use Rattle.reads.specs.Asked.{ask, readSetOf}
 use Rattle.asks.specs.Rising.{Rising}
 use Rattle.asks.proofs.AskLaws.{ask-new, ask-below, ask-same, ask-above, Compared, less, same, more, compared}

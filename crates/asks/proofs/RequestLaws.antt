@@ -12,8 +12,7 @@ use lib.Dec.{eqb}
 use lib.ListN.{length, getD}
 use Rattle.words.specs.Bit.{bit, withBit}
 use Rattle.words.proofs.BitLaws.{bit-zero, bit-pow, bit-with}
-use Rattle.reads.specs.ReadSet.{Pair, pairsFrom, pairsOf}
-use Rattle.reads.specs.Packing.{times}
+use Rattle.reads.specs.ReadSet.{pairsFrom, pairsOf}
 use Rattle.reads.specs.Asked.{ask, readSetOf}
 use Rattle.reads.proofs.PackingLaws.{times-nil, times-cons}
 use Rattle.reads.proofs.SetLaws.{times-here, times-cases}

@@ -17,7 +17,7 @@ use Rattle.sort.specs.Sorted.{sortOf}
 use Rattle.sort.specs.Outcome.{keysAfter, scratchAfter}
 use Rattle.sort.proofs.OutcomeLaws.{keys-done, scratch-done}
 use Rattle.sort.proofs.SortLaws.{sort-length, sort-ascending, sort-adds-none}
-use Rattle.asks.specs.Rising.{Rising, Askable, Gatherable, Settable}
+use Rattle.asks.specs.Rising.{Askable, Gatherable, Settable}
 use Rattle.asks.proofs.AskLaws.{set-snoc, set-sort}
 use Rattle.asks.proofs.FormLaws.{EachPair, set-each, each-at, set-even, set-rising, set-length-le, ask-longer, ask-end, ask-last}
 
