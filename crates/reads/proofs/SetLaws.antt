@@ -110,7 +110,10 @@ stands-once low (p ∷ ps) e w m =
     let here : 0 < times w m (p ∷ []) → p .word ≡ w = λ h. ⊎-elim (λ q. q .0) (λ l. absurd (omega (arith, times-nil w m))) (times-cases w m p [] h) in
     let rest : times w m ps ≤ 1 = stands-once (p .word + 1) ps (k .rest) w m in
     ⊎-elim
-    (λ there. ⊎-elim (λ h. absurd (omega (arith, here h, stands (p .word + 1) ps (k .rest) w m there .above))) (λ l. omega (arith, times-cons w m p ps)) (lt-or-ge 0 (times w m (p ∷ []))))
+    (λ there. ⊎-elim
+    (λ h. absurd (omega (arith, here h, stands (p .word + 1) ps (k .rest) w m there .above)))
+    (λ l. omega (arith, times-cons w m p ps))
+    (lt-or-ge 0 (times w m (p ∷ []))))
     (λ l. omega (arith, times-cons w m p ps, at-most-one w m p))
     (lt-or-ge 0 (times w m ps))
 
@@ -137,4 +140,6 @@ pairs-small i [] b f w m h = absurd (omega (arith, times-nil w m))
 pairs-small i (v ∷ []) b f w m h =
     ⊎-elim (λ q. (rw (← (q .0)) (f 0), rw (← (q .1)) (f 1))) (λ l. absurd (omega (arith, times-nil w m))) (times-cases w m _ [] h)
 pairs-small i (v ∷ n ∷ ws) b f w m h =
-    ⊎-elim (λ q. (rw (← (q .0)) (f 0), rw (← (q .1)) (f 1))) (λ l. pairs-small (i + 1) ws b (λ x. f (suc (suc x))) w m l) (times-cases w m _ (pairsFrom (i + 1) ws) h)
+    ⊎-elim (λ q. (rw (← (q .0)) (f 0), rw (← (q .1)) (f 1)))
+    (λ l. pairs-small (i + 1) ws b (λ x. f (suc (suc x))) w m l)
+    (times-cases w m _ (pairsFrom (i + 1) ws) h)
