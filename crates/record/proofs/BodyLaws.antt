@@ -1,13 +1,11 @@
 -- The body of a part: where it may be asked for, and that the numbers which the code adds up are the definition's.
 -- Assumes nothing.
-use mathlib.Core.Path.{_≡_, refl, sym, ap, _∙_, subst}
-use mathlib.Core.Bool.{true}
+use mathlib.Core.Path.{_≡_, refl, ap, _∙_}
 use mathlib.Core.List.{List}
-use Prim.Native.Nat.{ℕ, _+_, _*_, _/_, _≤_, _<_}
+use Prim.Native.Nat.{ℕ, _+_, _*_, _/_, _≤_}
 use native.Mathlib.Omega.{arith}
 use lib.ListN.{length}
-use Rattle.record.specs.declared.bodies.Body.{Body}
-use Rattle.record.specs.Record.{wordAt, partsOf, headBase, stagesOf, endpointsOf, locationsIn, bodyAt, countBase, slotBase, locationBase, tableBase}
+use Rattle.record.specs.Record.{wordAt, headBase, stagesOf, endpointsOf, locationsIn, bodyAt, countBase, slotBase, locationBase, tableBase}
 use Rattle.record.specs.Body.{BodyReady, BodyOf}
 use Rattle.record.proofs.RecordLaws.{body-long, tables-end}
 
@@ -36,11 +34,12 @@ module _ (d : List ℕ) (p at : ℕ) (ready : BodyReady d p at) where
           slots = at + 3 * e + n;
           places = at + 3 * e + n + 16383 * n;
           tables = at + 3 * e + n + 16383 * n + l;
-          end = at + 3 * e + n + 16383 * n + l + 17664
+          end = at + 3 * e + n + 16383 * n + l + 17664;
         })
     unfolding tableBase locationBase slotBase countBase
     body-made l locations =
         let ls : l ≡ locationsIn d (bodyAt d p) (stagesOf d p) (endpointsOf d p) = cc (stages-is, endpoints-is, ready .place) in
+        let end-is : at + 3 * e + n + 16383 * n + l + 17664 ≡ bodyAt d (p + 1) = omega (arith, ready .place, endpoints-is, stages-is, tables-end d p) in
         record {
           stages = stages-is;
           endpoints = endpoints-is;
@@ -50,5 +49,15 @@ module _ (d : List ℕ) (p at : ℕ) (ready : BodyReady d p at) where
           slots = omega (arith, ready .place, endpoints-is, stages-is);
           places = omega (arith, ready .place, endpoints-is, stages-is);
           tables = omega (arith, ready .place, endpoints-is, stages-is);
-          end = omega (arith, ready .place, endpoints-is, stages-is, tables-end d p)
+          end = end-is;
+          laid = record {
+            stages = body-sizes .1;
+            endpoints = body-sizes .2;
+            counts = refl;
+            slots = refl;
+            places = refl;
+            tables = refl;
+            end = refl;
+            inside = omega (arith, end-is, ready .inside);
+          };
         }

@@ -1,3 +1,4 @@
 pub mod RecordLaws
 pub mod TestLaws
 pub mod BodyLaws
+pub mod FormLaws

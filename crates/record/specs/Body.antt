@@ -3,7 +3,7 @@
 use mathlib.Core.Path.{_≡_}
 use mathlib.Core.Bool.{true}
 use mathlib.Core.List.{List}
-use Prim.Native.Nat.{ℕ, _+_, _/_, _≤_, _<_}
+use Prim.Native.Nat.{ℕ, _+_, _*_, _/_, _≤_, _<_}
 use lib.ListN.{length}
 use Rattle.record.specs.declared.bodies.Body.{Body}
 use Rattle.record.specs.Tests.{allBelow}
@@ -29,6 +29,17 @@ pub record BodyReady (d : List ℕ) (p at : ℕ) : Type 0 where
   pub stages : stagesOf d p ≤ 255
   pub endpoints : endpointsOf d p ≤ 8192
 
+-- the lists of a body follow one another, and end inside m words
+pub record Laid (m : ℕ) (b : Body) : Type 0 where
+  pub stages : b .stages ≤ 255
+  pub endpoints : b .endpoints ≤ 8192
+  pub counts : b .counts ≡ b .at + 3 * b .endpoints
+  pub slots : b .slots ≡ b .counts + b .stages
+  pub places : b .places ≡ b .slots + 16383 * b .stages
+  pub tables : b .tables ≡ b .places + b .locations
+  pub end : b .end ≡ b .tables + 17664
+  pub inside : b .end ≤ m
+
 -- b is the body of part p: each of its numbers is the definition's
 pub record BodyOf (d : List ℕ) (p : ℕ) (b : Body) : Type 0 where
   pub stages : b .stages ≡ stagesOf d p
@@ -40,3 +51,4 @@ pub record BodyOf (d : List ℕ) (p : ℕ) (b : Body) : Type 0 where
   pub places : b .places ≡ locationBase d p
   pub tables : b .tables ≡ tableBase d p
   pub end : b .end ≡ bodyAt d (p + 1)
+  pub laid : Laid (length d / 4) b

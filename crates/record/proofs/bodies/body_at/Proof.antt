@@ -7,41 +7,28 @@ use Rattle.record.proofs.BodyLaws.{body-sizes, body-made}
 use borrow.Author.Needs.{needs}
 use Rattle.record.proofs.bodies.body_at.Statement.{statement}
 use Rattle.record.proofs.bodies.body_at.Tie as tie
-use Rattle.record.proofs.bodies.body_at.Reads as reads
-use Rattle.record.proofs.bodies.body_at.Lts as lts
-use Rattle.record.proofs.places.head_base.Reads as head-base-reads
-use Rattle.record.proofs.places.locations_in.Reads as locations-in-reads
-use Rattle.record.proofs.places.word_at.Reads as word-at-reads
 
--- src/bodies.rt:43:16
 head-base-requires : tie.Need-head-base-requires
 head-base-requires c κs = search needs
 
--- src/bodies.rt:43:31
 mul-head : tie.Need-mul-head
 mul-head c = search needs
 
--- src/bodies.rt:43:16
 add-head : tie.Need-add-head
 add-head c = search needs
 
--- src/bodies.rt:44:18
 word-at-requires : tie.Need-word-at-requires
 word-at-requires c κs = search needs
 
--- src/bodies.rt:44:18
 cast-stages : tie.Need-cast-stages
 cast-stages c = search needs
 
--- src/bodies.rt:45:32
 add-word-at : tie.Need-add-word-at
 add-word-at c = search needs
 
--- src/bodies.rt:45:21
 word-at-requires-2 : tie.Need-word-at-requires-2
 word-at-requires-2 c κs = search needs
 
--- src/bodies.rt:45:21
 cast-endpoints : tie.Need-cast-endpoints
 cast-endpoints c = search needs
 
@@ -53,35 +40,27 @@ sizes c =
 locations-in-requires : tie.Need-locations-in-requires
 locations-in-requires c κs = let s = sizes c in (omega arith, s .1, s .2)
 
--- src/bodies.rt:47:23
 mul-counts : tie.Need-mul-counts
 mul-counts c = search needs
 
--- src/bodies.rt:47:18
 add-counts : tie.Need-add-counts
 add-counts c = omega (arith, sizes (c .before))
 
--- src/bodies.rt:48:17
 add-slots : tie.Need-add-slots
 add-slots c = omega (arith, sizes (c .before))
 
--- src/bodies.rt:49:26
 mul-places : tie.Need-mul-places
 mul-places c = search needs
 
--- src/bodies.rt:49:18
 add-places : tie.Need-add-places
 add-places c = omega (arith, sizes (c .before))
 
--- src/bodies.rt:50:18
 add-tables : tie.Need-add-tables
 add-tables c = omega (arith, sizes (c .before))
 
--- src/bodies.rt:60:14
 add-t13 : tie.Need-add-t13
 add-t13 c = omega (arith, sizes (c .before))
 
--- src/bodies.rt:39:1
 returns : tie.Need-returns
 returns c =
     let a = c .before in

@@ -5,28 +5,19 @@ use Rattle.record.proofs.RecordLaws.{body-first}
 use borrow.Author.Needs.{needs}
 use Rattle.record.proofs.bodies.first_body.Statement.{statement}
 use Rattle.record.proofs.bodies.first_body.Tie as tie
-use Rattle.record.proofs.bodies.first_body.Reads as reads
-use Rattle.record.proofs.bodies.first_body.Lts as lts
-use Rattle.record.proofs.bodies.parts_of.Reads as parts-of-reads
-use Rattle.record.proofs.places.head_base.Reads as head-base-reads
 
--- src/bodies.rt:35:5
 head-base-requires : tie.Need-head-base-requires
 head-base-requires c κs = search needs
 
--- src/bodies.rt:35:24
 parts-of-requires : tie.Need-parts-of-requires
 parts-of-requires c κs = search needs
 
--- src/bodies.rt:35:20
 mul-result : tie.Need-mul-result
 mul-result c = search needs
 
--- src/bodies.rt:35:5
 add-result : tie.Need-add-result
 add-result c = search needs
 
--- src/bodies.rt:31:1
 returns : tie.Need-returns
 returns c =
     let d = c .before .before .before .args .d .now in

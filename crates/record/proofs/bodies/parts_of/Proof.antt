@@ -5,24 +5,16 @@ use Rattle.record.specs.Record.{partsBefore}
 use borrow.Author.Needs.{needs}
 use Rattle.record.proofs.bodies.parts_of.Statement.{statement}
 use Rattle.record.proofs.bodies.parts_of.Tie as tie
-use Rattle.record.proofs.bodies.parts_of.Reads as reads
-use Rattle.record.proofs.bodies.parts_of.Lts as lts
-use Rattle.record.proofs.places.parts_before.Reads as parts-before-reads
-use Rattle.record.proofs.places.word_at.Reads as word-at-reads
 
--- src/bodies.rt:27:21
 word-at-requires : tie.Need-word-at-requires
 word-at-requires c κs = search needs
 
--- src/bodies.rt:27:21
 cast-parts-before : tie.Need-cast-parts-before
 cast-parts-before c = search needs
 
--- src/bodies.rt:27:5
 parts-before-requires : tie.Need-parts-before-requires
 parts-before-requires c κs = search needs
 
--- src/bodies.rt:23:1
 returns : tie.Need-returns
 returns c =
     let d = c .before .before .before .args .d .now in
