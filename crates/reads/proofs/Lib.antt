@@ -1,0 +1,5 @@
+pub mod SearchLaws
+pub mod PackingLaws
+pub mod SetLaws
+pub mod RoundLaws
+pub mod SectionWordLaws
