@@ -1,1 +1,86 @@
 // The lanes: the search for room, and one try.
+ghost use mathlib.Core.Path.{_≡_};
+ghost use mathlib.Core.List.{_++_};
+ghost use Prim.Native.Nat.{_+_, _*_, _/_, _≤_, _<_, min};
+ghost use lib.ListN.{length, drop};
+ghost use Rattle.reads.specs.ReadSet.{bits, total};
+ghost use Rattle.reads.specs.Search.{next, firstRoom};
+ghost use Rattle.tries.specs.Table.{tableOf};
+ghost use Rattle.tries.specs.Decoded.{pairAt, laneOf, rowAt, lanesAt, putIn};
+ghost use Rattle.tries.specs.Tries.{foundOf, nextOf, lanesAfter, isAll, lanesIn, triedOf, Named, RowIn, Searched, Puttable, Placeable, Ready};
+
+// What a lane search finds.
+pub enum Search {
+    Lane(usize),
+    Full,
+}
+
+// What a lane holds: bits, and pairs.
+pub struct Load {
+    pub bits: u32,
+    pub pairs: usize,
+}
+
+// The next lane round.
+pub fn next_lane(j: usize, lanes: usize) -> usize
+    requires { ⌜ j < lanes ⌝ }
+    ensures { λ r. ⌜ r ≡ next lanes j ⌝ }
+{
+    if j + 1 == lanes { 0 } else { j + 1 }
+}
+
+// The load of a lane, summed over its row: a word is a pair's number and one, and a 0 ends the lane. The mask of pair e - 1 is word 2e - 1.
+pub fn row_load(set: &[u32], row: &[u32]) -> Load
+    requires { ⌜ Named (now set) (now row) ⌝ }
+    ensures { λ r. ⌜ (r .bits ≡ total (laneOf (now (set .entry)) (now (row .entry)))) × (r .pairs ≡ length (laneOf (now (set .entry)) (now (row .entry)))) ⌝ }
+{
+    let mut bits = 0;
+    let mut pairs = 0;
+    while pairs < row.len() {
+        let e = row[pairs] as usize;
+        if e == 0 {
+            return Load { bits, pairs };
+        }
+        bits += words::bits::count(set[2 * e - 1]);
+        pairs += 1;
+    }
+    Load { bits, pairs }
+}
+
+// The load of lane j.
+pub fn lane_load(set: &[u32], room: &[u32], j: usize) -> Load
+    requires { ⌜ RowIn (now set) (now room) j ⌝ }
+    ensures { λ r. ⌜ (r .bits ≡ total (laneOf (now (set .entry)) (rowAt (now (room .entry)) j))) × (r .pairs ≡ length (laneOf (now (set .entry)) (rowAt (now (room .entry)) j))) ⌝ }
+{
+    let at = 32 * j;
+    let end = at + 32;
+    row_load(set, &room[at..end])
+}
+
+// The first lane with room for b more bits, going round from lane `from`.
+pub fn find_lane(set: &[u32], room: &[u32], lanes: usize, from: usize, b: u32) -> Search
+    requires { ⌜ Searched (now set) (now room) lanes from b ⌝ }
+    ensures { λ r. ⌜ r ≡ foundOf (firstRoom lanes lanes (lanesAt (now (set .entry)) (now (room .entry)) lanes) b from) ⌝ }
+{
+    let mut j = from;
+    let mut left = lanes;
+    while 0 < left {
+        let held = lane_load(set, room, j);
+        if held.bits + b <= 32 {
+            return Search::Lane(j);
+        }
+        j = next_lane(j, lanes);
+        left -= 1;
+    }
+    Search::Full
+}
+
+// Puts pair p behind those of lane j.
+pub fn put(set: &[u32], room: &mut [u32], j: usize, p: usize)
+    requires { ⌜ Puttable (now set) (now room) j p ⌝ }
+    ensures { λ _. ⌜ now (room .exit) ≡ putIn (now (set .entry)) (now (room .entry)) j p ⌝ }
+{
+    let held = lane_load(set, room, j);
+    let at = 32 * j + held.pairs;
+    room[at] = p as u32 + 1;
+}
