@@ -12,12 +12,16 @@ use Rattle.reads.specs.Search.{Lane, next, firstRoom, push, Tried, all, stuck, 
 use Rattle.tries.specs.declared.Search.{Search}
 use Rattle.tries.specs.declared.Search.the-variants.{Lane as LaneAt, Full}
 use Rattle.tries.specs.Table.{runOf}
-use Rattle.tries.specs.Decoded.{laneOf, rowAt, Filled}
+use Rattle.tries.specs.Decoded.{pairAt, laneOf, rowAt, lanesAt, Filled}
 
 -- a lane that is found, or none, as the code says it
 abbrev pub foundOf : Option ℕ → Search
 foundOf none = Full
 foundOf (some j) = LaneAt j
+
+-- the lane for pair p, over the lanes that the room says
+abbrev pub laneFor : List ℕ → List ℕ → ℕ → ℕ → ℕ → Option ℕ
+laneFor set room L cur p = firstRoom L L (lanesAt set room L) (bits (pairAt set p)) cur
 
 -- the lane after the one that took the pair
 abbrev pub nextOf : ℕ → Option ℕ → Option ℕ

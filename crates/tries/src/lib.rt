@@ -7,7 +7,7 @@ ghost use Rattle.reads.specs.ReadSet.{bits, total};
 ghost use Rattle.reads.specs.Search.{next, firstRoom};
 ghost use Rattle.tries.specs.Table.{tableOf};
 ghost use Rattle.tries.specs.Decoded.{pairAt, laneOf, rowAt, lanesAt, putIn};
-ghost use Rattle.tries.specs.Tries.{foundOf, nextOf, lanesAfter, isAll, lanesIn, triedOf, Named, RowIn, Searched, Puttable, Placeable, Ready};
+ghost use Rattle.tries.specs.Tries.{foundOf, laneFor, nextOf, lanesAfter, isAll, lanesIn, triedOf, Named, RowIn, Searched, Puttable, Placeable, Ready};
 
 // What a lane search finds.
 pub enum Search {
@@ -83,4 +83,20 @@ pub fn put(set: &[u32], room: &mut [u32], j: usize, p: usize)
     let held = lane_load(set, room, j);
     let at = 32 * j + held.pairs;
     room[at] = p as u32 + 1;
+}
+
+// Puts pair p into the first lane with room, going round from lane `cur`. The answer is the lane after that one, or Full.
+pub fn place(set: &[u32], room: &mut [u32], lanes: usize, cur: usize, p: usize) -> Search
+    requires { ⌜ Placeable (now set) (now room) lanes cur p ⌝ }
+    ensures { λ r. ⌜ r ≡ foundOf (nextOf lanes (laneFor (now (set .entry)) (now (room .entry)) lanes cur p)) ⌝ }
+    ensures { λ r. ⌜ now (room .exit) ≡ tableOf (lanesAfter (laneFor (now (set .entry)) (now (room .entry)) lanes cur p) (lanesAt (now (set .entry)) (now (room .entry)) lanes) (pairAt (now (set .entry)) p)) ++ drop (32 * lanes) (now (room .entry)) ⌝ }
+{
+    let b = words::bits::count(set[2 * p + 1]);
+    match find_lane(set, room, lanes, cur, b) {
+        Search::Full => Search::Full,
+        Search::Lane(j) => {
+            put(set, room, j, p);
+            Search::Lane(next_lane(j, lanes))
+        }
+    }
 }
