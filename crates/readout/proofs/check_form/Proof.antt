@@ -1,3 +1,13 @@
+-- `check_form`: what is left from pair i on, with the word after the last one as the least, breaks the form where the whole does.
+-- Assumes nothing.
+use mathlib.Core.Path.{_≡_, sym, ap, _∙_}
+use Prim.Native.Nat.{_*_, _-_, _/_, _≤_}
+use native.Mathlib.Omega.{arith}
+use lib.ListN.{length}
+use Rattle.reads.specs.ReadSet.{pairsOf, broken}
+use Rattle.readout.specs.declared.Form.the-variants.{Bad}
+use Rattle.readout.specs.Readout.{formOf}
+use Rattle.readout.proofs.FormLaws.{brokenAt, bad-low, bad-word, bad-mask, good-pair, bad-half, good-end}
 use borrow.Author.Needs.{needs}
 use Rattle.readout.proofs.check_form.Statement.{statement}
 use Rattle.readout.proofs.check_form.Tie as tie
@@ -5,10 +15,10 @@ use Rattle.readout.proofs.check_form.Reads as reads
 use Rattle.readout.proofs.check_form.Lts as lts
 
 abbrev Inv-loop : tie.InvT-loop
-Inv-loop set n i₀ low₀ i low = ?
+Inv-loop set n i₀ low₀ i low = (i ≤ length set / 2) × (brokenAt set i low ≡ broken (pairsOf set))
 
 abbrev μ-loop : tie.MeasureT-loop
-μ-loop set n i₀ low₀ i low = ?
+μ-loop set n i₀ low₀ i low = length set / 2 - i
 
 -- src/lib.rt:25:5
 loop-holds : tie.Need-loop-holds Inv-loop μ-loop
@@ -28,11 +38,17 @@ shared-slice-read-w c = search needs
 
 -- src/lib.rt:28:13
 returns : tie.Need-returns Inv-loop μ-loop
-returns c = search needs
+returns c =
+    let l = c .before .before .before .loop in
+    let set = c .before .before .before .before .args .set .now in
+    ap formOf (sym (bad-low set (l .i) (l .low) (omega arith) (c .if1 .taken)) ∙ l .inv .1)
 
 -- src/lib.rt:31:13
 returns-2 : tie.Need-returns-2 Inv-loop μ-loop
-returns-2 c = search needs
+returns-2 c =
+    let l = c .before .before .before .before .loop in
+    let set = c .before .before .before .before .before .args .set .now in
+    ap formOf (sym (bad-word set (l .i) (l .low) (omega arith) (c .before .if1 .left) (c .if2 .taken)) ∙ l .inv .1)
 
 -- src/lib.rt:33:16
 mul-if3 : tie.Need-mul-if3 Inv-loop μ-loop
@@ -52,11 +68,15 @@ shared-slice-read-if3 c = search needs
 
 -- src/lib.rt:34:13
 returns-3 : tie.Need-returns-3 Inv-loop μ-loop
-returns-3 c = search needs
+returns-3 c =
+    let l = c .before .before .before .before .before .before .loop in
+    let set = c .before .before .before .before .before .before .before .args .set .now in
+    ap formOf (sym (bad-mask set (l .i) (l .low) (omega arith) (c .before .before .before .if1 .left) (c .before .before .if2 .left) (c .if3 .taken)) ∙ l .inv .1)
 
 -- src/lib.rt:36:15
 add-low : tie.Need-add-low Inv-loop μ-loop
-add-low c = search needs
+add-low c =
+    omega (arith, c .before .before .before .before .shared-slice-known .given (2 * c .before .before .before .before .before .before .loop .i))
 
 -- src/lib.rt:37:9
 add-i : tie.Need-add-i Inv-loop μ-loop
@@ -68,15 +88,25 @@ loop-less c = search needs
 
 -- src/lib.rt:25:5
 loop-again : tie.Need-loop-again Inv-loop μ-loop
-loop-again c = search needs
+loop-again c =
+    let l = c .before .before .before .before .before .before .loop in
+    let set = c .before .before .before .before .before .before .before .args .set .now in
+    (omega arith, sym (good-pair set (l .i) (l .low) (omega arith) (c .before .before .before .if1 .left) (c .before .before .if2 .left) (omega arith)) ∙ l .inv .1)
 
 -- src/lib.rt:40:9
 returns-4 : tie.Need-returns-4 Inv-loop μ-loop
-returns-4 c = search needs
+returns-4 c =
+    let l = c .before .before .loop in
+    let set = c .before .before .before .args .set .now in
+    let e : l .i ≡ length set / 2 = omega arith in
+    ap Bad (sym e) ∙ ap formOf (sym (bad-half set (l .i) (l .low) (omega arith)) ∙ l .inv .1)
 
 -- src/lib.rt:19:1
 returns-5 : tie.Need-returns-5 Inv-loop μ-loop
-returns-5 c = search needs
+returns-5 c =
+    let l = c .before .before .loop in
+    let set = c .before .before .before .args .set .now in
+    ap formOf (sym (good-end set (l .i) (l .low) (omega arith)) ∙ l .inv .1)
 
 pub check-form-spec : {M : Type 1} → statement M
 check-form-spec =
