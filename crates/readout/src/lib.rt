@@ -41,3 +41,60 @@ pub fn check_form(set: &[u32]) -> Form
     }
     Form::Good
 }
+
+// The number of rounds: the longest lane of the table.
+pub fn longest_row(set: &[u32], room: &[u32], lanes: usize) -> usize
+    requires { ⌜ Readable (now set) (now room) lanes ⌝ }
+    ensures { λ r. ⌜ r ≡ longest (lanesAt (now (set .entry)) (now (room .entry)) lanes) ⌝ }
+{
+    let mut best = 0;
+    let mut j = 0;
+    while j < lanes {
+        let held = tries::lane_load(set, room, j);
+        if best < held.pairs {
+            best = held.pairs;
+        }
+        j += 1;
+    }
+    best
+}
+
+// The word (h = 0) or the mask (h = 1) of a table's word.
+fn entry_word(set: &[u32], e: u32, h: usize) -> u32
+    requires { ⌜ (e ≤ length (now set) / 2) × (h < 2) ⌝ }
+    ensures { λ r. ⌜ r ≡ entryWord (now (set .entry)) e h ⌝ }
+{
+    if e == 0 {
+        0
+    } else {
+        set[2 * (e as usize - 1) + h]
+    }
+}
+
+// Writes round r from `at` on: word and mask, lane after lane.
+fn write_round(set: &[u32], room: &[u32], lanes: usize, r: usize, out: &mut [u32], at: usize)
+    requires { ⌜ Readable (now set) (now room) lanes × (r < 32) × (at + 2 * lanes ≤ length (now out)) ⌝ }
+    ensures { λ _. ⌜ now (out .exit) ≡ sets (now (out .entry)) at (roundWords (lanesAt (now (set .entry)) (now (room .entry)) lanes) r) ⌝ }
+{
+    let mut i = 0;
+    while i < lanes {
+        let e = room[32 * i + r];
+        out[at + 2 * i] = entry_word(set, e, 0);
+        out[at + 2 * i + 1] = entry_word(set, e, 1);
+        i += 1;
+    }
+}
+
+// Writes the first rounds of the table's lanes, round after round.
+pub fn write_rounds(set: &[u32], room: &[u32], lanes: usize, rounds: usize, out: &mut [u32])
+    requires { ⌜ Writable (now set) (now room) lanes rounds (length (now out)) ⌝ }
+    ensures { λ _. ⌜ now (out .exit) ≡ sets (now (out .entry)) 0 (roundsFrom (lanesAt (now (set .entry)) (now (room .entry)) lanes) rounds 0) ⌝ }
+{
+    let mut r = 0;
+    let mut at = 0;
+    while r < rounds {
+        write_round(set, room, lanes, r, out, at);
+        at += 2 * lanes;
+        r += 1;
+    }
+}

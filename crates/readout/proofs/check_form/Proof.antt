@@ -11,8 +11,6 @@ use Rattle.readout.proofs.FormLaws.{brokenAt, bad-low, bad-word, bad-ma
 use borrow.Author.Needs.{needs}
 use Rattle.readout.proofs.check_form.Statement.{statement}
 use Rattle.readout.proofs.check_form.Tie as tie
-use Rattle.readout.proofs.check_form.Reads as reads
-use Rattle.readout.proofs.check_form.Lts as lts
 
 abbrev Inv-loop : tie.InvT-loop
 Inv-loop set n i₀ low₀ i low = (i ≤ length set / 2) × (brokenAt set i low ≡ broken (pairsOf set))
@@ -20,80 +18,64 @@ Inv-loop set n i₀ low₀ i low = (i ≤ length set / 2) × (brokenAt set i low
 abbrev μ-loop : tie.MeasureT-loop
 μ-loop set n i₀ low₀ i low = length set / 2 - i
 
--- src/lib.rt:25:5
 loop-holds : tie.Need-loop-holds Inv-loop μ-loop
 loop-holds c = search needs
 
--- src/lib.rt:26:21
 mul-w : tie.Need-mul-w Inv-loop μ-loop
 mul-w c = search needs
 
--- src/lib.rt:26:17
 mul-w-2 : tie.Need-mul-w-2 Inv-loop μ-loop
 mul-w-2 c = search needs
 
--- src/lib.rt:26:17
 shared-slice-read-w : tie.Need-shared-slice-read-w Inv-loop μ-loop
 shared-slice-read-w c = search needs
 
--- src/lib.rt:28:13
 returns : tie.Need-returns Inv-loop μ-loop
 returns c =
     let l = c .before .before .before .loop in
     let set = c .before .before .before .before .args .set .now in
     ap formOf (sym (bad-low set (l .i) (l .low) (omega arith) (c .if1 .taken)) ∙ l .inv .1)
 
--- src/lib.rt:31:13
 returns-2 : tie.Need-returns-2 Inv-loop μ-loop
 returns-2 c =
     let l = c .before .before .before .before .loop in
     let set = c .before .before .before .before .before .args .set .now in
     ap formOf (sym (bad-word set (l .i) (l .low) (omega arith) (c .before .if1 .left) (c .if2 .taken)) ∙ l .inv .1)
 
--- src/lib.rt:33:16
 mul-if3 : tie.Need-mul-if3 Inv-loop μ-loop
 mul-if3 c = search needs
 
--- src/lib.rt:33:16
 add-if3 : tie.Need-add-if3 Inv-loop μ-loop
 add-if3 c = search needs
 
--- src/lib.rt:33:12
 mul-if3-2 : tie.Need-mul-if3-2 Inv-loop μ-loop
 mul-if3-2 c = search needs
 
--- src/lib.rt:33:12
 shared-slice-read-if3 : tie.Need-shared-slice-read-if3 Inv-loop μ-loop
 shared-slice-read-if3 c = search needs
 
--- src/lib.rt:34:13
 returns-3 : tie.Need-returns-3 Inv-loop μ-loop
 returns-3 c =
     let l = c .before .before .before .before .before .before .loop in
     let set = c .before .before .before .before .before .before .before .args .set .now in
     ap formOf (sym (bad-mask set (l .i) (l .low) (omega arith) (c .before .before .before .if1 .left) (c .before .before .if2 .left) (c .if3 .taken)) ∙ l .inv .1)
 
--- src/lib.rt:36:15
 add-low : tie.Need-add-low Inv-loop μ-loop
 add-low c =
     omega (arith, c .before .before .before .before .shared-slice-known .given (2 * c .before .before .before .before .before .before .loop .i))
 
--- src/lib.rt:37:9
 add-i : tie.Need-add-i Inv-loop μ-loop
 add-i c = search needs
 
--- src/lib.rt:25:5
 loop-less : tie.Need-loop-less Inv-loop μ-loop
 loop-less c = search needs
 
--- src/lib.rt:25:5
 loop-again : tie.Need-loop-again Inv-loop μ-loop
 loop-again c =
     let l = c .before .before .before .before .before .before .loop in
     let set = c .before .before .before .before .before .before .before .args .set .now in
     (omega arith, sym (good-pair set (l .i) (l .low) (omega arith) (c .before .before .before .if1 .left) (c .before .before .if2 .left) (omega arith)) ∙ l .inv .1)
 
--- src/lib.rt:40:9
 returns-4 : tie.Need-returns-4 Inv-loop μ-loop
 returns-4 c =
     let l = c .before .before .loop in
@@ -101,7 +83,6 @@ returns-4 c =
     let e : l .i ≡ length set / 2 = omega arith in
     ap Bad (sym e) ∙ ap formOf (sym (bad-half set (l .i) (l .low) (omega arith)) ∙ l .inv .1)
 
--- src/lib.rt:19:1
 returns-5 : tie.Need-returns-5 Inv-loop μ-loop
 returns-5 c =
     let l = c .before .before .loop in
