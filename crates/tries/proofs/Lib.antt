@@ -1,3 +1,4 @@
-pub mod SearchLaws
+pub mod PairLaws
 pub mod TableLaws
 pub mod PlaceLaws
+pub mod TryLaws

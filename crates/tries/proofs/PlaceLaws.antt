@@ -1,7 +1,7 @@
 -- What `place` asks of its calls and tells of them, over plain values: b is the count of the mask's bits, r what the search answered.
 -- Assumes nothing.
 use mathlib.Core.Path.{_≡_, refl, sym, ap, _∙_}
-use mathlib.Core.Option.{none, some}
+use mathlib.Core.Option.{Option, none, some}
 use mathlib.Core.List.{List, _++_}
 use Prim.Native.Nat.{ℕ, _+_, _*_, _≤_, _<_}
 use native.Mathlib.Omega.{arith}
@@ -14,8 +14,24 @@ use Rattle.tries.specs.declared.Search.the-variants.{Lane as LaneAt, Ful
 use Rattle.tries.specs.Table.{tableOf}
 use Rattle.tries.specs.Decoded.{pairAt, lanesAt, putIn}
 use Rattle.tries.specs.Tries.{foundOf, laneFor, nextOf, lanesAfter, Searched, Puttable, Placeable}
-use Rattle.tries.proofs.SearchLaws.{room-found, found-none, found-some}
+use Rattle.reads.proofs.SearchLaws.{room-found}
 use Rattle.tries.proofs.TableLaws.{row-in, filled-in-room, filled-named, filled-free, filled-put}
+
+-- ---- the answer as the code says it
+
+pub found-none : (o : Option ℕ) → foundOf o ≡ Full → o ≡ none
+found-none none e = refl
+found-none (some j) e =
+    let z : _≡_ {A = ℕ} 0 1 = cc in
+    absurd (omega arith)
+
+pub found-some : (o : Option ℕ) (j : ℕ) → foundOf o ≡ LaneAt j → o ≡ some j
+found-some none j e =
+    let z : _≡_ {A = ℕ} 0 1 = cc in
+    absurd (omega arith)
+found-some (some i) j e = cc
+
+-- ---- a pair is placed
 
 -- what `place` ensures
 abbrev pub Placed : (set room : List ℕ) (L cur p : ℕ) → Search → List ℕ → Type 0

@@ -9,12 +9,13 @@ use native.Mathlib.Omega.{arith}
 use lib.ListN.{length, getD, set, take, drop, replicate, length-append, length-set, length-drop, length-take, length-replicate, drop-of-length-le, take-append-drop, replicate-append-replicate, List·getD-append}
 use lib.Seq.{drop-cons, set-append-left, take-at, drop-at, drop-drop, getD-append-add, getD-take, getD-drop}
 use Rattle.words.specs.Bit.{pop}
-use Rattle.words.proofs.PopLaws.{pop-le}
 use Rattle.reads.specs.ReadSet.{Pair, bits, total}
 use Rattle.reads.specs.Search.{Lane, push}
+use Rattle.reads.proofs.PackingLaws.{total-append}
 use Rattle.tries.specs.Table.{row, tableOf}
 use Rattle.tries.specs.Tries.{Named, RowIn, Searched}
 use Rattle.tries.specs.Decoded.{pairAt, laneOf, rowAt, lanesAt, putIn, Each, Drawn, Sound, Kept, Filled}
+use Rattle.tries.proofs.PairLaws.{total-le}
 
 -- ---- a row, word by word
 
@@ -52,12 +53,6 @@ unfolding laneOf
 row-short ws [] = zero-le
 row-short ws (zero ∷ es) = zero-le
 row-short ws (suc p ∷ es) = omega (arith, row-short ws es)
-
--- no lane has more than 32 bits a pair
-pub total-le : (l : Lane) → total l ≤ 32 * length l
-unfolding total
-total-le [] = zero-le
-total-le (p ∷ l) = omega (arith, pop-le (p .mask), total-le l)
 
 -- ---- the rows of the room
 
@@ -125,11 +120,6 @@ module _ {A : Type 0} (P : A → Type 0) where
 
 -- ---- lanes of drawn pairs
 
-pub total-snoc : (l : Lane) (p : Pair) → total (l ++ p ∷ []) ≡ total l + bits p
-unfolding total
-total-snoc [] p = omega arith
-total-snoc (q ∷ l) p = omega (arith, total-snoc l p)
-
 -- no more pairs than bits
 pub drawn-thin : (ws : List ℕ) (l : Lane) → Each (Drawn ws) l → length l ≤ total l
 unfolding total
@@ -146,11 +136,12 @@ module _ {ws : List ℕ} {L : ℕ} {lanes : List Lane} (k : Kept ws L lanes) whe
 
   -- a lane with room takes a pair
   pub kept-push : (j : ℕ) (p : Pair) → j < L → total (getD lanes j []) + bits p ≤ 32 → Drawn ws p → Kept ws L (push lanes j p)
+  unfolding total
   kept-push j p h r d = record {
     wide = length-set lanes j _ ∙ k .wide;
     sound = each-set (Sound ws) lanes j _ (k .sound) (record {
       drawn = each-append (Drawn ws) (getD lanes j []) (p ∷ []) (kept-sound j h .drawn) (d, tt);
-      light = rw total-snoc r;
+      light = omega (arith, total-append (getD lanes j []) (p ∷ []));
     });
   }
 

@@ -100,3 +100,40 @@ pub fn place(set: &[u32], room: &mut [u32], lanes: usize, cur: usize, p: usize) 
         }
     }
 }
+
+pub fn least(a: usize, b: usize) -> usize
+    ensures { λ r. ⌜ r ≡ min a b ⌝ }
+{
+    if a < b { a } else { b }
+}
+
+// One try at piece size k, the pieces in the order of the keys: a key's rest by 8192 is its piece's number. No lane with room for a pair ends it.
+pub fn try_size(set: &[u32], keys: &[u64], room: &mut [u32], lanes: usize, k: usize) -> bool
+    requires { ⌜ Ready (now set) (now room) lanes k ⌝ }
+    ensures { λ r. ⌜ r ≡ isAll (triedOf lanes k (now (set .entry)) (now (keys .entry))) ⌝ }
+    ensures { λ r. ⌜ now (room .exit) ≡ tableOf (lanesIn (triedOf lanes k (now (set .entry)) (now (keys .entry)))) ++ drop (32 * lanes) (now (room .entry)) ⌝ }
+{
+    let n = set.len() / 2;
+    let mut fits = true;
+    let mut cur = 0;
+    let mut t = 0;
+    'pieces: while t < keys.len() {
+        let i = (keys[t] % 8192) as usize;
+        let mut p = i * k;
+        let end = least(p + k, n);
+        'pairs: while p < end {
+            match place(set, room, lanes, cur, p) {
+                Search::Full => {
+                    fits = false;
+                    break 'pieces;
+                }
+                Search::Lane(j) => {
+                    cur = j;
+                }
+            }
+            p += 1;
+        }
+        t += 1;
+    }
+    fits
+}

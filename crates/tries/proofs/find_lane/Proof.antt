@@ -10,7 +10,7 @@ use Rattle.reads.specs.ReadSet.{total}
 use Rattle.reads.specs.Search.{firstRoom}
 use Rattle.tries.specs.Decoded.{lanesAt}
 use Rattle.tries.specs.Tries.{foundOf}
-use Rattle.tries.proofs.SearchLaws.{next-lt, room-here, room-on, room-none}
+use Rattle.reads.proofs.SearchLaws.{next-lt, room-here, room-on, room-none}
 use Rattle.tries.proofs.TableLaws.{lane-at, row-bits-le, row-in}
 use Rattle.tries.proofs.find_lane.Statement.{statement}
 use Rattle.tries.proofs.find_lane.Tie as tie

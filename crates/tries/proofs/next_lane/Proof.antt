@@ -2,7 +2,7 @@
 -- Assumes nothing.
 use mathlib.Core.Path.{sym}
 use borrow.Author.Needs.{needs}
-use Rattle.tries.proofs.SearchLaws.{next-wrap, next-step}
+use Rattle.reads.proofs.SearchLaws.{next-wrap, next-step}
 use Rattle.tries.proofs.next_lane.Statement.{statement}
 use Rattle.tries.proofs.next_lane.Tie as tie
 
