@@ -3,3 +3,5 @@ pub mod PackingLaws
 pub mod SetLaws
 pub mod RoundLaws
 pub mod SectionWordLaws
+pub mod LocalLaws
+pub mod ReadTurnLaws

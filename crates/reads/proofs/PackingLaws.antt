@@ -4,7 +4,7 @@ use mathlib.Core.Path.{_≡_, refl, sym, ap, _∙_}
 use mathlib.Core.Bool.{Bool, true, false}
 use mathlib.Core.Option.{Option, none, some}
 use mathlib.Core.List.{List, [], _∷_, _++_}
-use Prim.Native.Nat.{ℕ, zero, suc, _+_, _*_, _/_, _^_, _≤_, _<_}
+use Prim.Native.Nat.{ℕ, zero, suc, _+_, _/_, _^_, _≤_, _<_}
 use native.Mathlib.Nat.{zero-add, add-zero, le-refl, not-suc-le-zero, le-of-suc-le-suc}
 use native.Mathlib.Decide.{ℕ-discrete}
 use native.Mathlib.Omega.{arith}
@@ -12,7 +12,7 @@ use lib.Dec.{leb, eqb}
 use lib.ListN.{length, getD, set, take, drop, replicate, length-drop, length-set, length-replicate, take-append-drop}
 use lib.Seq.{getD-set-same, getD-set-other}
 use Rattle.reads.specs.ReadSet.{Pair, bits, total, both}
-use Rattle.reads.specs.Search.{Lane, Tried, all, stuck, piecesIn, pieces, insertPiece, ordered, joined, next, firstRoom, push, tryFrom, try, lanesOf}
+use Rattle.reads.specs.Search.{Lane, all, stuck, piecesIn, pieces, insertPiece, ordered, joined, next, firstRoom, push, tryFrom, try, lanesOf}
 use Rattle.reads.specs.Packing.{times, Packing}
 use Rattle.reads.proofs.SearchLaws.{next-lt, room-found, win-first}
 

@@ -1,7 +1,7 @@
 -- The words of the read section, each by its lane and round.
 -- Assumes nothing.
 use mathlib.Core.Path.{_≡_, refl, sym, ap, _∙_}
-use mathlib.Core.List.{List, [], _∷_, _++_}
+use mathlib.Core.List.{List, [], _∷_}
 use mathlib.Core.Logic.{⊎-elim}
 use Prim.Native.Nat.{ℕ, zero, suc, _+_, _*_, _≤_, _<_}
 use native.Mathlib.Nat.{add-zero, zero-add, not-suc-le-zero, mul-suc, mul-le-mul-left, le-of-suc-le-suc}
@@ -9,7 +9,6 @@ use native.Mathlib.Omega.{arith}
 use lib.ListN.{length, getD, length-append, List·getD-append, List·getD-eq-default}
 use lib.Seq.{getD-append-add}
 use Rattle.words.proofs.BitLaws.{lt-or-ge}
-use Rattle.reads.specs.ReadSet.{Pair}
 use Rattle.reads.specs.Search.{Lane, longest}
 use Rattle.reads.specs.Words.{placeWords, roundWords, roundsFrom, readSection}
 use Rattle.reads.specs.Local.{wordIn, maskIn}

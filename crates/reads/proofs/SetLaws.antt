@@ -1,8 +1,8 @@
 -- A read set in the form that refusal 2 asks, said of each word and mask that stands in it (`0 < times w m ps`), so that a packing carries it over.
 -- Assumes nothing.
-use mathlib.Core.Path.{_≡_, refl, sym, ap, _∙_}
+use mathlib.Core.Path.{_≡_, refl, sym, _∙_}
 use mathlib.Core.Bool.{Bool, true, false}
-use mathlib.Core.Option.{Option, none, some}
+use mathlib.Core.Option.{none, some}
 use mathlib.Core.List.{List, [], _∷_}
 use mathlib.Core.Logic.{_⊎_, inl, inr, ⊎-elim}
 use Prim.Native.Nat.{ℕ, zero, suc, _+_, _%_, _^_, _≤_, _<_}
@@ -12,7 +12,7 @@ use borrow.Author.Tests.{ltb-true, leb-true, eqb-true, eq-eqb}
 use lib.Dec.{leb, ltb, eqb}
 use lib.ListN.{length, getD}
 use Rattle.words.proofs.BitLaws.{lt-or-ge}
-use Rattle.reads.specs.ReadSet.{Pair, both, pairsFrom, pairsOf, pairForm, brokenFrom, broken}
+use Rattle.reads.specs.ReadSet.{Pair, both, pairsFrom, pairForm, brokenFrom, broken}
 use Rattle.reads.specs.Packing.{times}
 use Rattle.reads.proofs.PackingLaws.{times-nil, times-cons}
 
