@@ -5,3 +5,4 @@ pub mod RoundLaws
 pub mod SectionWordLaws
 pub mod LocalLaws
 pub mod ReadTurnLaws
+pub mod OutcomeLaws

@@ -2,9 +2,9 @@
 -- Assumes nothing.
 use mathlib.Core.Path.{_≡_, refl, sym, ap, _∙_}
 use mathlib.Core.Bool.{Bool, true, false}
-use mathlib.Core.Option.{none, some}
+use mathlib.Core.Option.{Option, none, some}
 use mathlib.Core.List.{List, []}
-use mathlib.Core.Logic.{_↔_}
+use mathlib.Core.Logic.{_⊎_, inl, inr, ⊎-elim, _↔_}
 use Prim.Native.Nat.{ℕ, zero, suc, _+_, _-_, _/_, _^_, _≤_, _<_}
 use native.Mathlib.Nat.{zero-lt-suc, not-suc-le-zero, lt-of-le-of-lt, lt-of-lt-of-le, div-one, zero-div}
 use native.Mathlib.Numerals.{one-add, sub-one}
@@ -33,6 +33,19 @@ next-lt L j h = go (eqb (j + 1) L) refl
 
 -- ---- the search for room, lane by lane
 
+-- what is found is a lane, and it has room
+pub room-found : (L f : ℕ) (lanes : List Lane) (b j i : ℕ) → j < L → firstRoom L f lanes b j ≡ some i → (i < L) × (total (getD lanes i []) + b ≤ 32)
+unfolding firstRoom
+room-found L zero lanes b j i h e = let z : _≡_ {A = ℕ} 0 1 = cc in absurd (omega arith)
+room-found L (suc f) lanes b j i h e = ⊎-elim
+    (λ c. (rw (← (c .1)) h, rw (← (c .1)) (leb-true _ _ (c .0))))
+    (λ c. room-found L f lanes b (next L j) i (next-lt L j h) c)
+    (chosen _ j i (firstRoom L f lanes b (next L j)) e)
+  where
+    chosen : (t : Bool) (j i : ℕ) (o : Option ℕ) → elim t [ true ↦ some j | false ↦ o ] ≡ some i → ((t ≡ true) × (j ≡ i)) ⊎ (o ≡ some i)
+    chosen true j i o e = inl (refl, cc)
+    chosen false j i o e = inr e
+
 pub room-here : (L f : ℕ) (lanes : List Lane) (b j : ℕ) → 0 < f → total (getD lanes j []) + b ≤ 32 → firstRoom L f lanes b j ≡ some j
 unfolding firstRoom
 room-here L zero lanes b j p h = absurd (not-suc-le-zero p)
@@ -47,21 +60,6 @@ room-on L (suc f) lanes b j p h = rw (lt-leb _ _ h, firstRoom, sub-one)
 pub room-none : (L : ℕ) (lanes : List Lane) (b j : ℕ) → firstRoom L 0 lanes b j ≡ none
 unfolding firstRoom
 room-none L lanes b j = refl
-
--- what is found is a lane, and it has room
-pub room-found : (L f : ℕ) (lanes : List Lane) (b j i : ℕ) → j < L → firstRoom L f lanes b j ≡ some i → (i < L) × (total (getD lanes i []) + b ≤ 32)
-unfolding firstRoom
-room-found L zero lanes b j i h e = let z : _≡_ {A = ℕ} 0 1 = cc in absurd (omega arith)
-room-found L (suc f) lanes b j i h e = go (leb (total (getD lanes j []) + b) 32) refl (room-found L f lanes b (next L j) i (next-lt L j h))
-  where
-    go : (t : Bool) → leb (total (getD lanes j []) + b) 32 ≡ t
-        → (firstRoom L f lanes b (next L j) ≡ some i → (i < L) × (total (getD lanes i []) + b ≤ 32))
-        → (i < L) × (total (getD lanes i []) + b ≤ 32)
-    go true t r =
-        let s : some j ≡ some i = sym (room-here L (suc f) lanes b j (zero-lt-suc f) (leb-true _ _ t)) ∙ e in
-        let q : j ≡ i = cc in
-        (omega arith, rw (← q) (leb-true _ _ t))
-    go false t r = r (sym (room-on L (suc f) lanes b j (zero-lt-suc f) (leb-false _ _ t) ∙ rw sub-one) ∙ e)
 
 -- ---- the piece sizes k, k/2, k/4 ..
 
