@@ -77,7 +77,7 @@ unfolding pairsFrom brokenFrom pairForm
 whole-from i low [] e = refl
 whole-from i low (w ∷ []) e = go (leb low w) (ltb (w % 2 ^ 31) (2 ^ 27)) e
   where
-    go : (a b : Bool) → elim (both a (both b false)) [ true ↦ none | false ↦ some i ] ≡ none → 1 % 2 ≡ 0
+    go : (a b : Bool) → _≡_ {A = Option ℕ} (elim (both a (both b false)) [ true ↦ none | false ↦ some i ]) none → 1 % 2 ≡ 0
     go true true e = let z : _≡_ {A = ℕ} 0 1 = cc in absurd (omega arith)
     go true false e = let z : _≡_ {A = ℕ} 0 1 = cc in absurd (omega arith)
     go false b e = let z : _≡_ {A = ℕ} 0 1 = cc in absurd (omega arith)

@@ -17,7 +17,8 @@ use lib.ListN.{length, getD}
 use lib.Pow.{pow-add, shr-shr, shr-le}
 use Rattle.words.specs.Bit.{bit, bitAt, popIn, pop}
 use Rattle.words.proofs.BitLaws.{bit-zero, bit-first, bit-suc, bit-high, bit-above}
-use Rattle.words.proofs.PopLaws.{sumTo, popIn-ones, pop-ones}
+use Rattle.words.specs.Sum.{sumTo}
+use Rattle.words.proofs.PopLaws.{popIn-ones, pop-ones}
 use Rattle.reads.specs.ReadSet.{Pair, total, broken}
 use Rattle.reads.specs.Search.{Lane, longest}
 use Rattle.reads.specs.Words.{readSection}
