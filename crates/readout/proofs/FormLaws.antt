@@ -83,7 +83,7 @@ whole-from i low (w ∷ []) e = go (leb low w) (ltb (w % 2 ^ 31) (2 ^ 27)) e
     go false b e = let z : _≡_ {A = ℕ} 0 1 = cc in absurd (omega arith)
 whole-from i low (w ∷ m ∷ ws) e = go (both (leb low w) (both (ltb (w % 2 ^ 31) (2 ^ 27)) (ltb 0 m))) e (whole-from (i + 1) (w + 1) ws)
   where
-    go : (a : Bool) → elim a [ true ↦ brokenFrom (w + 1) (pairsFrom (i + 1) ws) | false ↦ some i ] ≡ none
+    go : (a : Bool) → _≡_ {A = Option ℕ} (elim a [ true ↦ brokenFrom (w + 1) (pairsFrom (i + 1) ws) | false ↦ some i ]) none
         → (brokenFrom (w + 1) (pairsFrom (i + 1) ws) ≡ none → length ws % 2 ≡ 0) → suc (suc (length ws)) % 2 ≡ 0
     go true e r = omega (arith, r e)
     go false e r = let z : _≡_ {A = ℕ} 0 1 = cc in absurd (omega arith)
