@@ -39,3 +39,21 @@ fn try_pieces(set: &[u32], table: &mut [u32], keys: &mut [u64], scratch: &mut [u
     pieces::order(set, &mut keys[..count], scratch, k);
     tries::try_size(set, &keys[..count], table, lanes, k)
 }
+
+// The sizes n, n/2, n/4 .. 1, up to the first that places all: then true, with its lanes in the table. Else the table is empty.
+fn search_sizes(set: &[u32], table: &mut [u32], keys: &mut [u64], scratch: &mut [u64], lanes: usize) -> bool
+    requires { ⌜ Searchable (now set) (length (now table)) (length (now keys)) (length (now scratch)) lanes ⌝ }
+    ensures { λ r. ⌜ r ≡ isWon (lanesOf lanes (pairsOf (now (set .entry)))) ⌝ }
+    ensures { λ _. ⌜ now (table .exit) ≡ tableAfter lanes (lanesOf lanes (pairsOf (now (set .entry)))) ⌝ }
+{
+    let mut k = set.len() / 2;
+    clear(table);
+    while 0 < k {
+        if try_pieces(set, table, keys, scratch, lanes, k) {
+            return true;
+        }
+        clear(table);
+        k /= 2;
+    }
+    false
+}
