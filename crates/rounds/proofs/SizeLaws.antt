@@ -1,10 +1,10 @@
 -- A try at a piece size in the code's terms, and one size more of the search.
 -- Assumes nothing.
-use mathlib.Core.Path.{_≡_, refl, sym, ap, _∙_}
+use mathlib.Core.Path.{_≡_, refl, sym, ap, subst, _∙_}
 use mathlib.Core.Bool.{Bool, true, false}
 use mathlib.Core.Option.{Option, none, some}
 use mathlib.Core.List.{List, [], _++_, append-nil}
-use Prim.Native.Nat.{ℕ, _+_, _*_, _-_, _/_, _≤_, _<_}
+use Prim.Native.Nat.{ℕ, _+_, _*_, _-_, _/_, _%_, _≤_, _<_}
 use native.Mathlib.Nat.{le-refl, lt-of-le-of-lt}
 use native.Mathlib.Omega.{arith}
 use lib.Dec.{lit<}
@@ -21,6 +21,9 @@ use Rattle.pieces.proofs.KeyLaws.{count-le}
 use Rattle.pieces.proofs.RunLaws.{run-is}
 use Rattle.rounds.specs.Rounds.{isWon, tableAfter, Searchable}
 
+pub zeros-length : {t : List ℕ} {n : ℕ} → t ≡ replicate n 0 → length t ≡ n
+zeros-length {t} {n} e = ap length e ∙ length-replicate n 0
+
 -- ---- a try at size k
 
 module _ {ws : List ℕ} {t K S L k : ℕ} (s : Searchable ws t K S L) (h : 0 < k) where
@@ -35,7 +38,7 @@ module _ {ws : List ℕ} {t K S L k : ℕ} (s : Searchable ws t K S L) (h : 0 < 
 
   pub ready : (table : List ℕ) → table ≡ replicate (32 * L) 0 → k ≤ length ws / 2 → Ready ws table L k
   ready table e l =
-      let n : length table ≡ 32 * L = ap length e ∙ length-replicate (32 * L) 0 in
+      let n : length table ≡ 32 * L = zeros-length e in
       record {
         whole = s .whole;
         pairs = s .few;
@@ -64,21 +67,43 @@ front-room keys rest m e = omega (arith, length-append keys rest)
 
 -- ---- one size more
 
+-- from size k on the search ends as it does from the first
+abbrev pub Left : ℕ → List Pair → ℕ → Type 0
+Left L ps k = (k ≤ length ps) × (firstWin L ps 14 k ≡ lanesOf L ps)
+
+pub left-start : (L : ℕ) (ps : List Pair) → Left L ps (length ps)
+left-start L ps = (le-refl (length ps), refl)
+
+pub pairs-whole : (ws : List ℕ) → length ws % 2 ≡ 0 → length (pairsOf ws) ≡ length ws / 2
+pairs-whole ws h = omega (arith, pairs-length 0 ws)
+
+module _ {ws : List ℕ} {t K S L : ℕ} (s : Searchable ws t K S L) where
+  pub search-few : length (pairsOf ws) ≤ 8192
+  search-few = omega (arith, pairs-length 0 ws, s .few)
+
+  pub search-still : (t′ K′ S′ : ℕ) → t′ ≡ 32 * L → K′ ≡ K → S′ ≡ S → Searchable ws t′ K′ S′ L
+  search-still t′ K′ S′ et eK eS = record {
+    whole = s .whole;
+    few = s .few;
+    masks = s .masks;
+    room = et;
+    some-lanes = s .some-lanes;
+    few-lanes = s .few-lanes;
+    keys-room = rw eK (s .keys-room);
+    scratch-room = rw eS (s .scratch-room);
+  }
+
+  pub search-start : Left L (pairsOf ws) (length ws / 2)
+  search-start = subst (λ (k : ℕ). Left L (pairsOf ws) k) (pairs-whole ws (s .whole)) (left-start L (pairsOf ws))
+
 module _ (L : ℕ) (ps : List Pair) (few : length ps ≤ 8192) where
-  -- from size k on the search ends as it does from the first
-  abbrev pub Left : ℕ → Type 0
-  Left k = (k ≤ length ps) × (firstWin L ps 14 k ≡ lanesOf L ps)
-
-  pub left-start : Left (length ps)
-  left-start = (le-refl (length ps), refl)
-
-  pub left-end : (k : ℕ) → k ≤ 0 → Left k → lanesOf L ps ≡ none
+  pub left-end : (k : ℕ) → k ≤ 0 → Left L ps k → lanesOf L ps ≡ none
   left-end k h l = let z : k ≡ 0 = omega arith in sym (l .1) ∙ rw z (win-none L ps 14)
 
-  pub left-on : (k : ℕ) → 0 < k → Left k → (r : Bool) → r ≡ isAll (try L ps k) → r ≡ false → Left (k / 2)
+  pub left-on : (k : ℕ) → 0 < k → Left L ps k → (r : Bool) → r ≡ isAll (try L ps k) → r ≡ false → Left L ps (k / 2)
   left-on k h l r e f = go (try L ps k) refl
     where
-      go : (T : Tried) → try L ps k ≡ T → Left (k / 2)
+      go : (T : Tried) → try L ps k ≡ T → Left L ps (k / 2)
       go (all lanes) t =
           let q : true ≡ false = sym (rw t at e) ∙ f in
           let z : _≡_ {A = ℕ} 0 1 = cc in
@@ -88,7 +113,7 @@ module _ (L : ℕ) (ps : List Pair) (few : length ps ≤ 8192) where
           let same = win-fuel L ps 13 14 (k / 2) (lt-of-le-of-lt few-left (lit< tt)) (lt-of-le-of-lt few-left (lit< tt)) in
           (omega arith, sym (win-stuck L ps 13 k lanes h t ∙ same) ∙ l .1)
 
-  pub left-won : (k : ℕ) → 0 < k → Left k → (r : Bool) → r ≡ isAll (try L ps k) → r ≡ true → (table : List ℕ) → table ≡ tableOf (lanesIn (try L ps k))
+  pub left-won : (k : ℕ) → 0 < k → Left L ps k → (r : Bool) → r ≡ isAll (try L ps k) → r ≡ true → (table : List ℕ) → table ≡ tableOf (lanesIn (try L ps k))
       → (true ≡ isWon (lanesOf L ps)) × (table ≡ tableAfter L (lanesOf L ps))
   left-won k h l r e f table et = go (try L ps k) refl
     where
