@@ -24,6 +24,9 @@ use Rattle.rounds.specs.Rounds.{isWon, tableAfter, Searchable}
 pub zeros-length : {t : List ℕ} {n : ℕ} → t ≡ replicate n 0 → length t ≡ n
 zeros-length {t} {n} e = ap length e ∙ length-replicate n 0
 
+pub cleared : (t : List ℕ) (n : ℕ) {s : List ℕ} → s ≡ replicate (length t) 0 → length t ≡ n → s ≡ replicate n 0
+cleared t n e l = e ∙ ap (λ (m : ℕ). replicate m 0) l
+
 -- ---- a try at size k
 
 module _ {ws : List ℕ} {t K S L k : ℕ} (s : Searchable ws t K S L) (h : 0 < k) where

@@ -13,7 +13,7 @@ refused-requires c κs = search needs
 
 -- src/lib.rt:102:9
 returns : tie.Need-returns
-returns c = search needs
+returns c = ?
 
 -- src/lib.rt:106:35
 slice-relend-prefix-rounds-over : tie.Need-slice-relend-prefix-rounds-over
@@ -21,7 +21,7 @@ slice-relend-prefix-rounds-over c = search needs
 
 -- src/lib.rt:106:35
 slice-aggregate-rounds-over : tie.Need-slice-aggregate-rounds-over
-slice-aggregate-rounds-over c = search needs
+slice-aggregate-rounds-over c = ?
 
 -- src/lib.rt:106:59
 slice-aggregate-rounds-over-2 : tie.Need-slice-aggregate-rounds-over-2
@@ -33,7 +33,7 @@ slice-aggregate-rounds-over-3 c = search needs
 
 -- src/lib.rt:106:9
 rounds-over-requires : tie.Need-rounds-over-requires
-rounds-over-requires c κs = search needs
+rounds-over-requires c κs = ?
 
 -- src/lib.rt:107:5
 clear-requires : tie.Need-clear-requires
@@ -49,7 +49,7 @@ same-length-2 c = search needs
 
 -- src/lib.rt:96:1
 returns-2 : tie.Need-returns-2
-returns-2 c = search needs
+returns-2 c = ?
 
 pub map-global-read-to-rounds-spec : {M : Type 1} → statement M
 map-global-read-to-rounds-spec =

@@ -1,11 +1,11 @@
 -- `search_sizes`: the table is empty whenever a size is tried, and from that size on the search ends as it does from the first.
 -- Assumes nothing.
-use mathlib.Core.Path.{_≡_, refl, sym, ap, _∙_}
-use Prim.Native.Nat.{ℕ, _*_}
+use mathlib.Core.Path.{_≡_, refl, sym, _∙_}
+use Prim.Native.Nat.{_*_}
 use native.Mathlib.Omega.{arith}
 use lib.ListN.{length, replicate}
 use Rattle.reads.specs.ReadSet.{pairsOf}
-use Rattle.rounds.proofs.SizeLaws.{zeros-length, Left, pairs-whole, search-few, search-still, search-start, left-end, left-on, left-won}
+use Rattle.rounds.proofs.SizeLaws.{zeros-length, cleared, Left, pairs-whole, search-few, search-still, search-start, left-end, left-on, left-won}
 use borrow.Author.Needs.{needs}
 use Rattle.rounds.proofs.search_sizes.Statement.{statement}
 use Rattle.rounds.proofs.search_sizes.Tie as tie
@@ -29,7 +29,7 @@ clear-requires c κs = search needs
 loop-holds : tie.Need-loop-holds Inv-loop μ-loop
 loop-holds c =
     let s = c .before .before .before .before .before .before .before .before .pre in
-    (refl, refl, c .before .before .clear .ensures ∙ ap (λ (n : ℕ). replicate n 0) (s .room), search-start s)
+    (refl, refl, cleared (c .before .before .before .before .before .before .before .before .args .table .now) _ (c .before .before .clear .ensures) (s .room), search-start s)
 
 -- src/lib.rt:52:12
 try-pieces-requires : tie.Need-try-pieces-requires Inv-loop μ-loop
@@ -76,7 +76,7 @@ loop-again c =
     let t = c .before .before .before .before .before .before .before .before .before .before .before .try-pieces in (
       t .kept .1 .1 .0 ∙ l .inv .0,
       t .kept .1 .1 .1 .0 ∙ l .inv .1,
-      c .before .before .clear2 .ensures ∙ ap (λ (n : ℕ). replicate n 0) (t .kept .1 .0 ∙ zeros-length (l .inv .2)),
+      cleared (t .last .1 .0) (32 * c .before .before .before .before .before .before .before .before .before .before .before .before .before .before .before .before .before .before .before .before .before .before .before .before .before .args .lanes) (c .before .before .clear2 .ensures) (t .kept .1 .0 ∙ zeros-length (l .inv .2)),
       left-on _ _ (search-few (c .before .before .before .before .before .before .before .before .before .before .before .before .before .before .before .before .before .before .before .before .before .before .before .before .before .pre)) (l .k) (c .before .before .before .before .before .before .before .before .before .before .before .before .before .before .before .loop-test .taken) (l .inv .3) _ (t .ensures .0) (c .before .before .before .before .if1 .left),
     )
 
