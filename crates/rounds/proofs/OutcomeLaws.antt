@@ -9,8 +9,8 @@ use native.Mathlib.Nat.{le-trans, mul-le-mul-left, mul-le-mul-right}
 use native.Mathlib.Omega.{arith}
 use borrow.Author.Tests.{le-leb, lt-leb, lt-ltb, le-ltb}
 use lib.Dec.{leb, ltb}
-use lib.ListN.{length, getD, replicate}
-use lib.Seq.{sets}
+use lib.ListN.{length, getD, take, drop, replicate, length-append, length-drop}
+use lib.Seq.{sets, length-take-le}
 use Rattle.reads.specs.ReadSet.{Pair, pairsOf, broken}
 use Rattle.reads.specs.Search.{Lane, Tried, all, lanesOf, longest}
 use Rattle.reads.specs.Words.{readSection, roundsFrom}
@@ -147,7 +147,31 @@ module _ {ws : List ℕ} {t K S L : ℕ} (s : Searchable ws t K S L) where
             same = filled-lanes kept [] filled;
           }
 
--- ---- the room
-
+-- the words of 32 rounds of 256 lanes
 pub size-fits : (L n : ℕ) → L ≤ 256 → n ≤ 32 → 2 * L * n ≤ 16384
 size-fits L n h l = le-trans (mul-le-mul-left (2 * L) l) (omega arith)
+
+-- ---- 32 before all others
+
+-- what is promised of an answer, a result and a room
+abbrev pub Promised : (L : ℕ) (ws out room : List ℕ) → Rounds → (out′ room′ : List ℕ) → Type 0
+Promised L ws out room r out′ room′ =
+    (r ≡ roundsOf (outcome L ws (length out) (length room))) × ((out′ ≡ resultAfter (outcome L ws (length out) (length room)) out) × (room′ ≡ roomAfter room))
+
+pub short-post : (L : ℕ) (ws out room : List ℕ) (r : Rounds) → length room < 16384 → r ≡ roundsOf (refused 32 0) → Promised L ws out room r out room
+unfolding outcome resultAfter roomAfter
+short-post L ws out room r h e =
+    let t : leb 16384 (length room) ≡ false = lt-leb 16384 (length room) h in
+    (rw (t, outcome) e, (rw (t, outcome, resultAfter), rw (t, roomAfter)))
+
+pub long-post : (L : ℕ) (ws out room : List ℕ) (r : Rounds) (out′ room′ used : List ℕ) → 16384 ≤ length room → r ≡ roundsOf (end L ws (length out))
+    → out′ ≡ resultAfter (end L ws (length out)) out → room′ ≡ replicate (length used) 0 → length used ≡ length room → Promised L ws out room r out′ room′
+unfolding outcome roomAfter
+long-post L ws out room r out′ room′ used h er eo em n =
+    let t : leb 16384 (length room) ≡ true = le-leb 16384 (length room) h in
+    let o : outcome L ws (length out) (length room) ≡ end L ws (length out) = rw (t, outcome) in
+    (rw o er, (rw o eo, em ∙ rw (t, roomAfter, n)))
+
+-- a part comes back as long as it was lent
+pub part-length : (n : ℕ) (l part : List ℕ) → n ≤ length l → length part ≡ length (take n l) → length (part ++ drop n l) ≡ length l
+part-length n l part h e = omega (arith, length-append part (drop n l), length-take-le n l h, length-drop n l)
