@@ -8,14 +8,13 @@ ghost use Rattle.reads.specs.Outcome.{refused, readSet, fitted, outcome, result
 ghost use Rattle.tries.specs.Table.{tableOf};
 ghost use Rattle.tries.specs.Tries.{isAll, lanesIn};
 ghost use Rattle.rounds.specs.Rounds.{roundsOf, isWon, tableAfter, Searchable, Solvable};
-
 use words::edition::Edition;
-use words::refusals::{MANY_PAIRS, NOTHING_TO_READ, NO_ROOM_FOUND, PAIR_FORM, RESULT_SHORT, ROOM_SHORT, Refusal};
+use words::refusals;
 
 // The number of rounds that were written, or the refusal.
 pub enum Rounds {
     Placed(u32),
-    Refused(Refusal),
+    Refused(refusals::Refusal),
 }
 
 // Zeros everywhere.
@@ -30,7 +29,14 @@ pub fn clear(s: &mut [u32])
 }
 
 // A try at piece size k: the pieces are put in order, and their pairs placed in the empty table.
-fn try_pieces(set: &[u32], table: &mut [u32], keys: &mut [u64], scratch: &mut [u64], lanes: usize, k: usize) -> bool
+fn try_pieces(
+    set: &[u32],
+    table: &mut [u32],
+    keys: &mut [u64],
+    scratch: &mut [u64],
+    lanes: usize,
+    k: usize,
+) -> bool
     requires { ⌜ Searchable (now set) (length (now table)) (length (now keys)) (length (now scratch)) lanes × (0 < k) × (k ≤ length (now set) / 2) × (now table ≡ replicate (32 * lanes) 0) ⌝ }
     ensures { λ r. ⌜ r ≡ isAll (try lanes (pairsOf (now (set .entry))) k) ⌝ }
     ensures { λ _. ⌜ now (table .exit) ≡ tableOf (lanesIn (try lanes (pairsOf (now (set .entry))) k)) ⌝ }
@@ -41,7 +47,13 @@ fn try_pieces(set: &[u32], table: &mut [u32], keys: &mut [u64], scratch: &mut [u
 }
 
 // The sizes n, n/2, n/4 .. 1, up to the first that places all: then true, with its lanes in the table. Else the table is empty.
-fn search_sizes(set: &[u32], table: &mut [u32], keys: &mut [u64], scratch: &mut [u64], lanes: usize) -> bool
+pub fn search_sizes(
+    set: &[u32],
+    table: &mut [u32],
+    keys: &mut [u64],
+    scratch: &mut [u64],
+    lanes: usize,
+) -> bool
     requires { ⌜ Searchable (now set) (length (now table)) (length (now keys)) (length (now scratch)) lanes ⌝ }
     ensures { λ r. ⌜ r ≡ isWon (lanesOf lanes (pairsOf (now (set .entry)))) ⌝ }
     ensures { λ _. ⌜ now (table .exit) ≡ tableAfter lanes (lanesOf lanes (pairsOf (now (set .entry)))) ⌝ }
@@ -58,37 +70,49 @@ fn search_sizes(set: &[u32], table: &mut [u32], keys: &mut [u64], scratch: &mut 
     false
 }
 
+// A refusal of a read set: its part is 0.
 fn refused(number: u32, item: u64) -> Rounds
     ensures { λ r. ⌜ r ≡ roundsOf (refused number item) ⌝ }
 {
-    Rounds::Refused(Refusal { number, part: 0, item })
+    Rounds::Refused(refusals::Refusal {
+        number,
+        part: 0,
+        item,
+    })
 }
 
 // The rounds of a set over any number of lanes: the table has 32 words a lane. What the table, the keys and the scratch hold afterwards is
 // left open.
-fn rounds_over(set: &[u32], table: &mut [u32], out: &mut [u32], keys: &mut [u64], scratch: &mut [u64], lanes: usize) -> Rounds
+pub fn rounds_over(
+    set: &[u32],
+    table: &mut [u32],
+    out: &mut [u32],
+    keys: &mut [u64],
+    scratch: &mut [u64],
+    lanes: usize,
+) -> Rounds
     requires { ⌜ Solvable (length (now table)) (length (now keys)) (length (now scratch)) lanes ⌝ }
     ensures { λ r. ⌜ r ≡ roundsOf (fitted lanes (length (now (out .entry))) (readSet lanes (pairsOf (now (set .entry))))) ⌝ }
     ensures { λ _. ⌜ now (out .exit) ≡ resultAfter (fitted lanes (length (now (out .entry))) (readSet lanes (pairsOf (now (set .entry))))) (now (out .entry)) ⌝ }
 {
     if 16384 < set.len() {
-        return refused(MANY_PAIRS, 0);
+        return refused(refusals::MANY_PAIRS, 0);
     }
     if let readout::Form::Bad(i) = readout::check_form(set) {
-        return refused(PAIR_FORM, i as u64);
+        return refused(refusals::PAIR_FORM, i as u64);
     }
     if set.len() == 0 {
-        return refused(NOTHING_TO_READ, 0);
+        return refused(refusals::NOTHING_TO_READ, 0);
     }
     if search_sizes(set, table, keys, scratch, lanes) {
         let rounds = readout::longest_row(set, table, lanes);
         if out.len() < 2 * lanes * rounds {
-            return refused(RESULT_SHORT, 0);
+            return refused(refusals::RESULT_SHORT, 0);
         }
         readout::write_rounds(set, table, lanes, rounds, out);
         return Rounds::Placed(rounds as u32);
     }
-    refused(NO_ROOM_FOUND, 0)
+    refused(refusals::NO_ROOM_FOUND, 0)
 }
 
 // The rounds of a read set at 256 lanes: word, mask, word, mask .. in; per round 512 words out. The answer, the lent result and the lent
@@ -99,11 +123,18 @@ pub fn map_global_read_to_rounds(set: &[u32], room: &mut [u32], out: &mut [u32])
     ensures { λ _. ⌜ now (room .exit) ≡ roomAfter (now (room .entry)) ⌝ }
 {
     if room.len() < 16384 {
-        return refused(ROOM_SHORT, 0);
+        return refused(refusals::ROOM_SHORT, 0);
     }
     let mut keys = [0u64; 8192];
     let mut scratch = [0u64; 8192];
-    let answer = rounds_over(set, &mut room[..8192], out, &mut keys, &mut scratch, Edition::LANES);
+    let answer = rounds_over(
+        set,
+        &mut room[..8192],
+        out,
+        &mut keys,
+        &mut scratch,
+        Edition::LANES,
+    );
     clear(room);
     answer
 }

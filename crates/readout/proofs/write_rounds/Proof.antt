@@ -56,7 +56,7 @@ loop-again c =
       at-next (2 * a .args .lanes) (l .r) (l .at) (l .inv .1),
       c .before .before .write-round .kept .1 .1 .1 .1 .0 ∙ l .inv .2,
       rw (c .before .before .write-round .ensures)
-      (rounds-step _ (a .args .rounds) (l .out) (l .at) (l .r) (a .args .lanes) (a .pre .table .filled .kept .wide) (c .before .before .before .before .loop-test .taken) ∙ l .inv .3),
+          (rounds-step _ (a .args .rounds) (l .out) (l .at) (l .r) (a .args .lanes) (a .pre .table .filled .kept .wide) (c .before .before .before .before .loop-test .taken) ∙ l .inv .3),
     )
 
 same-length : tie.Need-same-length Inv-loop μ-loop
