@@ -2,22 +2,22 @@
 -- Assumes nothing.
 use mathlib.Core.Path.{_≡_, refl, sym, ap, _∙_}
 use mathlib.Core.List.{List, [], _∷_, _++_}
-use Prim.Native.Nat.{ℕ, zero, suc, _+_, _*_, _-_, _/_, _≤_, _<_, max}
-use native.Mathlib.Nat.{zero-add, add-zero, add-suc, suc-add, mul-suc, mul-le-mul-left, not-suc-le-zero, le-of-suc-le-suc, sub-zero}
+use Prim.Native.Nat.{ℕ, zero, suc, _+_, _*_, _-_, _≤_, _<_, max}
+use native.Mathlib.Nat.{zero-add, add-zero, add-suc, suc-add, mul-suc, mul-le-mul-left, not-suc-le-zero, le-of-suc-le-suc}
 use native.Mathlib.Numerals.{add-one, sub-one}
 use native.Mathlib.Omega.{arith}
-use lib.ListN.{length, getD, set, take, drop, length-take, drop-of-length-le, List·getD-append}
+use lib.ListN.{length, getD, set, drop, length-take, drop-of-length-le, List·getD-append}
 use lib.Seq.{drop-cons, sets, getD-append-add}
 use Rattle.reads.specs.ReadSet.{Pair}
 use Rattle.reads.specs.Search.{Lane, longest}
-use Rattle.reads.specs.Words.{placeWords, roundWords, roundsFrom}
+use Rattle.reads.specs.Words.{roundWords, roundsFrom}
 use Rattle.reads.specs.Local.{wordIn, maskIn}
 use Rattle.reads.proofs.SectionWordLaws.{place-words, round-length}
 use Rattle.tries.specs.Table.{row, tableOf}
-use Rattle.tries.specs.Decoded.{pairAt, laneOf, rowAt, lanesAt, Each, Drawn, Sound, Filled}
+use Rattle.tries.specs.Decoded.{laneOf, rowAt, lanesAt, Each, Drawn}
 use Rattle.tries.specs.Tries.{RowIn}
-use Rattle.tries.proofs.TableLaws.{row-length, row-at-word, lane-at, kept-sound, filled-length, filled-in-room, filled-named}
-use Rattle.readout.specs.Readout.{entryWord, Readable, Writable}
+use Rattle.tries.proofs.TableLaws.{row-length, row-at-word, lane-at, kept-sound, filled-length, filled-named}
+use Rattle.readout.specs.Readout.{entryWord, Readable}
 
 -- ---- the table, word by word
 
@@ -86,7 +86,6 @@ module _ {ws t : List ℕ} {L : ℕ} (h : Readable ws t L) where
 
   pub read-row : (j : ℕ) → j < L → RowIn ws t j
   read-row j l = record {
-    few = omega (arith, h .few);
     in-room = omega (arith, h .in-room);
     row = record {
       short = omega (arith, length-take 32 (drop (32 * j) t));

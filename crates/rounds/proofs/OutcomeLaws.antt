@@ -4,19 +4,18 @@ use mathlib.Core.Path.{_≡_, refl, sym, ap, subst, _∙_}
 use mathlib.Core.Bool.{Bool, true, false}
 use mathlib.Core.Option.{Option, none, some}
 use mathlib.Core.List.{List, [], _++_, append-nil}
-use Prim.Native.Nat.{ℕ, _+_, _*_, _/_, _%_, _^_, _≤_, _<_}
-use native.Mathlib.Nat.{le-trans, mul-le-mul-left, mul-le-mul-right}
+use Prim.Native.Nat.{ℕ, _+_, _*_, _/_, _^_, _≤_, _<_}
+use native.Mathlib.Nat.{le-trans, mul-le-mul-left}
 use native.Mathlib.Omega.{arith}
 use borrow.Author.Tests.{le-leb, lt-leb, lt-ltb, le-ltb}
 use lib.Dec.{leb, ltb}
 use lib.ListN.{length, getD, take, drop, replicate, length-append, length-drop}
 use lib.Seq.{sets, length-take-le}
-use Rattle.reads.specs.ReadSet.{Pair, pairsOf, broken}
+use Rattle.reads.specs.ReadSet.{pairsOf, broken}
 use Rattle.reads.specs.Search.{Lane, Tried, all, lanesOf, longest}
-use Rattle.reads.specs.Words.{readSection, roundsFrom}
+use Rattle.reads.specs.Words.{roundsFrom}
 use Rattle.reads.specs.Outcome.{Outcome, placed, refused, packed, readSet, fitted, outcome, resultAfter, roomAfter}
 use Rattle.reads.proofs.SearchLaws.{win-first}
-use Rattle.reads.proofs.OutcomeLaws.{placed-sound}
 use Rattle.tries.specs.Table.{tableOf}
 use Rattle.tries.specs.Tries.{lanesIn, triedOf}
 use Rattle.tries.specs.Decoded.{lanesAt, Kept}
@@ -24,7 +23,7 @@ use Rattle.tries.proofs.PairLaws.{pairs-length}
 use Rattle.tries.proofs.TableLaws.{filled-of, filled-lanes}
 use Rattle.tries.proofs.TryLaws.{tried-kept}
 use Rattle.pieces.specs.Keys.{keysOf}
-use Rattle.readout.specs.Readout.{Readable, Writable}
+use Rattle.readout.specs.Readout.{Readable}
 use Rattle.readout.proofs.FormLaws.{form-whole, form-masks}
 use Rattle.rounds.specs.declared.Rounds.{Rounds}
 use Rattle.rounds.specs.declared.Rounds.the-variants.{Placed}

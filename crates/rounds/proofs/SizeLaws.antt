@@ -2,16 +2,16 @@
 -- Assumes nothing.
 use mathlib.Core.Path.{_≡_, refl, sym, ap, subst, _∙_}
 use mathlib.Core.Bool.{Bool, true, false}
-use mathlib.Core.Option.{Option, none, some}
+use mathlib.Core.Option.{none, some}
 use mathlib.Core.List.{List, [], _++_, append-nil}
 use Prim.Native.Nat.{ℕ, _+_, _*_, _-_, _/_, _%_, _≤_, _<_}
 use native.Mathlib.Nat.{le-refl, lt-of-le-of-lt}
 use native.Mathlib.Omega.{arith}
 use lib.Dec.{lit<}
-use lib.ListN.{length, take, drop, replicate, length-append, length-take, length-replicate, drop-of-length-le}
-use lib.Seq.{take-at, take-all}
+use lib.ListN.{length, drop, replicate, length-append, length-replicate, drop-of-length-le}
+use lib.Seq.{take-all}
 use Rattle.reads.specs.ReadSet.{Pair, pairsOf}
-use Rattle.reads.specs.Search.{Lane, Tried, all, stuck, tryFrom, try, firstWin, lanesOf}
+use Rattle.reads.specs.Search.{Tried, all, stuck, tryFrom, try, firstWin, lanesOf}
 use Rattle.reads.proofs.SearchLaws.{win-none, win-all, win-stuck, win-fuel}
 use Rattle.tries.specs.Table.{tableOf}
 use Rattle.tries.specs.Tries.{isAll, lanesIn, triedOf, Ready}

@@ -9,18 +9,12 @@ ghost use Rattle.tries.specs.Table.{tableOf};
 ghost use Rattle.tries.specs.Tries.{isAll, lanesIn};
 ghost use Rattle.rounds.specs.Rounds.{roundsOf, isWon, tableAfter, Searchable, Solvable};
 use words::edition::Edition;
-use words::refusals::MANY_PAIRS;
-use words::refusals::NO_ROOM_FOUND;
-use words::refusals::NOTHING_TO_READ;
-use words::refusals::PAIR_FORM;
-use words::refusals::RESULT_SHORT;
-use words::refusals::ROOM_SHORT;
-use words::refusals::Refusal;
+use words::refusals;
 
 // The number of rounds that were written, or the refusal.
 pub enum Rounds {
     Placed(u32),
-    Refused(Refusal),
+    Refused(refusals::Refusal),
 }
 
 // Zeros everywhere.
@@ -53,7 +47,7 @@ fn try_pieces(
 }
 
 // The sizes n, n/2, n/4 .. 1, up to the first that places all: then true, with its lanes in the table. Else the table is empty.
-fn search_sizes(
+pub fn search_sizes(
     set: &[u32],
     table: &mut [u32],
     keys: &mut [u64],
@@ -76,10 +70,11 @@ fn search_sizes(
     false
 }
 
+// A refusal of a read set: its part is 0.
 fn refused(number: u32, item: u64) -> Rounds
     ensures { λ r. ⌜ r ≡ roundsOf (refused number item) ⌝ }
 {
-    Rounds::Refused(Refusal {
+    Rounds::Refused(refusals::Refusal {
         number,
         part: 0,
         item,
@@ -88,7 +83,7 @@ fn refused(number: u32, item: u64) -> Rounds
 
 // The rounds of a set over any number of lanes: the table has 32 words a lane. What the table, the keys and the scratch hold afterwards is
 // left open.
-fn rounds_over(
+pub fn rounds_over(
     set: &[u32],
     table: &mut [u32],
     out: &mut [u32],
@@ -101,23 +96,23 @@ fn rounds_over(
     ensures { λ _. ⌜ now (out .exit) ≡ resultAfter (fitted lanes (length (now (out .entry))) (readSet lanes (pairsOf (now (set .entry))))) (now (out .entry)) ⌝ }
 {
     if 16384 < set.len() {
-        return refused(MANY_PAIRS, 0);
+        return refused(refusals::MANY_PAIRS, 0);
     }
     if let readout::Form::Bad(i) = readout::check_form(set) {
-        return refused(PAIR_FORM, i as u64);
+        return refused(refusals::PAIR_FORM, i as u64);
     }
     if set.len() == 0 {
-        return refused(NOTHING_TO_READ, 0);
+        return refused(refusals::NOTHING_TO_READ, 0);
     }
     if search_sizes(set, table, keys, scratch, lanes) {
         let rounds = readout::longest_row(set, table, lanes);
         if out.len() < 2 * lanes * rounds {
-            return refused(RESULT_SHORT, 0);
+            return refused(refusals::RESULT_SHORT, 0);
         }
         readout::write_rounds(set, table, lanes, rounds, out);
         return Rounds::Placed(rounds as u32);
     }
-    refused(NO_ROOM_FOUND, 0)
+    refused(refusals::NO_ROOM_FOUND, 0)
 }
 
 // The rounds of a read set at 256 lanes: word, mask, word, mask .. in; per round 512 words out. The answer, the lent result and the lent
@@ -128,7 +123,7 @@ pub fn map_global_read_to_rounds(set: &[u32], room: &mut [u32], out: &mut [u32])
     ensures { λ _. ⌜ now (room .exit) ≡ roomAfter (now (room .entry)) ⌝ }
 {
     if room.len() < 16384 {
-        return refused(ROOM_SHORT, 0);
+        return refused(refusals::ROOM_SHORT, 0);
     }
     let mut keys = [0u64; 8192];
     let mut scratch = [0u64; 8192];

@@ -1,7 +1,7 @@
 -- `map_global_read_to_rounds`: 32 before all others, and a room that is cleared whole.
 -- Assumes nothing.
 use mathlib.Core.Path.{sym}
-use mathlib.Core.List.{List, _++_}
+use mathlib.Core.List.{_++_}
 use Prim.Native.Nat.{_≤_}
 use native.Mathlib.Omega.{arith}
 use lib.ListN.{length, drop}
@@ -10,57 +10,41 @@ use Rattle.rounds.proofs.OutcomeLaws.{short-post, long-post, part-lengt
 use borrow.Author.Needs.{needs}
 use Rattle.rounds.proofs.map_global_read_to_rounds.Statement.{statement}
 use Rattle.rounds.proofs.map_global_read_to_rounds.Tie as tie
-use Rattle.rounds.proofs.map_global_read_to_rounds.Reads as reads
-use Rattle.rounds.proofs.map_global_read_to_rounds.Lts as lts
-use Rattle.rounds.proofs.clear.Reads as clear-reads
-use Rattle.rounds.proofs.refused.Reads as refused-reads
-use Rattle.rounds.proofs.rounds_over.Reads as rounds-over-reads
 
--- src/lib.rt:102:9
 refused-requires : tie.Need-refused-requires
 refused-requires c κs = search needs
 
--- src/lib.rt:102:9
 returns : tie.Need-returns
 returns c = short-post 256 (c .before .before .before .before .before .args .set .now) _ _ _ (c .before .if1 .taken) (c .refused .ensures)
 
--- src/lib.rt:106:35
 slice-relend-prefix-rounds-over : tie.Need-slice-relend-prefix-rounds-over
 slice-relend-prefix-rounds-over c = search needs
 
--- src/lib.rt:106:35
 slice-aggregate-rounds-over : tie.Need-slice-aggregate-rounds-over
 slice-aggregate-rounds-over c =
     let h : 8192 ≤ length (c .before .before .before .before .before .args .room .now) = omega arith in
     sym (length-take-le 8192 (c .before .before .before .before .before .args .room .now) h)
 
--- src/lib.rt:106:59
 slice-aggregate-rounds-over-2 : tie.Need-slice-aggregate-rounds-over-2
 slice-aggregate-rounds-over-2 c = search needs
 
--- src/lib.rt:106:70
 slice-aggregate-rounds-over-3 : tie.Need-slice-aggregate-rounds-over-3
 slice-aggregate-rounds-over-3 c = search needs
 
--- src/lib.rt:106:9
 rounds-over-requires : tie.Need-rounds-over-requires
 rounds-over-requires c κs =
     let h : 8192 ≤ length (c .before .before .before .before .before .before .before .before .args .room .now) = omega arith in
     record { room = length-take-le 8192 (c .before .before .before .before .before .before .before .before .args .room .now) h; some-lanes = search needs; few-lanes = search needs; keys-room = search needs; scratch-room = search needs }
 
--- src/lib.rt:107:5
 clear-requires : tie.Need-clear-requires
 clear-requires c κs = search needs
 
--- src/lib.rt:96:1
 same-length : tie.Need-same-length
 same-length c = search needs
 
--- src/lib.rt:96:1
 same-length-2 : tie.Need-same-length-2
 same-length-2 c = search needs
 
--- src/lib.rt:96:1
 returns-2 : tie.Need-returns-2
 returns-2 c =
     let a = c .before .before .before .before .before .before .before .before .before .before .before .before .before .before .before .before .before .before .before .args in

@@ -2,27 +2,18 @@
 -- Assumes nothing.
 use mathlib.Core.Path.{_≡_, sym, ap, _∙_}
 use mathlib.Core.Option.{none}
-use Prim.Native.Nat.{ℕ, _*_, _≤_}
+use Prim.Native.Nat.{_≤_}
 use native.Mathlib.Omega.{arith}
 use lib.ListN.{length}
 use Rattle.reads.specs.ReadSet.{pairsOf, broken}
 use Rattle.reads.specs.Search.{longest}
-use Rattle.reads.specs.Outcome.{placed, readSet}
 use Rattle.reads.proofs.OutcomeLaws.{placed-sound}
-use Rattle.readout.specs.Readout.{Readable, Writable}
 use Rattle.readout.proofs.FormLaws.{form-bad, form-good}
 use Rattle.rounds.specs.Rounds.{Searchable}
 use Rattle.rounds.proofs.OutcomeLaws.{is-many, is-bad, is-none, is-stuck, is-packed, is-short, is-placed, refused-post, placed-post, searchable, lost, Win, won, size-fits}
 use borrow.Author.Needs.{needs}
 use Rattle.rounds.proofs.rounds_over.Statement.{statement}
 use Rattle.rounds.proofs.rounds_over.Tie as tie
-use Rattle.rounds.proofs.rounds_over.Reads as reads
-use Rattle.rounds.proofs.rounds_over.Lts as lts
-use Rattle.readout.proofs.check_form.Reads as check-form-reads
-use Rattle.readout.proofs.longest_row.Reads as longest-row-reads
-use Rattle.readout.proofs.write_rounds.Reads as write-rounds-reads
-use Rattle.rounds.proofs.refused.Reads as refused-reads
-use Rattle.rounds.proofs.search_sizes.Reads as search-sizes-reads
 
 -- the set has the form
 form-in : (c : tie.After-enum-told) → broken (pairsOf (c .before .before .before .before .before .before .before .before .before .args .set .now)) ≡ none
@@ -49,27 +40,21 @@ few-in c =
     let sound = placed-sound (a .args .lanes) (a .args .set .now) (w .lanes) (a .pre .some-lanes) (λ x. c .before .before .before .before .before .before .before .before .before .before .before .before .before .before .before .before .before .before .before .before .before .before .shared-slice-known .given x .fits) packed in
     omega (arith, rounds-in c, sound .rounds .1)
 
--- src/lib.rt:75:9
 refused-requires : tie.Need-refused-requires
 refused-requires c κs = search needs
 
--- src/lib.rt:75:9
 returns : tie.Need-returns
 returns c = refused-post _ _ _ 1 0 (is-many (c .before .before .before .before .before .before .before .args .lanes) (c .before .before .before .before .before .before .before .args .set .now) _ (c .before .if1 .taken)) (c .refused .ensures)
 
--- src/lib.rt:77:36
 check-form-requires : tie.Need-check-form-requires
 check-form-requires c κs = search needs
 
--- src/lib.rt:77:31
 enum-known-i : tie.Need-enum-known-i
 enum-known-i c = search needs
 
--- src/lib.rt:78:9
 refused-requires-2 : tie.Need-refused-requires-2
 refused-requires-2 c κs = search needs
 
--- src/lib.rt:78:9
 returns-2 : tie.Need-returns-2
 returns-2 c =
     let a = c .before .before .before .before .before .before .before .before .before .before .before .args in
@@ -79,49 +64,38 @@ returns-2 c =
 enum-told : tie.Need-enum-told
 enum-told c = search needs
 
--- src/lib.rt:81:9
 refused-requires-3 : tie.Need-refused-requires-3
 refused-requires-3 c κs = search needs
 
--- src/lib.rt:81:9
 returns-3 : tie.Need-returns-3
 returns-3 c =
     let a = c .before .before .before .before .before .before .before .before .before .before .before .args in
     refused-post _ _ _ 3 0 (is-none (a .lanes) (a .set .now) _ (c .before .before .before .before .before .if1 .left) (form-in (c .before .before)) (c .before .if2 .taken)) (c .refused3 .ensures)
 
--- src/lib.rt:83:8
 search-sizes-requires : tie.Need-search-sizes-requires
 search-sizes-requires c κs = search-in (c .before .before .before)
 
--- src/lib.rt:84:13
 longest-row-requires : tie.Need-longest-row-requires
 longest-row-requires c κs = win-in (c .before) .readable
 
--- src/lib.rt:85:24
 mul-if4 : tie.Need-mul-if4
 mul-if4 c = search needs
 
--- src/lib.rt:85:24
 mul-if4-2 : tie.Need-mul-if4-2
 mul-if4-2 c = omega (arith, size-fits (c .before .before .before .before .before .before .before .before .before .before .before .before .before .before .before .before .before .before .before .before .before .before .before .args .lanes) _ (c .before .before .before .before .before .before .before .before .before .before .before .before .before .before .before .before .before .before .before .before .before .before .before .pre .few-lanes) (few-in c))
 
--- src/lib.rt:86:13
 refused-requires-4 : tie.Need-refused-requires-4
 refused-requires-4 c κs = search needs
 
--- src/lib.rt:86:13
 same-length : tie.Need-same-length
 same-length c = search needs
 
--- src/lib.rt:86:13
 same-length-2 : tie.Need-same-length-2
 same-length-2 c = search needs
 
--- src/lib.rt:86:13
 same-length-3 : tie.Need-same-length-3
 same-length-3 c = search needs
 
--- src/lib.rt:86:13
 returns-4 : tie.Need-returns-4
 returns-4 c =
     let a = c .before .before .before .before .before .before .before .before .before .before .before .before .before .before .before .before .before .before .before .before .before .before .before .before .before .args in
@@ -129,31 +103,24 @@ returns-4 c =
     let short = is-short (a .lanes) (a .set .now) _ (c .before .before .before .before .before .before .before .before .before .before .before .before .before .before .before .before .before .before .before .if1 .left) (form-in (c .before .before .before .before .before .before .before .before .before .before .before .before .before .before .before .before)) (c .before .before .before .before .before .before .before .before .before .before .before .before .before .before .before .if2 .left) (w .lanes) (w .found) (rw (rounds-in (c .before .before)) at (c .before .if4 .taken)) in
     refused-post _ _ _ 14 0 short (c .refused4 .ensures)
 
--- src/lib.rt:88:9
 write-rounds-requires : tie.Need-write-rounds-requires
 write-rounds-requires c κs = record { table = win-in (c .before .before .before .before .before) .readable; rounds = few-in (c .before .before .before); fits = c .before .before .if4 .left }
 
--- src/lib.rt:89:31
 cast-t31 : tie.Need-cast-t31
 cast-t31 c = omega (arith, few-in (c .before .before .before .before .before .before))
 
--- src/lib.rt:89:9
 same-length-4 : tie.Need-same-length-4
 same-length-4 c = search needs
 
--- src/lib.rt:89:9
 same-length-5 : tie.Need-same-length-5
 same-length-5 c = search needs
 
--- src/lib.rt:89:9
 same-length-6 : tie.Need-same-length-6
 same-length-6 c = search needs
 
--- src/lib.rt:89:9
 same-length-7 : tie.Need-same-length-7
 same-length-7 c = search needs
 
--- src/lib.rt:89:9
 returns-5 : tie.Need-returns-5
 returns-5 c =
     let a = c .before .before .before .before .before .before .before .before .before .before .before .before .before .before .before .before .before .before .before .before .before .before .before .before .before .before .before .before .before .args in
@@ -161,23 +128,18 @@ returns-5 c =
     let fits = is-placed (a .lanes) (a .set .now) _ (c .before .before .before .before .before .before .before .before .before .before .before .before .before .before .before .before .before .before .before .before .before .before .before .if1 .left) (form-in (c .before .before .before .before .before .before .before .before .before .before .before .before .before .before .before .before .before .before .before .before)) (c .before .before .before .before .before .before .before .before .before .before .before .before .before .before .before .before .before .before .before .if2 .left) (w .lanes) (w .found) (rw (rounds-in (c .before .before .before .before .before .before)) at (c .before .before .before .before .before .if4 .left)) in
     placed-post _ (w .lanes) _ _ (a .out .now) _ fits (w .same) (c .before .before .before .before .before .before .longest-row .ensures) (c .before .before .write-rounds .ensures)
 
--- src/lib.rt:91:5
 refused-requires-5 : tie.Need-refused-requires-5
 refused-requires-5 c κs = search needs
 
--- src/lib.rt:69:1
 same-length-8 : tie.Need-same-length-8
 same-length-8 c = search needs
 
--- src/lib.rt:69:1
 same-length-9 : tie.Need-same-length-9
 same-length-9 c = search needs
 
--- src/lib.rt:69:1
 same-length-10 : tie.Need-same-length-10
 same-length-10 c = search needs
 
--- src/lib.rt:69:1
 returns-6 : tie.Need-returns-6
 returns-6 c =
     let a = c .before .before .before .before .before .before .before .before .before .before .before .before .before .before .before .before .before .before .before .before .before .before .args in

@@ -9,10 +9,6 @@ use Rattle.rounds.proofs.SizeLaws.{zeros-length, cleared, Left, pairs-w
 use borrow.Author.Needs.{needs}
 use Rattle.rounds.proofs.search_sizes.Statement.{statement}
 use Rattle.rounds.proofs.search_sizes.Tie as tie
-use Rattle.rounds.proofs.search_sizes.Reads as reads
-use Rattle.rounds.proofs.search_sizes.Lts as lts
-use Rattle.rounds.proofs.clear.Reads as clear-reads
-use Rattle.rounds.proofs.try_pieces.Reads as try-pieces-reads
 
 abbrev Inv-loop : tie.InvT-loop
 Inv-loop set table₀ keys₀ scratch₀ lanes k₀ table keys scratch k =
@@ -21,17 +17,14 @@ Inv-loop set table₀ keys₀ scratch₀ lanes k₀ table keys scratch k =
 abbrev μ-loop : tie.MeasureT-loop
 μ-loop set table₀ keys₀ scratch₀ lanes k₀ table keys scratch k = k
 
--- src/lib.rt:50:5
 clear-requires : tie.Need-clear-requires Inv-loop μ-loop
 clear-requires c κs = search needs
 
--- src/lib.rt:51:5
 loop-holds : tie.Need-loop-holds Inv-loop μ-loop
 loop-holds c =
     let s = c .before .before .before .before .before .before .before .before .pre in
     (refl, refl, cleared (c .before .before .before .before .before .before .before .before .args .table .now) _ (c .before .before .clear .ensures) (s .room), search-start s)
 
--- src/lib.rt:52:12
 try-pieces-requires : tie.Need-try-pieces-requires Inv-loop μ-loop
 try-pieces-requires c κs =
     let s = c .before .before .before .before .before .before .before .before .before .before .before .before .before .pre in
@@ -42,34 +35,27 @@ try-pieces-requires c κs =
       l .inv .2,
     )
 
--- src/lib.rt:53:13
 same-length : tie.Need-same-length Inv-loop μ-loop
 same-length c = c .before .before .before .before .before .before .before .try-pieces .kept .1 .0 ∙ zeros-length (c .before .before .before .before .before .before .before .before .before .before .before .before .loop .inv .2) ∙ sym (c .before .before .before .before .before .before .before .before .before .before .before .before .before .before .before .before .before .before .before .before .before .pre .room)
 
--- src/lib.rt:53:13
 same-length-2 : tie.Need-same-length-2 Inv-loop μ-loop
 same-length-2 c = search needs
 
--- src/lib.rt:53:13
 same-length-3 : tie.Need-same-length-3 Inv-loop μ-loop
 same-length-3 c = search needs
 
--- src/lib.rt:53:13
 returns : tie.Need-returns Inv-loop μ-loop
 returns c =
     let l = c .before .before .before .before .before .before .before .before .before .before .before .before .loop in
     let e = c .before .before .before .before .before .before .before .try-pieces .ensures in
     left-won _ _ (search-few (c .before .before .before .before .before .before .before .before .before .before .before .before .before .before .before .before .before .before .before .before .before .pre)) (l .k) (c .before .before .before .before .before .before .before .before .before .before .before .loop-test .taken) (l .inv .3) _ (e .0) (c .if1 .taken) _ (e .1)
 
--- src/lib.rt:55:9
 clear-requires-2 : tie.Need-clear-requires-2 Inv-loop μ-loop
 clear-requires-2 c κs = search needs
 
--- src/lib.rt:51:5
 loop-less : tie.Need-loop-less Inv-loop μ-loop
 loop-less c = search needs
 
--- src/lib.rt:51:5
 loop-again : tie.Need-loop-again Inv-loop μ-loop
 loop-again c =
     let l = c .before .before .before .before .before .before .before .before .before .before .before .before .before .before .before .before .loop in
@@ -80,19 +66,15 @@ loop-again c =
       left-on _ _ (search-few (c .before .before .before .before .before .before .before .before .before .before .before .before .before .before .before .before .before .before .before .before .before .before .before .before .before .pre)) (l .k) (c .before .before .before .before .before .before .before .before .before .before .before .before .before .before .before .loop-test .taken) (l .inv .3) _ (t .ensures .0) (c .before .before .before .before .if1 .left),
     )
 
--- src/lib.rt:44:1
 same-length-4 : tie.Need-same-length-4 Inv-loop μ-loop
 same-length-4 c = zeros-length (c .before .loop .inv .2) ∙ sym (c .before .before .before .before .before .before .before .before .before .before .pre .room)
 
--- src/lib.rt:44:1
 same-length-5 : tie.Need-same-length-5 Inv-loop μ-loop
 same-length-5 c = search needs
 
--- src/lib.rt:44:1
 same-length-6 : tie.Need-same-length-6 Inv-loop μ-loop
 same-length-6 c = search needs
 
--- src/lib.rt:44:1
 returns-2 : tie.Need-returns-2 Inv-loop μ-loop
 returns-2 c =
     let l = c .before .loop in

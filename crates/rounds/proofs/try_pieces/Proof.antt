@@ -1,79 +1,57 @@
 -- `try_pieces`: the keys in order name the pairs that the definition's try places.
 -- Assumes nothing.
-use mathlib.Core.Path.{_≡_, refl, sym, ap, _∙_}
-use mathlib.Core.List.{List, _++_}
-use Prim.Native.Nat.{ℕ, _*_}
-use native.Mathlib.Omega.{arith}
-use lib.ListN.{length, take, length-take, length-replicate}
+use mathlib.Core.Path.{refl, sym, ap, _∙_}
+use mathlib.Core.List.{_++_}
 use lib.Seq.{take-at, length-take-le}
-use Rattle.reads.specs.ReadSet.{pairsOf}
-use Rattle.pieces.specs.Keys.{keysOf, Orderable}
 use Rattle.tries.specs.Tries.{isAll}
 use Rattle.rounds.proofs.SizeLaws.{count-few, orderable, ready, tried-is, tried-table, front-room}
 use borrow.Author.Needs.{needs}
 use Rattle.rounds.proofs.try_pieces.Statement.{statement}
 use Rattle.rounds.proofs.try_pieces.Tie as tie
-use Rattle.rounds.proofs.try_pieces.Reads as reads
-use Rattle.rounds.proofs.try_pieces.Lts as lts
-use Rattle.pieces.proofs.order.Reads as order-reads
-use Rattle.tries.proofs.try_size.Reads as try-size-reads
 
--- src/lib.rt:38:18
 add-count : tie.Need-add-count
 add-count c = search needs
 
--- src/lib.rt:38:18
 sub-count : tie.Need-sub-count
 sub-count c = search needs
 
--- src/lib.rt:38:17
 div-count : tie.Need-div-count
 div-count c = search needs
 
--- src/lib.rt:39:24
 slice-relend-prefix-order : tie.Need-slice-relend-prefix-order
 slice-relend-prefix-order c = count-few (c .before .before .before .before .pre .0) (c .before .before .before .before .pre .1)
 
--- src/lib.rt:39:24
 slice-aggregate-order : tie.Need-slice-aggregate-order
 slice-aggregate-order c = sym (length-take-le _ (c .before .before .before .before .before .args .keys .now) (count-few (c .before .before .before .before .before .pre .0) (c .before .before .before .before .before .pre .1)))
 
--- src/lib.rt:39:5
 order-requires : tie.Need-order-requires
 order-requires c κs =
     let a = c .before .before .before .before .before .before in
     orderable (a .pre .0) (a .pre .1) _ _ (length-take-le _ (a .args .keys .now) (count-few (a .pre .0) (a .pre .1))) refl
 
--- src/lib.rt:40:26
 slice-reshare-prefix-try-size : tie.Need-slice-reshare-prefix-try-size
 slice-reshare-prefix-try-size c =
     let a = c .before .before .before .before .before .before .before .before .before .before .before in
     front-room (c .before .before .before .before .order .last .1 .0) _ _ (c .before .before .before .before .order .kept .1 .0 ∙ length-take-le _ (a .args .keys .now) (count-few (a .pre .0) (a .pre .1)))
 
--- src/lib.rt:40:26
 slice-aggregate-try-size : tie.Need-slice-aggregate-try-size
 slice-aggregate-try-size c =
     let a = c .before .before .before .before .before .before .before .before .before .before .before .before in
     let n = c .before .before .before .before .before .order .kept .1 .0 ∙ length-take-le _ (a .args .keys .now) (count-few (a .pre .0) (a .pre .1)) in
     sym (length-take-le _ (c .before .before .before .before .before .order .last .1 .0 ++ _) (front-room (c .before .before .before .before .before .order .last .1 .0) _ _ n))
 
--- src/lib.rt:40:5
 try-size-requires : tie.Need-try-size-requires
 try-size-requires c κs = ready (c .before .before .before .before .before .before .before .before .before .before .before .before .before .pre .0) (c .before .before .before .before .before .before .before .before .before .before .before .before .before .pre .1) _ (c .before .before .before .before .before .before .before .before .before .before .before .before .before .pre .3) (c .before .before .before .before .before .before .before .before .before .before .before .before .before .pre .2)
 
--- src/lib.rt:33:1
 same-length : tie.Need-same-length
 same-length c = search needs
 
--- src/lib.rt:33:1
 same-length-2 : tie.Need-same-length-2
 same-length-2 c = search needs
 
--- src/lib.rt:33:1
 same-length-3 : tie.Need-same-length-3
 same-length-3 c = search needs
 
--- src/lib.rt:33:1
 returns : tie.Need-returns
 returns c =
     let a = c .before .before .before .before .before .before .before .before .before .before .before .before .before .before .before .before in
