@@ -52,3 +52,32 @@ build_oracle() {
     extern indexmap ulib clilog compact_str sverilogparse rayon netlistdb
     crate oracle "$copy/lib.rs" --cap-lints allow "${EXTERN[@]}" --extern "serde=$OUT/libserde.so"
 }
+
+# build_wrapper MAKER: the crate juolgesot over the archive (MAKER archive) or over the model.
+build_wrapper() {
+    extern model
+    crate model "$HOST/model/src/lib.rs"
+    if [ "$1" = model ]; then
+        crate archive "$HOST/model/capi.rs" "${EXTERN[@]}"
+    else
+        crate archive "$HOST/juolgesot/archive.rs" -L native="$ARCHIVE"
+    fi
+    extern archive
+    crate juolgesot "$HOST/juolgesot/src/lib.rs" "${EXTERN[@]}"
+}
+
+# build_programs REFERENCE: the comparison programs, against gem or against model.
+build_programs() {
+    extern model
+    if [ "$1" = gem ]; then
+        extern oracle
+    fi
+    crate reference "$HOST/compare/reference/$1.rs" "${EXTERN[@]}"
+    extern juolgesot model reference
+    crate compare "$HOST/compare/src/lib.rs" "${EXTERN[@]}"
+    extern juolgesot model reference compare
+    local file
+    for file in "$HOST"/compare/src/bin/*.rs; do
+        program "$(basename "$file" .rs)" "$file" "${EXTERN[@]}"
+    done
+}
