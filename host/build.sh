@@ -51,6 +51,11 @@ build_oracle() {
 
     extern indexmap ulib clilog compact_str sverilogparse rayon netlistdb
     crate oracle "$copy/lib.rs" --cap-lints allow "${EXTERN[@]}" --extern "serde=$OUT/libserde.so"
+
+    extern netlistdb
+    crate netlists "$HOST/netlists/src/lib.rs" "${EXTERN[@]}"
+    extern oracle netlists netlistdb
+    program gem_smoke "$HOST/oracle/bin/gem_smoke.rs" "${EXTERN[@]}"
 }
 
 # build_wrapper MAKER: the crate juolgesot over the archive (MAKER archive) or over the model.

@@ -53,7 +53,11 @@ pub unsafe extern "C" fn juolgesot_list(
     second: &mut u64,
 ) -> u32 {
     let (records, room, out) = unsafe {
-        (from_raw_parts(records, records_len), from_raw_parts_mut(room, room_len), from_raw_parts_mut(out, out_len))
+        (
+            from_raw_parts(records, records_len),
+            from_raw_parts_mut(room, room_len),
+            from_raw_parts_mut(out, out_len),
+        )
     };
     *first = 0;
     *second = 0;

@@ -28,10 +28,9 @@ impl Case {
     /// What the reference answers for these pairs.
     pub fn ask(pairs: Vec<Pair>) -> Case {
         let answer = match reference::lanes(&pairs) {
-            Some(lanes) => Stored::Packed {
-                rounds: rounds::rounds(&lanes) as u32,
-                places: places(&pairs, &lanes),
-            },
+            Some(lanes) => {
+                Stored::Packed { rounds: rounds::rounds(&lanes) as u32, places: places(&pairs, &lanes) }
+            }
             None if pairs.is_empty() => Stored::Refused(3),
             None => Stored::Refused(4),
         };

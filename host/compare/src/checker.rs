@@ -165,7 +165,10 @@ fn same_words(name: &str, found: &[u32], expected: &[u32]) -> Result<(), String>
     let at = found.iter().zip(expected).position(|(word, wanted)| word != wanted).unwrap_or(0);
     Err(format!(
         "{} word {} is {:#010x}, expected {:#010x}",
-        name, at as isize - GUARD as isize, found[at], expected[at]
+        name,
+        at as isize - GUARD as isize,
+        found[at],
+        expected[at]
     ))
 }
 

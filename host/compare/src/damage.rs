@@ -9,8 +9,8 @@ pub const KINDS: [&str; 8] = [
     "two words swapped",
     "a word of 2^27 or more",
     "a staged flag turned over",
-    "a mask more cut off",
-    "a word more",
+    "cut inside a pair",
+    "a half pair more",
     "two damages",
 ];
 
@@ -26,8 +26,8 @@ pub fn damaged(random: &mut Random, set: &[u32], kind: &str) -> Vec<u32> {
         "two words swapped" => set.swap(pair, before),
         "a word of 2^27 or more" => set[pair] |= 1 << random.between(27, 30),
         "a staged flag turned over" => set[pair] ^= STAGED,
-        "a mask more cut off" => set.truncate(pair + 1),
-        "a word more" => set.push(random.word()),
+        "cut inside a pair" => set.truncate(pair + 1),
+        "a half pair more" => set.push(random.word()),
         "two damages" => {
             let first = random.pick(&KINDS[..5]);
             let second = random.pick(&KINDS[..7]);

@@ -58,11 +58,18 @@ pub fn total_bits(set: &[u32]) -> usize {
     set.chunks(2).map(|pair| pair[1].count_ones() as usize).sum()
 }
 
+/// M1 to M5 of document 01.
+pub fn marked() -> Vec<Vec<u32>> {
+    let even = |count: u32, mask: u32| -> Vec<u32> { (0..count).flat_map(|word| [word, mask]).collect() };
+    let mut m5 = even(256, 1);
+    m5.extend([256, u32::MAX]);
+    vec![vec![], vec![0, 3, 1, 1 << 5, STAGED, 1], even(256, 0x1_FFFF), even(257, 0x1_FFFF), m5]
+}
+
 /// Every set of up to three words of a small family, each with every mask of another.
 pub fn every_small_set(mut see: impl FnMut(&[u32])) {
     const SOME_WORDS: [u32; 6] = [0, 1, WORDS - 1, STAGED, STAGED + 1, STAGED + WORDS - 1];
-    const SOME_MASKS: [u32; 8] =
-        [1, 1 << 31, 3, 0xFFFF, 0x1_FFFF, 0xAAAA_AAAA, u32::MAX >> 1, u32::MAX];
+    const SOME_MASKS: [u32; 8] = [1, 1 << 31, 3, 0xFFFF, 0x1_FFFF, 0xAAAA_AAAA, u32::MAX >> 1, u32::MAX];
     fn extend(set: &mut Vec<u32>, from: usize, see: &mut dyn FnMut(&[u32])) {
         see(set);
         if set.len() == 6 {
@@ -80,7 +87,11 @@ pub fn every_small_set(mut see: impl FnMut(&[u32])) {
 }
 
 /// Bit counts that sum to the total, each drawn until it is used up.
-pub fn bits_summing_to(random: &mut Random, total: usize, mut draw: impl FnMut(&mut Random) -> u32) -> Vec<u32> {
+pub fn bits_summing_to(
+    random: &mut Random,
+    total: usize,
+    mut draw: impl FnMut(&mut Random) -> u32,
+) -> Vec<u32> {
     let mut left = total as u32;
     let mut bits = Vec::new();
     while left > 0 {
@@ -99,7 +110,16 @@ pub fn any(random: &mut Random, pairs: usize) -> Vec<u32> {
 
 /// So many pairs, each of one of a few bit counts: those at which lanes just do or don't hold two.
 pub fn wide(random: &mut Random, pairs: usize) -> Vec<u32> {
-    let family: &[u32] = random.pick(&[&[16, 17][..], &[17], &[31, 32], &[16], &[32], &[1, 31], &[16, 17, 31, 32], &[1, 15, 16, 17, 31, 32]]);
+    let family: &[u32] = random.pick(&[
+        &[16, 17][..],
+        &[17],
+        &[31, 32],
+        &[16],
+        &[32],
+        &[1, 31],
+        &[16, 17, 31, 32],
+        &[1, 15, 16, 17, 31, 32],
+    ]);
     let bits: Vec<u32> = (0..pairs).map(|_| random.pick(family)).collect();
     with_bits(random, &bits)
 }

@@ -48,9 +48,7 @@ fn place(order: &[Pair]) -> Option<Lanes> {
     let mut current = 0;
     for &pair in order {
         let need = pair.1.count_ones();
-        let lane = (0..LANES)
-            .map(|step| (current + step) % LANES)
-            .find(|&lane| used[lane] + need <= 32)?;
+        let lane = (0..LANES).map(|step| (current + step) % LANES).find(|&lane| used[lane] + need <= 32)?;
         lanes[lane].push(pair);
         used[lane] += need;
         current = (lane + 1) % LANES;

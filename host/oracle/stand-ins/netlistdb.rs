@@ -23,8 +23,7 @@ pub trait LeafPinProvider {
         pin_idx: Option<isize>,
     ) -> Direction;
 
-    fn width_of(&self, macro_name: &CompactString, pin_name: &CompactString)
-        -> Option<SVerilogRange>;
+    fn width_of(&self, macro_name: &CompactString, pin_name: &CompactString) -> Option<SVerilogRange>;
 }
 
 /// The name of a cell: the names of the cells around it, outermost first, and its own.

@@ -61,7 +61,11 @@ fn main() {
     kinds.print();
     answers.sort();
     answers.print();
-    println!("compare_listing: {} listings, no difference, {:.1} s", kinds.total(), start.elapsed().as_secs_f64());
+    println!(
+        "compare_listing: {} listings, no difference, {:.1} s",
+        kinds.total(),
+        start.elapsed().as_secs_f64()
+    );
 }
 
 /// What document 01 prints for `example`.

@@ -29,7 +29,9 @@ fn main() {
 fn compare_all(random: &mut Random) {
     let start = Instant::now();
     let mut checker = Checker::new();
-    marked_sets(&mut checker);
+    for set in sets::marked() {
+        checker.check("M1 to M5", &set, Lent::default());
+    }
     sets::every_small_set(|set| checker.check("every set of up to 3 words", set, Lent::default()));
     random_sets(&mut checker, random);
     boundary_sets(&mut checker, random);
@@ -42,24 +44,11 @@ fn compare_all(random: &mut Random) {
     for tally in [&checker.kinds, &checker.answers, &checker.tries, &checker.rounds] {
         tally.print();
     }
-    println!("compare_rounds: {} read sets, no difference, {:.1} s", checker.kinds.total(), start.elapsed().as_secs_f64());
-}
-
-/// M1 to M5 of document 01.
-fn marked_sets(checker: &mut Checker) {
-    let even = |count: u32, mask: u32| -> Vec<u32> { (0..count).flat_map(|word| [word, mask]).collect() };
-    let mut m5 = even(256, 1);
-    m5.extend([256, u32::MAX]);
-    let marked = [
-        vec![],
-        vec![0, 3, 1, 1 << 5, sets::STAGED, 1],
-        even(256, 0x1_FFFF),
-        even(257, 0x1_FFFF),
-        m5,
-    ];
-    for set in &marked {
-        checker.check("M1 to M5", set, Lent::default());
-    }
+    println!(
+        "compare_rounds: {} read sets, no difference, {:.1} s",
+        checker.kinds.total(),
+        start.elapsed().as_secs_f64()
+    );
 }
 
 /// Any room but a short one, any result room that is enough.
@@ -191,7 +180,7 @@ fn short_rooms(checker: &mut Checker, random: &mut Random) {
     }
 }
 
-/// One size of the benchmark: how often, and the sets.
+/// Times of both on the same sets: small, mid and full ones.
 fn benchmark(random: &mut Random) {
     println!("time of a search with its read section; ratio: ours to the reference's");
     let small: Vec<Vec<u32>> = (0..200).map(|_| sets::any(random, 8)).collect();
@@ -238,6 +227,9 @@ fn time_both(name: &str, sets: &[Vec<u32>]) {
     let each = |time: Duration| time.as_secs_f64() * 1e6 / calls as f64;
     println!(
         "  {:24} ours {:10.1} us, reference {:10.1} us, ratio {:.3}",
-        name, each(ours), each(theirs), ours.as_secs_f64() / theirs.as_secs_f64()
+        name,
+        each(ours),
+        each(theirs),
+        ours.as_secs_f64() / theirs.as_secs_f64()
     );
 }

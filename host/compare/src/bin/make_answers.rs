@@ -17,13 +17,16 @@ fn main() {
     let refused = cases.iter().filter(|case| matches!(case.answer, Stored::Refused(_))).count();
     println!(
         "make_answers: {} cases of {} ({} refused), {} bytes",
-        cases.len(), reference::NAME, refused, bytes.len()
+        cases.len(),
+        reference::NAME,
+        refused,
+        bytes.len()
     );
 }
 
 fn chosen_sets() -> Vec<Vec<u32>> {
     let mut random = Random::new(SEED);
-    let mut chosen = marked_sets();
+    let mut chosen = sets::marked();
     for pairs in 1..=60 {
         chosen.push(sets::any(&mut random, pairs));
         chosen.push(sets::wide(&mut random, pairs));
@@ -49,14 +52,6 @@ fn chosen_sets() -> Vec<Vec<u32>> {
     }
     chosen.push(sets::with_bits(&mut random, &[1; 8192]));
     chosen
-}
-
-/// M1 to M5 of document 01.
-fn marked_sets() -> Vec<Vec<u32>> {
-    let even = |count: u32, mask: u32| -> Vec<u32> { (0..count).flat_map(|word| [word, mask]).collect() };
-    let mut m5 = even(256, 1);
-    m5.extend([256, u32::MAX]);
-    vec![vec![], vec![0, 3, 1, 1 << 5, sets::STAGED, 1], even(256, 0x1_FFFF), even(257, 0x1_FFFF), m5]
 }
 
 /// The first set made that has at most so many pairs.

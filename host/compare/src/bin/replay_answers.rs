@@ -38,7 +38,8 @@ fn check_packing(case: &Case, rounds: u32, places: &[u32], found: &ReadRounds) -
         }
     }
     let read_words = found.section().iter().filter(|word| **word != 0).count();
-    let asked_words = case.pairs.iter().flat_map(|(word, mask)| [word, mask]).filter(|word| **word != 0).count();
+    let asked_words =
+        case.pairs.iter().flat_map(|(word, mask)| [word, mask]).filter(|word| **word != 0).count();
     if read_words != asked_words {
         return Err(format!("{} words of the section are not zero, expected {}", read_words, asked_words));
     }
