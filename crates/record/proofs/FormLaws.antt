@@ -12,11 +12,11 @@ use lib.ListN.{length}
 use Rattle.words.specs.Sum.{sumTo}
 use Rattle.words.proofs.SumLaws.{sum-le}
 use Rattle.record.specs.Tests.{allBelow}
-use Rattle.record.specs.Record.{wordAt, blocksOf, majorsOf, gatesOf, layoutOf, positionsOf, countAt, partsBefore, partsOf, gatePin, gateFirst, gateSecond, layoutPin, positionPin, positionStaged, stagesOf, endpointsOf, locationsOf, bodyWords, bodyAt, endpointKind, endpointX, endpointY}
+use Rattle.record.specs.Record.{blocksOf, majorsOf, gatesOf, layoutOf, positionsOf, countAt, partsBefore, partsOf, gatePin, gateFirst, gateSecond, layoutPin, positionPin, positionStaged, stagesOf, endpointsOf, locationsOf, bodyWords, bodyAt, endpointKind, endpointX, endpointY}
 use Rattle.record.specs.Form.{empty, headForm, countsForm, partForm, lengthForm, gateForm, layoutForm, positionForm, endpointNumbers, endpointForm, listsForm, planForm}
 use Rattle.record.specs.Body.{Headed, Measured, BodyReady}
 use Rattle.record.proofs.TestLaws.{and-true, all-at, not-both}
-use Rattle.record.proofs.RecordLaws.{body-more, body-mono, body-long}
+use Rattle.record.proofs.RecordLaws.{body-more, body-mono}
 
 -- ---- the head
 

@@ -8,8 +8,19 @@ ghost use Rattle.record.specs.Record.{majorsOf, partsOf, gatesOf, layout
 ghost use Rattle.record.specs.Tests.{allBelow};
 ghost use Rattle.record.specs.Form.{headForm, countsForm, partForm, lengthForm, gateForm, layoutForm, positionForm, endpointNumbers, endpointForm, listsForm, planForm, isPin, isPinIv, empty};
 ghost use Rattle.record.specs.Body.{Headed, Measured, BodyOf};
-use crate::bodies::{body_at, endpoint_kind, endpoint_x, endpoint_y, first_body, parts_of, Body};
-use crate::places::{body_words, gate_base, head_base, layout_base, position_base, word_at};
+use crate::bodies::Body;
+use crate::bodies::body_at;
+use crate::bodies::endpoint_kind;
+use crate::bodies::endpoint_x;
+use crate::bodies::endpoint_y;
+use crate::bodies::first_body;
+use crate::bodies::parts_of;
+use crate::places::body_words;
+use crate::places::gate_base;
+use crate::places::head_base;
+use crate::places::layout_base;
+use crate::places::position_base;
+use crate::places::word_at;
 
 // Both of two truths.
 fn both(a: bool, b: bool) -> bool

@@ -14,12 +14,6 @@ use Rattle.record.proofs.FormLaws.{body-ready}
 use borrow.Author.Needs.{needs}
 use Rattle.record.proofs.form.bodies_form.Statement.{statement}
 use Rattle.record.proofs.form.bodies_form.Tie as tie
-use Rattle.record.proofs.form.bodies_form.Reads as reads
-use Rattle.record.proofs.form.bodies_form.Lts as lts
-use Rattle.record.proofs.bodies.body_at.Reads as body-at-reads
-use Rattle.record.proofs.bodies.first_body.Reads as first-body-reads
-use Rattle.record.proofs.bodies.parts_of.Reads as parts-of-reads
-use Rattle.record.proofs.form.endpoints_form.Reads as endpoints-form-reads
 
 -- whether the endpoints of part p are right
 abbrev endpointsRight : List ℕ → ℕ → Bool
@@ -31,55 +25,46 @@ Inv-loop d parts at₀ p₀ at p = (p ≤ parts) × (at ≡ bodyAt d p) × (allB
 abbrev μ-loop : tie.MeasureT-loop
 μ-loop d parts at₀ p₀ at p = parts - p
 
--- src/form.rt:232:9
 parts-of-requires : tie.Need-parts-of-requires Inv-loop μ-loop
 parts-of-requires c κs = search needs
 
--- src/form.rt:233:9
 first-body-requires : tie.Need-first-body-requires Inv-loop μ-loop
 first-body-requires c κs = search needs
 
--- src/form.rt:234:5
 loop-holds : tie.Need-loop-holds Inv-loop μ-loop
 unfolding allBelow
 loop-holds c = (omega arith, c .first-body .ensures .0, refl)
 
--- src/form.rt:235:13
 body-at-requires : tie.Need-body-at-requires Inv-loop μ-loop
-body-at-requires c κs = 
+body-at-requires c κs =
     let o = c .before .before .before .before .before in
     let l : c .before .loop .p < partsOf (o .args .d .now) = omega arith in
     body-ready (o .args .d .now) (o .pre) (c .before .loop .p) (c .before .loop .at) l (c .before .loop .inv .1)
 
--- src/form.rt:236:13
 endpoints-form-requires : tie.Need-endpoints-form-requires Inv-loop μ-loop
 endpoints-form-requires c κs = search needs
 
--- src/form.rt:237:13
 returns : tie.Need-returns Inv-loop μ-loop
-returns c = 
+returns c =
     let d = c .before .before .before .before .before .before .before .before .args .d .now in
     sym (all-fault (endpointsRight d) (partsOf d) (c .before .before .before .before .loop .p) (omega arith) (sym (c .before .endpoints-form .ensures) ∙ not-true _ (c .if1 .taken)))
 
--- src/form.rt:234:9
 add-p : tie.Need-add-p Inv-loop μ-loop
 add-p c = search needs
 
--- src/form.rt:234:5
 loop-less : tie.Need-loop-less Inv-loop μ-loop
 loop-less c = search needs
 
--- src/form.rt:234:5
 loop-again : tie.Need-loop-again Inv-loop μ-loop
-loop-again c = 
-    let d = c .before .before .before .before .before .before .before .before .args .d .now in
-    (omega arith,
-    c .before .before .body-at .ensures .end,
-    all-on (endpointsRight d) (c .before .before .before .before .loop .p) (c .before .before .before .before .loop .inv .2) (sym (c .before .endpoints-form .ensures) ∙ not-false _ (c .if1 .left)))
+loop-again c =
+    let d = c .before .before .before .before .before .before .before .before .args .d .now in (
+      omega arith,
+      c .before .before .body-at .ensures .end,
+      all-on (endpointsRight d) (c .before .before .before .before .loop .p) (c .before .before .before .before .loop .inv .2) (sym (c .before .endpoints-form .ensures) ∙ not-false _ (c .if1 .left)),
+    )
 
--- src/form.rt:228:1
 returns-2 : tie.Need-returns-2 Inv-loop μ-loop
-returns-2 c = 
+returns-2 c =
     let d = c .before .before .before .before .before .args .d .now in
     sym (all-less (endpointsRight d) (partsOf d) (c .before .loop .p) (omega arith) (c .before .loop .inv .2))
 

@@ -8,52 +8,38 @@ use Rattle.record.proofs.FormLaws.{other-kind}
 use borrow.Author.Needs.{needs}
 use Rattle.record.proofs.form.endpoint_numbers.Statement.{statement}
 use Rattle.record.proofs.form.endpoint_numbers.Tie as tie
-use Rattle.record.proofs.form.endpoint_numbers.Reads as reads
-use Rattle.record.proofs.form.endpoint_numbers.Lts as lts
-use Rattle.record.proofs.form.both.Reads as both-reads
-use Rattle.record.proofs.form.is_pin.Reads as is-pin-reads
-use Rattle.record.proofs.form.is_pin_iv.Reads as is-pin-iv-reads
 
--- src/form.rt:192:9
 is-pin-iv-requires : tie.Need-is-pin-iv-requires
 is-pin-iv-requires c κs = search needs
 
--- src/form.rt:192:9
 returns : tie.Need-returns
 unfolding endpointNumbers
 returns c = c .is-pin-iv .ensures ∙ sym (ap (λ (k : ℕ). endpointNumbers k (c .before .before .args .x) (c .before .before .args .y)) (c .before .if1 .taken))
 
--- src/form.rt:195:9
 is-pin-requires : tie.Need-is-pin-requires
 is-pin-requires c κs = search needs
 
--- src/form.rt:195:9
 returns-2 : tie.Need-returns-2
 unfolding endpointNumbers
 returns-2 c = let o = c .before .before .before in c .is-pin .ensures ∙ sym (ap (λ (k : ℕ). endpointNumbers k (o .args .x) (o .args .y)) (c .before .if2 .taken))
 
--- src/form.rt:198:21
 is-pin-iv-requires-2 : tie.Need-is-pin-iv-requires-2
 is-pin-iv-requires-2 c κs = search needs
 
--- src/form.rt:198:35
 is-pin-iv-requires-3 : tie.Need-is-pin-iv-requires-3
 is-pin-iv-requires-3 c κs = search needs
 
--- src/form.rt:198:9
 both-requires : tie.Need-both-requires
 both-requires c κs = search needs
 
--- src/form.rt:198:9
 returns-3 : tie.Need-returns-3
 unfolding endpointNumbers
-returns-3 c = 
+returns-3 c =
     let o = c .before .before .before .before .before .before in
     c .both .ensures
     ∙ ap₂ _&&_ (c .before .before .is-pin-iv2 .ensures) (c .before .is-pin-iv3 .ensures)
     ∙ sym (ap (λ (k : ℕ). endpointNumbers k (o .args .x) (o .args .y)) (c .before .before .before .if3 .taken))
 
--- src/form.rt:188:1
 returns-4 : tie.Need-returns-4
 returns-4 c = other-kind _ _ _ (c .before .before .if1 .left) (c .before .if2 .left) (c .if3 .left)
 

@@ -1,24 +1,17 @@
 -- Each endpoint passed is right, and the first that is not ends the loop.
 -- Assumes nothing.
-use mathlib.Core.Path.{_≡_, refl, sym, ap, _∙_}
-use mathlib.Core.Bool.{true, false}
-use Prim.Native.Nat.{ℕ, _+_, _*_, _-_, _^_, _≤_, _<_}
+use mathlib.Core.Path.{_≡_, refl, sym, _∙_}
+use mathlib.Core.Bool.{true}
+use Prim.Native.Nat.{_-_, _≤_}
 use native.Mathlib.Omega.{arith}
-use borrow.Author.Tests.{not-true, not-false, le-leb, lt-leb}
-use lib.Dec.{leb}
+use borrow.Author.Tests.{not-true, not-false}
 use Rattle.record.specs.Tests.{allBelow}
-use Rattle.record.specs.Record.{endpointsOf, wordAt, countAt, bodyAt, majorsOf, partsOf, gatesOf, layoutOf, positionsOf}
-use Rattle.record.specs.Form.{countsForm, partForm, gateForm, layoutForm, positionForm, endpointForm, lengthForm}
+use Rattle.record.specs.Record.{endpointsOf}
+use Rattle.record.specs.Form.{endpointForm}
 use Rattle.record.proofs.TestLaws.{all-on, all-less, all-fault}
 use borrow.Author.Needs.{needs}
 use Rattle.record.proofs.form.endpoints_form.Statement.{statement}
 use Rattle.record.proofs.form.endpoints_form.Tie as tie
-use Rattle.record.proofs.form.endpoints_form.Reads as reads
-use Rattle.record.proofs.form.endpoints_form.Lts as lts
-use Rattle.record.proofs.bodies.endpoint_kind.Reads as endpoint-kind-reads
-use Rattle.record.proofs.bodies.endpoint_x.Reads as endpoint-x-reads
-use Rattle.record.proofs.bodies.endpoint_y.Reads as endpoint-y-reads
-use Rattle.record.proofs.form.endpoint_numbers.Reads as endpoint-numbers-reads
 
 abbrev Inv-loop : tie.InvT-loop
 Inv-loop d p body count i₀ i = (i ≤ count) × (allBelow (endpointForm d p) i ≡ true)
@@ -26,24 +19,19 @@ Inv-loop d p body count i₀ i = (i ≤ count) × (allBelow (endpointForm d p) i
 abbrev μ-loop : tie.MeasureT-loop
 μ-loop d p body count i₀ i = count - i
 
--- src/form.rt:209:5
 loop-holds : tie.Need-loop-holds Inv-loop μ-loop
 unfolding allBelow
 loop-holds c = (omega arith, refl)
 
--- src/form.rt:210:13
 endpoint-kind-requires : tie.Need-endpoint-kind-requires Inv-loop μ-loop
 endpoint-kind-requires c κs = search needs
 
--- src/form.rt:211:13
 endpoint-x-requires : tie.Need-endpoint-x-requires Inv-loop μ-loop
 endpoint-x-requires c κs = search needs
 
--- src/form.rt:212:13
 endpoint-y-requires : tie.Need-endpoint-y-requires Inv-loop μ-loop
 endpoint-y-requires c κs = search needs
 
--- src/form.rt:213:13
 endpoint-numbers-requires : tie.Need-endpoint-numbers-requires Inv-loop μ-loop
 endpoint-numbers-requires c κs = search needs
 
@@ -52,30 +40,25 @@ right : (c : tie.After-endpoint-numbers Inv-loop μ-loop) → endpointForm (c .b
 unfolding endpointForm
 right c = sym (c .endpoint-numbers .ensures ∙ (rw (c .before .before .before .endpoint-kind .ensures, c .before .before .endpoint-x .ensures, c .before .endpoint-y .ensures) refl))
 
--- src/form.rt:214:13
 returns : tie.Need-returns Inv-loop μ-loop
-returns c = 
+returns c =
     let o = c .before .before .before .before .before .before .before .before in
     let d = o .args .d .now in
     sym (all-fault (endpointForm d (o .args .p)) (endpointsOf d (o .args .p)) (c .before .before .before .before .before .before .loop .i) (omega arith) (right (c .before) ∙ not-true _ (c .if1 .taken)))
 
--- src/form.rt:209:9
 add-i : tie.Need-add-i Inv-loop μ-loop
 add-i c = search needs
 
--- src/form.rt:209:5
 loop-less : tie.Need-loop-less Inv-loop μ-loop
 loop-less c = search needs
 
--- src/form.rt:209:5
 loop-again : tie.Need-loop-again Inv-loop μ-loop
-loop-again c = 
+loop-again c =
     let o = c .before .before .before .before .before .before .before .before in
     (omega arith, all-on (endpointForm (o .args .d .now) (o .args .p)) (c .before .before .before .before .before .before .loop .i) (c .before .before .before .before .before .before .loop .inv .1) (right (c .before) ∙ not-false _ (c .if1 .left)))
 
--- src/form.rt:204:1
 returns-2 : tie.Need-returns-2 Inv-loop μ-loop
-returns-2 c = 
+returns-2 c =
     let o = c .before .before .before in
     let d = o .args .d .now in
     sym (all-less (endpointForm d (o .args .p)) (endpointsOf d (o .args .p)) (c .before .loop .i) (omega arith) (c .before .loop .inv .1))

@@ -4,49 +4,34 @@ use Rattle.record.specs.Form.{headForm}
 use borrow.Author.Needs.{needs}
 use Rattle.record.proofs.form.head_form.Statement.{statement}
 use Rattle.record.proofs.form.head_form.Tie as tie
-use Rattle.record.proofs.form.head_form.Reads as reads
-use Rattle.record.proofs.form.head_form.Lts as lts
-use Rattle.record.proofs.form.both.Reads as both-reads
-use Rattle.record.proofs.form.in_range.Reads as in-range-reads
-use Rattle.record.proofs.places.word_at.Reads as word-at-reads
 
--- src/form.rt:47:18
 word-at-requires : tie.Need-word-at-requires
 word-at-requires c κs = search needs
 
--- src/form.rt:47:9
 in-range-requires : tie.Need-in-range-requires
 in-range-requires c κs = search needs
 
--- src/form.rt:48:18
 word-at-requires-2 : tie.Need-word-at-requires-2
 word-at-requires-2 c κs = search needs
 
--- src/form.rt:48:9
 in-range-requires-2 : tie.Need-in-range-requires-2
 in-range-requires-2 c κs = search needs
 
--- src/form.rt:46:9
 both-requires : tie.Need-both-requires
 both-requires c κs = search needs
 
--- src/form.rt:52:14
 word-at-requires-3 : tie.Need-word-at-requires-3
 word-at-requires-3 c κs = search needs
 
--- src/form.rt:52:40
 word-at-requires-4 : tie.Need-word-at-requires-4
 word-at-requires-4 c κs = search needs
 
--- src/form.rt:52:9
 both-requires-2 : tie.Need-both-requires-2
 both-requires-2 c κs = search needs
 
--- src/form.rt:50:5
 both-requires-3 : tie.Need-both-requires-3
 both-requires-3 c κs = search needs
 
--- src/form.rt:43:1
 returns : tie.Need-returns
 unfolding headForm
 returns c = cc

@@ -1,23 +1,17 @@
 -- Each head passed is right, and the first that is not ends the loop.
 -- Assumes nothing.
-use mathlib.Core.Path.{_≡_, refl, sym, ap, _∙_}
-use mathlib.Core.Bool.{true, false}
-use Prim.Native.Nat.{ℕ, _+_, _*_, _-_, _^_, _≤_, _<_}
+use mathlib.Core.Path.{_≡_, refl, sym, _∙_}
+use mathlib.Core.Bool.{true}
+use Prim.Native.Nat.{_-_, _≤_}
 use native.Mathlib.Omega.{arith}
-use borrow.Author.Tests.{not-true, not-false, le-leb, lt-leb}
-use lib.Dec.{leb}
+use borrow.Author.Tests.{not-true, not-false}
 use Rattle.record.specs.Tests.{allBelow}
-use Rattle.record.specs.Record.{wordAt, countAt, bodyAt, majorsOf, partsOf, gatesOf, layoutOf, positionsOf}
-use Rattle.record.specs.Form.{countsForm, partForm, gateForm, layoutForm, positionForm, endpointForm, lengthForm}
+use Rattle.record.specs.Record.{partsOf}
+use Rattle.record.specs.Form.{partForm}
 use Rattle.record.proofs.TestLaws.{all-on, all-less, all-fault}
 use borrow.Author.Needs.{needs}
 use Rattle.record.proofs.form.heads_form.Statement.{statement}
 use Rattle.record.proofs.form.heads_form.Tie as tie
-use Rattle.record.proofs.form.heads_form.Reads as reads
-use Rattle.record.proofs.form.heads_form.Lts as lts
-use Rattle.record.proofs.bodies.parts_of.Reads as parts-of-reads
-use Rattle.record.proofs.form.part_form.Reads as part-form-reads
-use Rattle.record.proofs.places.head_base.Reads as head-base-reads
 
 abbrev Inv-loop : tie.InvT-loop
 Inv-loop d heads parts p₀ p = (p ≤ parts) × (allBelow (partForm d) p ≡ true)
@@ -25,46 +19,37 @@ Inv-loop d heads parts p₀ p = (p ≤ parts) × (allBelow (partForm d) p ≡ tr
 abbrev μ-loop : tie.MeasureT-loop
 μ-loop d heads parts p₀ p = parts - p
 
--- src/form.rt:85:9
 head-base-requires : tie.Need-head-base-requires Inv-loop μ-loop
 head-base-requires c κs = search needs
 
--- src/form.rt:86:9
 parts-of-requires : tie.Need-parts-of-requires Inv-loop μ-loop
 parts-of-requires c κs = search needs
 
--- src/form.rt:87:5
 loop-holds : tie.Need-loop-holds Inv-loop μ-loop
 unfolding allBelow
 loop-holds c = (omega arith, refl)
 
--- src/form.rt:88:13
 part-form-requires : tie.Need-part-form-requires Inv-loop μ-loop
 part-form-requires c κs = search needs
 
--- src/form.rt:89:13
 returns : tie.Need-returns Inv-loop μ-loop
-returns c = 
+returns c =
     let d = c .before .before .before .before .before .before .before .args .d .now in
     sym (all-fault (partForm d) (partsOf d) (c .before .before .before .loop .p) (omega arith) (sym (c .before .part-form .ensures) ∙ not-true _ (c .if1 .taken)))
 
--- src/form.rt:87:9
 add-p : tie.Need-add-p Inv-loop μ-loop
 add-p c = search needs
 
--- src/form.rt:87:5
 loop-less : tie.Need-loop-less Inv-loop μ-loop
 loop-less c = search needs
 
--- src/form.rt:87:5
 loop-again : tie.Need-loop-again Inv-loop μ-loop
-loop-again c = 
+loop-again c =
     let d = c .before .before .before .before .before .before .before .args .d .now in
     (omega arith, all-on (partForm d) (c .before .before .before .loop .p) (c .before .before .before .loop .inv .1) (sym (c .before .part-form .ensures) ∙ not-false _ (c .if1 .left)))
 
--- src/form.rt:81:1
 returns-2 : tie.Need-returns-2 Inv-loop μ-loop
-returns-2 c = 
+returns-2 c =
     let d = c .before .before .before .before .before .args .d .now in
     sym (all-less (partForm d) (partsOf d) (c .before .loop .p) (omega arith) (c .before .loop .inv .1))
 
