@@ -6,12 +6,12 @@ use mathlib.Core.List.{List}
 use Prim.Native.Nat.{ℕ, _-_, _≤_, _<_}
 use native.Mathlib.Omega.{arith}
 use borrow.Author.Tests.{not-true, not-false}
+use borrow.Author.Needs.{needs}
 use Rattle.record.specs.Tests.{allBelow}
 use Rattle.record.specs.Record.{partsOf, endpointsOf, bodyAt}
 use Rattle.record.specs.Form.{endpointForm}
 use Rattle.record.proofs.TestLaws.{all-on, all-less, all-fault}
 use Rattle.record.proofs.FormLaws.{body-ready}
-use borrow.Author.Needs.{needs}
 use Rattle.record.proofs.form.bodies_form.Statement.{statement}
 use Rattle.record.proofs.form.bodies_form.Tie as tie
 

@@ -5,12 +5,12 @@ use mathlib.Core.Bool.{true}
 use Prim.Native.Nat.{_-_, _≤_}
 use native.Mathlib.Omega.{arith}
 use borrow.Author.Tests.{le-leb, lt-leb}
+use borrow.Author.Needs.{needs}
 use lib.Dec.{leb}
 use Rattle.record.specs.Tests.{allBelow}
 use Rattle.record.specs.Record.{countAt, majorsOf}
 use Rattle.record.specs.Form.{countsForm}
 use Rattle.record.proofs.TestLaws.{all-on, all-less, all-fault}
-use borrow.Author.Needs.{needs}
 use Rattle.record.proofs.form.counts_form.Statement.{statement}
 use Rattle.record.proofs.form.counts_form.Tie as tie
 

@@ -3,9 +3,9 @@
 use mathlib.Core.Path.{sym, ap, ap₂, _∙_}
 use mathlib.Core.Bool.{_&&_}
 use Prim.Native.Nat.{ℕ}
+use borrow.Author.Needs.{needs}
 use Rattle.record.specs.Form.{endpointNumbers}
 use Rattle.record.proofs.FormLaws.{other-kind}
-use borrow.Author.Needs.{needs}
 use Rattle.record.proofs.form.endpoint_numbers.Statement.{statement}
 use Rattle.record.proofs.form.endpoint_numbers.Tie as tie
 

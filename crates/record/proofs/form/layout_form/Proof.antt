@@ -1,7 +1,7 @@
 -- The definition, with the words that were read.
 -- Assumes nothing.
-use Rattle.record.specs.Form.{layoutForm}
 use borrow.Author.Needs.{needs}
+use Rattle.record.specs.Form.{layoutForm}
 use Rattle.record.proofs.form.layout_form.Statement.{statement}
 use Rattle.record.proofs.form.layout_form.Tie as tie
 

@@ -5,11 +5,11 @@ use mathlib.Core.Bool.{true}
 use Prim.Native.Nat.{_-_, _≤_}
 use native.Mathlib.Omega.{arith}
 use borrow.Author.Tests.{not-true, not-false}
+use borrow.Author.Needs.{needs}
 use Rattle.record.specs.Tests.{allBelow}
 use Rattle.record.specs.Record.{layoutOf}
 use Rattle.record.specs.Form.{layoutForm}
 use Rattle.record.proofs.TestLaws.{all-on, all-less, all-fault}
-use borrow.Author.Needs.{needs}
 use Rattle.record.proofs.form.layouts_form.Statement.{statement}
 use Rattle.record.proofs.form.layouts_form.Tie as tie
 

@@ -1,17 +1,16 @@
 -- A body begins where the one before ends; one that begins past the words says that the record is too short.
 -- Assumes nothing.
+use mathlib.Core.Path.{_≡_, sym, ap, _∙_}
 use mathlib.Core.Bool.{_&&_}
-use Prim.Native.Nat.{_/_, _%_}
+use Prim.Native.Nat.{ℕ, _-_, _/_, _%_, _^_, _≤_, _<_}
+use native.Mathlib.Omega.{arith}
+use borrow.Author.Needs.{needs}
 use lib.Dec.{eqb}
 use lib.ListN.{length}
-use Rattle.record.proofs.RecordLaws.{body-step, stages-at, endpoints-at}
-use Rattle.record.proofs.FormLaws.{PartRanges, part-in, length-past}
-use mathlib.Core.Path.{_≡_, sym, ap, _∙_}
-use Prim.Native.Nat.{ℕ, _-_, _^_, _≤_, _<_}
-use native.Mathlib.Omega.{arith}
 use Rattle.record.specs.Record.{bodyAt, partsOf}
 use Rattle.record.specs.Form.{lengthForm}
-use borrow.Author.Needs.{needs}
+use Rattle.record.proofs.RecordLaws.{body-step, stages-at, endpoints-at}
+use Rattle.record.proofs.FormLaws.{PartRanges, part-in, length-past}
 use Rattle.record.proofs.form.length_form.Statement.{statement}
 use Rattle.record.proofs.form.length_form.Tie as tie
 
