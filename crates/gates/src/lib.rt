@@ -1,1 +1,141 @@
 // The gate list: its form, a gate by its pin, the value of a pin.
+ghost use mathlib.Core.Path.{_≡_};
+ghost use mathlib.Core.Bool.{Bool};
+ghost use mathlib.Core.Option.{none};
+ghost use Prim.Native.Nat.{ℕ, _+_, _*_, _-_, _/_, _%_, _^_, _≤_, _<_, min};
+ghost use lib.Bits.{differ};
+ghost use lib.ListN.{length};
+ghost use Rattle.sort.specs.Search.{least};
+ghost use Rattle.pinmap.specs.PinMap.{look};
+ghost use Rattle.record.specs.Record.{gatesOf, gatePin, gateFirst, gateSecond};
+ghost use Rattle.gates.specs.Gates.{pinBefore, gateRight, badGate, gateOf};
+ghost use Rattle.gates.specs.Values.{gateListOf, gateFoundOf, gateWords, Given, ValuedBelow, Askable};
+use words::units::{Pin, PinIv};
+use pinmap::Found;
+
+// Whether a gate list has its form: refusal 6 at a gate.
+pub enum GateList {
+    Good,
+    Bad(u32),
+}
+
+pub enum GateFound {
+    Gate(u32),
+    Missing,
+}
+
+// The pin of a gate, and its fan-ins.
+pub fn gate_pin(d: &[u8], g: u32) -> Pin
+    ensures { λ r. ⌜ r .0 ≡ gatePin (now (d .entry)) g ⌝ }
+{
+    Pin(record::places::word_at(d, record::places::gate_base(d) + 3 * (g as usize)))
+}
+
+pub fn gate_first(d: &[u8], g: u32) -> PinIv
+    ensures { λ r. ⌜ r .0 ≡ gateFirst (now (d .entry)) g ⌝ }
+{
+    PinIv(record::places::word_at(d, record::places::gate_base(d) + 3 * (g as usize) + 1))
+}
+
+pub fn gate_second(d: &[u8], g: u32) -> PinIv
+    ensures { λ r. ⌜ r .0 ≡ gateSecond (now (d .entry)) g ⌝ }
+{
+    PinIv(record::places::word_at(d, record::places::gate_base(d) + 3 * (g as usize) + 2))
+}
+
+// Whether gate g stands above the gate before it and above its fan-ins.
+fn gate_right(d: &[u8], before: Pin, g: u32) -> bool
+    requires { ⌜ before .0 ≡ pinBefore (now d) g ⌝ }
+    ensures { λ r. ⌜ r ≡ gateRight (now (d .entry)) g ⌝ }
+{
+    let pin = gate_pin(d, g).0;
+    let first = gate_first(d, g).pin().0;
+    let second = gate_second(d, g).pin().0;
+    if pin <= before.0 {
+        return false;
+    }
+    if pin <= first {
+        return false;
+    }
+    second < pin
+}
+
+// Refusal 6 over the whole list.
+pub fn check_gates(d: &[u8]) -> GateList
+    ensures { λ r. ⌜ r ≡ gateListOf (badGate (now (d .entry))) ⌝ }
+{
+    let gates = record::places::word_at(d, 2);
+    let mut before = Pin(0);
+    let mut g = 0;
+    while g < gates {
+        if gate_right(d, before, g) {
+            before = gate_pin(d, g);
+            g += 1;
+        } else {
+            return GateList::Bad(g);
+        }
+    }
+    GateList::Good
+}
+
+// The first gate whose pin is not below this one, by halves.
+fn first_not_below(d: &[u8], pin: Pin) -> u32
+    requires { ⌜ badGate (now d) ≡ none ⌝ }
+    ensures { λ r. ⌜ r ≡ least (gatePin (now (d .entry))) (gatesOf (now (d .entry))) (pin .0) ⌝ }
+{
+    let mut low = 0;
+    let mut high = record::places::word_at(d, 2);
+    while low < high {
+        let middle = low + (high - low) / 2;
+        if gate_pin(d, middle).0 < pin.0 {
+            low = middle + 1;
+        } else {
+            high = middle;
+        }
+    }
+    low
+}
+
+// The gate of a pin.
+pub fn find_gate(d: &[u8], pin: Pin) -> GateFound
+    requires { ⌜ badGate (now d) ≡ none ⌝ }
+    ensures { λ r. ⌜ r ≡ gateFoundOf (gateOf (now (d .entry)) (pin .0)) ⌝ }
+{
+    let g = first_not_below(d, pin);
+    if g == record::places::word_at(d, 2) {
+        return GateFound::Missing;
+    }
+    if gate_pin(d, g).0 == pin.0 {
+        GateFound::Gate(g)
+    } else {
+        GateFound::Missing
+    }
+}
+
+// The AND of two bits, each with its fan-in's inversion.
+fn and_gate(a: u32, first: PinIv, b: u32, second: PinIv) -> u32
+    requires { ⌜ (a < 2) × (b < 2) ⌝ }
+    ensures { λ r. ⌜ (r ≡ min (differ a (first .0 % 2)) (differ b (second .0 % 2))) × (r < 2) ⌝ }
+{
+    (a ^ first.inversion()) & (b ^ second.inversion())
+}
+
+// The value of a pin: what is known of it; else, for a gate, the AND of its fan-ins' values; else 0. Fan-in pins are smaller.
+pub fn value(d: &[u8], known: &[u32], pin: Pin) -> u32
+    requires { ⌜ Given (now d) (now known) × Askable (pin .0) ⌝ }
+    ensures { λ r. ⌜ (r ≡ Rattle.gates.specs.Gates.value (now (d .entry)) (look (now (known .entry))) (pin .0)) × (r < 2) ⌝ }
+{
+    match pinmap::look_up(known, pin) {
+        Found::Value(v) => v,
+        Found::Missing => match find_gate(d, pin) {
+            GateFound::Gate(g) => {
+                let first = gate_first(d, g);
+                let second = gate_second(d, g);
+                let a = value(d, known, first.pin());
+                let b = value(d, known, second.pin());
+                and_gate(a, first, b, second)
+            }
+            GateFound::Missing => 0,
+        },
+    }
+}

@@ -1,0 +1,2 @@
+pub mod GateLaws
+pub mod ValueLaws
