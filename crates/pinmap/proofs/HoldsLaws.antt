@@ -22,7 +22,7 @@ zeros-at zero i = refl
 zeros-at (suc n) zero = refl
 zeros-at (suc n) (suc i) = zeros-at n i
 
-zeros-good : (n : ℕ) → Good (replicate n 0)
+pub zeros-good : (n : ℕ) → Good (replicate n 0)
 unfolding Good
 zeros-good n i q h e = absurd (omega (arith, e, zeros-at n (2 * i)))
 
