@@ -5,10 +5,10 @@ use mathlib.Core.Path.{_≡_}
 use mathlib.Core.Bool.{true, false}
 use mathlib.Core.List.{List}
 use mathlib.Core.Option.{Option, none, some}
-use Prim.Native.Nat.{ℕ, _+_, _*_, _-_, _/_, _^_, _≤_, _<_}
+use Prim.Native.Nat.{ℕ, zero, suc, _+_, _*_, _-_, _^_, _≤_, _<_}
 use lib.Dec.{ltb}
 use lib.ListN.{length}
-use Rattle.words.specs.Bit.{bitAt, wordOf}
+use Rattle.words.specs.Bit.{bitAt, setBit, wordOf}
 use Rattle.words.specs.Section.{listOf}
 use Rattle.pinmap.specs.PinMap.{look}
 use Rattle.record.specs.Record.{gatesOf, gatePin}
@@ -39,6 +39,11 @@ gateValue d inp g = elim (ltb g (gatesOf d)) [ true ↦ value d inp (gatePin d g
 -- n words, bit g of which is the value of gate g's pin
 unfoldable pub gateWords : List ℕ → (ℕ → Option ℕ) → ℕ → List ℕ
 gateWords d inp n = listOf (λ w. wordOf (λ k. gateValue d inp (32 * w + k)) 32) n
+
+-- a list of words with the bit at position p set, where v is not 0
+unfoldable pub storeBit : List ℕ → ℕ → ℕ → List ℕ
+storeBit l p zero = l
+storeBit l p (suc v) = setBit l p
 
 -- there is a bit for each gate, and those of the gates with a pin below p have their values
 pub record ValuedBelow (d known bits : List ℕ) (p : ℕ) : Type 0 where

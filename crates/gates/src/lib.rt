@@ -9,7 +9,7 @@ ghost use Rattle.sort.specs.Search.{least};
 ghost use Rattle.pinmap.specs.PinMap.{look};
 ghost use Rattle.record.specs.Record.{gatesOf, gatePin, gateFirst, gateSecond};
 ghost use Rattle.gates.specs.Gates.{pinBefore, gateRight, badGate, gateOf};
-ghost use Rattle.gates.specs.Values.{gateListOf, gateFoundOf, gateWords, Given, ValuedBelow, Askable};
+ghost use Rattle.gates.specs.Values.{gateListOf, gateFoundOf, gateWords, storeBit, Given, ValuedBelow, Askable};
 use words::units::{Pin, PinIv};
 use pinmap::Found;
 
@@ -137,5 +137,61 @@ pub fn value(d: &[u8], known: &[u32], pin: Pin) -> u32
             }
             GateFound::Missing => 0,
         },
+    }
+}
+
+// The value of a pin, where the gates up to it have theirs in `bits`.
+fn pin_value(d: &[u8], known: &[u32], bits: &[u32], pin: Pin) -> u32
+    requires { ⌜ Given (now d) (now known) × Askable (pin .0) × ValuedBelow (now d) (now known) (now bits) (pin .0 + 1) ⌝ }
+    ensures { λ r. ⌜ (r ≡ Rattle.gates.specs.Gates.value (now (d .entry)) (look (now (known .entry))) (pin .0)) × (r < 2) ⌝ }
+{
+    match pinmap::look_up(known, pin) {
+        Found::Value(v) => v,
+        Found::Missing => match find_gate(d, pin) {
+            GateFound::Gate(g) => words::bits::bit_at(bits, g as usize),
+            GateFound::Missing => 0,
+        },
+    }
+}
+
+// The value of gate g's pin, where the gates below it have theirs in `bits`.
+fn gate_value(d: &[u8], known: &[u32], bits: &[u32], g: u32) -> u32
+    requires { ⌜ Given (now d) (now known) × (g < gatesOf (now d)) × Askable (gatePin (now d) g) × ValuedBelow (now d) (now known) (now bits) (gatePin (now d) g) ⌝ }
+    ensures { λ r. ⌜ (r ≡ Rattle.gates.specs.Gates.value (now (d .entry)) (look (now (known .entry))) (gatePin (now (d .entry)) g)) × (r < 2) ⌝ }
+{
+    match pinmap::look_up(known, gate_pin(d, g)) {
+        Found::Value(v) => v,
+        Found::Missing => {
+            let first = gate_first(d, g);
+            let second = gate_second(d, g);
+            let a = pin_value(d, known, bits, first.pin());
+            let b = pin_value(d, known, bits, second.pin());
+            and_gate(a, first, b, second)
+        }
+    }
+}
+
+// Stores the value of gate g's pin in its bit, which is clear.
+fn store_gate(d: &[u8], known: &[u32], bits: &mut [u32], g: u32)
+    requires { ⌜ Given (now d) (now known) × (g < gatesOf (now d)) × Askable (gatePin (now d) g) × ValuedBelow (now d) (now known) (now bits) (gatePin (now d) g) ⌝ }
+    ensures { λ _. ⌜ now (bits .exit) ≡ storeBit (now (bits .entry)) g (Rattle.gates.specs.Gates.value (now (d .entry)) (look (now (known .entry))) (gatePin (now (d .entry)) g)) ⌝ }
+{
+    if gate_value(d, known, bits, g) == 0 {
+        return;
+    }
+    words::bits::set_bit(bits, g as usize);
+}
+
+// The values of all gates in one pass up the list: a gate's fan-ins are pins that are known, gates before it, or neither.
+pub fn all_values(d: &[u8], known: &[u32], bits: &mut [u32])
+    requires { ⌜ Given (now d) (now known) × (gatesOf (now d) ≤ 32 * length (now bits)) × ((g : ℕ) → g < gatesOf (now d) → Askable (gatePin (now d) g)) ⌝ }
+    ensures { λ _. ⌜ now (bits .exit) ≡ gateWords (now (d .entry)) (look (now (known .entry))) (length (now (bits .entry))) ⌝ }
+{
+    pinmap::clear(bits);
+    let gates = record::places::word_at(d, 2);
+    let mut g = 0;
+    while g < gates {
+        store_gate(d, known, bits, g);
+        g += 1;
     }
 }
