@@ -97,6 +97,15 @@ gate-value-lt d inp h g = ⊎-elim
     (λ l. rw (value-past d inp g l) (omega arith))
     (lt-or-ge g (gatesOf d))
 
+pub store-none : (l : List ℕ) (p v : ℕ) → v ≡ 0 → l ≡ storeBit l p v
+unfolding storeBit
+store-none l p v e = rw e
+
+pub store-some : (l : List ℕ) (p v : ℕ) → (v ≡ 0 → ⊥) → setBit l p ≡ storeBit l p v
+unfolding storeBit
+store-some l p zero n = absurd (n refl)
+store-some l p (suc v) n = refl
+
 -- n words in which the gates before g have their values, and no other bit is set
 pub record Stored (d known l : List ℕ) (n g : ℕ) : Type 0 where
   pub size : length l ≡ n
@@ -104,7 +113,7 @@ pub record Stored (d known l : List ℕ) (n g : ℕ) : Type 0 where
   pub held : (q : ℕ) → q < g → bitAt l q ≡ gateValue d (look known) q
   pub free : (q : ℕ) → g ≤ q → bitAt l q ≡ 0
 
-zeros-at : (n w : ℕ) → getD (replicate n 0) w 0 ≡ 0
+zeros-at : (n w : ℕ) → getD (replicate {A = ℕ} n 0) w 0 ≡ 0
 zeros-at zero w = refl
 zeros-at (suc n) zero = refl
 zeros-at (suc n) (suc w) = zeros-at n w
@@ -112,7 +121,7 @@ zeros-at (suc n) (suc w) = zeros-at n w
 pub stored-none : (d known l : List ℕ) (n : ℕ) → l ≡ replicate n 0 → Stored d known l n 0
 unfolding bitAt
 stored-none d known l n e = rw e (record {
-  size = length-replicate n 0;
+  size = length-replicate {A = ℕ} n 0;
   fits = λ w. rw (zeros-at n w) (pow-pos 32);
   held = λ q h. absurd (omega arith);
   free = λ q h. ap (λ (x : ℕ). bit x (q % 32)) (zeros-at n (q / 32)) ∙ bit-zero (q % 32);

@@ -78,7 +78,7 @@ value-value-requires t c κs =
     let s = f .before .before .before .before .before .before in
     let o = found-some _ _ _ (f .find-gate .ensures) (g .g .given .1) in
     let h : c .pin .result .0 < s .args .pin .0 = omega (arith, first-falls (s .args .d .now) (s .pre .1 .0 .gates) (s .args .pin .0) _ o) in
-    (omega arith, s .pre .1 .0, omega arith)
+    (omega arith, (s .pre .1 .0, omega arith))
 
 value-pin-requires-2 : (t : ℕ) → value-lts.Need-pin-requires-2 (calls t) (value-at t) value.Post
 value-pin-requires-2 t c κs = search needs
@@ -90,7 +90,7 @@ value-value-requires-2 t c κs =
     let s = f .before .before .before .before .before .before in
     let o = found-some _ _ _ (f .find-gate .ensures) (g .g .given .1) in
     let h : c .pin2 .result .0 < s .args .pin .0 = omega (arith, second-falls (s .args .d .now) (s .pre .1 .0 .gates) (s .args .pin .0) _ o) in
-    (omega arith, s .pre .1 .0, omega arith)
+    (omega arith, (s .pre .1 .0, omega arith))
 
 value-and-gate-requires : (t : ℕ) → value-lts.Need-and-gate-requires (calls t) (value-at t) value.Post
 value-and-gate-requires t c κs = search needs

@@ -1,0 +1,89 @@
+-- `gates::all_values` meets its contract. The loop's invariant: the gates before g have their values, and no other bit is set (`Stored`).
+-- Assumes nothing.
+use native.Mathlib.Omega.{arith}
+use mathlib.Core.Path.{_≡_, sym, ap, _∙_}
+use Prim.Native.Nat.{ℕ, _-_, _*_, _≤_}
+use lib.ListN.{length, replicate, length-replicate}
+use Rattle.record.specs.Record.{gatesOf}
+use Rattle.pinmap.specs.PinMap.{look}
+use Rattle.gates.specs.Values.{gateWords}
+use Rattle.gates.proofs.CodeLaws.{Stored, stored-none, stored-below, stored-more, stored-all}
+use borrow.Author.Needs.{needs}
+use Rattle.gates.proofs.all_values.Statement.{statement}
+use Rattle.gates.proofs.all_values.Tie as tie
+
+abbrev Inv-loop : tie.InvT-loop
+Inv-loop d known bits₀ gates g₀ bits g = (g ≤ gatesOf d) × Stored d known bits (length bits₀) g
+
+abbrev μ-loop : tie.MeasureT-loop
+μ-loop d known bits₀ gates g₀ bits g = gates - g
+
+clear-requires : tie.Need-clear-requires Inv-loop μ-loop
+clear-requires c κs = search needs
+
+word-at-requires : tie.Need-word-at-requires Inv-loop μ-loop
+word-at-requires c κs = search needs
+
+loop-holds : tie.Need-loop-holds Inv-loop μ-loop
+loop-holds c =
+    let k = c .before .before .before in
+    let s = k .before .before .before .before .before in
+    let n = length (s .args .bits .now) in
+    let e : length (k .clear .last .0) ≡ n = ap length (k .clear .ensures) ∙ length-replicate {A = ℕ} n 0 in
+    (omega arith, stored-none _ _ _ _ (k .clear .ensures ∙ ap (λ (m : ℕ). replicate m 0) (sym e)))
+
+store-gate-requires : tie.Need-store-gate-requires Inv-loop μ-loop
+store-gate-requires c κs =
+    let l = c .before .before in
+    let k = l .before .before .before .before in
+    let s = k .before .before .before .before .before in
+    let n = length (s .args .bits .now) in
+    let e : length (k .clear .last .0) ≡ n = ap length (k .clear .ensures) ∙ length-replicate {A = ℕ} n 0 in
+    let room : gatesOf (s .args .d .now) ≤ 32 * length (k .clear .last .0) = omega (arith, s .pre .1) in
+    (s .pre .0, omega arith, s .pre .2 _ (omega arith), stored-below (s .args .d .now) (s .args .known .now) _ _ _ (s .pre .0 .gates) room (omega arith) (l .loop .inv .1))
+
+add-g : tie.Need-add-g Inv-loop μ-loop
+add-g c = search needs
+
+loop-less : tie.Need-loop-less Inv-loop μ-loop
+loop-less c = search needs
+
+loop-again : tie.Need-loop-again Inv-loop μ-loop
+loop-again c =
+    let a = c .before .before in
+    let l = a .before .before .before in
+    let k = l .before .before .before .before in
+    let s = k .before .before .before .before .before in
+    let n = length (s .args .bits .now) in
+    let e : length (k .clear .last .0) ≡ n = ap length (k .clear .ensures) ∙ length-replicate {A = ℕ} n 0 in
+    let room : gatesOf (s .args .d .now) ≤ 32 * length (k .clear .last .0) = omega (arith, s .pre .1) in
+    (omega arith, stored-more (s .args .d .now) (s .args .known .now) _ _ _ _ (s .pre .0) room (omega arith) (l .loop .inv .1) (a .store-gate .ensures))
+
+same-length : tie.Need-same-length Inv-loop μ-loop
+same-length c = search needs
+
+returns : tie.Need-returns Inv-loop μ-loop
+returns c =
+    let l = c .before in
+    let k = l .before .before .before .before in
+    let s = k .before .before .before .before .before in
+    let n = length (s .args .bits .now) in
+    let e : length (k .clear .last .0) ≡ n = ap length (k .clear .ensures) ∙ length-replicate {A = ℕ} n 0 in
+    stored-all (s .args .d .now) (s .args .known .now) _ _ _ (s .pre .0) (omega arith) (l .loop .inv .0) (l .loop .inv .1)
+    ∙ ap (gateWords (s .args .d .now) (look (s .args .known .now))) e
+
+pub all-values-spec : {M : Type 1} → statement M
+all-values-spec =
+    tie.close
+    (tie.spec
+    Inv-loop
+    μ-loop
+    clear-requires
+    word-at-requires
+    loop-holds
+    store-gate-requires
+    add-g
+    loop-less
+    loop-again
+    same-length
+    returns)
