@@ -2,32 +2,33 @@
 -- makes of the bits stored so far.
 -- Assumes nothing.
 use mathlib.Core.Path.{_≡_, refl, sym, ap, ap₂, _∙_}
-use mathlib.Core.Bool.{Bool, true, false}
+use mathlib.Core.Bool.{true, _&&_}
 use mathlib.Core.List.{List}
 use mathlib.Core.Logic.{⊎-elim}
 use mathlib.Core.Option.{Option, none, some}
 use Prim.Native.Nat.{ℕ, zero, suc, _+_, _-_, _*_, _/_, _%_, _^_, _≤_, _<_, min}
 use native.Mathlib.Decide.{ℕ-discrete}
 use native.Mathlib.Omega.{arith}
-use borrow.Author.Tests.{lt-ltb, le-ltb, eq-eqb, ne-eqb}
+use borrow.Author.Tests.{leb-true, lt-ltb, le-ltb, eq-eqb, ne-eqb}
 use lib.Bits.{differ}
-use lib.Dec.{ltb, eqb}
-use lib.ListN.{length, getD, set, replicate, length-replicate}
+use lib.ListN.{length, getD, replicate, length-replicate}
 use lib.Pow.{pow-pos}
 use lib.Seq.{getD-set-same, getD-set-other}
 use Rattle.words.specs.Bit.{bit, bitAt, wordOf, setBit}
 use Rattle.words.proofs.BitLaws.{lt-or-ge, bit-zero, bit-ext, bit-wordOf, wordOf-lt, with-lt, at-set-bit, set-bit-length}
-use Rattle.words.specs.Section.{listOf}
 use Rattle.words.proofs.SectionLaws.{listOf-is}
 use Rattle.pinmap.specs.PinMap.{look, foundOf}
 use Rattle.pinmap.specs.declared.Found.{Found}
 use Rattle.pinmap.specs.declared.Found.the-variants as known-as
 use Rattle.record.specs.Record.{gatesOf, gatePin, gateFirst, gateSecond}
+use Rattle.record.specs.Tests.{allBelow}
+use Rattle.record.specs.Form.{isPin, isPinIv, gateForm}
+use Rattle.record.proofs.TestLaws.{and-true, all-at}
 use Rattle.gates.specs.Gates.{badGate, gateOf, gateBit, value}
-use Rattle.gates.specs.Values.{gateFoundOf, gateValue, gateWords, storeBit, Given, ValuedBelow}
+use Rattle.gates.specs.Values.{gateFoundOf, gateValue, gateWords, storeBit, Given, Askable, ValuedBelow}
 use Rattle.gates.specs.declared.GateFound.{GateFound}
 use Rattle.gates.specs.declared.GateFound.the-variants as found-as
-use Rattle.gates.proofs.GateLaws.{gate-at, pins-monotone}
+use Rattle.gates.proofs.GateLaws.{gate-at, first-falls, second-falls, pins-monotone}
 use Rattle.gates.proofs.ValueLaws.{value-read, value-gate, value-else, value-lt}
 
 -- ---- what an answer says
@@ -47,6 +48,15 @@ found-some (some w) r g p q = cc
 pub found-none : (o : Option ℕ) (r : GateFound) → r ≡ gateFoundOf o → r ≡ found-as.Missing → o ≡ none
 found-none none r p q = refl
 found-none (some w) r p q = let z : _≡_ {A = ℕ} 0 1 = cc in absurd (omega arith)
+
+-- ---- the fan-ins' pins, as the code has them, of a gate found by its pin
+
+module _ (d : List ℕ) (good : badGate d ≡ none) (x : ℕ) (q : GateFound) (answer : q ≡ gateFoundOf (gateOf d x)) (g : ℕ) (is : q ≡ found-as.Gate g) where
+  pub first-under : (f u : ℕ) → f ≡ gateFirst d g → u ≡ f / 2 → u < x
+  first-under f u ef eu = let o = first-falls d good x g (found-some _ q g answer is) in omega arith
+
+  pub second-under : (f u : ℕ) → f ≡ gateSecond d g → u ≡ f / 2 → u < x
+  second-under f u ef eu = let o = second-falls d good x g (found-some _ q g answer is) in omega arith
 
 -- ---- the ways out
 
@@ -76,6 +86,16 @@ module _ (d known : List ℕ) (given : Given d known) (x : ℕ) (r : Found) (ans
 
 -- ---- all gates
 
+-- refusal 5 excluded, every gate's pin can be asked for
+pub pins-askable : (d : List ℕ) → allBelow (gateForm d) (gatesOf d) ≡ true → (g : ℕ) → g < gatesOf d → Askable (gatePin d g)
+unfolding gateForm
+pins-askable d h g l =
+    let form = all-at (gateForm d) (gatesOf d) g h l in
+    let (ab, c) = and-true (isPin (gatePin d g) && isPinIv (gateFirst d g)) (isPinIv (gateSecond d g)) form in
+    let (a, b) = and-true (isPin (gatePin d g)) (isPinIv (gateFirst d g)) ab in
+    let m : gatePin d g ≤ 2 ^ 30 = leb-true _ _ a in
+    omega arith
+
 pub valued-less : (d known bits : List ℕ) (p q : ℕ) → ValuedBelow d known bits p → q ≤ p → ValuedBelow d known bits q
 valued-less d known bits p q v h = record { room = v .room; held = λ g l k. v .held g l (omega arith) }
 
@@ -97,14 +117,15 @@ gate-value-lt d inp h g = ⊎-elim
     (λ l. rw (value-past d inp g l) (omega arith))
     (lt-or-ge g (gatesOf d))
 
-pub store-none : (l : List ℕ) (p v : ℕ) → v ≡ 0 → l ≡ storeBit l p v
+-- w is the value as the code has it
+pub store-none : (l : List ℕ) (p v w : ℕ) → w ≡ v → w ≡ 0 → l ≡ storeBit l p v
 unfolding storeBit
-store-none l p v e = rw e
+store-none l p v w e z = rw (sym e ∙ z)
 
-pub store-some : (l : List ℕ) (p v : ℕ) → (v ≡ 0 → ⊥) → setBit l p ≡ storeBit l p v
+pub store-some : (l : List ℕ) (p v w : ℕ) → w ≡ v → (w ≡ 0 → ⊥) → setBit l p ≡ storeBit l p v
 unfolding storeBit
-store-some l p zero n = absurd (n refl)
-store-some l p (suc v) n = refl
+store-some l p zero w e n = absurd (n e)
+store-some l p (suc v) w e n = refl
 
 -- n words in which the gates before g have their values, and no other bit is set
 pub record Stored (d known l : List ℕ) (n g : ℕ) : Type 0 where

@@ -45,11 +45,24 @@ unfoldable pub storeBit : List ℕ → ℕ → ℕ → List ℕ
 storeBit l p zero = l
 storeBit l p (suc v) = setBit l p
 
--- there is a bit for each gate, and those of the gates with a pin below p have their values
+-- a pin that a table of pins can be asked for
+abbrev pub Askable : ℕ → Type 0
+Askable x = x < 2 ^ 32 - 1
+
+-- there is a bit for each gate, and the gates with a pin below p have their values there
 pub record ValuedBelow (d known bits : List ℕ) (p : ℕ) : Type 0 where
   pub room : gatesOf d ≤ 32 * length bits
   pub held : (g : ℕ) → g < gatesOf d → gatePin d g < p → bitAt bits g ≡ value d (look known) (gatePin d g)
 
--- a pin that a table of pins can be asked for
-abbrev pub Askable : ℕ → Type 0
-Askable x = x < 2 ^ 32 - 1
+-- what the value of gate g's pin asks where the gates below it have theirs
+pub record Ready (d known bits : List ℕ) (g : ℕ) : Type 0 where
+  pub given : Given d known
+  pub inside : g < gatesOf d
+  pub askable : Askable (gatePin d g)
+  pub below : ValuedBelow d known bits (gatePin d g)
+
+-- what the values of all gates ask
+pub record Fillable (d known bits : List ℕ) : Type 0 where
+  pub given : Given d known
+  pub room : gatesOf d ≤ 32 * length bits
+  pub askable : (g : ℕ) → g < gatesOf d → Askable (gatePin d g)

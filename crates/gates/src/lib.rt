@@ -1,19 +1,19 @@
-// The gate list: its form, a gate by its pin, the value of a pin.
+// The gate list: its form, a gate by its pin, the value of a pin. Document 01, refusal 6 and "The run".
 ghost use mathlib.Core.Path.{_≡_};
-ghost use mathlib.Core.Bool.{Bool};
 ghost use mathlib.Core.Option.{none};
-ghost use Prim.Native.Nat.{ℕ, _+_, _*_, _-_, _/_, _%_, _^_, _≤_, _<_, min};
+ghost use Prim.Native.Nat.{_+_, _%_, _<_, min};
 ghost use lib.Bits.{differ};
 ghost use lib.ListN.{length};
 ghost use Rattle.sort.specs.Search.{least};
 ghost use Rattle.pinmap.specs.PinMap.{look};
 ghost use Rattle.record.specs.Record.{gatesOf, gatePin, gateFirst, gateSecond};
-ghost use Rattle.gates.specs.Gates.{pinBefore, gateRight, badGate, gateOf};
-ghost use Rattle.gates.specs.Values.{gateListOf, gateFoundOf, gateWords, storeBit, Given, ValuedBelow, Askable};
-use words::units::{Pin, PinIv};
+ghost use Rattle.gates.specs.Gates.{pinBefore, gateRight, badGate, gateOf, value};
+ghost use Rattle.gates.specs.Values.{gateListOf, gateFoundOf, gateWords, storeBit, Given, Askable, ValuedBelow, Ready, Fillable};
 use pinmap::Found;
+use words::units::Pin;
+use words::units::PinIv;
 
-// Whether a gate list has its form: refusal 6 at a gate.
+// `Bad`: refusal 6 at this gate.
 pub enum GateList {
     Good,
     Bad(u32),
@@ -123,7 +123,7 @@ fn and_gate(a: u32, first: PinIv, b: u32, second: PinIv) -> u32
 // The value of a pin: what is known of it; else, for a gate, the AND of its fan-ins' values; else 0. Fan-in pins are smaller.
 pub fn value(d: &[u8], known: &[u32], pin: Pin) -> u32
     requires { ⌜ Given (now d) (now known) × Askable (pin .0) ⌝ }
-    ensures { λ r. ⌜ (r ≡ Rattle.gates.specs.Gates.value (now (d .entry)) (look (now (known .entry))) (pin .0)) × (r < 2) ⌝ }
+    ensures { λ r. ⌜ (r ≡ value (now (d .entry)) (look (now (known .entry))) (pin .0)) × (r < 2) ⌝ }
 {
     match pinmap::look_up(known, pin) {
         Found::Value(v) => v,
@@ -143,7 +143,7 @@ pub fn value(d: &[u8], known: &[u32], pin: Pin) -> u32
 // The value of a pin, where the gates up to it have theirs in `bits`.
 fn pin_value(d: &[u8], known: &[u32], bits: &[u32], pin: Pin) -> u32
     requires { ⌜ Given (now d) (now known) × Askable (pin .0) × ValuedBelow (now d) (now known) (now bits) (pin .0 + 1) ⌝ }
-    ensures { λ r. ⌜ (r ≡ Rattle.gates.specs.Gates.value (now (d .entry)) (look (now (known .entry))) (pin .0)) × (r < 2) ⌝ }
+    ensures { λ r. ⌜ (r ≡ value (now (d .entry)) (look (now (known .entry))) (pin .0)) × (r < 2) ⌝ }
 {
     match pinmap::look_up(known, pin) {
         Found::Value(v) => v,
@@ -156,8 +156,8 @@ fn pin_value(d: &[u8], known: &[u32], bits: &[u32], pin: Pin) -> u32
 
 // The value of gate g's pin, where the gates below it have theirs in `bits`.
 fn gate_value(d: &[u8], known: &[u32], bits: &[u32], g: u32) -> u32
-    requires { ⌜ Given (now d) (now known) × (g < gatesOf (now d)) × Askable (gatePin (now d) g) × ValuedBelow (now d) (now known) (now bits) (gatePin (now d) g) ⌝ }
-    ensures { λ r. ⌜ (r ≡ Rattle.gates.specs.Gates.value (now (d .entry)) (look (now (known .entry))) (gatePin (now (d .entry)) g)) × (r < 2) ⌝ }
+    requires { ⌜ Ready (now d) (now known) (now bits) g ⌝ }
+    ensures { λ r. ⌜ (r ≡ value (now (d .entry)) (look (now (known .entry))) (gatePin (now (d .entry)) g)) × (r < 2) ⌝ }
 {
     match pinmap::look_up(known, gate_pin(d, g)) {
         Found::Value(v) => v,
@@ -173,8 +173,8 @@ fn gate_value(d: &[u8], known: &[u32], bits: &[u32], g: u32) -> u32
 
 // Stores the value of gate g's pin in its bit, which is clear.
 fn store_gate(d: &[u8], known: &[u32], bits: &mut [u32], g: u32)
-    requires { ⌜ Given (now d) (now known) × (g < gatesOf (now d)) × Askable (gatePin (now d) g) × ValuedBelow (now d) (now known) (now bits) (gatePin (now d) g) ⌝ }
-    ensures { λ _. ⌜ now (bits .exit) ≡ storeBit (now (bits .entry)) g (Rattle.gates.specs.Gates.value (now (d .entry)) (look (now (known .entry))) (gatePin (now (d .entry)) g)) ⌝ }
+    requires { ⌜ Ready (now d) (now known) (now bits) g ⌝ }
+    ensures { λ _. ⌜ now (bits .exit) ≡ storeBit (now (bits .entry)) g (value (now (d .entry)) (look (now (known .entry))) (gatePin (now (d .entry)) g)) ⌝ }
 {
     if gate_value(d, known, bits, g) == 0 {
         return;
@@ -182,9 +182,9 @@ fn store_gate(d: &[u8], known: &[u32], bits: &mut [u32], g: u32)
     words::bits::set_bit(bits, g as usize);
 }
 
-// The values of all gates in one pass up the list: a gate's fan-ins are pins that are known, gates before it, or neither.
+// The values of all gates in one pass up the list: bit g is the value of gate g's pin. A fan-in is known, the pin of a gate before, or neither.
 pub fn all_values(d: &[u8], known: &[u32], bits: &mut [u32])
-    requires { ⌜ Given (now d) (now known) × (gatesOf (now d) ≤ 32 * length (now bits)) × ((g : ℕ) → g < gatesOf (now d) → Askable (gatePin (now d) g)) ⌝ }
+    requires { ⌜ Fillable (now d) (now known) (now bits) ⌝ }
     ensures { λ _. ⌜ now (bits .exit) ≡ gateWords (now (d .entry)) (look (now (known .entry))) (length (now (bits .entry))) ⌝ }
 {
     pinmap::clear(bits);

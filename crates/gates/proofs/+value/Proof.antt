@@ -2,8 +2,7 @@
 -- Assumes nothing.
 use Prim.Native.Nat.{ℕ, _<_}
 use native.Mathlib.Omega.{arith}
-use Rattle.gates.proofs.GateLaws.{first-falls, second-falls}
-use Rattle.gates.proofs.CodeLaws.{found-some, bit-known, bit-neither, bit-gate}
+use Rattle.gates.proofs.CodeLaws.{found-some, first-under, second-under, bit-known, bit-neither, bit-gate}
 use borrow.Author.Needs.{needs}
 use borrow.Fn.Kinds.{In}
 use borrow.Fn.PlainCycle.{Measures, is, falls, and}
@@ -73,11 +72,12 @@ value-pin-requires t c κs = search needs
 
 value-value-requires : (t : ℕ) → value-lts.Need-value-requires (calls t) (value-at t) value.Post
 value-value-requires t c κs =
-    let g = c .before .before .before .before in
+    let first = c .before .before in
+    let g = first .before .before in
     let f = g .before .before in
     let s = f .before .before .before .before .before .before in
-    let o = found-some _ _ _ (f .find-gate .ensures) (g .g .given .1) in
-    let h : c .pin .result .0 < s .args .pin .0 = omega (arith, first-falls (s .args .d .now) (s .pre .1 .0 .gates) (s .args .pin .0) _ o) in
+    let h : c .pin .result .0 < s .args .pin .0 = first-under (s .args .d .now) (s .pre .1 .0 .gates) (s .args .pin .0) _ (f .find-gate .ensures) _
+    (g .g .given .1) _ _ (first .gate-first .ensures) (c .pin .ensures) in
     (omega arith, (s .pre .1 .0, omega arith))
 
 value-pin-requires-2 : (t : ℕ) → value-lts.Need-pin-requires-2 (calls t) (value-at t) value.Post
@@ -85,11 +85,12 @@ value-pin-requires-2 t c κs = search needs
 
 value-value-requires-2 : (t : ℕ) → value-lts.Need-value-requires-2 (calls t) (value-at t) value.Post
 value-value-requires-2 t c κs =
-    let g = c .before .before .before .before .before .before in
+    let second = c .before .before .before in
+    let g = second .before .before .before in
     let f = g .before .before in
     let s = f .before .before .before .before .before .before in
-    let o = found-some _ _ _ (f .find-gate .ensures) (g .g .given .1) in
-    let h : c .pin2 .result .0 < s .args .pin .0 = omega (arith, second-falls (s .args .d .now) (s .pre .1 .0 .gates) (s .args .pin .0) _ o) in
+    let h : c .pin2 .result .0 < s .args .pin .0 = second-under (s .args .d .now) (s .pre .1 .0 .gates) (s .args .pin .0) _ (f .find-gate .ensures) _
+    (g .g .given .1) _ _ (second .gate-second .ensures) (c .pin2 .ensures) in
     (omega arith, (s .pre .1 .0, omega arith))
 
 value-and-gate-requires : (t : ℕ) → value-lts.Need-and-gate-requires (calls t) (value-at t) value.Post
@@ -116,18 +117,19 @@ value-returns-2 t c =
     let told = f .before in
     let l = told .before .before in
     let s = l .before .before .before in
-    let o = found-some _ _ _ (f .find-gate .ensures) (g .g .given .1) in
-    (bit-gate (s .args .d .now) (s .args .known .now) (s .pre .1 .0) (s .args .pin .0) _ (l .look-up .ensures) _ _ _ _ _ _ _ _
-    (told .enum-told .given .1)
-    o
-    (first .gate-first .ensures)
-    (second .gate-second .ensures)
-    (p .pin .ensures)
-    (v .before .pin2 .ensures)
-    (u .value .ensures .0)
-    (v .value2 .ensures .0)
-    (c .and-gate .ensures .0),
-    c .and-gate .ensures .1)
+    let o = found-some _ _ _ (f .find-gate .ensures) (g .g .given .1) in (
+      bit-gate (s .args .d .now) (s .args .known .now) (s .pre .1 .0) (s .args .pin .0) _ (l .look-up .ensures) _ _ _ _ _ _ _ _
+          (told .enum-told .given .1)
+          o
+          (first .gate-first .ensures)
+          (second .gate-second .ensures)
+          (p .pin .ensures)
+          (v .before .pin2 .ensures)
+          (u .value .ensures .0)
+          (v .value2 .ensures .0)
+          (c .and-gate .ensures .0),
+      c .and-gate .ensures .1,
+    )
 
 value-returns-3 : (t : ℕ) → value-lts.Need-returns-3 (calls t) (value-at t) value.Post
 value-returns-3 t c =

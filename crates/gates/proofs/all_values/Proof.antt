@@ -18,6 +18,12 @@ Inv-loop d known bits₀ gates g₀ bits g = (g ≤ gatesOf d) × Stored d known
 abbrev μ-loop : tie.MeasureT-loop
 μ-loop d known bits₀ gates g₀ bits g = gates - g
 
+cleared : (c : tie.After-clear Inv-loop μ-loop) → length (c .clear .last .0) ≡ length (c .before .before .before .before .before .args .bits .now)
+cleared c = ap length (c .clear .ensures) ∙ length-replicate {A = ℕ} (length (c .before .before .before .before .before .args .bits .now)) 0
+
+room : (c : tie.After-clear Inv-loop μ-loop) → gatesOf (c .before .before .before .before .before .args .d .now) ≤ 32 * length (c .clear .last .0)
+room c = omega (arith, cleared c, c .before .before .before .before .before .pre .room)
+
 clear-requires : tie.Need-clear-requires Inv-loop μ-loop
 clear-requires c κs = search needs
 
@@ -28,19 +34,19 @@ loop-holds : tie.Need-loop-holds Inv-loop μ-loop
 loop-holds c =
     let k = c .before .before .before in
     let s = k .before .before .before .before .before in
-    let n = length (s .args .bits .now) in
-    let e : length (k .clear .last .0) ≡ n = ap length (k .clear .ensures) ∙ length-replicate {A = ℕ} n 0 in
-    (omega arith, stored-none _ _ _ _ (k .clear .ensures ∙ ap (λ (m : ℕ). replicate m 0) (sym e)))
+    (omega arith, stored-none _ _ _ _ (k .clear .ensures ∙ ap (λ (m : ℕ). replicate m 0) (sym (cleared k))))
 
 store-gate-requires : tie.Need-store-gate-requires Inv-loop μ-loop
 store-gate-requires c κs =
     let l = c .before .before in
     let k = l .before .before .before .before in
     let s = k .before .before .before .before .before in
-    let n = length (s .args .bits .now) in
-    let e : length (k .clear .last .0) ≡ n = ap length (k .clear .ensures) ∙ length-replicate {A = ℕ} n 0 in
-    let room : gatesOf (s .args .d .now) ≤ 32 * length (k .clear .last .0) = omega (arith, s .pre .1) in
-    (s .pre .0, omega arith, s .pre .2 _ (omega arith), stored-below (s .args .d .now) (s .args .known .now) _ _ _ (s .pre .0 .gates) room (omega arith) (l .loop .inv .1))
+    record {
+      given = s .pre .given;
+      inside = omega arith;
+      askable = s .pre .askable _ (omega arith);
+      below = stored-below (s .args .d .now) (s .args .known .now) _ _ _ (s .pre .given .gates) (room k) (omega arith) (l .loop .inv .1);
+    }
 
 add-g : tie.Need-add-g Inv-loop μ-loop
 add-g c = search needs
@@ -54,10 +60,7 @@ loop-again c =
     let l = a .before .before .before in
     let k = l .before .before .before .before in
     let s = k .before .before .before .before .before in
-    let n = length (s .args .bits .now) in
-    let e : length (k .clear .last .0) ≡ n = ap length (k .clear .ensures) ∙ length-replicate {A = ℕ} n 0 in
-    let room : gatesOf (s .args .d .now) ≤ 32 * length (k .clear .last .0) = omega (arith, s .pre .1) in
-    (omega arith, stored-more (s .args .d .now) (s .args .known .now) _ _ _ _ (s .pre .0) room (omega arith) (l .loop .inv .1) (a .store-gate .ensures))
+    (omega arith, stored-more (s .args .d .now) (s .args .known .now) _ _ _ _ (s .pre .given) (room k) (omega arith) (l .loop .inv .1) (a .store-gate .ensures))
 
 same-length : tie.Need-same-length Inv-loop μ-loop
 same-length c = search needs
@@ -67,10 +70,8 @@ returns c =
     let l = c .before in
     let k = l .before .before .before .before in
     let s = k .before .before .before .before .before in
-    let n = length (s .args .bits .now) in
-    let e : length (k .clear .last .0) ≡ n = ap length (k .clear .ensures) ∙ length-replicate {A = ℕ} n 0 in
-    stored-all (s .args .d .now) (s .args .known .now) _ _ _ (s .pre .0) (omega arith) (l .loop .inv .0) (l .loop .inv .1)
-    ∙ ap (gateWords (s .args .d .now) (look (s .args .known .now))) e
+    stored-all (s .args .d .now) (s .args .known .now) _ _ _ (s .pre .given) (omega arith) (l .loop .inv .0) (l .loop .inv .1)
+    ∙ ap (gateWords (s .args .d .now) (look (s .args .known .now))) (cleared k)
 
 pub all-values-spec : {M : Type 1} → statement M
 all-values-spec =

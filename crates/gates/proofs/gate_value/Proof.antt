@@ -36,8 +36,8 @@ pin-requires c κs = search needs
 pin-value-requires : tie.Need-pin-value-requires
 pin-value-requires c κs =
     let s = c .before .before .before .before .before .before .before .before .before .before in
-    let h : c .pin .result .0 < gatePin (s .args .d .now) (s .args .g) = omega (arith, right-at (s .args .d .now) (s .pre .0 .gates) (s .args .g) (s .pre .1) .first) in
-    (s .pre .0, omega arith, valued-less (s .args .d .now) (s .args .known .now) (s .args .bits .now) _ _ (s .pre .3) (omega arith))
+    let h : c .pin .result .0 < gatePin (s .args .d .now) (s .args .g) = omega (arith, right-at (s .args .d .now) (s .pre .given .gates) (s .args .g) (s .pre .inside) .first) in
+    (s .pre .given, omega arith, valued-less (s .args .d .now) (s .args .known .now) (s .args .bits .now) _ _ (s .pre .below) (omega arith))
 
 pin-requires-2 : tie.Need-pin-requires-2
 pin-requires-2 c κs = search needs
@@ -45,8 +45,8 @@ pin-requires-2 c κs = search needs
 pin-value-requires-2 : tie.Need-pin-value-requires-2
 pin-value-requires-2 c κs =
     let s = c .before .before .before .before .before .before .before .before .before .before .before .before in
-    let h : c .pin2 .result .0 < gatePin (s .args .d .now) (s .args .g) = omega (arith, right-at (s .args .d .now) (s .pre .0 .gates) (s .args .g) (s .pre .1) .second) in
-    (s .pre .0, omega arith, valued-less (s .args .d .now) (s .args .known .now) (s .args .bits .now) _ _ (s .pre .3) (omega arith))
+    let h : c .pin2 .result .0 < gatePin (s .args .d .now) (s .args .g) = omega (arith, right-at (s .args .d .now) (s .pre .given .gates) (s .args .g) (s .pre .inside) .second) in
+    (s .pre .given, omega arith, valued-less (s .args .d .now) (s .args .known .now) (s .args .bits .now) _ _ (s .pre .below) (omega arith))
 
 and-gate-requires : tie.Need-and-gate-requires
 and-gate-requires c κs = search needs
@@ -56,7 +56,7 @@ returns c =
     let l = c .before .before .before in
     let p = l .before in
     let s = p .before .before .before .before in
-    let (e, h) = bit-known (s .args .d .now) (s .args .known .now) (s .pre .0) (p .gate-pin .result .0) _ (l .look-up .ensures) _ (c .before .v .given .1) in
+    let (e, h) = bit-known (s .args .d .now) (s .args .known .now) (s .pre .given) (p .gate-pin .result .0) _ (l .look-up .ensures) _ (c .before .v .given .1) in
     (e ∙ ap (value (s .args .d .now) (look (s .args .known .now))) (p .gate-pin .ensures), h)
 
 returns-2 : tie.Need-returns-2
@@ -70,8 +70,8 @@ returns-2 c =
     let l = told .before .before in
     let p = l .before in
     let s = p .before .before .before .before in
-    let o = gate-is (s .args .d .now) (s .pre .0 .gates) (p .gate-pin .result .0) (s .args .g) (s .pre .1) (sym (p .gate-pin .ensures)) in
-    let e = bit-gate (s .args .d .now) (s .args .known .now) (s .pre .0) (p .gate-pin .result .0) _ (l .look-up .ensures) _ _ _ _ _ _ _ _
+    let o = gate-is (s .args .d .now) (s .pre .given .gates) (p .gate-pin .result .0) (s .args .g) (s .pre .inside) (sym (p .gate-pin .ensures)) in
+    let e = bit-gate (s .args .d .now) (s .args .known .now) (s .pre .given) (p .gate-pin .result .0) _ (l .look-up .ensures) _ _ _ _ _ _ _ _
     (told .enum-told .given .1)
     o
     (first .gate-first .ensures)
