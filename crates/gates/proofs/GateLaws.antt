@@ -1,13 +1,11 @@
 -- Laws of the gate list. A gate found by its pin has that pin. Where refusal 6 is excluded pins ascend strictly from above 0, fan-in pins are
 -- below their gate's, and a pin has one gate at most.
 -- Assumes nothing.
-use mathlib.Core.Path.{_≡_, refl, sym, ap, ap₂, _∙_}
+use mathlib.Core.Path.{_≡_, refl, ap, ap₂, _∙_}
 use mathlib.Core.Bool.{Bool, true, false, not, _&&_}
 use mathlib.Core.List.{List}
-use mathlib.Core.Logic.{⊎-elim}
-use mathlib.Core.Option.{Option, none, some}
+use mathlib.Core.Option.{none, some}
 use Prim.Native.Nat.{ℕ, zero, suc, _+_, _-_, _/_, _%_, _≤_, _<_, min}
-use native.Mathlib.Nat.{not-suc-le-zero}
 use native.Mathlib.Numerals.{add-one}
 use native.Mathlib.Omega.{arith}
 use borrow.Author.Tests.{ltb-true, lt-ltb, le-ltb, eq-eqb, ne-eqb, eqb-true, not-true, not-false}
@@ -18,7 +16,7 @@ use Rattle.sort.specs.Search.{Monotone, Between, least}
 use Rattle.sort.proofs.SearchLaws.{monotone-steps, least-between, search-found}
 use Rattle.record.specs.Record.{gatesOf, gatePin, gateFirst, gateSecond}
 use Rattle.record.specs.Tests.{firstFrom}
-use Rattle.record.proofs.TestLaws.{and-true, true-and, not-at, not-none, none-not, not-is}
+use Rattle.record.proofs.TestLaws.{and-true, not-at, not-none, none-not, not-is}
 use Rattle.gates.specs.Gates.{pinBefore, gateRight, badGate, gateOf}
 
 -- ---- refusal 6, gate by gate

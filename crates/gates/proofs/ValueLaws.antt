@@ -1,14 +1,14 @@
 -- Laws of the value of a pin. Its three rules: the fuel of the definition does not matter, since fan-in pins fall.
 -- Assumes nothing.
-use mathlib.Core.Path.{_≡_, refl, sym, ap, ap₂, _∙_}
+use mathlib.Core.Path.{_≡_, refl, ap, ap₂, _∙_}
 use mathlib.Core.List.{List}
 use mathlib.Core.Option.{Option, none, some}
-use Prim.Native.Nat.{ℕ, zero, suc, _+_, _/_, _%_, _≤_, _<_, min}
+use Prim.Native.Nat.{ℕ, zero, suc, _/_, _%_, _≤_, _<_, min}
 use native.Mathlib.Nat.{mod-lt, not-suc-le-zero}
 use native.Mathlib.Omega.{arith}
 use lib.Bits.{differ}
 use Rattle.words.proofs.BitLaws.{differ-lt}
-use Rattle.record.specs.Record.{gatesOf, gatePin, gateFirst, gateSecond}
+use Rattle.record.specs.Record.{gateFirst, gateSecond}
 use Rattle.gates.specs.Gates.{badGate, gateOf, gateBit, pinBit, valueIn, value}
 use Rattle.gates.proofs.GateLaws.{first-falls, second-falls}
 

@@ -10,6 +10,10 @@ ghost use Rattle.record.specs.Record.{gatesOf, gatePin, gateFirst, gateSecond};
 ghost use Rattle.gates.specs.Gates.{pinBefore, gateRight, badGate, gateOf, value};
 ghost use Rattle.gates.specs.Values.{gateListOf, gateFoundOf, gateWords, storeBit, Given, Askable, ValuedBelow, Ready, Fillable};
 use pinmap::Found;
+use record::places::gate_base;
+use record::places::word_at;
+use words::bits::bit_at;
+use words::bits::set_bit;
 use words::units::Pin;
 use words::units::PinIv;
 
@@ -28,19 +32,19 @@ pub enum GateFound {
 pub fn gate_pin(d: &[u8], g: u32) -> Pin
     ensures { λ r. ⌜ r .0 ≡ gatePin (now (d .entry)) g ⌝ }
 {
-    Pin(record::places::word_at(d, record::places::gate_base(d) + 3 * (g as usize)))
+    Pin(word_at(d, gate_base(d) + 3 * (g as usize)))
 }
 
 pub fn gate_first(d: &[u8], g: u32) -> PinIv
     ensures { λ r. ⌜ r .0 ≡ gateFirst (now (d .entry)) g ⌝ }
 {
-    PinIv(record::places::word_at(d, record::places::gate_base(d) + 3 * (g as usize) + 1))
+    PinIv(word_at(d, gate_base(d) + 3 * (g as usize) + 1))
 }
 
 pub fn gate_second(d: &[u8], g: u32) -> PinIv
     ensures { λ r. ⌜ r .0 ≡ gateSecond (now (d .entry)) g ⌝ }
 {
-    PinIv(record::places::word_at(d, record::places::gate_base(d) + 3 * (g as usize) + 2))
+    PinIv(word_at(d, gate_base(d) + 3 * (g as usize) + 2))
 }
 
 // Whether gate g stands above the gate before it and above its fan-ins.
@@ -64,7 +68,7 @@ fn gate_right(d: &[u8], before: Pin, g: u32) -> bool
 pub fn check_gates(d: &[u8]) -> GateList
     ensures { λ r. ⌜ r ≡ gateListOf (badGate (now (d .entry))) ⌝ }
 {
-    let gates = record::places::word_at(d, 2);
+    let gates = word_at(d, 2);
     let mut before = Pin(0);
     let mut g = 0;
     while g < gates {
@@ -84,7 +88,7 @@ fn first_not_below(d: &[u8], pin: Pin) -> u32
     ensures { λ r. ⌜ r ≡ least (gatePin (now (d .entry))) (gatesOf (now (d .entry))) (pin .0) ⌝ }
 {
     let mut low = 0;
-    let mut high = record::places::word_at(d, 2);
+    let mut high = word_at(d, 2);
     while low < high {
         let middle = low + (high - low) / 2;
         if gate_pin(d, middle).0 < pin.0 {
@@ -102,7 +106,7 @@ pub fn find_gate(d: &[u8], pin: Pin) -> GateFound
     ensures { λ r. ⌜ r ≡ gateFoundOf (gateOf (now (d .entry)) (pin .0)) ⌝ }
 {
     let g = first_not_below(d, pin);
-    if g == record::places::word_at(d, 2) {
+    if g == word_at(d, 2) {
         return GateFound::Missing;
     }
     if gate_pin(d, g).0 == pin.0 {
@@ -148,7 +152,7 @@ fn pin_value(d: &[u8], known: &[u32], bits: &[u32], pin: Pin) -> u32
     match pinmap::look_up(known, pin) {
         Found::Value(v) => v,
         Found::Missing => match find_gate(d, pin) {
-            GateFound::Gate(g) => words::bits::bit_at(bits, g as usize),
+            GateFound::Gate(g) => bit_at(bits, g as usize),
             GateFound::Missing => 0,
         },
     }
@@ -179,7 +183,7 @@ fn store_gate(d: &[u8], known: &[u32], bits: &mut [u32], g: u32)
     if gate_value(d, known, bits, g) == 0 {
         return;
     }
-    words::bits::set_bit(bits, g as usize);
+    set_bit(bits, g as usize);
 }
 
 // The values of all gates in one pass up the list: bit g is the value of gate g's pin. A fan-in is known, the pin of a gate before, or neither.
@@ -188,7 +192,7 @@ pub fn all_values(d: &[u8], known: &[u32], bits: &mut [u32])
     ensures { λ _. ⌜ now (bits .exit) ≡ gateWords (now (d .entry)) (look (now (known .entry))) (length (now (bits .entry))) ⌝ }
 {
     pinmap::clear(bits);
-    let gates = record::places::word_at(d, 2);
+    let gates = word_at(d, 2);
     let mut g = 0;
     while g < gates {
         store_gate(d, known, bits, g);

@@ -1,8 +1,8 @@
 -- `gates::all_values` meets its contract. The loop's invariant: the gates before g have their values, and no other bit is set (`Stored`).
 -- Assumes nothing.
-use native.Mathlib.Omega.{arith}
 use mathlib.Core.Path.{_≡_, sym, ap, _∙_}
 use Prim.Native.Nat.{ℕ, _-_, _*_, _≤_}
+use native.Mathlib.Omega.{arith}
 use lib.ListN.{length, replicate, length-replicate}
 use Rattle.record.specs.Record.{gatesOf}
 use Rattle.pinmap.specs.PinMap.{look}

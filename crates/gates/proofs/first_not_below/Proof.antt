@@ -1,7 +1,7 @@
 -- `gates::first_not_below` meets its contract: the search by halves of crate sort, over the pins of the gates, which ascend.
 -- Assumes nothing.
 use mathlib.Core.Path.{_≡_}
-use Prim.Native.Nat.{_-_, _≤_, _<_}
+use Prim.Native.Nat.{_-_}
 use native.Mathlib.Omega.{arith}
 use borrow.Author.Needs.{needs}
 use Rattle.sort.specs.Search.{Between}

@@ -1,8 +1,8 @@
 -- `gates::gate_value` meets its contract: what is known of its pin, or the AND of its fan-ins, which are below it.
 -- Assumes nothing.
+use mathlib.Core.Path.{sym, ap, _∙_}
+use Prim.Native.Nat.{_<_}
 use native.Mathlib.Omega.{arith}
-use mathlib.Core.Path.{_≡_, sym, ap, _∙_}
-use Prim.Native.Nat.{_+_, _/_, _≤_, _<_}
 use Rattle.record.specs.Record.{gatePin}
 use Rattle.pinmap.specs.PinMap.{look}
 use Rattle.gates.specs.Gates.{value}
@@ -36,7 +36,8 @@ pin-requires c κs = search needs
 pin-value-requires : tie.Need-pin-value-requires
 pin-value-requires c κs =
     let s = c .before .before .before .before .before .before .before .before .before .before in
-    let h : c .pin .result .0 < gatePin (s .args .d .now) (s .args .g) = omega (arith, right-at (s .args .d .now) (s .pre .given .gates) (s .args .g) (s .pre .inside) .first) in
+    let r = right-at (s .args .d .now) (s .pre .given .gates) (s .args .g) (s .pre .inside) in
+    let h : c .pin .result .0 < gatePin (s .args .d .now) (s .args .g) = omega (arith, r .first) in
     (s .pre .given, omega arith, valued-less (s .args .d .now) (s .args .known .now) (s .args .bits .now) _ _ (s .pre .below) (omega arith))
 
 pin-requires-2 : tie.Need-pin-requires-2
@@ -45,7 +46,8 @@ pin-requires-2 c κs = search needs
 pin-value-requires-2 : tie.Need-pin-value-requires-2
 pin-value-requires-2 c κs =
     let s = c .before .before .before .before .before .before .before .before .before .before .before .before in
-    let h : c .pin2 .result .0 < gatePin (s .args .d .now) (s .args .g) = omega (arith, right-at (s .args .d .now) (s .pre .given .gates) (s .args .g) (s .pre .inside) .second) in
+    let r = right-at (s .args .d .now) (s .pre .given .gates) (s .args .g) (s .pre .inside) in
+    let h : c .pin2 .result .0 < gatePin (s .args .d .now) (s .args .g) = omega (arith, r .second) in
     (s .pre .given, omega arith, valued-less (s .args .d .now) (s .args .known .now) (s .args .bits .now) _ _ (s .pre .below) (omega arith))
 
 and-gate-requires : tie.Need-and-gate-requires

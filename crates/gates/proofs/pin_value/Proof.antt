@@ -1,9 +1,7 @@
 -- `gates::pin_value` meets its contract: what is known, a bit that is stored already, or neither.
 -- Assumes nothing.
-use native.Mathlib.Omega.{arith}
 use mathlib.Core.Path.{_∙_}
-use Prim.Native.Nat.{_/_, _<_}
-use lib.ListN.{length}
+use native.Mathlib.Omega.{arith}
 use Rattle.gates.proofs.GateLaws.{gate-at}
 use Rattle.gates.proofs.ValueLaws.{value-lt}
 use Rattle.gates.proofs.CodeLaws.{found-some, bit-known, bit-neither, bit-stored}
