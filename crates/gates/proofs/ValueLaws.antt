@@ -12,6 +12,16 @@ use Rattle.record.specs.Record.{gateFirst, gateSecond}
 use Rattle.gates.specs.Gates.{badGate, gateOf, gateBit, pinBit, valueIn, value}
 use Rattle.gates.proofs.GateLaws.{first-falls, second-falls}
 
+-- ---- a pin that is read, and one that is neither read nor a gate's: the first and the last of the three rules
+
+pub value-read : (d : List ℕ) (inp : ℕ → Option ℕ) (x v : ℕ) → inp x ≡ some v → value d inp x ≡ v
+unfolding value valueIn pinBit
+value-read d inp x v e = ap (λ (i : Option ℕ). pinBit d i (gateOf d x) (λ y. valueIn d inp x y)) e
+
+pub value-else : (d : List ℕ) (inp : ℕ → Option ℕ) (x : ℕ) → inp x ≡ none → gateOf d x ≡ none → value d inp x ≡ 0
+unfolding value valueIn pinBit
+value-else d inp x e h = ap₂ (λ (i : Option ℕ) (o : Option ℕ). pinBit d i o (λ y. valueIn d inp x y)) e h
+
 -- ---- one step: the pins that it asks for
 
 -- a gate's bit asks for its two fan-in pins
@@ -39,15 +49,7 @@ pin-bit-lt d (some v) o r h k = h v refl
 pin-bit-lt d none none r h k = omega arith
 pin-bit-lt d none (some g) r h k = gate-bit-lt d g r (k (gateFirst d g / 2))
 
--- ---- without refusal 6: a pin that is read, one that is neither read nor a gate's, and the range
-
-pub value-read : (d : List ℕ) (inp : ℕ → Option ℕ) (x v : ℕ) → inp x ≡ some v → value d inp x ≡ v
-unfolding value valueIn pinBit
-value-read d inp x v e = ap (λ (i : Option ℕ). pinBit d i (gateOf d x) (λ y. valueIn d inp x y)) e
-
-pub value-else : (d : List ℕ) (inp : ℕ → Option ℕ) (x : ℕ) → inp x ≡ none → gateOf d x ≡ none → value d inp x ≡ 0
-unfolding value valueIn pinBit
-value-else d inp x e h = ap₂ (λ (i : Option ℕ) (o : Option ℕ). pinBit d i o (λ y. valueIn d inp x y)) e h
+-- ---- the range
 
 in-lt : (d : List ℕ) (inp : ℕ → Option ℕ) → ((x v : ℕ) → inp x ≡ some v → v < 2) → (f x : ℕ) → valueIn d inp f x < 2
 unfolding valueIn
