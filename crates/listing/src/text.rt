@@ -9,9 +9,10 @@ pub fn put(out: &mut [u8], at: usize, b: u8) -> usize
     requires { ⌜ at < 2 ^ 63 ⌝ }
     ensures { λ r. ⌜ Put 1 (b ∷ []) (now (out .entry)) at (now (out .exit)) r ⌝ }
 {
-    if at < out.len() {
-        out[at] = b;
+    if out.len() <= at {
+        return at + 1;
     }
+    out[at] = b;
     at + 1
 }
 
@@ -48,7 +49,7 @@ pub fn put_hex(out: &mut [u8], at: usize, n: u32) -> usize
     ensures { λ r. ⌜ Put 8 (hex n) (now (out .entry)) at (now (out .exit)) r ⌝ }
 {
     let mut end = at;
-    let mut k = 8;
+    let mut k: u32 = 8;
     while 0 < k {
         k -= 1;
         end = put(out, end, hex_digit((n >> (4 * k)) % 16));

@@ -1,0 +1,3 @@
+pub mod WritingLaws
+pub mod TextLaws
+pub mod RecordLaws
