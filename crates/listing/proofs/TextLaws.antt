@@ -9,10 +9,10 @@ use native.Mathlib.Numerals.{add-one, sub-one}
 use native.Mathlib.Omega.{arith}
 use borrow.Author.Tests.{ltb-true, ltb-false, lt-ltb, le-ltb}
 use lib.Dec.{ltb}
-use lib.ListN.{length, set, length-append}
-use lib.Seq.{sets, length-sets}
-use Rattle.listing.specs.Text.{decimalIn, decimal, hexDigit, hexIn, hex, kindLetter}
+use lib.ListN.{length, length-append}
+use Rattle.listing.specs.Text.{decimalIn, decimal, hexDigit, hexIn, hex, field, kindLetter, line}
 use Rattle.listing.specs.Writing.{Put}
+use Rattle.listing.proofs.WritingLaws.{put-then, put-as}
 
 -- ---- decimal digits
 
@@ -45,6 +45,16 @@ decimal-short (suc f) n = go (ltb n 10) refl (decimal-short f (n / 10))
     go true e r = rw (e, decimalIn) (omega arith)
     go false e r = rw (e, decimalIn, length-append) (omega arith)
 
+pub put-first : (n d : ℕ) {a b : List ℕ} {p q : ℕ} → n < 10 → d ≡ 48 + n → Put 1 (d ∷ []) a p b q → Put 20 (decimal n) a p b q
+put-first n d h e f = put-as (d ∷ []) (decimal n) (ap (λ (x : ℕ). x ∷ []) e ∙ sym (decimal-one 19 n h)) (decimal-short 20 n) f
+
+pub put-last : (n d : ℕ) {a b c : List ℕ} {p q r : ℕ} → 10 ≤ n → n < 2 ^ 64 → d ≡ 48 + n % 10
+    → Put 20 (decimal (n / 10)) a p b q → Put 1 (d ∷ []) b q c r → Put 20 (decimal n) a p c r
+put-last n d h k e f g =
+    put-as (decimal (n / 10) ++ (d ∷ [])) (decimal n)
+    (ap (λ (x : ℕ). decimal (n / 10) ++ (x ∷ [])) e ∙ sym (decimal-rest n h k)) (decimal-short 20 n)
+    (put-then (decimal (n / 10)) (d ∷ []) f g)
+
 -- ---- hex digits
 
 pub hex-low : (d : ℕ) → d < 10 → 48 + d ≡ hexDigit d
@@ -65,38 +75,6 @@ unfolding hexIn
 hex-top zero n h = absurd (not-suc-le-zero h)
 hex-top (suc k) n h = rw sub-one
 
--- the loop over the digits: those stored, with the k lowest that are left, make the whole
-pub record Hexing (n : ℕ) (out₀ : List ℕ) (at : ℕ) (out : List ℕ) (end k : ℕ) : Type 0 where
-  pub few : k ≤ 8
-  pub place : end + k ≡ at + 8
-  pub held : sets out end (hexIn k n) ≡ sets out₀ at (hex n)
-
-pub hexing-start : (n : ℕ) (out : List ℕ) (at : ℕ) → Hexing n out at out at 8
-hexing-start n out at = record { few = omega arith; place = refl; held = refl }
-
-module _ {n : ℕ} {out₀ : List ℕ} {at : ℕ} {out : List ℕ} {end k : ℕ} (H : Hexing n out₀ at out end k) where
-  pub hexing-long : length out ≡ length out₀
-  hexing-long = sym (length-sets out end (hexIn k n)) ∙ ap length (H .held) ∙ length-sets out₀ at (hex n)
-
-  pub hexing-more : {new : List ℕ} {next d : ℕ} → 0 < k → Put 1 (d ∷ []) out end new next → d ≡ hexDigit (n / 2 ^ (4 * (k - 1)) % 16) → Hexing n out₀ at new next (k - 1)
-  unfolding hexIn
-  hexing-more {new} {next} {d} h p e =
-      let s : hexIn k n ≡ d ∷ hexIn (k - 1) n = hex-top k n h ∙ ap (λ (x : ℕ). x ∷ hexIn (k - 1) n) (sym e) in
-      record {
-        few = omega arith;
-        place = omega (arith, p .ends, H .place);
-        held = (rw (p .holds, p .ends, add-one) (ap (λ (l : List ℕ). sets out end l) (sym s))) ∙ H .held;
-      }
-
-  pub hexing-done : k ≡ 0 → Put 8 (hex n) out₀ at out end
-  unfolding hexIn
-  hexing-done z =
-      record {
-        ends = omega (arith, H .place, hex-length 8 n);
-        holds = (rw z at (H .held));
-        short = omega (arith, H .place);
-      }
-
 -- ---- kinds
 
 pub kind-n : (w : ℕ) → w < 2 ^ 31 → 110 ≡ kindLetter w
@@ -106,3 +84,17 @@ kind-n w h = rw (lt-ltb _ _ h, kindLetter)
 pub kind-s : (w : ℕ) → 2 ^ 31 ≤ w → 115 ≡ kindLetter w
 unfolding kindLetter
 kind-s w h = rw (le-ltb _ _ h, kindLetter)
+
+-- ---- a line, field by field
+
+pub put-fields : (i r w m k : ℕ) {l₀ l₁ l₂ l₃ l₄ l₅ l₆ l₇ : List ℕ} {e₀ e₁ e₂ e₃ e₄ e₅ e₆ e₇ : ℕ}
+    → Put 21 (field i) l₀ e₀ l₁ e₁ → Put 21 (field r) l₁ e₁ l₂ e₂
+    → k ≡ kindLetter w → Put 1 (k ∷ []) l₂ e₂ l₃ e₃ → Put 1 (32 ∷ []) l₃ e₃ l₄ e₄
+    → Put 21 (field (w % 2 ^ 31)) l₄ e₄ l₅ e₅ → Put 8 (hex m) l₅ e₅ l₆ e₆ → Put 1 (10 ∷ []) l₆ e₆ l₇ e₇
+    → Put 74 (line i r w m) l₀ e₀ l₇ e₇
+unfolding line
+put-fields i r w m k lane round is kind blank word mask feed =
+    put-then (field i) _ lane
+    (put-then (field r) _ round
+    (put-then (kindLetter w ∷ 32 ∷ []) _ (put-then (kindLetter w ∷ []) (32 ∷ []) (rw is at kind) blank)
+    (put-then (field (w % 2 ^ 31)) _ word (put-then (hex m) (10 ∷ []) mask feed))))

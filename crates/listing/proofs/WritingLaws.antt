@@ -32,6 +32,38 @@ put-then xs ys {a} {b} {c} {p} {q} {r} f g =
       short = omega (arith, f .short, g .short);
     }
 
--- the lent bytes keep their number
-pub put-length : {k : ℕ} (xs : List ℕ) {a b : List ℕ} {p q : ℕ} → Put k xs a p b q → length b ≡ length a
-put-length xs {a} {b} {p} f = ap length (f .holds) ∙ length-sets a p xs
+-- a text by another name, with another bound
+pub put-as : {j k : ℕ} (xs ys : List ℕ) {a b : List ℕ} {p q : ℕ} → xs ≡ ys → length ys ≤ k → Put j xs a p b q → Put k ys a p b q
+put-as xs ys {a} {b} {p} {q} e h f =
+    let g : q ≡ p + length ys = f .ends ∙ ap (λ (l : List ℕ). p + length l) e in
+    record { ends = g; holds = f .holds ∙ ap (sets a p) e; short = omega arith }
+
+-- ---- a loop of writers: what is written, with the rest of the text, makes the whole; at most `done` bytes are written
+
+pub record Going (rest whole : List ℕ) (done : ℕ) (old : List ℕ) (at : ℕ) (new : List ℕ) (end : ℕ) : Type 0 where
+  pub held : sets new end rest ≡ sets old at whole
+  pub count : end + length rest ≡ at + length whole
+  pub short : end ≤ at + done
+
+pub going-start : (whole old : List ℕ) (at : ℕ) → Going whole whole 0 old at old at
+going-start whole old at = record { held = refl; count = refl; short = omega arith }
+
+module _ {rest whole : List ℕ} {done : ℕ} {old : List ℕ} {at : ℕ} {new : List ℕ} {end : ℕ} (G : Going rest whole done old at new end) where
+  pub going-long : length new ≡ length old
+  going-long = sym (length-sets new end rest) ∙ ap length (G .held) ∙ length-sets old at whole
+
+  pub going-more : {k more : ℕ} (xs rest′ : List ℕ) {new′ : List ℕ} {end′ : ℕ} → rest ≡ xs ++ rest′ → Put k xs new end new′ end′ → done + k ≤ more → Going rest′ whole more old at new′ end′
+  going-more {k} {more} xs rest′ {new′} {end′} e f h =
+      record {
+        held = (rw (f .holds, f .ends) (sym (sets-append new end xs rest′))) ∙ ap (sets new end) (sym e) ∙ G .held;
+        count = omega (arith, f .ends, length-append xs rest′, ap length e, G .count);
+        short = omega (arith, f .short, G .short);
+      }
+
+  pub going-done : (k : ℕ) → rest ≡ [] → done ≤ k → Put k whole old at new end
+  going-done k z h =
+      record {
+        ends = omega (arith, G .count, ap length z);
+        holds = ap (sets new end) (sym z) ∙ G .held;
+        short = omega (arith, G .short);
+      }

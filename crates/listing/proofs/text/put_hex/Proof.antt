@@ -1,5 +1,9 @@
 -- `listing::text::put_hex` meets its contract. The invariant: what is stored, with the k digits that are left, is the whole text. Assumes nothing.
-use Rattle.listing.proofs.TextLaws.{Hexing, hexing-start, hexing-long, hexing-more, hexing-done}
+use Rattle.listing.specs.Text.{hex, hexIn}
+use Prim.Native.Nat.{_-_, _≤_}
+use mathlib.Core.List.{[], _∷_}
+use Rattle.listing.proofs.WritingLaws.{Going, going-start, going-long, going-more, going-done}
+use Rattle.listing.proofs.TextLaws.{hex-top}
 use mathlib.Core.Path.{_≡_, refl, sym, ap, _∙_}
 use native.Mathlib.Omega.{arith}
 use borrow.Author.Needs.{needs}
@@ -11,14 +15,14 @@ use Rattle.listing.proofs.text.hex_digit.Reads as hex-digit-reads
 use Rattle.listing.proofs.text.put.Reads as put-reads
 
 abbrev Inv-loop : tie.InvT-loop
-Inv-loop out₀ at n end₀ k₀ out end k = Hexing n out₀ at out end k
+Inv-loop out₀ at n end₀ k₀ out end k = (k ≤ 8) × Going (hexIn k n) (hex n) (8 - k) out₀ at out end
 
 abbrev μ-loop : tie.MeasureT-loop
 μ-loop out₀ at n end₀ k₀ out end k = k
 
 -- src/text.rt:52:5
 loop-holds : tie.Need-loop-holds Inv-loop μ-loop
-loop-holds c = hexing-start _ _ _
+loop-holds c = (omega arith, going-start _ _ _)
 
 -- src/text.rt:53:9
 sub-k : tie.Need-sub-k Inv-loop μ-loop
@@ -46,15 +50,16 @@ loop-less c = search needs
 
 -- src/text.rt:52:5
 loop-again : tie.Need-loop-again Inv-loop μ-loop
-loop-again c = hexing-more (c .before .before .before .before .before .before .loop .inv) (omega arith) (c .before .before .put .ensures) (c .before .before .before .hex-digit .ensures)
+loop-again c = (omega arith, going-more (c .before .before .before .before .before .before .loop .inv .1) (c .before .before .before .hex-digit .result ∷ []) _ (hex-top _ _ (omega arith) ∙ (rw (c .before .before .before .hex-digit .ensures))) (c .before .before .put .ensures) (omega arith))
 
 -- src/text.rt:46:1
 same-length : tie.Need-same-length Inv-loop μ-loop
-same-length c = hexing-long (c .before .loop .inv)
+same-length c = going-long (c .before .loop .inv .1)
 
 -- src/text.rt:46:1
 returns : tie.Need-returns Inv-loop μ-loop
-returns c = hexing-done (c .before .loop .inv) (omega arith)
+unfolding hexIn
+returns c = let z : c .before .loop .k ≡ 0 = omega arith in going-done (c .before .loop .inv .1) 8 (rw (z, hexIn)) (omega arith)
 
 pub put-hex-spec : {M : Type 1} → statement M
 put-hex-spec =

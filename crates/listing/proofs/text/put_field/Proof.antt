@@ -1,0 +1,28 @@
+-- `listing::text::put_field` meets its contract: a number, then a blank. Assumes nothing.
+use Rattle.listing.proofs.WritingLaws.{put-then}
+use borrow.Author.Needs.{needs}
+use Rattle.listing.proofs.text.put_field.Statement.{statement}
+use Rattle.listing.proofs.text.put_field.Tie as tie
+use Rattle.listing.proofs.text.put_field.Reads as reads
+use Rattle.listing.proofs.text.put_field.Lts as lts
+use Rattle.listing.proofs.text.put.Reads as put-reads
+use Rattle.listing.proofs.text.put_decimal.Reads as put-decimal-reads
+
+-- src/text.rt:64:9
+put-decimal-requires : tie.Need-put-decimal-requires
+put-decimal-requires c κs = search needs
+
+-- src/text.rt:65:5
+put-requires : tie.Need-put-requires
+put-requires c κs = search needs
+
+-- src/text.rt:60:1
+same-length : tie.Need-same-length
+same-length c = search needs
+
+-- src/text.rt:60:1
+returns : tie.Need-returns
+returns c = put-then _ _ (c .before .before .before .before .before .before .put-decimal .ensures) (c .before .before .put .ensures)
+
+pub put-field-spec : {M : Type 1} → statement M
+put-field-spec = tie.close (tie.spec put-decimal-requires put-requires same-length returns)

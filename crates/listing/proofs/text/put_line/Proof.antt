@@ -1,0 +1,71 @@
+-- `listing::text::put_line` meets its contract: its fields, one after the other. Assumes nothing.
+use Rattle.listing.proofs.TextLaws.{put-fields}
+use borrow.Author.Needs.{needs}
+use Rattle.listing.proofs.text.put_line.Statement.{statement}
+use Rattle.listing.proofs.text.put_line.Tie as tie
+use Rattle.listing.proofs.text.put_line.Reads as reads
+use Rattle.listing.proofs.text.put_line.Lts as lts
+use Rattle.listing.proofs.text.kind_letter.Reads as kind-letter-reads
+use Rattle.listing.proofs.text.put.Reads as put-reads
+use Rattle.listing.proofs.text.put_field.Reads as put-field-reads
+use Rattle.listing.proofs.text.put_hex.Reads as put-hex-reads
+
+-- src/text.rt:81:9
+put-field-requires : tie.Need-put-field-requires
+put-field-requires c κs = search needs
+
+-- src/text.rt:82:9
+put-field-requires-2 : tie.Need-put-field-requires-2
+put-field-requires-2 c κs = search needs
+
+-- src/text.rt:83:42
+kind-letter-requires : tie.Need-kind-letter-requires
+kind-letter-requires c κs = search needs
+
+-- src/text.rt:83:9
+put-requires : tie.Need-put-requires
+put-requires c κs = search needs
+
+-- src/text.rt:84:9
+put-requires-2 : tie.Need-put-requires-2
+put-requires-2 c κs = search needs
+
+-- src/text.rt:85:45
+cast-put-field : tie.Need-cast-put-field
+cast-put-field c = search needs
+
+-- src/text.rt:85:9
+put-field-requires-3 : tie.Need-put-field-requires-3
+put-field-requires-3 c κs = search needs
+
+-- src/text.rt:86:9
+put-hex-requires : tie.Need-put-hex-requires
+put-hex-requires c κs = search needs
+
+-- src/text.rt:87:5
+put-requires-3 : tie.Need-put-requires-3
+put-requires-3 c κs = search needs
+
+-- src/text.rt:77:1
+same-length : tie.Need-same-length
+same-length c = search needs
+
+-- src/text.rt:77:1
+returns : tie.Need-returns
+returns c = put-fields _ _ _ _ _ (c .before .before .before .before .before .before .before .before .before .before .before .before .before .before .before .before .before .before .before .before .before .before .before .before .before .before .before .put-field .ensures) (c .before .before .before .before .before .before .before .before .before .before .before .before .before .before .before .before .before .before .before .before .before .before .before .put-field2 .ensures) (c .before .before .before .before .before .before .before .before .before .before .before .before .before .before .before .before .before .before .before .kind-letter .ensures) (c .before .before .before .before .before .before .before .before .before .before .before .before .before .before .before .before .before .before .put .ensures) (c .before .before .before .before .before .before .before .before .before .before .before .before .before .before .put2 .ensures) (c .before .before .before .before .before .before .before .before .before .before .put-field3 .ensures) (c .before .before .before .before .before .before .put-hex .ensures) (c .before .before .put3 .ensures)
+
+pub put-line-spec : {M : Type 1} → statement M
+put-line-spec =
+    tie.close
+    (tie.spec
+    put-field-requires
+    put-field-requires-2
+    kind-letter-requires
+    put-requires
+    put-requires-2
+    cast-put-field
+    put-field-requires-3
+    put-hex-requires
+    put-requires-3
+    same-length
+    returns)
