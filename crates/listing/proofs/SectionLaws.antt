@@ -16,8 +16,7 @@ module _ (L : ℕ) (s : List ℕ) where
 
   pub one-line : (i r w m : ℕ) → w ≡ getD s (placeOf L i r) 0 → m ≡ getD s (placeOf L i r + 1) 0 → (m ≡ 0 → ⊥) → line i r w m ≡ placeLine L s i r
   unfolding placeLine
-  one-line i r w m e f h =
-      (rw (e, f)) ∙ (rw (ne-eqb _ _ (λ z. h (f ∙ z)), placeLine))
+  one-line i r w m e f h = rw (e, f) (rw (ne-eqb _ _ (λ z. h (f ∙ z)), placeLine))
 
   -- a round more of n, and a lane more of n
   pub next-round : (i n r : ℕ) → r < n → lanePlaces L s i (n - r) r ≡ placeLine L s i r ++ lanePlaces L s i (n - (r + 1)) (r + 1)

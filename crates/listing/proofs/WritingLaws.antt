@@ -1,6 +1,6 @@
 -- Laws of writers: one byte, nothing, and one text after the other.
 -- Assumes nothing.
-use mathlib.Core.Path.{_≡_, refl, sym, ap, _∙_}
+use mathlib.Core.Path.{_≡_, refl, sym, ap, subst, _∙_}
 use mathlib.Core.List.{List, [], _∷_, _++_}
 use Prim.Native.Nat.{ℕ, suc, _+_, _≤_}
 use native.Mathlib.Nat.{add-zero, add-suc, suc-add}
@@ -13,8 +13,8 @@ pub sets-append : (l : List ℕ) (i : ℕ) (xs ys : List ℕ) → sets l i (xs +
 sets-append l i [] ys = rw add-zero
 sets-append l i (x ∷ xs) ys = sets-append (set l i x) (suc i) xs ys ∙ rw (add-suc, suc-add)
 
-pub put-none : (l : List ℕ) (at : ℕ) → Put 0 [] l at l at
-put-none l at = record { ends = omega arith; holds = refl; short = omega arith }
+pub put-none : (k : ℕ) (l : List ℕ) (at : ℕ) → Put k [] l at l at
+put-none k l at = record { ends = omega arith; holds = refl; short = omega arith }
 
 pub put-byte : (l : List ℕ) (at b : ℕ) → Put 1 (b ∷ []) l at (set l at b) (at + 1)
 put-byte l at b = record { ends = refl; holds = refl; short = omega arith }
@@ -32,7 +32,10 @@ put-then xs ys {a} {b} {c} {p} {q} {r} f g =
       short = omega (arith, f .short, g .short);
     }
 
--- a text by another name, with another bound
+-- a text by another name, and with another bound
+pub put-is : {k : ℕ} (xs ys : List ℕ) {a b : List ℕ} {p q : ℕ} → xs ≡ ys → Put k xs a p b q → Put k ys a p b q
+put-is {k} xs ys {a} {b} {p} {q} e f = subst (λ (l : List ℕ). Put k l a p b q) e f
+
 pub put-as : {j k : ℕ} (xs ys : List ℕ) {a b : List ℕ} {p q : ℕ} → xs ≡ ys → length ys ≤ k → Put j xs a p b q → Put k ys a p b q
 put-as xs ys {a} {b} {p} {q} e h f =
     let g : q ≡ p + length ys = f .ends ∙ ap (λ (l : List ℕ). p + length l) e in

@@ -4,3 +4,4 @@ pub mod Text
 pub mod Listing
 pub mod Writing
 pub mod Section
+pub mod Answer

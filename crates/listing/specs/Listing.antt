@@ -32,14 +32,18 @@ roundsWord = 114 ∷ 111 ∷ 117 ∷ 110 ∷ 100 ∷ 115 ∷ 32 ∷ []
 abbrev pub refusedWord : List ℕ
 refusedWord = 114 ∷ 101 ∷ 102 ∷ 117 ∷ 115 ∷ 101 ∷ 100 ∷ 32 ∷ []
 
+-- `17 at `
+abbrev pub atWord : List ℕ
+atWord = 49 ∷ 55 ∷ 32 ∷ 97 ∷ 116 ∷ 32 ∷ []
+
 -- "It prints `refused N`", or the rounds and the lines; each line ends in LF
 unfoldable pub printed : Outcome → List ℕ
 printed (refused n i) = refusedWord ++ (decimal n ++ (10 ∷ []))
-printed (placed lanes) = roundsWord ++ (decimal (longest lanes) ++ (10 ∷ lines 0 lanes))
+printed (placed lanes) = roundsWord ++ (decimal (longest lanes) ++ ((10 ∷ []) ++ lines 0 lanes))
 
 -- "and ` at B` for 17"
 unfoldable pub printedAt : ℕ → List ℕ
-printedAt b = refusedWord ++ (49 ∷ 55 ∷ 32 ∷ 97 ∷ 116 ∷ 32 ∷ (decimal b ++ (10 ∷ [])))
+printedAt b = refusedWord ++ (atWord ++ (decimal b ++ (10 ∷ [])))
 
 -- The text. Rounds are at most 32, so 16384 result words and the working room that a read set asks for are enough.
 unfoldable pub listing : List ℕ → List ℕ

@@ -1,3 +1,13 @@
+-- `listing::lines::put_bytes` meets its contract. The invariant: what is written, with the bytes from i on, is the whole text. Assumes nothing.
+use mathlib.Core.List.{[], _∷_}
+use native.Mathlib.Numerals.{add-one}
+use lib.Seq.{drop-cons}
+use lib.ListN.{drop-of-length-le}
+use lib.ListN.{length, drop}
+use Prim.Native.Nat.{_-_, _≤_}
+use mathlib.Core.Path.{_≡_, refl, sym, ap, _∙_}
+use Rattle.listing.proofs.WritingLaws.{Going, going-start, going-long, going-more, going-done}
+use native.Mathlib.Omega.{arith}
 use borrow.Author.Needs.{needs}
 use Rattle.listing.proofs.lines.put_bytes.Statement.{statement}
 use Rattle.listing.proofs.lines.put_bytes.Tie as tie
@@ -6,14 +16,14 @@ use Rattle.listing.proofs.lines.put_bytes.Lts as lts
 use Rattle.listing.proofs.text.put.Reads as put-reads
 
 abbrev Inv-loop : tie.InvT-loop
-Inv-loop out₀ at text end₀ i₀ out end i = ?
+Inv-loop out₀ at text end₀ i₀ out end i = (i ≤ length text) × Going (drop i text) text i out₀ at out end
 
 abbrev μ-loop : tie.MeasureT-loop
-μ-loop out₀ at text end₀ i₀ out end i = ?
+μ-loop out₀ at text end₀ i₀ out end i = length text - i
 
 -- src/lines.rt:18:5
 loop-holds : tie.Need-loop-holds Inv-loop μ-loop
-loop-holds c = search needs
+loop-holds c = (omega arith, going-start _ _ _)
 
 -- src/lines.rt:19:29
 shared-slice-read-put : tie.Need-shared-slice-read-put Inv-loop μ-loop
@@ -33,15 +43,15 @@ loop-less c = search needs
 
 -- src/lines.rt:18:5
 loop-again : tie.Need-loop-again Inv-loop μ-loop
-loop-again c = search needs
+loop-again c = (omega arith, going-more (c .before .before .before .before .before .before .loop .inv .1) (_ ∷ []) _ (drop-cons _ _ 0 (c .before .before .before .before .before .loop-test .taken) ∙ (rw add-one)) (c .before .before .put .ensures) (omega arith))
 
 -- src/lines.rt:12:1
 same-length : tie.Need-same-length Inv-loop μ-loop
-same-length c = search needs
+same-length c = going-long (c .before .loop .inv .1)
 
 -- src/lines.rt:12:1
 returns : tie.Need-returns Inv-loop μ-loop
-returns c = search needs
+returns c = let h : length (c .before .before .before .before .args .text .now) ≤ c .before .loop .i = omega arith in going-done (c .before .loop .inv .1) _ (drop-of-length-le _ h) (c .before .loop .inv .0)
 
 pub put-bytes-spec : {M : Type 1} → statement M
 put-bytes-spec =

@@ -1,3 +1,9 @@
+-- `listing::lines::put_place` meets its contract: no line where the mask is 0, else the line of the two words. Assumes nothing.
+use Rattle.listing.proofs.WritingLaws.{put-none, put-is}
+use mathlib.Core.List.{[]}
+use Rattle.listing.proofs.SectionLaws.{no-line, one-line}
+use mathlib.Core.Path.{_≡_, refl, sym, ap, _∙_}
+use native.Mathlib.Omega.{arith}
 use borrow.Author.Needs.{needs}
 use Rattle.listing.proofs.lines.put_place.Statement.{statement}
 use Rattle.listing.proofs.lines.put_place.Tie as tie
@@ -32,7 +38,7 @@ word-at-requires c κs = search needs
 
 -- src/lines.rt:43:9
 returns : tie.Need-returns
-returns c = search needs
+returns c = put-is [] _ (no-line 256 (c .before .before .before .before .args .section .now) _ _ (sym (c .before .word-at .ensures) ∙ c .if1 .taken)) (put-none _ _ _)
 
 -- src/lines.rt:45:36
 word-at-requires-2 : tie.Need-word-at-requires-2
@@ -48,7 +54,7 @@ same-length c = search needs
 
 -- src/lines.rt:36:1
 returns-2 : tie.Need-returns-2
-returns-2 c = search needs
+returns-2 c = put-is _ _ (one-line 256 (c .before .before .before .before .before .before .before .before .before .args .section .now) _ _ _ _ (c .before .before .before .word-at2 .ensures) (c .before .before .before .before .before .before .word-at .ensures) (c .before .before .before .before .before .if1 .left)) (c .before .before .put-line .ensures)
 
 pub put-place-spec : {M : Type 1} → statement M
 put-place-spec =

@@ -1,0 +1,73 @@
+use borrow.Author.Needs.{needs}
+use Rattle.listing.proofs.answer.put_answer.Statement.{statement}
+use Rattle.listing.proofs.answer.put_answer.Tie as tie
+use Rattle.listing.proofs.answer.put_answer.Reads as reads
+use Rattle.listing.proofs.answer.put_answer.Lts as lts
+use Rattle.listing.proofs.answer.put_bad.Reads as put-bad-reads
+use Rattle.listing.proofs.answer.put_refused.Reads as put-refused-reads
+use Rattle.listing.proofs.answer.put_rounds.Reads as put-rounds-reads
+
+-- src/answer.rt:55:24
+enum-known-answer : tie.Need-enum-known-answer
+enum-known-answer c = search needs
+
+-- src/answer.rt:55:35
+put-rounds-requires : tie.Need-put-rounds-requires
+put-rounds-requires c κs = search needs
+
+-- src/answer.rt:56:25
+enum-known-answer-2 : tie.Need-enum-known-answer-2
+enum-known-answer-2 c = search needs
+
+-- src/answer.rt:56:36
+put-refused-requires : tie.Need-put-refused-requires
+put-refused-requires c κs = search needs
+
+-- src/answer.rt:57:21
+enum-known-answer-3 : tie.Need-enum-known-answer-3
+enum-known-answer-3 c = search needs
+
+-- src/answer.rt:57:30
+put-bad-requires : tie.Need-put-bad-requires
+put-bad-requires c κs = search needs
+
+-- src/answer.rt:51:1
+same-length : tie.Need-same-length
+same-length c = search needs
+
+-- src/answer.rt:51:1
+returns : tie.Need-returns
+returns c = search needs
+
+-- src/answer.rt:51:1
+same-length-2 : tie.Need-same-length-2
+same-length-2 c = search needs
+
+-- src/answer.rt:51:1
+returns-2 : tie.Need-returns-2
+returns-2 c = search needs
+
+-- src/answer.rt:51:1
+same-length-3 : tie.Need-same-length-3
+same-length-3 c = search needs
+
+-- src/answer.rt:51:1
+returns-3 : tie.Need-returns-3
+returns-3 c = search needs
+
+pub put-answer-spec : {M : Type 1} → statement M
+put-answer-spec =
+    tie.close
+    (tie.spec
+    enum-known-answer
+    put-rounds-requires
+    enum-known-answer-2
+    put-refused-requires
+    enum-known-answer-3
+    put-bad-requires
+    same-length
+    returns
+    same-length-2
+    returns-2
+    same-length-3
+    returns-3)
