@@ -2,3 +2,4 @@ pub mod WritingLaws
 pub mod TextLaws
 pub mod RecordLaws
 pub mod SectionLaws
+pub mod AnswerLaws

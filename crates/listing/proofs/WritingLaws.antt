@@ -41,6 +41,9 @@ put-as xs ys {a} {b} {p} {q} e h f =
     let g : q ≡ p + length ys = f .ends ∙ ap (λ (l : List ℕ). p + length l) e in
     record { ends = g; holds = f .holds ∙ ap (sets a p) e; short = omega arith }
 
+pub put-wide : {j k : ℕ} {xs a b : List ℕ} {p q : ℕ} → j ≤ k → Put j xs a p b q → Put k xs a p b q
+put-wide h f = record { ends = f .ends; holds = f .holds; short = omega (arith, f .short) }
+
 -- ---- a loop of writers: what is written, with the rest of the text, makes the whole; at most `done` bytes are written
 
 pub record Going (rest whole : List ℕ) (done : ℕ) (old : List ℕ) (at : ℕ) (new : List ℕ) (end : ℕ) : Type 0 where

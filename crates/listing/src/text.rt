@@ -1,8 +1,8 @@
 // Numbers and lines as text. A writer puts its text from byte `at` on, as far as the lent bytes go, and answers with the byte after it.
 ghost use mathlib.Core.Path.{_≡_};
-ghost use mathlib.Core.List.{[], _∷_};
+ghost use mathlib.Core.List.{[], _∷_, _++_};
 ghost use Prim.Native.Nat.{ℕ, _+_, _%_, _^_, _≤_, _<_};
-ghost use Rattle.listing.specs.Text.{decimal, hexDigit, hex, field, kindLetter, line};
+ghost use Rattle.listing.specs.Text.{decimal, hexDigit, hex, kindLetter, line};
 ghost use Rattle.listing.specs.Writing.{Put};
 
 pub fn put(out: &mut [u8], at: usize, b: u8) -> usize
@@ -57,12 +57,13 @@ pub fn put_hex(out: &mut [u8], at: usize, n: u32) -> usize
     end
 }
 
-pub fn put_field(out: &mut [u8], at: usize, n: u64) -> usize
+// A number and the byte after it.
+pub fn put_number(out: &mut [u8], at: usize, n: u64, last: u8) -> usize
     requires { ⌜ at < 2 ^ 61 ⌝ }
-    ensures { λ r. ⌜ Put 21 (field n) (now (out .entry)) at (now (out .exit)) r ⌝ }
+    ensures { λ r. ⌜ Put 21 (decimal n ++ (last ∷ [])) (now (out .entry)) at (now (out .exit)) r ⌝ }
 {
     let end = put_decimal(out, at, n);
-    put(out, end, b' ')
+    put(out, end, last)
 }
 
 fn kind_letter(word: u32) -> u8
@@ -78,11 +79,11 @@ pub fn put_line(out: &mut [u8], at: usize, lane: usize, round: usize, word: u32,
     requires { ⌜ at < 2 ^ 60 ⌝ }
     ensures { λ r. ⌜ Put 74 (line lane round word mask) (now (out .entry)) at (now (out .exit)) r ⌝ }
 {
-    let lane_end = put_field(out, at, lane as u64);
-    let round_end = put_field(out, lane_end, round as u64);
+    let lane_end = put_number(out, at, lane as u64, b' ');
+    let round_end = put_number(out, lane_end, round as u64, b' ');
     let letter_end = put(out, round_end, kind_letter(word));
     let kind_end = put(out, letter_end, b' ');
-    let word_end = put_field(out, kind_end, (word % 0x8000_0000) as u64);
+    let word_end = put_number(out, kind_end, (word % 0x8000_0000) as u64, b' ');
     let mask_end = put_hex(out, word_end, mask);
     put(out, mask_end, b'\n')
 }

@@ -1,3 +1,5 @@
+-- `listing::answer::put_answer` meets its contract, case by case. Assumes nothing.
+use Rattle.listing.proofs.AnswerLaws.{put-is-rounds, put-is-refused, put-is-bad}
 use borrow.Author.Needs.{needs}
 use Rattle.listing.proofs.answer.put_answer.Statement.{statement}
 use Rattle.listing.proofs.answer.put_answer.Tie as tie
@@ -37,7 +39,7 @@ same-length c = search needs
 
 -- src/answer.rt:51:1
 returns : tie.Need-returns
-returns c = search needs
+returns c = put-is-rounds _ (c .before .before .before .before .before .before .before .before .before .args .section .now) _ (c .before .before .before .before .before .answer .given .1) (c .before .before .put-rounds .ensures)
 
 -- src/answer.rt:51:1
 same-length-2 : tie.Need-same-length-2
@@ -45,7 +47,7 @@ same-length-2 c = search needs
 
 -- src/answer.rt:51:1
 returns-2 : tie.Need-returns-2
-returns-2 c = search needs
+returns-2 c = put-is-refused _ (c .before .before .before .before .before .before .before .before .before .args .section .now) _ (c .before .before .before .before .before .answer2 .given .1) (c .before .before .put-refused .ensures)
 
 -- src/answer.rt:51:1
 same-length-3 : tie.Need-same-length-3
@@ -53,7 +55,7 @@ same-length-3 c = search needs
 
 -- src/answer.rt:51:1
 returns-3 : tie.Need-returns-3
-returns-3 c = search needs
+returns-3 c = put-is-bad _ (c .before .before .before .before .before .before .before .before .before .args .section .now) _ (c .before .before .before .before .before .answer3 .given .1) (c .before .before .put-bad .ensures)
 
 pub put-answer-spec : {M : Type 1} → statement M
 put-answer-spec =

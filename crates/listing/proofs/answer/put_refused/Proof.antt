@@ -1,9 +1,11 @@
+-- `listing::answer::put_refused` meets its contract: the word, then the number. Assumes nothing.
+use Rattle.listing.proofs.WritingLaws.{put-then}
 use borrow.Author.Needs.{needs}
 use Rattle.listing.proofs.answer.put_refused.Statement.{statement}
 use Rattle.listing.proofs.answer.put_refused.Tie as tie
 use Rattle.listing.proofs.answer.put_refused.Reads as reads
 use Rattle.listing.proofs.answer.put_refused.Lts as lts
-use Rattle.listing.proofs.answer.put_last.Reads as put-last-reads
+use Rattle.listing.proofs.text.put_number.Reads as put-number-reads
 use Rattle.listing.proofs.lines.put_bytes.Reads as put-bytes-reads
 
 -- src/answer.rt:40:38
@@ -15,8 +17,8 @@ put-bytes-requires : tie.Need-put-bytes-requires
 put-bytes-requires c κs = search needs
 
 -- src/answer.rt:41:5
-put-last-requires : tie.Need-put-last-requires
-put-last-requires c κs = search needs
+put-number-requires : tie.Need-put-number-requires
+put-number-requires c κs = search needs
 
 -- src/answer.rt:37:1
 same-length : tie.Need-same-length
@@ -24,9 +26,9 @@ same-length c = search needs
 
 -- src/answer.rt:37:1
 returns : tie.Need-returns
-returns c = search needs
+returns c = put-then _ _ (c .before .before .before .before .before .before .put-bytes .ensures) (c .before .before .put-number .ensures)
 
 pub put-refused-spec : {M : Type 1} → statement M
 put-refused-spec =
     tie.close
-    (tie.spec slice-aggregate-put-bytes put-bytes-requires put-last-requires same-length returns)
+    (tie.spec slice-aggregate-put-bytes put-bytes-requires put-number-requires same-length returns)

@@ -1,9 +1,11 @@
+-- `listing::answer::put_rounds` meets its contract: the first line, then the lines of the lanes. Assumes nothing.
+use Rattle.listing.proofs.AnswerLaws.{put-rounds}
 use borrow.Author.Needs.{needs}
 use Rattle.listing.proofs.answer.put_rounds.Statement.{statement}
 use Rattle.listing.proofs.answer.put_rounds.Tie as tie
 use Rattle.listing.proofs.answer.put_rounds.Reads as reads
 use Rattle.listing.proofs.answer.put_rounds.Lts as lts
-use Rattle.listing.proofs.answer.put_last.Reads as put-last-reads
+use Rattle.listing.proofs.text.put_number.Reads as put-number-reads
 use Rattle.listing.proofs.lines.put_bytes.Reads as put-bytes-reads
 use Rattle.listing.proofs.lines.put_lanes.Reads as put-lanes-reads
 
@@ -16,8 +18,8 @@ put-bytes-requires : tie.Need-put-bytes-requires
 put-bytes-requires c κs = search needs
 
 -- src/answer.rt:33:9
-put-last-requires : tie.Need-put-last-requires
-put-last-requires c κs = search needs
+put-number-requires : tie.Need-put-number-requires
+put-number-requires c κs = search needs
 
 -- src/answer.rt:34:5
 put-lanes-requires : tie.Need-put-lanes-requires
@@ -29,7 +31,7 @@ same-length c = search needs
 
 -- src/answer.rt:29:1
 returns : tie.Need-returns
-returns c = search needs
+returns c = put-rounds _ (c .before .before .before .before .before .before .before .before .before .before .before .before .before .before .before .args .section .now) (c .before .before .before .before .before .before .before .before .before .before .put-bytes .ensures) (c .before .before .before .before .before .before .put-number .ensures) (c .before .before .put-lanes .ensures)
 
 pub put-rounds-spec : {M : Type 1} → statement M
 put-rounds-spec =
@@ -37,7 +39,7 @@ put-rounds-spec =
     (tie.spec
     slice-aggregate-put-bytes
     put-bytes-requires
-    put-last-requires
+    put-number-requires
     put-lanes-requires
     same-length
     returns)

@@ -7,16 +7,16 @@ use Rattle.listing.proofs.text.put_line.Reads as reads
 use Rattle.listing.proofs.text.put_line.Lts as lts
 use Rattle.listing.proofs.text.kind_letter.Reads as kind-letter-reads
 use Rattle.listing.proofs.text.put.Reads as put-reads
-use Rattle.listing.proofs.text.put_field.Reads as put-field-reads
+use Rattle.listing.proofs.text.put_number.Reads as put-number-reads
 use Rattle.listing.proofs.text.put_hex.Reads as put-hex-reads
 
 -- src/text.rt:81:9
-put-field-requires : tie.Need-put-field-requires
-put-field-requires c κs = search needs
+put-number-requires : tie.Need-put-number-requires
+put-number-requires c κs = search needs
 
 -- src/text.rt:82:9
-put-field-requires-2 : tie.Need-put-field-requires-2
-put-field-requires-2 c κs = search needs
+put-number-requires-2 : tie.Need-put-number-requires-2
+put-number-requires-2 c κs = search needs
 
 -- src/text.rt:83:42
 kind-letter-requires : tie.Need-kind-letter-requires
@@ -31,12 +31,12 @@ put-requires-2 : tie.Need-put-requires-2
 put-requires-2 c κs = search needs
 
 -- src/text.rt:85:45
-cast-put-field : tie.Need-cast-put-field
-cast-put-field c = search needs
+cast-put-number : tie.Need-cast-put-number
+cast-put-number c = search needs
 
 -- src/text.rt:85:9
-put-field-requires-3 : tie.Need-put-field-requires-3
-put-field-requires-3 c κs = search needs
+put-number-requires-3 : tie.Need-put-number-requires-3
+put-number-requires-3 c κs = search needs
 
 -- src/text.rt:86:9
 put-hex-requires : tie.Need-put-hex-requires
@@ -52,19 +52,19 @@ same-length c = search needs
 
 -- src/text.rt:77:1
 returns : tie.Need-returns
-returns c = put-fields _ _ _ _ _ (c .before .before .before .before .before .before .before .before .before .before .before .before .before .before .before .before .before .before .before .before .before .before .before .before .before .before .before .put-field .ensures) (c .before .before .before .before .before .before .before .before .before .before .before .before .before .before .before .before .before .before .before .before .before .before .before .put-field2 .ensures) (c .before .before .before .before .before .before .before .before .before .before .before .before .before .before .before .before .before .before .before .kind-letter .ensures) (c .before .before .before .before .before .before .before .before .before .before .before .before .before .before .before .before .before .before .put .ensures) (c .before .before .before .before .before .before .before .before .before .before .before .before .before .before .put2 .ensures) (c .before .before .before .before .before .before .before .before .before .before .put-field3 .ensures) (c .before .before .before .before .before .before .put-hex .ensures) (c .before .before .put3 .ensures)
+returns c = put-fields _ _ _ _ _ (c .before .before .before .before .before .before .before .before .before .before .before .before .before .before .before .before .before .before .before .before .before .before .before .before .before .before .before .put-number .ensures) (c .before .before .before .before .before .before .before .before .before .before .before .before .before .before .before .before .before .before .before .before .before .before .before .put-number2 .ensures) (c .before .before .before .before .before .before .before .before .before .before .before .before .before .before .before .before .before .before .before .kind-letter .ensures) (c .before .before .before .before .before .before .before .before .before .before .before .before .before .before .before .before .before .before .put .ensures) (c .before .before .before .before .before .before .before .before .before .before .before .before .before .before .put2 .ensures) (c .before .before .before .before .before .before .before .before .before .before .put-number3 .ensures) (c .before .before .before .before .before .before .put-hex .ensures) (c .before .before .put3 .ensures)
 
 pub put-line-spec : {M : Type 1} → statement M
 put-line-spec =
     tie.close
     (tie.spec
-    put-field-requires
-    put-field-requires-2
+    put-number-requires
+    put-number-requires-2
     kind-letter-requires
     put-requires
     put-requires-2
-    cast-put-field
-    put-field-requires-3
+    cast-put-number
+    put-number-requires-3
     put-hex-requires
     put-requires-3
     same-length

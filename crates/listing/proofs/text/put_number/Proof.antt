@@ -1,10 +1,10 @@
--- `listing::text::put_field` meets its contract: a number, then a blank. Assumes nothing.
+-- `listing::text::put_number` meets its contract: a number, then the byte after it. Assumes nothing.
 use Rattle.listing.proofs.WritingLaws.{put-then}
 use borrow.Author.Needs.{needs}
-use Rattle.listing.proofs.text.put_field.Statement.{statement}
-use Rattle.listing.proofs.text.put_field.Tie as tie
-use Rattle.listing.proofs.text.put_field.Reads as reads
-use Rattle.listing.proofs.text.put_field.Lts as lts
+use Rattle.listing.proofs.text.put_number.Statement.{statement}
+use Rattle.listing.proofs.text.put_number.Tie as tie
+use Rattle.listing.proofs.text.put_number.Reads as reads
+use Rattle.listing.proofs.text.put_number.Lts as lts
 use Rattle.listing.proofs.text.put.Reads as put-reads
 use Rattle.listing.proofs.text.put_decimal.Reads as put-decimal-reads
 
@@ -24,5 +24,5 @@ same-length c = search needs
 returns : tie.Need-returns
 returns c = put-then _ _ (c .before .before .before .before .before .before .put-decimal .ensures) (c .before .before .put .ensures)
 
-pub put-field-spec : {M : Type 1} → statement M
-put-field-spec = tie.close (tie.spec put-decimal-requires put-requires same-length returns)
+pub put-number-spec : {M : Type 1} → statement M
+put-number-spec = tie.close (tie.spec put-decimal-requires put-requires same-length returns)
