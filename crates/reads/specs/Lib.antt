@@ -5,3 +5,4 @@ pub mod Words
 pub mod Local
 pub mod Packing
 pub mod Outcome
+pub mod ReadTurn

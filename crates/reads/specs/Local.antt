@@ -10,7 +10,12 @@ use Rattle.words.specs.Bit.{pop}
 use Rattle.reads.specs.ReadSet.{Pair, total}
 use Rattle.reads.specs.Search.{Lane}
 
--- "The round of a pair is its place in its lane": the mask that a lane has in round r, 0 where none, and the pairs of later rounds
+-- "The round of a pair is its place in its lane": the word and the mask that a lane has in round r, 0 where none, and the pairs of later rounds
+unfoldable pub wordIn : Lane → ℕ → ℕ
+wordIn [] r = 0
+wordIn (p ∷ ps) zero = p .word
+wordIn (p ∷ ps) (suc r) = wordIn ps r
+
 unfoldable pub maskIn : Lane → ℕ → ℕ
 maskIn [] r = 0
 maskIn (p ∷ ps) zero = p .mask

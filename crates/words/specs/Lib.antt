@@ -1,3 +1,4 @@
+pub mod Sum
 pub mod Bit
 pub mod Section
 pub mod Edition

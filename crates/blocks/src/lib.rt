@@ -1,0 +1,1 @@
+// Parts to blocks, state and SRAM starts: refusal 8.

@@ -1,0 +1,1 @@
+// Activations, duplicate words and write-out words: refusal 7.

@@ -1,0 +1,1 @@
+// The whole build: refusals in order, then the words.

@@ -1,0 +1,1 @@
+// What script words mean: definitions and their laws, no code.

@@ -1,0 +1,1 @@
+// Planned positions and tables: refusals 12 and 13.

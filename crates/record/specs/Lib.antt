@@ -1,0 +1,3 @@
+pub mod Record
+pub mod Tests
+pub mod Form

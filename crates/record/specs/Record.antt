@@ -1,0 +1,158 @@
+-- The plan record: little-endian 32-bit words in a byte list, and what stands where. Every number of a plan is read through these definitions.
+--
+--   5 words           blocks, major stages S, gates G, input layout length I, positions P
+--   S                 parts of each major stage; N is their sum
+--   3·G               gate: pin, first fan-in, second fan-in (inverted pin numbers)
+--   I                 input layout: a pin, or the empty pin
+--   3·P               position: pin, state position, 0 unstaged or 1 staged
+--   2·N               part head: boomerang stages n, endpoints e
+--   then each part's body:
+--   3·e               endpoint: kind, x, y
+--   n                 locations of each stage; their sum is the part's number of locations
+--   16383·n           slots of each stage by index 1..16383: positions 1..8191, then slot j of level 0 at index 8192 + j
+--   one a location    locations, stage by stage
+--   8192 + 256 + 256  SRAM and duplicate table: entries, inv, set0
+--   8192 + 3·256      enable table: entries, inv, set0, data inv
+-- Assumes nothing.
+use mathlib.Core.Bool.{true, false}
+use mathlib.Core.List.{List}
+use Prim.Native.Nat.{ℕ, zero, suc, _+_, _*_, _-_}
+use lib.Dec.{leb}
+use lib.ListN.{length, getD}
+use Rattle.words.specs.Sum.{sumTo}
+
+-- word i of a record, the lowest byte first; 0 where the record does not have the whole of it
+unfoldable pub wordAt : List ℕ → ℕ → ℕ
+wordAt d i =
+    elim (leb (4 * i + 4) (length d)) [
+      | true ↦ getD d (4 * i) 0 + 256 * getD d (4 * i + 1) 0 + 65536 * getD d (4 * i + 2) 0 + 16777216 * getD d (4 * i + 3) 0
+      | false ↦ 0
+    ]
+
+-- ---- the head
+
+abbrev pub blocksOf : List ℕ → ℕ
+blocksOf d = wordAt d 0
+
+abbrev pub majorsOf : List ℕ → ℕ
+majorsOf d = wordAt d 1
+
+abbrev pub gatesOf : List ℕ → ℕ
+gatesOf d = wordAt d 2
+
+abbrev pub layoutOf : List ℕ → ℕ
+layoutOf d = wordAt d 3
+
+abbrev pub positionsOf : List ℕ → ℕ
+positionsOf d = wordAt d 4
+
+-- ---- parts of the major stages: parts are counted on through the major stages
+
+abbrev pub countAt : List ℕ → ℕ → ℕ
+countAt d s = wordAt d (5 + s)
+
+-- the parts of the major stages before s
+unfoldable pub partsBefore : List ℕ → ℕ → ℕ
+partsBefore d s = sumTo (countAt d) s
+
+abbrev pub partsOf : List ℕ → ℕ
+partsOf d = partsBefore d (majorsOf d)
+
+-- ---- gates
+
+unfoldable pub gateBase : List ℕ → ℕ
+gateBase d = 5 + majorsOf d
+
+abbrev pub gatePin : List ℕ → ℕ → ℕ
+gatePin d g = wordAt d (gateBase d + 3 * g)
+
+abbrev pub gateFirst : List ℕ → ℕ → ℕ
+gateFirst d g = wordAt d (gateBase d + 3 * g + 1)
+
+abbrev pub gateSecond : List ℕ → ℕ → ℕ
+gateSecond d g = wordAt d (gateBase d + 3 * g + 2)
+
+-- ---- input layout and positions
+
+unfoldable pub layoutBase : List ℕ → ℕ
+layoutBase d = gateBase d + 3 * gatesOf d
+
+abbrev pub layoutPin : List ℕ → ℕ → ℕ
+layoutPin d i = wordAt d (layoutBase d + i)
+
+unfoldable pub positionBase : List ℕ → ℕ
+positionBase d = layoutBase d + layoutOf d
+
+abbrev pub positionPin : List ℕ → ℕ → ℕ
+positionPin d i = wordAt d (positionBase d + 3 * i)
+
+abbrev pub positionPlace : List ℕ → ℕ → ℕ
+positionPlace d i = wordAt d (positionBase d + 3 * i + 1)
+
+abbrev pub positionStaged : List ℕ → ℕ → ℕ
+positionStaged d i = wordAt d (positionBase d + 3 * i + 2)
+
+-- ---- parts
+
+unfoldable pub headBase : List ℕ → ℕ
+headBase d = positionBase d + 3 * positionsOf d
+
+abbrev pub stagesOf : List ℕ → ℕ → ℕ
+stagesOf d p = wordAt d (headBase d + 2 * p)
+
+abbrev pub endpointsOf : List ℕ → ℕ → ℕ
+endpointsOf d p = wordAt d (headBase d + 2 * p + 1)
+
+-- the words of a body at word b, with n stages and e endpoints: how many locations it has, and how long it is
+unfoldable pub locationsIn : List ℕ → ℕ → ℕ → ℕ → ℕ
+locationsIn d b n e = sumTo (λ s. wordAt d (b + 3 * e + s)) n
+
+unfoldable pub bodyWords : List ℕ → ℕ → ℕ → ℕ → ℕ
+bodyWords d b n e = 3 * e + n + 16383 * n + locationsIn d b n e + 17664
+
+-- where the body of part p begins
+unfoldable pub bodyAt : List ℕ → ℕ → ℕ
+bodyAt d zero = headBase d + 2 * partsOf d
+bodyAt d (suc p) = bodyAt d p + bodyWords d (bodyAt d p) (stagesOf d p) (endpointsOf d p)
+
+-- endpoint i of part p: 0 output (x inverted pin number), 1 staged (x pin), 2 register (x = d, y = en, inverted pin numbers), 3 SRAM
+abbrev pub endpointKind : List ℕ → ℕ → ℕ → ℕ
+endpointKind d p i = wordAt d (bodyAt d p + 3 * i)
+
+abbrev pub endpointX : List ℕ → ℕ → ℕ → ℕ
+endpointX d p i = wordAt d (bodyAt d p + 3 * i + 1)
+
+abbrev pub endpointY : List ℕ → ℕ → ℕ → ℕ
+endpointY d p i = wordAt d (bodyAt d p + 3 * i + 2)
+
+-- the locations of stage s of part p, and of all its stages
+unfoldable pub countBase : List ℕ → ℕ → ℕ
+countBase d p = bodyAt d p + 3 * endpointsOf d p
+
+abbrev pub stageLocations : List ℕ → ℕ → ℕ → ℕ
+stageLocations d p s = wordAt d (countBase d p + s)
+
+abbrev pub locationsOf : List ℕ → ℕ → ℕ
+locationsOf d p = locationsIn d (bodyAt d p) (stagesOf d p) (endpointsOf d p)
+
+-- the pin at index q of stage s of part p, for q in 1..16383
+unfoldable pub slotBase : List ℕ → ℕ → ℕ
+slotBase d p = countBase d p + stagesOf d p
+
+abbrev pub slotAt : List ℕ → ℕ → ℕ → ℕ → ℕ
+slotAt d p s q = wordAt d (slotBase d p + 16383 * s + (q - 1))
+
+-- location l of part p, counted over its stages
+unfoldable pub locationBase : List ℕ → ℕ → ℕ
+locationBase d p = slotBase d p + 16383 * stagesOf d p
+
+abbrev pub locationAt : List ℕ → ℕ → ℕ → ℕ
+locationAt d p l = wordAt d (locationBase d p + l)
+
+-- word i of the two tables of part p: SRAM and duplicate entries from 0, inv from 8192, set0 from 8448; enable entries from 8704, inv from
+-- 16896, set0 from 17152, data inv from 17408
+unfoldable pub tableBase : List ℕ → ℕ → ℕ
+tableBase d p = locationBase d p + locationsOf d p
+
+abbrev pub tableAt : List ℕ → ℕ → ℕ → ℕ
+tableAt d p i = wordAt d (tableBase d p + i)

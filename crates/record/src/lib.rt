@@ -1,0 +1,2 @@
+// The plan record: its words, where they stand, and refusal 5. Document 01, "Plan ranges".
+pub mod places;

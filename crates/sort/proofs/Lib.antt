@@ -1,0 +1,5 @@
+pub mod CopyLaws
+pub mod MergeLaws
+pub mod OutcomeLaws
+pub mod SearchLaws
+pub mod SortLaws

@@ -1,0 +1,4 @@
+pub mod BitLaws
+pub mod PopLaws
+pub mod SectionLaws
+pub mod SumLaws

@@ -1,0 +1,260 @@
+-- A section of n lanes: entries and places are the same numbers in other digits, so each entry has a half of its own, and the entries fix the words.
+-- Everything is argued once, over n. Assumes nothing.
+use mathlib.Core.Path.{_≡_, refl, sym, ap, ap₂, _∙_, subst}
+use mathlib.Core.Bool.{Bool, true, false}
+use mathlib.Core.List.{List, [], _∷_}
+use mathlib.Core.Logic.{_≢_, ⊎-elim}
+use Prim.Native.Nat.{ℕ, zero, suc, _+_, _*_, _/_, _%_, _^_, _≤_, _<_}
+use native.Mathlib.Nat.{add-zero, mod-lt, mod-eq-of-lt, div-lt-iff-lt-mul, div-add-mod', not-suc-le-zero, eq-or-lt-of-le, le-of-suc-le-suc}
+use native.Mathlib.Decide.{ℕ-discrete}
+use native.Mathlib.Omega.{arith}
+use borrow.Author.Tests.{eq-eqb, ne-eqb}
+use lib.Arith.{digits-div, digits-mod, digits-lt}
+use lib.Bits.{bitAnd, bitOr, and-mask, or-shifted}
+use lib.Dec.{eqb}
+use lib.ListN.{length, getD, set, length-set, length-append, List·getD-append}
+use lib.Pow.{pow-pos, shl-exact}
+use lib.Seq.{getD-set-same, getD-set-other, getD-at, ext-getD}
+use Rattle.words.specs.Section.{placeOf, entryOf, halfOf, withHalf, halfAt, putHalf, listOf, sectionOf}
+
+-- ---- lists from a function of the index
+
+pub length-listOf : (f : ℕ → ℕ) (m : ℕ) → length (listOf f m) ≡ m
+unfolding listOf
+length-listOf f zero = refl
+length-listOf f (suc m) = omega (arith, length-append (listOf f m) (f m ∷ []), length-listOf f m)
+
+pub getD-listOf : (f : ℕ → ℕ) (m i : ℕ) → i < m → getD (listOf f m) i 0 ≡ f i
+unfolding listOf
+getD-listOf f zero i h = absurd (not-suc-le-zero h)
+getD-listOf f (suc m) i h = ⊎-elim
+    (λ e. rw e (getD-at (listOf f m) (f m) [] 0 m (length-listOf f m)))
+    (λ l. List·getD-append (listOf f m) (f m ∷ []) 0 i (omega (arith, length-listOf f m)) ∙ getD-listOf f m i l)
+    (eq-or-lt-of-le (le-of-suc-le-suc h))
+
+-- a list of m numbers that are those of f is the list of f
+pub listOf-is : (f : ℕ → ℕ) (m : ℕ) (s : List ℕ) → length s ≡ m → ((i : ℕ) → i < m → getD s i 0 ≡ f i) → s ≡ listOf f m
+listOf-is f m s e h = ext-getD 0 s (listOf f m) (e ∙ sym (length-listOf f m)) (λ i l. h i (omega arith) ∙ sym (getD-listOf f m i (omega arith)))
+
+pub listOf-ext : (f g : ℕ → ℕ) (m : ℕ) → ((i : ℕ) → i < m → f i ≡ g i) → listOf f m ≡ listOf g m
+listOf-ext f g m h = listOf-is g m (listOf f m) (length-listOf f m) (λ i l. getD-listOf f m i l ∙ h i l)
+
+-- ---- the places
+
+low-part : (n i : ℕ) → i < 32 * n → i / 32 * 4 + i % 8 / 2 < 4 * n
+low-part n i h = omega arith
+
+pub place-lt : (n i : ℕ) → i < 32 * n → placeOf n i < 16 * n
+unfolding placeOf
+place-lt n i h = subst (λ (x : ℕ). placeOf n i < x) (omega arith) (digits-lt {m = 4} (omega arith) (low-part n i h))
+
+-- an entry's word and half give the entry back
+pub entry-place : (n i : ℕ) → i < 32 * n → entryOf n (placeOf n i) (i % 2) ≡ i
+unfolding placeOf entryOf
+entry-place n i h =
+    let lo : placeOf n i % (4 * n) ≡ i / 32 * 4 + i % 8 / 2 = digits-mod (i / 8 % 4) (low-part n i h) in
+    let hi : placeOf n i / (4 * n) ≡ i / 8 % 4 = digits-div (i / 8 % 4) (low-part n i h) in
+    let t : (i / 32 * 4 + i % 8 / 2) / 4 ≡ i / 32 = omega arith in
+    let h : (i / 32 * 4 + i % 8 / 2) % 4 ≡ i % 8 / 2 = omega arith in
+    rw (lo, hi, t, h) (omega arith)
+
+-- the digits of an entry
+digit-k : (t k h e : ℕ) → k < 4 → h < 4 → e < 2 → (t * 32 + k * 8 + h * 2 + e) / 8 % 4 ≡ k
+digit-k t k h e a b c = omega arith
+
+digit-t : (t k h e : ℕ) → k < 4 → h < 4 → e < 2 → (t * 32 + k * 8 + h * 2 + e) / 32 ≡ t
+digit-t t k h e a b c = omega arith
+
+digit-h : (t k h e : ℕ) → k < 4 → h < 4 → e < 2 → (t * 32 + k * 8 + h * 2 + e) % 8 / 2 ≡ h
+digit-h t k h e a b c = omega arith
+
+-- the other way round: a word and a half are those of their entry
+pub place-entry : (n w e : ℕ) → w < 16 * n → e < 2 → (entryOf n w e < 32 * n) × (placeOf n (entryOf n w e) ≡ w) × (entryOf n w e % 2 ≡ e)
+unfolding placeOf entryOf
+place-entry n w e h l = at (w / (4 * n)) (w % (4 * n)) (div-lt-iff-lt-mul some .1 (omega arith)) (mod-lt w some) (div-add-mod' w (4 * n))
+  where
+    some : 0 < 4 * n
+    some = omega arith
+
+    at : (q r : ℕ) → q < 4 → r < 4 * n → q * (4 * n) + r ≡ w
+        → (r / 4 * 32 + q * 8 + r % 4 * 2 + e < 32 * n)
+        × ((r / 4 * 32 + q * 8 + r % 4 * 2 + e) / 8 % 4 * (4 * n) + ((r / 4 * 32 + q * 8 + r % 4 * 2 + e) / 32 * 4 + (r / 4 * 32 + q * 8 + r % 4 * 2 + e) % 8 / 2) ≡ w)
+        × ((r / 4 * 32 + q * 8 + r % 4 * 2 + e) % 2 ≡ e)
+    at q r hq hr is =
+        let m : r % 4 < 4 = omega arith in
+        let b : r / 4 * 4 + r % 4 ≡ r = div-add-mod' r 4 in
+        (omega arith, rw (digit-k (r / 4) q (r % 4) e hq m l, digit-t (r / 4) q (r % 4) e hq m l, digit-h (r / 4) q (r % 4) e hq m l, b) is, omega arith)
+
+-- two entries with the same word and the same half are one
+pub place-apart : (n i j : ℕ) → i < 32 * n → j < 32 * n → placeOf n j ≡ placeOf n i → j % 2 ≡ i % 2 → j ≡ i
+place-apart n i j hi hj p q = sym (entry-place n j hj) ∙ ap₂ (entryOf n) p q ∙ entry-place n i hi
+
+-- ---- the halves of a word
+
+-- the halves of a word put together from two
+pub half-two : (g : ℕ → ℕ) (e : ℕ) → e < 2 → g 0 < 2 ^ 16 → halfOf (g 1 * 2 ^ 16 + g 0) e ≡ g e
+unfolding halfOf
+half-two g zero l h = digits-mod (g 1) h
+half-two g (suc zero) l h = digits-div (g 1) h
+half-two g (suc (suc e)) l h = absurd (omega arith)
+
+-- a word is its two halves
+pub half-join : (x : ℕ) → x ≡ halfOf x 1 * 2 ^ 16 + halfOf x 0
+unfolding halfOf
+half-join x = omega arith
+
+pub half-lt : (x e : ℕ) → x < 2 ^ 32 → halfOf x e < 2 ^ 16
+unfolding halfOf
+half-lt x zero h = omega arith
+half-lt x (suc e) h = omega arith
+
+pub with-half-lt : (x e v : ℕ) → x < 2 ^ 32 → v < 2 ^ 16 → withHalf x e v < 2 ^ 32
+unfolding withHalf
+with-half-lt x zero v h l = omega arith
+with-half-lt x (suc e) v h l = omega arith
+
+pub half-with : (x e f v : ℕ) → v < 2 ^ 16 → e < 2 → f < 2 → halfOf (withHalf x e v) f ≡ elim (eqb f e) [ true ↦ v | false ↦ halfOf x f ]
+unfolding halfOf withHalf
+half-with x zero zero v h _ _ = digits-mod (x / 2 ^ 16) h
+half-with x zero (suc f) v h _ _ = rw (ne-eqb (suc f) 0 (λ e. omega arith)) (digits-div (x / 2 ^ 16) h)
+half-with x (suc e) zero v h _ _ = rw (ne-eqb 0 (suc e) (λ e. omega arith)) (digits-mod v (mod-lt x (omega arith)))
+half-with x (suc e) (suc f) v h a b = rw (eq-eqb (suc f) (suc e) (omega arith)) (digits-div v (mod-lt x (omega arith)))
+
+-- ---- the section law
+
+pub put-half-length : (n : ℕ) (s : List ℕ) (i v : ℕ) → length (putHalf n s i v) ≡ length s
+unfolding putHalf
+put-half-length n s i v = length-set s (placeOf n i) _
+
+pub half-put : (n : ℕ) (s : List ℕ) (i j v : ℕ) → i < 32 * n → j < 32 * n → 16 * n ≤ length s → v < 2 ^ 16
+    → halfAt n (putHalf n s i v) j ≡ elim (eqb j i) [ true ↦ v | false ↦ halfAt n s j ]
+unfolding halfAt putHalf
+half-put n s i j v hi hj room l = by (ℕ-discrete (placeOf n j) (placeOf n i))
+  where
+    x : ℕ
+    x = withHalf (getD s (placeOf n i) 0) (i % 2) v
+
+    pick : Bool → ℕ → ℕ
+    pick t w = elim t [ true ↦ v | false ↦ halfOf (getD s w 0) (j % 2) ]
+
+    here : placeOf n j ≡ placeOf n i → Dec (j ≡ i) → eqb (j % 2) (i % 2) ≡ eqb j i
+    here e (yes q) = eq-eqb (j % 2) (i % 2) (ap (λ (y : ℕ). y % 2) q) ∙ sym (eq-eqb j i q)
+    here e (no d) = ne-eqb (j % 2) (i % 2) (λ q. d (place-apart n i j hi hj e q)) ∙ sym (ne-eqb j i d)
+
+    by : Dec (placeOf n j ≡ placeOf n i) → halfOf (getD (set s (placeOf n i) x) (placeOf n j) 0) (j % 2) ≡ pick (eqb j i) (placeOf n j)
+    by (yes e) =
+        ap (λ (w : ℕ). halfOf (getD (set s (placeOf n i) x) w 0) (j % 2)) e
+        ∙ ap (λ (y : ℕ). halfOf y (j % 2)) (getD-set-same s (placeOf n i) x 0 (omega (arith, place-lt n i hi)))
+        ∙ half-with (getD s (placeOf n i) 0) (i % 2) (j % 2) v l (omega arith) (omega arith)
+        ∙ ap₂ pick (here e (ℕ-discrete j i)) (sym e)
+    by (no d) =
+        rw (ne-eqb j i (λ q. d (ap (placeOf n) q)))
+        (ap (λ (y : ℕ). halfOf y (j % 2)) (getD-set-other s (placeOf n i) (placeOf n j) x 0 d))
+
+-- ---- a whole section
+
+pub section-length : (n : ℕ) (f : ℕ → ℕ) → length (sectionOf n f) ≡ 16 * n
+unfolding sectionOf
+section-length n f = length-listOf _ (16 * n)
+
+pub section-word : (n : ℕ) (f : ℕ → ℕ) (w : ℕ) → w < 16 * n → getD (sectionOf n f) w 0 ≡ f (entryOf n w 1) * 2 ^ 16 + f (entryOf n w 0)
+unfolding sectionOf
+section-word n f w h = getD-listOf (λ w. f (entryOf n w 1) * 2 ^ 16 + f (entryOf n w 0)) (16 * n) w h
+
+pub half-section : (n : ℕ) (f : ℕ → ℕ) → ((j : ℕ) → j < 32 * n → f j < 2 ^ 16) → (i : ℕ) → i < 32 * n → halfAt n (sectionOf n f) i ≡ f i
+unfolding halfAt
+half-section n f small i h =
+    let w = placeOf n i in
+    let fits = place-entry n w 0 (place-lt n i h) (omega arith) .0 in
+    ap (λ (x : ℕ). halfOf x (i % 2)) (section-word n f w (place-lt n i h))
+    ∙ half-two (λ e. f (entryOf n w e)) (i % 2) (mod-lt i (omega arith)) (small (entryOf n w 0) fits)
+    ∙ ap f (entry-place n i h)
+
+pub section-word-lt : (n : ℕ) (f : ℕ → ℕ) → ((j : ℕ) → j < 32 * n → f j < 2 ^ 16) → (w : ℕ) → w < 16 * n → getD (sectionOf n f) w 0 < 2 ^ 32
+section-word-lt n f small w h =
+    let lo = small (entryOf n w 0) (place-entry n w 0 h (omega arith) .0) in
+    let hi = small (entryOf n w 1) (place-entry n w 1 h (omega arith) .0) in
+    omega (arith, section-word n f w h)
+
+-- the entries fix the words
+pub section-is : (n : ℕ) (f : ℕ → ℕ) (s : List ℕ) → length s ≡ 16 * n → ((i : ℕ) → i < 32 * n → halfAt n s i ≡ f i) → s ≡ sectionOf n f
+unfolding sectionOf halfAt
+section-is n f s e h = listOf-is (λ w. f (entryOf n w 1) * 2 ^ 16 + f (entryOf n w 0)) (16 * n) s e (λ w l. half-join (getD s w 0) ∙ ap₂ (λ (a : ℕ) (b : ℕ). a * 2 ^ 16 + b) (half w 1 l (omega arith)) (half w 0 l (omega arith)))
+  where
+    half : (w e : ℕ) → w < 16 * n → e < 2 → halfOf (getD s w 0) e ≡ f (entryOf n w e)
+    half w e g l =
+        let k = place-entry n w e g l in
+        rw (k .1, k .2) at (h (entryOf n w e) (k .0))
+
+-- a section looks at no entry past its own
+pub section-ext : (n : ℕ) (f g : ℕ → ℕ) → ((i : ℕ) → i < 32 * n → f i ≡ g i) → sectionOf n f ≡ sectionOf n g
+unfolding sectionOf
+section-ext n f g h = listOf-ext _ _ (16 * n) (λ w l. ap₂ (λ (a : ℕ) (b : ℕ). a * 2 ^ 16 + b) (same w 1 l (omega arith)) (same w 0 l (omega arith)))
+  where
+    same : (w e : ℕ) → w < 16 * n → e < 2 → f (entryOf n w e) ≡ g (entryOf n w e)
+    same w e l d = h (entryOf n w e) (place-entry n w e l d .0)
+
+-- ---- two entries at a time: entries 2p and 2p + 1 are the halves of one word
+
+place-even : (n i : ℕ) → placeOf n i ≡ placeOf n (2 * (i / 2))
+unfolding placeOf
+place-even n i =
+    let k : 2 * (i / 2) / 8 % 4 ≡ i / 8 % 4 = omega arith in
+    let t : 2 * (i / 2) / 32 ≡ i / 32 = omega arith in
+    let h : 2 * (i / 2) % 8 / 2 ≡ i % 8 / 2 = omega arith in
+    rw (k, t, h)
+
+place-pair : (n i j : ℕ) → i < 32 * n → j < 32 * n → placeOf n j ≡ placeOf n i → j / 2 ≡ i / 2
+place-pair n i j hi hj e =
+    let a = place-apart n (2 * (i / 2)) (2 * (j / 2)) (omega arith) (omega arith) (sym (place-even n j) ∙ e ∙ place-even n i) (omega arith) in
+    omega arith
+
+-- a word more of a section that is filled pair by pair
+pub pair-more : (n : ℕ) (f : ℕ → ℕ) (s : List ℕ) (p : ℕ) → ((j : ℕ) → j < 32 * n → f j < 2 ^ 16) → 16 * n ≤ length s → p < 16 * n
+    → ((i : ℕ) → i < 2 * p → halfAt n s i ≡ f i)
+    → (i : ℕ) → i < 2 * (p + 1) → halfAt n (set s (placeOf n (2 * p)) (f (2 * p + 1) * 2 ^ 16 + f (2 * p))) i ≡ f i
+unfolding halfAt
+pair-more n f s p small room h done i l = by (ℕ-discrete (placeOf n i) w)
+  where
+    w : ℕ
+    w = placeOf n (2 * p)
+
+    x : ℕ
+    x = f (2 * p + 1) * 2 ^ 16 + f (2 * p)
+
+    by : Dec (placeOf n i ≡ w) → halfOf (getD (set s w x) (placeOf n i) 0) (i % 2) ≡ f i
+    by (yes e) =
+        let half : i / 2 ≡ 2 * p / 2 = place-pair n (2 * p) i (omega arith) (omega arith) e in
+        let is : 2 * p + i % 2 ≡ i = omega arith in
+        ap (λ (w : ℕ). halfOf (getD (set s (placeOf n (2 * p)) x) w 0) (i % 2)) e
+        ∙ ap (λ (y : ℕ). halfOf y (i % 2)) (getD-set-same s w x 0 (omega (arith, place-lt n (2 * p) (omega arith))))
+        ∙ ap (λ (y : ℕ). halfOf (f (2 * p + 1) * 2 ^ 16 + f y) (i % 2)) (sym (add-zero (2 * p)))
+        ∙ half-two (λ e. f (2 * p + e)) (i % 2) (mod-lt i (omega arith)) (small (2 * p + 0) (omega arith))
+        ∙ ap f is
+    by (no d) =
+        let other : i / 2 ≢ p = λ e. d (place-even n i ∙ ap (λ (q : ℕ). placeOf n (2 * q)) e) in
+        ap (λ (y : ℕ). halfOf y (i % 2)) (getD-set-other s w (placeOf n i) x 0 d) ∙ done i (omega arith)
+
+-- ---- as the code reads and writes a half
+
+pub read-low : (n : ℕ) (s : List ℕ) (i w : ℕ) → w ≡ placeOf n i → i % 2 ≡ 0 → bitAnd (getD s w 0) 0xffff ≡ halfAt n s i
+unfolding halfAt halfOf
+read-low n s i w e h = rw (h, e) (and-mask (getD s (placeOf n i) 0) 16)
+
+pub read-high : (n : ℕ) (s : List ℕ) (i w : ℕ) → w ≡ placeOf n i → i % 2 ≡ 1 → getD s w 0 / 2 ^ 16 ≡ halfAt n s i
+unfolding halfAt halfOf
+read-high n s i w e h = rw (h, e)
+
+pub write-low : (n : ℕ) (s : List ℕ) (i w v : ℕ) → w ≡ placeOf n i → i % 2 ≡ 0 → getD s w 0 < 2 ^ 32 → v < 2 ^ 16
+    → set s w (bitOr ((getD s w 0 / 2 ^ 16 * 2 ^ 16) % 2 ^ 32) v) ≡ putHalf n s i v
+unfolding putHalf withHalf
+write-low n s i w v e h hx hv =
+    let x = getD s w 0 in
+    let m : (x / 2 ^ 16 * 2 ^ 16) % 2 ^ 32 ≡ x / 2 ^ 16 * 2 ^ 16 = mod-eq-of-lt (omega arith) in
+    rw (m, or-shifted (x / 2 ^ 16) 16 v hv, h, e)
+
+pub write-high : (n : ℕ) (s : List ℕ) (i w v : ℕ) → w ≡ placeOf n i → i % 2 ≡ 1 → v < 2 ^ 16
+    → set s w (bitOr ((v * 2 ^ 16) % 2 ^ 32) (bitAnd (getD s w 0) 0xffff)) ≡ putHalf n s i v
+unfolding putHalf withHalf
+write-high n s i w v e h hv =
+    rw (and-mask (getD s w 0) 16, shl-exact 16 16 32 hv (omega arith), or-shifted v 16 (getD s w 0 % 2 ^ 16) (mod-lt (getD s w 0) (pow-pos 16)), h, e)
