@@ -11,7 +11,7 @@ use Rattle.words.specs.declared.refusals.Refusal.{Refusal}
 use Rattle.reads.specs.Search.{Lane, longest}
 use Rattle.reads.specs.Asked.{readSetOf}
 use Rattle.reads.specs.Outcome.{Outcome, placed, refused, outcome}
-use Rattle.listing.specs.Records.{records}
+use Rattle.listing.specs.Records.{Parsed, records}
 use Rattle.listing.specs.Text.{decimal, line}
 use Rattle.listing.specs.declared.Listed.{Listed}
 use Rattle.listing.specs.declared.Listed.the-variants.{Text, Refused}
@@ -45,10 +45,12 @@ printed (placed lanes) = roundsWord ++ (decimal (longest lanes) ++ ((10 ∷ []) 
 unfoldable pub printedAt : ℕ → List ℕ
 printedAt b = refusedWord ++ (atWord ++ (decimal b ++ (10 ∷ [])))
 
--- The text. Rounds are at most 32, so 16384 result words and the working room that a read set asks for are enough.
+-- The text that records give. Rounds are at most 32, so 16384 result words and the working room that a read set asks for are enough.
+unfoldable pub said : Parsed → List ℕ
+said p = elim (p .fault) [ some b ↦ printedAt b | none ↦ printed (outcome 256 (readSetOf (p .keys)) 16384 16384) ]
+
 unfoldable pub listing : List ℕ → List ℕ
-listing bs =
-    elim (records bs .fault) [ some b ↦ printedAt b | none ↦ printed (outcome 256 (readSetOf (records bs .keys)) 16384 16384) ]
+listing bs = said (records bs)
 
 -- What `list` answers where it is lent o bytes for the text and r words of working room: 32, then 14, else the text's length.
 unfoldable pub listed : List ℕ → ℕ → ℕ → Listed
