@@ -6,3 +6,5 @@ pub mod AnswerLaws
 pub mod LaneLaws
 pub mod PrefixLaws
 pub mod ExampleLaws
+pub mod KeyLaws
+pub mod ListLaws

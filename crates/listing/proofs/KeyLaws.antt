@@ -1,0 +1,88 @@
+-- The bits that records ask for: no more than positions may come, each below 2^37; and the front of lent words that hold them.
+-- Assumes nothing.
+use mathlib.Core.Path.{_≡_, refl, sym, ap, _∙_}
+use mathlib.Core.Bool.{Bool, true, false}
+use mathlib.Core.List.{List, [], _∷_, _++_}
+use Prim.Native.Nat.{ℕ, zero, suc, _+_, _*_, _^_, _≤_, _<_}
+use native.Mathlib.Nat.{zero-add}
+use native.Mathlib.Numerals.{sub-one}
+use native.Mathlib.Omega.{arith}
+use lib.Dec.{leb, ltb}
+use lib.ListN.{length, getD, take}
+use lib.Seq.{sets, sets-eq, take-at}
+use Rattle.listing.specs.Records.{numberAt, positionAt, endAt, kindAt, recordAt, Parsed, recordsFrom}
+use Rattle.listing.specs.declared.records.Record.{Record}
+use Rattle.listing.specs.declared.records.Record.the-variants.{Position, End, Bad}
+use Rattle.listing.proofs.RecordLaws.{stop-end, stop-bad, stop-full, one-more}
+
+pub front-is : (l vs : List ℕ) → length vs ≤ length l → take (length vs) (sets l 0 vs) ≡ vs
+front-is l vs h =
+    let g : 0 + length vs ≤ length l = omega arith in
+    ap (take (length vs)) (sets-eq vs l 0 g) ∙ take-at vs _ (length vs) refl
+
+-- what a record asks for, 0 where it asks for nothing
+abbrev keyOf : Record → ℕ
+keyOf (Position q) = q
+keyOf End = 0
+keyOf (Bad b) = 0
+
+module _ (bs : List ℕ) (bytes : (i : ℕ) → getD bs i 0 < 256) where
+  number-small : (i : ℕ) → numberAt bs i < 2 ^ 32
+  unfolding numberAt
+  number-small i = omega (arith, bytes i, bytes (i + 1), bytes (i + 2), bytes (i + 3))
+
+  position-small : (at flag : ℕ) → flag ≤ 2 ^ 36 → keyOf (positionAt bs at flag) < 2 ^ 37
+  unfolding positionAt
+  position-small at flag h = go (leb (at + 5) (length bs)) refl
+    where
+      go : (b : Bool) → leb (at + 5) (length bs) ≡ b → keyOf (positionAt bs at flag) < 2 ^ 37
+      go true e = rw (e, positionAt) (omega (arith, number-small (at + 1)))
+      go false e = rw (e, positionAt) (omega arith)
+
+  kind-small : (at k : ℕ) → keyOf (kindAt bs at k) < 2 ^ 37
+  unfolding kindAt endAt
+  kind-small at zero = go (ltb (at + 1) (length bs)) refl
+    where
+      go : (b : Bool) → ltb (at + 1) (length bs) ≡ b → keyOf (endAt bs at) < 2 ^ 37
+      go true e = rw (e, endAt) (omega arith)
+      go false e = rw (e, endAt) (omega arith)
+  kind-small at (suc zero) = position-small at 0 (omega arith)
+  kind-small at (suc (suc zero)) = position-small at (2 ^ 36) (omega arith)
+  kind-small at (suc (suc (suc k))) = omega arith
+
+  record-small : (at : ℕ) → keyOf (recordAt bs at) < 2 ^ 37
+  unfolding recordAt
+  record-small at = go (ltb at (length bs)) refl
+    where
+      go : (b : Bool) → ltb at (length bs) ≡ b → keyOf (recordAt bs at) < 2 ^ 37
+      go true e = rw (e, recordAt) (kind-small at (getD bs at 0))
+      go false e = rw (e, recordAt) (omega arith)
+
+  pub keys-small : (n at i : ℕ) → getD (recordsFrom n bs at .keys) i 0 < 2 ^ 37
+  keys-small zero at i = go (recordAt bs at) refl
+    where
+      go : (x : Record) → recordAt bs at ≡ x → getD (recordsFrom 0 bs at .keys) i 0 < 2 ^ 37
+      go (Position q) e = rw (stop-full 0 bs at q e refl) (omega arith)
+      go End e = rw (stop-end 0 bs at e) (omega arith)
+      go (Bad b) e = rw (stop-bad 0 bs at b e) (omega arith)
+  keys-small (suc n) at i = go (recordAt bs at) refl i (keys-small n (at + 5))
+    where
+      go : (x : Record) → recordAt bs at ≡ x → (i : ℕ) → ((i : ℕ) → getD (recordsFrom n bs (at + 5) .keys) i 0 < 2 ^ 37) → getD (recordsFrom (suc n) bs at .keys) i 0 < 2 ^ 37
+      go (Position q) e zero r = rw (one-more (suc n) bs at q e (omega arith)) (rw e at (record-small at))
+      go (Position q) e (suc i) r = rw (one-more (suc n) bs at q e (omega arith), sub-one) (r i)
+      go End e i r = rw (stop-end (suc n) bs at e) (omega arith)
+      go (Bad b) e i r = rw (stop-bad (suc n) bs at b e) (omega arith)
+
+pub keys-few : (bs : List ℕ) (n at : ℕ) → length (recordsFrom n bs at .keys) ≤ n
+keys-few bs zero at = go (recordAt bs at) refl
+  where
+    go : (x : Record) → recordAt bs at ≡ x → length (recordsFrom 0 bs at .keys) ≤ 0
+    go (Position q) e = rw (stop-full 0 bs at q e refl) (omega arith)
+    go End e = rw (stop-end 0 bs at e) (omega arith)
+    go (Bad b) e = rw (stop-bad 0 bs at b e) (omega arith)
+keys-few bs (suc n) at = go (recordAt bs at) refl (keys-few bs n (at + 5))
+  where
+    go : (x : Record) → recordAt bs at ≡ x → length (recordsFrom n bs (at + 5) .keys) ≤ n → length (recordsFrom (suc n) bs at .keys) ≤ suc n
+    go (Position q) e r = rw (one-more (suc n) bs at q e (omega arith), sub-one) (omega arith)
+    go End e r = rw (stop-end (suc n) bs at e) (omega arith)
+    go (Bad b) e r = rw (stop-bad (suc n) bs at b e) (omega arith)
