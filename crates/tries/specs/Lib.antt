@@ -1,1 +1,3 @@
 pub mod Table
+pub mod Decoded
+pub mod Tries
