@@ -2,17 +2,22 @@
 -- Assumes nothing.
 use mathlib.Core.Path.{_≡_, refl, sym, ap, _∙_}
 use mathlib.Core.Bool.{Bool, true, false}
+use mathlib.Core.Option.{Option, none, some}
 use mathlib.Core.List.{List, [], _∷_, _++_}
 use Prim.Native.Nat.{ℕ, zero, suc, _+_, _*_, _^_, _≤_, _<_}
 use native.Mathlib.Nat.{zero-add}
 use native.Mathlib.Numerals.{sub-one}
 use native.Mathlib.Omega.{arith}
 use lib.Dec.{leb, ltb}
-use lib.ListN.{length, getD, take}
-use lib.Seq.{sets, sets-eq, take-at}
-use Rattle.listing.specs.Records.{numberAt, positionAt, endAt, kindAt, recordAt, Parsed, recordsFrom}
+use lib.ListN.{length, getD, take, replicate, length-replicate}
+use lib.Seq.{sets, sets-eq, take-at, length-sets, length-take-le}
+use Rattle.reads.specs.Asked.{readSetOf}
+use Rattle.asks.specs.Rising.{Settable}
+use Rattle.listing.specs.Records.{numberAt, positionAt, endAt, kindAt, recordAt, Parsed, recordsFrom, records}
+use Rattle.listing.specs.Reading.{readOf, setOf, setAfter}
 use Rattle.listing.specs.declared.records.Record.{Record}
 use Rattle.listing.specs.declared.records.Record.the-variants.{Position, End, Bad}
+use Rattle.listing.specs.declared.records.Read.the-variants.{Asked, Refused}
 use Rattle.listing.proofs.RecordLaws.{stop-end, stop-bad, stop-full, one-more}
 
 pub front-is : (l vs : List ℕ) → length vs ≤ length l → take (length vs) (sets l 0 vs) ≡ vs
@@ -86,3 +91,57 @@ keys-few bs (suc n) at = go (recordAt bs at) refl (keys-few bs n (at + 5))
     go (Position q) e r = rw (one-more (suc n) bs at q e (omega arith), sub-one) (omega arith)
     go End e r = rw (stop-end (suc n) bs at e) (omega arith)
     go (Bad b) e r = rw (stop-bad (suc n) bs at b e) (omega arith)
+
+-- ---- what reading told
+
+pub asked-in : (p : Parsed) (n : ℕ) → Asked n ≡ readOf p → (p .fault ≡ none) × (n ≡ length (p .keys))
+unfolding readOf
+asked-in p n e = go (p .fault) refl
+  where
+    go : (f : Option ℕ) → p .fault ≡ f → (p .fault ≡ none) × (n ≡ length (p .keys))
+    go none t = let q : Asked n ≡ Asked (length (p .keys)) = e ∙ (rw (t, readOf)) in (t, cc)
+    go (some b) t = let q : Asked n ≡ Refused b = e ∙ (rw (t, readOf)) in let z : _≡_ {A = ℕ} 0 1 = cc in absurd (omega arith)
+
+pub refused-in : (p : Parsed) (b : ℕ) → Refused b ≡ readOf p → p .fault ≡ some b
+unfolding readOf
+refused-in p b e = go (p .fault) refl
+  where
+    go : (f : Option ℕ) → p .fault ≡ f → p .fault ≡ some b
+    go none t = let q : Refused b ≡ Asked (length (p .keys)) = e ∙ (rw (t, readOf)) in let z : _≡_ {A = ℕ} 0 1 = cc in absurd (omega arith)
+    go (some d) t = let q : Refused b ≡ Refused d = e ∙ (rw (t, readOf)) in let s : d ≡ b = cc in t ∙ ap some s
+
+pub set-refused : (p : Parsed) (b : ℕ) (set : List ℕ) → p .fault ≡ some b → (Refused b ≡ setOf p) × (set ≡ setAfter p set)
+unfolding setOf setAfter
+set-refused p b set t = (rw (t, setOf), rw (t, setAfter))
+
+pub set-asked : (p : Parsed) (ks set new : List ℕ) (r : ℕ) → p .fault ≡ none → ks ≡ p .keys → r ≡ length (readSetOf ks) → new ≡ sets set 0 (readSetOf ks)
+    → (Asked r ≡ setOf p) × (new ≡ setAfter p set)
+unfolding setOf setAfter
+set-asked p ks set new r t k e h = (ap Asked (e ∙ ap (λ (l : List ℕ). length (readSetOf l)) k) ∙ (rw (t, setOf)), h ∙ ap (λ (l : List ℕ). sets set 0 (readSetOf l)) k ∙ (rw (t, setAfter)))
+
+-- the keys that `read_records` put into 8192 zeros
+module _ (bs : List ℕ) {keys : List ℕ} (held : keys ≡ sets (replicate 8192 0) 0 (records bs .keys)) (n : ℕ) (asked : Asked n ≡ readOf (records bs)) where
+  count : n ≡ length (records bs .keys)
+  count = asked-in (records bs) n asked .1
+
+  few : n ≤ 8192
+  few = omega (arith, count, keys-few bs 8192 0)
+
+  pub told-few : n ≤ length keys
+  told-few = omega (arith, ap length held ∙ length-sets (replicate 8192 0) 0 (records bs .keys), length-replicate {A = ℕ} 8192 0, few)
+
+  pub told-keys : take n keys ≡ records bs .keys
+  told-keys =
+      let h : length (records bs .keys) ≤ length (replicate {A = ℕ} 8192 0) = (rw (length-replicate {A = ℕ} 8192 0) (keys-few bs 8192 0)) in
+      ap (λ (m : ℕ). take m keys) count ∙ ap (take (length (records bs .keys))) held ∙ front-is (replicate 8192 0) (records bs .keys) h
+
+  pub told-front : n ≡ length (take n keys)
+  told-front = sym (length-take-le n keys told-few)
+
+  pub told-settable : (scratch set : List ℕ) → ((i : ℕ) → getD bs i 0 < 256) → length scratch ≡ 8192 → length set ≡ 16384 → Settable (take n keys) scratch set
+  told-settable scratch set bytes s t =
+      record {
+        small = λ i h. (rw told-keys (keys-small bs bytes 8192 0 i));
+        scratch-room = omega (arith, told-front, few);
+        room = omega (arith, told-front, few);
+      }

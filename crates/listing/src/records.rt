@@ -3,8 +3,8 @@ ghost use mathlib.Core.Path.{_≡_};
 ghost use Prim.Native.Nat.{ℕ, _+_, _^_, _≤_, _<_};
 ghost use lib.ListN.{length};
 ghost use lib.Seq.{sets};
-ghost use Rattle.listing.specs.Records.{numberAt, recordAt, recordsFrom};
-ghost use Rattle.listing.specs.Reading.{readOf};
+ghost use Rattle.listing.specs.Records.{numberAt, recordAt, recordsFrom, records};
+ghost use Rattle.listing.specs.Reading.{readOf, setOf, setAfter};
 
 // What stands at a byte: a position, as the bit it asks for; the end; or a record that is refused, with the byte it is told at.
 pub enum Record {
@@ -81,6 +81,22 @@ pub fn read_records(s: &[u8], keys: &mut [u64]) -> Read
             }
             Record::End => return Read::Asked(n),
             Record::Bad(b) => return Read::Refused(b),
+        }
+    }
+}
+
+// The read set that the records ask for, from the start of `set`: how many words it has.
+pub fn read_set_of(s: &[u8], set: &mut [u32]) -> Read
+    requires { ⌜ length (now set) ≡ 16384 ⌝ }
+    ensures { λ r. ⌜ r ≡ setOf (records (now (s .entry))) ⌝ }
+    ensures { λ _. ⌜ now (set .exit) ≡ setAfter (records (now (s .entry))) (now (set .entry)) ⌝ }
+{
+    let mut keys = [0u64; 8192];
+    match read_records(s, &mut keys) {
+        Read::Refused(b) => Read::Refused(b),
+        Read::Asked(n) => {
+            let mut scratch = [0u64; 8192];
+            Read::Asked(asks::read_set(&mut keys[..n], &mut scratch, set))
         }
     }
 }
