@@ -1,0 +1,103 @@
+use borrow.Author.Needs.{needs}
+use Rattle.listing.proofs.answer_to.Statement.{statement}
+use Rattle.listing.proofs.answer_to.Tie as tie
+use Rattle.listing.proofs.answer_to.Reads as reads
+use Rattle.listing.proofs.answer_to.Lts as lts
+use Rattle.listing.proofs.records.read_set_of.Reads as read-set-of-reads
+use Rattle.rounds.proofs.clear.Reads as clear-reads
+use Rattle.rounds.proofs.map_global_read_to_rounds.Reads as map-global-read-to-rounds-reads
+
+-- src/lib.rt:36:26
+slice-aggregate-read-set-of : tie.Need-slice-aggregate-read-set-of
+slice-aggregate-read-set-of c = search needs
+
+-- src/lib.rt:36:11
+read-set-of-requires : tie.Need-read-set-of-requires
+read-set-of-requires c κs = search needs
+
+-- src/lib.rt:37:23
+enum-known-b : tie.Need-enum-known-b
+enum-known-b c = search needs
+
+-- src/lib.rt:38:13
+clear-requires : tie.Need-clear-requires
+clear-requires c κs = ?
+
+-- src/lib.rt:41:21
+enum-known-n : tie.Need-enum-known-n
+enum-known-n c = search needs
+
+-- src/lib.rt:41:67
+array-share-prefix-set : tie.Need-array-share-prefix-set
+array-share-prefix-set c = ?
+
+-- src/lib.rt:41:67
+slice-aggregate-map-global-read-to-rounds : tie.Need-slice-aggregate-map-global-read-to-rounds
+slice-aggregate-map-global-read-to-rounds c = ?
+
+-- src/lib.rt:41:33
+map-global-read-to-rounds-requires : tie.Need-map-global-read-to-rounds-requires
+map-global-read-to-rounds-requires c κs = ?
+
+-- src/lib.rt:42:28
+enum-known-rounds : tie.Need-enum-known-rounds
+enum-known-rounds c = search needs
+
+-- src/lib.rt:43:29
+enum-known-refusal : tie.Need-enum-known-refusal
+enum-known-refusal c = search needs
+
+-- src/lib.rt:29:1
+same-length : tie.Need-same-length
+same-length c = search needs
+
+-- src/lib.rt:29:1
+returns : tie.Need-returns
+returns c = ?
+
+-- src/lib.rt:29:1
+same-length-2 : tie.Need-same-length-2
+same-length-2 c = search needs
+
+-- src/lib.rt:29:1
+same-length-3 : tie.Need-same-length-3
+same-length-3 c = search needs
+
+-- src/lib.rt:29:1
+returns-2 : tie.Need-returns-2
+returns-2 c = ?
+
+-- src/lib.rt:29:1
+same-length-4 : tie.Need-same-length-4
+same-length-4 c = search needs
+
+-- src/lib.rt:29:1
+same-length-5 : tie.Need-same-length-5
+same-length-5 c = search needs
+
+-- src/lib.rt:29:1
+returns-3 : tie.Need-returns-3
+returns-3 c = ?
+
+pub answer-to-spec : {M : Type 1} → statement M
+answer-to-spec =
+    tie.close
+    (tie.spec
+    slice-aggregate-read-set-of
+    read-set-of-requires
+    enum-known-b
+    clear-requires
+    enum-known-n
+    array-share-prefix-set
+    slice-aggregate-map-global-read-to-rounds
+    map-global-read-to-rounds-requires
+    enum-known-rounds
+    enum-known-refusal
+    same-length
+    returns
+    same-length-2
+    same-length-3
+    returns-2
+    same-length-4
+    same-length-5
+    returns-3)

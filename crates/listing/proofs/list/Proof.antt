@@ -1,0 +1,73 @@
+use borrow.Author.Needs.{needs}
+use Rattle.listing.proofs.list.Statement.{statement}
+use Rattle.listing.proofs.list.Tie as tie
+use Rattle.listing.proofs.list.Reads as reads
+use Rattle.listing.proofs.list.Lts as lts
+use Rattle.listing.proofs.answer.put_answer.Reads as put-answer-reads
+use Rattle.listing.proofs.answer_to.Reads as answer-to-reads
+use Rattle.listing.proofs.text_length.Reads as text-length-reads
+
+-- src/lib.rt:63:9
+returns : tie.Need-returns
+returns c = ?
+
+-- src/lib.rt:66:43
+slice-aggregate-answer-to : tie.Need-slice-aggregate-answer-to
+slice-aggregate-answer-to c = search needs
+
+-- src/lib.rt:66:9
+answer-to-requires : tie.Need-answer-to-requires
+answer-to-requires c κs = search needs
+
+-- src/lib.rt:67:33
+slice-aggregate-text-length : tie.Need-slice-aggregate-text-length
+slice-aggregate-text-length c = search needs
+
+-- src/lib.rt:67:9
+text-length-requires : tie.Need-text-length-requires
+text-length-requires c κs = search needs
+
+-- src/lib.rt:69:9
+same-length : tie.Need-same-length
+same-length c = search needs
+
+-- src/lib.rt:69:9
+returns-2 : tie.Need-returns-2
+returns-2 c = ?
+
+-- src/lib.rt:71:29
+slice-aggregate-put-answer : tie.Need-slice-aggregate-put-answer
+slice-aggregate-put-answer c = search needs
+
+-- src/lib.rt:71:5
+put-answer-requires : tie.Need-put-answer-requires
+put-answer-requires c κs = search needs
+
+-- src/lib.rt:57:1
+same-length-2 : tie.Need-same-length-2
+same-length-2 c = search needs
+
+-- src/lib.rt:57:1
+same-length-3 : tie.Need-same-length-3
+same-length-3 c = search needs
+
+-- src/lib.rt:57:1
+returns-3 : tie.Need-returns-3
+returns-3 c = ?
+
+pub list-spec : {M : Type 1} → statement M
+list-spec =
+    tie.close
+    (tie.spec
+    returns
+    slice-aggregate-answer-to
+    answer-to-requires
+    slice-aggregate-text-length
+    text-length-requires
+    same-length
+    returns-2
+    slice-aggregate-put-answer
+    put-answer-requires
+    same-length-2
+    same-length-3
+    returns-3)
