@@ -13,17 +13,13 @@ use lib.ListN.{length, getD, take, replicate, length-replicate}
 use lib.Seq.{sets, sets-eq, take-at, length-sets, length-take-le}
 use Rattle.reads.specs.Asked.{readSetOf}
 use Rattle.asks.specs.Rising.{Settable}
+use Rattle.asks.proofs.StoreLaws.{take-front}
 use Rattle.listing.specs.Records.{numberAt, positionAt, endAt, kindAt, recordAt, Parsed, recordsFrom, records}
-use Rattle.listing.specs.Reading.{readOf, setOf, setAfter}
+use Rattle.listing.specs.Reading.{readAs, readOf, setOf, setAfter}
 use Rattle.listing.specs.declared.records.Record.{Record}
 use Rattle.listing.specs.declared.records.Record.the-variants.{Position, End, Bad}
 use Rattle.listing.specs.declared.records.Read.the-variants.{Asked, Refused}
 use Rattle.listing.proofs.RecordLaws.{stop-end, stop-bad, stop-full, one-more}
-
-pub front-is : (l vs : List ℕ) → length vs ≤ length l → take (length vs) (sets l 0 vs) ≡ vs
-front-is l vs h =
-    let g : 0 + length vs ≤ length l = omega arith in
-    ap (take (length vs)) (sets-eq vs l 0 g) ∙ take-at vs _ (length vs) refl
 
 -- what a record asks for, 0 where it asks for nothing
 abbrev keyOf : Record → ℕ
@@ -94,35 +90,31 @@ keys-few bs (suc n) at = go (recordAt bs at) refl (keys-few bs n (at + 5))
 
 -- ---- what reading told
 
-pub asked-in : (p : Parsed) (n : ℕ) → Asked n ≡ readOf p → (p .fault ≡ none) × (n ≡ length (p .keys))
-unfolding readOf
-asked-in p n e = go (p .fault) refl
-  where
-    go : (f : Option ℕ) → p .fault ≡ f → (p .fault ≡ none) × (n ≡ length (p .keys))
-    go none t = let q : Asked n ≡ Asked (length (p .keys)) = e ∙ (rw (t, readOf)) in (t, cc)
-    go (some b) t = let q : Asked n ≡ Refused b = e ∙ (rw (t, readOf)) in let z : _≡_ {A = ℕ} 0 1 = cc in absurd (omega arith)
+pub asked-in : (f : Option ℕ) (k n : ℕ) → Asked n ≡ readAs f k → (f ≡ none) × (n ≡ k)
+asked-in none k n e = (refl, cc)
+asked-in (some b) k n e = let z : _≡_ {A = ℕ} 0 1 = cc in absurd (omega arith)
 
-pub refused-in : (p : Parsed) (b : ℕ) → Refused b ≡ readOf p → p .fault ≡ some b
-unfolding readOf
-refused-in p b e = go (p .fault) refl
-  where
-    go : (f : Option ℕ) → p .fault ≡ f → p .fault ≡ some b
-    go none t = let q : Refused b ≡ Asked (length (p .keys)) = e ∙ (rw (t, readOf)) in let z : _≡_ {A = ℕ} 0 1 = cc in absurd (omega arith)
-    go (some d) t = let q : Refused b ≡ Refused d = e ∙ (rw (t, readOf)) in let s : d ≡ b = cc in t ∙ ap some s
+pub refused-in : (f : Option ℕ) (k b : ℕ) → Refused b ≡ readAs f k → f ≡ some b
+refused-in none k b e = let z : _≡_ {A = ℕ} 0 1 = cc in absurd (omega arith)
+refused-in (some d) k b e = let s : d ≡ b = cc in ap some s
 
 pub set-refused : (p : Parsed) (b : ℕ) (set : List ℕ) → p .fault ≡ some b → (Refused b ≡ setOf p) × (set ≡ setAfter p set)
-unfolding setOf setAfter
-set-refused p b set t = (rw (t, setOf), rw (t, setAfter))
+unfolding setAfter
+set-refused p b set t = (rw t, rw (t, setAfter))
 
 pub set-asked : (p : Parsed) (ks set new : List ℕ) (r : ℕ) → p .fault ≡ none → ks ≡ p .keys → r ≡ length (readSetOf ks) → new ≡ sets set 0 (readSetOf ks)
     → (Asked r ≡ setOf p) × (new ≡ setAfter p set)
-unfolding setOf setAfter
-set-asked p ks set new r t k e h = (ap Asked (e ∙ ap (λ (l : List ℕ). length (readSetOf l)) k) ∙ (rw (t, setOf)), h ∙ ap (λ (l : List ℕ). sets set 0 (readSetOf l)) k ∙ (rw (t, setAfter)))
+unfolding setAfter
+set-asked p ks set new r t k e h =
+    (
+      ap Asked (e ∙ ap (λ (l : List ℕ). length (readSetOf l)) k) ∙ (rw t),
+      h ∙ ap (λ (l : List ℕ). sets set 0 (readSetOf l)) k ∙ (rw (t, setAfter)),
+    )
 
 -- the keys that `read_records` put into 8192 zeros
 module _ (bs : List ℕ) {keys : List ℕ} (held : keys ≡ sets (replicate 8192 0) 0 (records bs .keys)) (n : ℕ) (asked : Asked n ≡ readOf (records bs)) where
   count : n ≡ length (records bs .keys)
-  count = asked-in (records bs) n asked .1
+  count = asked-in (records bs .fault) (length (records bs .keys)) n asked .1
 
   few : n ≤ 8192
   few = omega (arith, count, keys-few bs 8192 0)
@@ -133,7 +125,7 @@ module _ (bs : List ℕ) {keys : List ℕ} (held : keys ≡ sets (replicate 8192
   pub told-keys : take n keys ≡ records bs .keys
   told-keys =
       let h : length (records bs .keys) ≤ length (replicate {A = ℕ} 8192 0) = (rw (length-replicate {A = ℕ} 8192 0) (keys-few bs 8192 0)) in
-      ap (λ (m : ℕ). take m keys) count ∙ ap (take (length (records bs .keys))) held ∙ front-is (replicate 8192 0) (records bs .keys) h
+      ap (λ (m : ℕ). take m keys) count ∙ ap (take (length (records bs .keys))) held ∙ take-front (replicate 8192 0) (records bs .keys) h
 
   pub told-front : n ≡ length (take n keys)
   told-front = sym (length-take-le n keys told-few)

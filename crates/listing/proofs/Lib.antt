@@ -8,3 +8,4 @@ pub mod PrefixLaws
 pub mod ExampleLaws
 pub mod KeyLaws
 pub mod ListLaws
+pub mod AnswerToLaws

@@ -18,6 +18,7 @@ use Rattle.listing.specs.Text.{decimal}
 use Rattle.listing.specs.Section.{places}
 use Rattle.listing.specs.Listing.{roundsWord, printed, printedAt, said, listing, listed, textAfter, lines}
 use Rattle.listing.specs.Answer.{answered, found, answerTo, sectionAfter, answerText}
+use Rattle.listing.specs.declared.answer.Answer.{Answer}
 use Rattle.listing.specs.declared.answer.Answer.the-variants.{Bad}
 use Rattle.listing.specs.declared.Listed.{Listed}
 use Rattle.listing.specs.declared.Listed.the-variants.{Text, Refused}
@@ -84,3 +85,24 @@ room-zeros room h = rw (le-leb _ _ h, roomAfter)
 pub room-enough : (ws : List ℕ) (o r : ℕ) → 16384 ≤ r → outcome 256 ws o r ≡ outcome 256 ws o 16384
 unfolding outcome
 room-enough ws o r h = rw (le-leb _ _ h, outcome)
+
+-- ---- how `list` comes to it
+
+module _ (bs room out : List ℕ) (h : 16384 ≤ length room) {s : List ℕ} (sect : s ≡ sectionAfter (records bs) (replicate 16384 0)) {a : Answer} (ans : a ≡ answerTo (records bs)) where
+  text-is : answerText a s ≡ listing bs
+  unfolding listing
+  text-is = (rw (ans, sect)) ∙ text-said (records bs)
+
+  module _ {n : ℕ} (len : n ≡ length (answerText a s)) where
+    size : n ≡ length (listing bs)
+    size = len ∙ ap length text-is
+
+    pub lists-short : length out < n → (Refused (record { number = 14; part = 0; item = 0 }) ≡ listed bs (length out) (length room)) × (out ≡ textAfter bs (length room) out)
+    lists-short g =
+        let k : length out < length (listing bs) = (rw size at g) in
+        (list-short bs (length out) (length room) h k, after-short bs out (length room) h k)
+
+    pub lists-text : {new : List ℕ} → n ≤ length out → new ≡ sets out 0 (answerText a s) → (Text n ≡ listed bs (length out) (length room)) × (new ≡ textAfter bs (length room) out)
+    lists-text g e =
+        let k : length (listing bs) ≤ length out = (rw size at g) in
+        (ap Text size ∙ list-text bs (length out) (length room) h k, e ∙ ap (sets out 0) text-is ∙ after-text bs out (length room) h k)

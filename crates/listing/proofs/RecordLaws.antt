@@ -128,11 +128,9 @@ module _ {m : ℕ} {bs keys₀ keys : List ℕ} {n at : ℕ} (R : Reading m bs k
       )
 
   pub reading-asked : recordAt bs at ≡ End → (Asked n ≡ readOf (recordsFrom m bs 0)) × (keys ≡ sets keys₀ 0 (recordsFrom m bs 0 .keys))
-  unfolding readOf
   reading-asked e =
       let s = reading-stops none (stop-end (m - n) bs at e) in
-      (rw (s .1, s .0, readOf), s .2)
+      (rw (s .1, s .0), s .2)
 
   pub reading-refused : (b : ℕ) → recordsFrom (m - n) bs at ≡ stopped (some b) → (Refused b ≡ readOf (recordsFrom m bs 0)) × (keys ≡ sets keys₀ 0 (recordsFrom m bs 0 .keys))
-  unfolding readOf
-  reading-refused b e = let s = reading-stops (some b) e in (rw (s .1, readOf), s .2)
+  reading-refused b e = let s = reading-stops (some b) e in (rw (s .1), s .2)

@@ -10,13 +10,18 @@ use Rattle.listing.specs.Records.{Parsed}
 use Rattle.listing.specs.declared.records.Read.{Read}
 use Rattle.listing.specs.declared.records.Read.the-variants.{Asked, Refused}
 
--- `read_records`: how many bits are asked for, or the byte of the first bad record
-unfoldable pub readOf : Parsed → Read
-readOf p = elim (p .fault) [ none ↦ Asked (length (p .keys)) | some b ↦ Refused b ]
+-- a count, or the byte of the first bad record
+abbrev pub readAs : Option ℕ → ℕ → Read
+readAs none n = Asked n
+readAs (some b) n = Refused b
 
--- `read_set_of`: how many words the read set of these bits has, or that byte; the set from the start of the lent words, or what they held
-unfoldable pub setOf : Parsed → Read
-setOf p = elim (p .fault) [ none ↦ Asked (length (readSetOf (p .keys))) | some b ↦ Refused b ]
+-- `read_records`: how many bits are asked for
+abbrev pub readOf : Parsed → Read
+readOf p = readAs (p .fault) (length (p .keys))
+
+-- `read_set_of`: how many words the read set of these bits has. The lent words then hold it from their start, or what they held.
+abbrev pub setOf : Parsed → Read
+setOf p = readAs (p .fault) (length (readSetOf (p .keys)))
 
 unfoldable pub setAfter : Parsed → List ℕ → List ℕ
 setAfter p set = elim (p .fault) [ none ↦ sets set 0 (readSetOf (p .keys)) | some b ↦ set ]

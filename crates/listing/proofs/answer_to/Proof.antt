@@ -1,3 +1,9 @@
+-- `listing::answer_to` meets its contract: a bad record, or what the rounds of the read set give. Assumes nothing.
+use Rattle.listing.proofs.AnswerToLaws.{to-bad, to-few, to-front, to-rounds, to-refused, to-section}
+use Rattle.listing.proofs.ListLaws.{room-zeros}
+use Rattle.listing.proofs.KeyLaws.{refused-in, keys-few}
+use Rattle.listing.specs.Records.{records}
+use mathlib.Core.Path.{_≡_, refl, sym, _∙_}
 use borrow.Author.Needs.{needs}
 use Rattle.listing.proofs.answer_to.Statement.{statement}
 use Rattle.listing.proofs.answer_to.Tie as tie
@@ -21,7 +27,7 @@ enum-known-b c = search needs
 
 -- src/lib.rt:38:13
 clear-requires : tie.Need-clear-requires
-clear-requires c κs = ?
+clear-requires c κs = search needs
 
 -- src/lib.rt:41:21
 enum-known-n : tie.Need-enum-known-n
@@ -29,15 +35,15 @@ enum-known-n c = search needs
 
 -- src/lib.rt:41:67
 array-share-prefix-set : tie.Need-array-share-prefix-set
-array-share-prefix-set c = ?
+array-share-prefix-set c = to-few (records (c .before .before .before .before .before .before .before .before .before .args .s .now)) (keys-few _ 8192 0) (c .before .before .before .before .read-set-of .ensures .1) _ (sym (c .before .n .given .1) ∙ c .before .before .before .before .read-set-of .ensures .0)
 
 -- src/lib.rt:41:67
 slice-aggregate-map-global-read-to-rounds : tie.Need-slice-aggregate-map-global-read-to-rounds
-slice-aggregate-map-global-read-to-rounds c = ?
+slice-aggregate-map-global-read-to-rounds c = to-front (records (c .before .before .before .before .before .before .before .before .before .before .args .s .now)) (keys-few _ 8192 0) (c .before .before .before .before .before .read-set-of .ensures .1) _ (sym (c .before .before .n .given .1) ∙ c .before .before .before .before .before .read-set-of .ensures .0)
 
 -- src/lib.rt:41:33
 map-global-read-to-rounds-requires : tie.Need-map-global-read-to-rounds-requires
-map-global-read-to-rounds-requires c κs = ?
+map-global-read-to-rounds-requires c κs = search needs
 
 -- src/lib.rt:42:28
 enum-known-rounds : tie.Need-enum-known-rounds
@@ -53,7 +59,7 @@ same-length c = search needs
 
 -- src/lib.rt:29:1
 returns : tie.Need-returns
-returns c = ?
+returns c = let b = (to-bad _ _ _ (refused-in _ _ _ (sym (c .before .before .before .before .before .b .given .1) ∙ c .before .before .before .before .before .before .before .before .read-set-of .ensures .0))) in (b .0, c .before .before .clear .ensures, b .1)
 
 -- src/lib.rt:29:1
 same-length-2 : tie.Need-same-length-2
@@ -65,7 +71,7 @@ same-length-3 c = search needs
 
 -- src/lib.rt:29:1
 returns-2 : tie.Need-returns-2
-returns-2 c = ?
+returns-2 c = (to-rounds (records (c .before .before .before .before .before .before .before .before .before .before .before .before .before .before .before .before .before .before .before .before .args .s .now)) (keys-few _ 8192 0) (c .before .before .before .before .before .before .before .before .before .before .before .before .before .before .before .read-set-of .ensures .1) _ (sym (c .before .before .before .before .before .before .before .before .before .before .before .before .n .given .1) ∙ c .before .before .before .before .before .before .before .before .before .before .before .before .before .before .before .read-set-of .ensures .0) _ _ (c .before .before .before .before .before .before .before .before .before .before .before .before .before .before .before .before .before .before .before .before .pre .1) (c .before .before .before .before .before .before .before .before .before .before .before .before .before .before .before .before .before .before .before .before .pre .0) _ (sym (c .before .rounds .given .1) ∙ c .before .before .before .before .before .before .before .map-global-read-to-rounds .ensures .0), c .before .before .before .before .before .before .before .map-global-read-to-rounds .ensures .1 .1 ∙ room-zeros _ (c .before .before .before .before .before .before .before .before .before .before .before .before .before .before .before .before .before .before .before .before .pre .0), to-section (records (c .before .before .before .before .before .before .before .before .before .before .before .before .before .before .before .before .before .before .before .before .args .s .now)) (keys-few _ 8192 0) (c .before .before .before .before .before .before .before .before .before .before .before .before .before .before .before .read-set-of .ensures .1) _ (sym (c .before .before .before .before .before .before .before .before .before .before .before .before .n .given .1) ∙ c .before .before .before .before .before .before .before .before .before .before .before .before .before .before .before .read-set-of .ensures .0) _ _ (c .before .before .before .before .before .before .before .before .before .before .before .before .before .before .before .before .before .before .before .before .pre .1) (c .before .before .before .before .before .before .before .before .before .before .before .before .before .before .before .before .before .before .before .before .pre .0) _ _ (c .before .before .before .before .before .before .before .map-global-read-to-rounds .ensures .1 .0))
 
 -- src/lib.rt:29:1
 same-length-4 : tie.Need-same-length-4
@@ -77,7 +83,7 @@ same-length-5 c = search needs
 
 -- src/lib.rt:29:1
 returns-3 : tie.Need-returns-3
-returns-3 c = ?
+returns-3 c = (to-refused (records (c .before .before .before .before .before .before .before .before .before .before .before .before .before .before .before .before .before .before .before .before .args .s .now)) (keys-few _ 8192 0) (c .before .before .before .before .before .before .before .before .before .before .before .before .before .before .before .read-set-of .ensures .1) _ (sym (c .before .before .before .before .before .before .before .before .before .before .before .before .n .given .1) ∙ c .before .before .before .before .before .before .before .before .before .before .before .before .before .before .before .read-set-of .ensures .0) _ _ (c .before .before .before .before .before .before .before .before .before .before .before .before .before .before .before .before .before .before .before .before .pre .1) (c .before .before .before .before .before .before .before .before .before .before .before .before .before .before .before .before .before .before .before .before .pre .0) _ (sym (c .before .refusal .given .1) ∙ c .before .before .before .before .before .before .before .map-global-read-to-rounds .ensures .0), c .before .before .before .before .before .before .before .map-global-read-to-rounds .ensures .1 .1 ∙ room-zeros _ (c .before .before .before .before .before .before .before .before .before .before .before .before .before .before .before .before .before .before .before .before .pre .0), to-section (records (c .before .before .before .before .before .before .before .before .before .before .before .before .before .before .before .before .before .before .before .before .args .s .now)) (keys-few _ 8192 0) (c .before .before .before .before .before .before .before .before .before .before .before .before .before .before .before .read-set-of .ensures .1) _ (sym (c .before .before .before .before .before .before .before .before .before .before .before .before .n .given .1) ∙ c .before .before .before .before .before .before .before .before .before .before .before .before .before .before .before .read-set-of .ensures .0) _ _ (c .before .before .before .before .before .before .before .before .before .before .before .before .before .before .before .before .before .before .before .before .pre .1) (c .before .before .before .before .before .before .before .before .before .before .before .before .before .before .before .before .before .before .before .before .pre .0) _ _ (c .before .before .before .before .before .before .before .map-global-read-to-rounds .ensures .1 .0))
 
 pub answer-to-spec : {M : Type 1} → statement M
 answer-to-spec =

@@ -43,7 +43,7 @@ read-set-requires c κs = told-settable (c .before .before .before .before .befo
 
 -- src/records.rt:89:1
 returns : tie.Need-returns
-returns c = set-refused _ _ _ (refused-in _ _ (sym (c .before .b .given .1) ∙ c .before .before .before .before .read-records .ensures .0))
+returns c = set-refused _ _ _ (refused-in _ _ _ (sym (c .before .b .given .1) ∙ c .before .before .before .before .read-records .ensures .0))
 
 -- src/records.rt:89:1
 same-length : tie.Need-same-length
@@ -51,7 +51,7 @@ same-length c = search needs
 
 -- src/records.rt:89:1
 returns-2 : tie.Need-returns-2
-returns-2 c = set-asked _ _ _ _ _ (asked-in _ _ (sym (c .before .before .before .before .before .before .before .before .before .n .given .1) ∙ c .before .before .before .before .before .before .before .before .before .before .before .before .read-records .ensures .0) .0) (told-keys (c .before .before .before .before .before .before .before .before .before .before .before .before .before .before .before .before .args .s .now) (c .before .before .before .before .before .before .before .before .before .before .before .before .read-records .ensures .1) _ (sym (c .before .before .before .before .before .before .before .before .before .n .given .1) ∙ c .before .before .before .before .before .before .before .before .before .before .before .before .read-records .ensures .0)) (c .before .before .before .before .read-set .ensures .0) (c .before .before .before .before .read-set .ensures .1 .1 .1)
+returns-2 c = set-asked _ _ _ _ _ (asked-in _ _ _ (sym (c .before .before .before .before .before .before .before .before .before .n .given .1) ∙ c .before .before .before .before .before .before .before .before .before .before .before .before .read-records .ensures .0) .0) (told-keys (c .before .before .before .before .before .before .before .before .before .before .before .before .before .before .before .before .args .s .now) (c .before .before .before .before .before .before .before .before .before .before .before .before .read-records .ensures .1) _ (sym (c .before .before .before .before .before .before .before .before .before .n .given .1) ∙ c .before .before .before .before .before .before .before .before .before .before .before .before .read-records .ensures .0)) (c .before .before .before .before .read-set .ensures .0) (c .before .before .before .before .read-set .ensures .1 .1 .1)
 
 pub read-set-of-spec : {M : Type 1} → statement M
 read-set-of-spec =
