@@ -30,8 +30,14 @@ bit-same a b h =
 abbrev pub pick : Bool → ℕ → ℕ
 pick t x = elim t [ true ↦ 1 | false ↦ x ]
 
+-- the bits of a word with two bits set
+two : (m a b k : ℕ) → bit (withBit (withBit m a) b) k ≡ pick (eqb k b) (pick (eqb k a) (bit m k))
+two m a b k = bit-with (withBit m a) b k ∙ ap (pick (eqb k b)) (bit-with m a k)
+
 pub with-comm : (m a b : ℕ) → withBit (withBit m a) b ≡ withBit (withBit m b) a
-with-comm m a b = bit-same _ _ (λ k. bit-with (withBit m a) b k ∙ ap (pick (eqb k b)) (bit-with m a k) ∙ turned (eqb k b) (eqb k a) (bit m k) ∙ sym (bit-with (withBit m b) a k ∙ ap (pick (eqb k a)) (bit-with m b k)))
+with-comm m a b =
+    bit-same (withBit (withBit m a) b) (withBit (withBit m b) a)
+    (λ k. two m a b k ∙ turned (eqb k b) (eqb k a) (bit m k) ∙ sym (two m b a k))
   where
     turned : (s t : Bool) (x : ℕ) → pick s (pick t x) ≡ pick t (pick s x)
     turned true true x = refl
@@ -40,7 +46,7 @@ with-comm m a b = bit-same _ _ (λ k. bit-with (withBit m a) b k ∙ ap (pick (e
     turned false false x = refl
 
 pub with-twice : (m a : ℕ) → withBit (withBit m a) a ≡ withBit m a
-with-twice m a = bit-same _ _ (λ k. bit-with (withBit m a) a k ∙ ap (pick (eqb k a)) (bit-with m a k) ∙ once (eqb k a) (bit m k) ∙ sym (bit-with m a k))
+with-twice m a = bit-same (withBit (withBit m a) a) (withBit m a) (λ k. two m a a k ∙ once (eqb k a) (bit m k) ∙ sym (bit-with m a k))
   where
     once : (t : Bool) (x : ℕ) → pick t (pick t x) ≡ pick t x
     once true x = refl

@@ -86,7 +86,6 @@ module _ {ws t : List ℕ} {L : ℕ} (h : Readable ws t L) where
 
   pub read-row : (j : ℕ) → j < L → RowIn ws t j
   read-row j l = record {
-    few = omega (arith, h .few);
     in-room = omega (arith, h .in-room);
     row = record {
       short = omega (arith, length-take 32 (drop (32 * j) t));

@@ -49,7 +49,6 @@ module _ {ws : List ℕ} {t K S L k : ℕ} (s : Searchable ws t K S L) (h : 0 < 
         in-room = omega arith;
         empty = take-all (32 * L) table (omega arith) ∙ e;
         some-lanes = s .some-lanes;
-        few = s .few-lanes;
         size = omega (arith, s .few);
       }
 

@@ -7,7 +7,6 @@ use Prim.Native.Nat.{ℕ, _+_, _*_, _<_}
 use native.Mathlib.Omega.{arith}
 use lib.ListN.{getD, drop}
 use Rattle.words.specs.Bit.{pop}
-use Rattle.words.proofs.PopLaws.{pop-le}
 use Rattle.reads.specs.Search.{next, firstRoom}
 use Rattle.tries.specs.declared.Search.{Search}
 use Rattle.tries.specs.declared.Search.the-variants.{Lane as LaneAt, Full}
@@ -15,6 +14,7 @@ use Rattle.tries.specs.Table.{tableOf}
 use Rattle.tries.specs.Decoded.{pairAt, lanesAt, putIn}
 use Rattle.tries.specs.Tries.{foundOf, laneFor, nextOf, lanesAfter, Searched, Puttable, Placeable}
 use Rattle.reads.proofs.SearchLaws.{room-found}
+use Rattle.tries.proofs.PairLaws.{count-le}
 use Rattle.tries.proofs.TableLaws.{filled-in-room, filled-named, filled-row, filled-free, filled-put}
 
 -- ---- the answer as the code says it
@@ -45,7 +45,7 @@ module _ (set room : List ℕ) (L cur p : ℕ) (h : Placeable set room L cur p) 
     in-room = filled-in-room (h .filled);
     named = filled-named (h .filled);
     lane = h .lane;
-    mask = rw eb (pop-le _);
+    mask = count-le b _ eb;
   }
 
   module _ (r : Search) (er : r ≡ foundOf (firstRoom L L (lanesAt set room L) b cur)) where

@@ -94,6 +94,10 @@ module _ {A : Type 0} (P : A → Type 0) where
   each-append [] ys h k = k
   each-append (x ∷ xs) ys h k = (h .0, each-append xs ys (h .1) k)
 
+  pub each-of : (xs : List A) (d : A) → ((i : ℕ) → i < length xs → P (getD xs i d)) → Each P xs
+  each-of [] d f = tt
+  each-of (x ∷ xs) d f = (f 0 (omega arith), each-of xs d (λ i h. f (suc i) (omega arith)))
+
   pub each-at : (xs : List A) (i : ℕ) (d : A) → Each P xs → i < length xs → P (getD xs i d)
   each-at [] i d h l = absurd (not-suc-le-zero l)
   each-at (x ∷ xs) zero d h l = h .0

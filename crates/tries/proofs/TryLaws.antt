@@ -5,7 +5,7 @@ use mathlib.Core.Bool.{Bool, true, false}
 use mathlib.Core.Option.{Option, none, some}
 use mathlib.Core.List.{List, [], _∷_, _++_}
 use Prim.Native.Nat.{ℕ, suc, _+_, _*_, _/_, _%_, min, _≤_, _<_}
-use native.Mathlib.Nat.{le-trans, mul-le-mul-left, zero-lt-suc}
+use native.Mathlib.Nat.{le-trans, mul-le-mul-left}
 use native.Mathlib.Numerals.{add-one}
 use native.Mathlib.Omega.{arith}
 use lib.ListN.{length, getD, drop, replicate, length-append, drop-of-length-le, take-append-drop}
@@ -20,7 +20,7 @@ use Rattle.tries.specs.Table.{tableOf, pieceOf, runOf}
 use Rattle.tries.specs.Decoded.{pairAt, lanesAt, Each, Drawn, Kept, Filled}
 use Rattle.tries.specs.Tries.{laneFor, isAll, lanesIn, triedOf, Placeable, Ready}
 use Rattle.tries.proofs.PairLaws.{pairs-length, pairs-at, slice-none, span-step, piece-slice}
-use Rattle.tries.proofs.TableLaws.{each-append, each-take, each-drop, drawn-thin, kept-sound, kept-push, kept-empty, table-length, table-empty, filled-lanes, filled-rest, filled-of}
+use Rattle.tries.proofs.TableLaws.{each-append, each-of, each-take, each-drop, drawn-thin, kept-sound, kept-push, kept-empty, table-length, table-empty, filled-lanes, filled-rest, filled-of}
 use Rattle.tries.proofs.PlaceLaws.{Placed}
 
 -- ---- what any try keeps of the lanes
@@ -44,13 +44,9 @@ module _ (ws : List ℕ) (whole : length ws % 2 ≡ 0) (masks : (p : ℕ) → p 
   pub pair-drawn : (p : ℕ) → p < length ws / 2 → Drawn ws (pairAt ws p)
   pair-drawn p h = record { in-set = h; same = refl; some-bits = masks p h }
 
-  each-of : (ps : List Pair) → ((i : ℕ) → i < length ps → Drawn ws (getD ps i (pairAt ws 0))) → Each (Drawn ws) ps
-  each-of [] f = tt
-  each-of (p ∷ ps) f = (f 0 (zero-lt-suc (length ps)), each-of ps (λ i h. f (suc i) (omega arith)))
-
   pub pairs-drawn : Each (Drawn ws) (pairsOf ws)
   pairs-drawn =
-      each-of (pairsOf ws) (λ i h.
+      each-of (Drawn ws) (pairsOf ws) (pairAt ws 0) (λ i h.
       let l : i < length ws / 2 = omega (arith, pairs-length 0 ws) in
       rw (pairs-at ws i (pairAt ws 0) l) (pair-drawn i l))
 

@@ -2,7 +2,7 @@
 -- Assumes nothing.
 use mathlib.Core.Path.{_≡_, sym, ap, _∙_}
 use mathlib.Core.List.{[]}
-use Prim.Native.Nat.{_+_, _≤_, _<_}
+use Prim.Native.Nat.{ℕ, _+_, _≤_, _<_}
 use native.Mathlib.Omega.{arith}
 use lib.ListN.{getD}
 use borrow.Author.Needs.{needs}
@@ -22,6 +22,16 @@ Inv-loop set room lanes from b j₀ left₀ j left =
 abbrev μ-loop : tie.MeasureT-loop
 μ-loop set room lanes from b j₀ left₀ j left = left
 
+-- after a lane's sum: what the function was called with, and what the sum says
+abbrev called : tie.After-lane-load Inv-loop μ-loop → tie.Start Inv-loop μ-loop
+called c = c .before .before .before .before .before
+
+abbrev bitsAt : tie.Start Inv-loop μ-loop → ℕ → ℕ
+bitsAt s j = total (getD (lanesAt (s .args .set .now) (s .args .room .now) (s .args .lanes)) j [])
+
+loaded : (c : tie.After-lane-load Inv-loop μ-loop) → c .lane-load .result .bits ≡ bitsAt (called c) (c .before .before .loop .j)
+loaded c = c .lane-load .ensures .0 ∙ ap total (sym (lane-at _ _ (called c .args .lanes) _ (c .before .before .loop .inv .0)))
+
 loop-holds : tie.Need-loop-holds Inv-loop μ-loop
 loop-holds c = search needs
 
@@ -29,14 +39,14 @@ lane-load-requires : tie.Need-lane-load-requires Inv-loop μ-loop
 lane-load-requires c κs = row-in _ _ _ (c .before .before .before .before .pre .in-room) (c .before .before .before .before .pre .named) _ (c .before .loop .inv .0)
 
 add-if1 : tie.Need-add-if1 Inv-loop μ-loop
-add-if1 c = omega (arith, c .before .lane-load .ensures .0, c .before .before .before .before .before .before .pre .mask, row-bits-le (c .before .before .before .before .before .before .args .set .now) (c .before .before .before .before .before .before .args .room .now) (c .before .before .before .loop .j))
+add-if1 c =
+    let s = called (c .before) in
+    omega (arith, c .before .lane-load .ensures .0, s .pre .mask, row-bits-le (s .args .set .now) (s .args .room .now) (c .before .before .before .loop .j))
 
 returns : tie.Need-returns Inv-loop μ-loop
 returns c =
-    let s = c .before .before .before .before .before .before .before .args in
     let l = c .before .before .before .before .loop in
-    let h : total (getD (lanesAt (s .set .now) (s .room .now) (s .lanes)) (l .j) []) + s .b ≤ 32 =
-    rw (lane-at (s .set .now) (s .room .now) (s .lanes) (l .j) (l .inv .0)) (omega (arith, c .before .before .lane-load .ensures .0)) in
+    let h : bitsAt (called (c .before .before)) (l .j) + called (c .before .before) .args .b ≤ 32 = omega (arith, loaded (c .before .before)) in
     ap foundOf (sym (room-here _ _ _ _ _ (c .before .before .before .loop-test .taken) h) ∙ l .inv .2)
 
 next-lane-requires : tie.Need-next-lane-requires Inv-loop μ-loop
@@ -50,10 +60,8 @@ loop-less c = search needs
 
 loop-again : tie.Need-loop-again Inv-loop μ-loop
 loop-again c =
-    let s = c .before .before .before .before .before .before .before .before .args in
     let l = c .before .before .before .before .before .loop in
-    let h : 32 < total (getD (lanesAt (s .set .now) (s .room .now) (s .lanes)) (l .j) []) + s .b =
-    rw (lane-at (s .set .now) (s .room .now) (s .lanes) (l .j) (l .inv .0)) (omega (arith, c .before .before .before .lane-load .ensures .0)) in
+    let h : 32 < bitsAt (called (c .before .before .before)) (l .j) + called (c .before .before .before) .args .b = omega (arith, loaded (c .before .before .before)) in
     rw (c .next-lane .ensures) (next-lt _ _ (l .inv .0), omega arith, sym (room-on _ _ _ _ _ (c .before .before .before .before .loop-test .taken) h) ∙ l .inv .2)
 
 returns-2 : tie.Need-returns-2 Inv-loop μ-loop

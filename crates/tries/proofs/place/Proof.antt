@@ -1,9 +1,21 @@
 -- `place`: its calls' answers are the cases of the laws of placing.
 -- Assumes nothing.
+use mathlib.Core.Path.{_≡_}
+use Prim.Native.Nat.{_+_, _*_}
+use native.Mathlib.Omega.{arith}
+use lib.ListN.{getD}
 use borrow.Author.Needs.{needs}
+use Rattle.words.specs.Bit.{pop}
 use Rattle.tries.proofs.PlaceLaws.{place-search, place-put, place-lt, place-full, place-lane}
 use Rattle.tries.proofs.place.Statement.{statement}
 use Rattle.tries.proofs.place.Tie as tie
+
+-- after the search: what the function was called with, and the count of the mask's bits
+abbrev called : tie.After-find-lane → tie.Start
+called c = c .before .before .before .before .before .before
+
+counted : (c : tie.After-find-lane) → c .before .before .count .result ≡ pop (getD (called c .args .set .now) (2 * called c .args .p + 1) 0)
+counted c = c .before .before .count .ensures
 
 mul-count : tie.Need-mul-count
 mul-count c = search needs
@@ -30,22 +42,22 @@ enum-known-j : tie.Need-enum-known-j
 enum-known-j c = search needs
 
 put-requires : tie.Need-put-requires
-put-requires c κs = place-put _ _ _ _ _ (c .before .before .before .before .before .before .before .before .before .before .pre) _ (c .before .before .before .before .before .before .count .ensures) _ (c .before .before .before .before .find-lane .ensures) _ (c .before .before .j .given .1)
+put-requires c κs = place-put _ _ _ _ _ (called (c .before .before .before .before) .pre) _ (counted (c .before .before .before .before)) _ (c .before .before .before .before .find-lane .ensures) _ (c .before .before .j .given .1)
 
 next-lane-requires : tie.Need-next-lane-requires
-next-lane-requires c κs = place-lt _ _ _ _ _ (c .before .before .before .before .before .before .before .before .before .before .before .before .before .pre) _ (c .before .before .before .before .before .before .before .before .before .count .ensures) _ (c .before .before .before .before .before .before .before .find-lane .ensures) _ (c .before .before .before .before .before .j .given .1)
+next-lane-requires c κs = omega (arith, called (c .before .before .before .before .before .before .before) .pre .lane, place-lt _ _ _ _ _ (called (c .before .before .before .before .before .before .before) .pre) _ (counted (c .before .before .before .before .before .before .before)) _ (c .before .before .before .before .before .before .before .find-lane .ensures) _ (c .before .before .before .before .before .j .given .1))
 
 same-length : tie.Need-same-length
 same-length c = search needs
 
 returns : tie.Need-returns
-returns c = place-full _ _ _ _ _ (c .before .before .before .before .before .before .before .before .pre) _ (c .before .before .before .before .count .ensures) _ (c .before .before .find-lane .ensures) (c .enum-told .given .1)
+returns c = place-full _ _ _ _ _ (called (c .before .before) .pre) _ (counted (c .before .before)) _ (c .before .before .find-lane .ensures) (c .enum-told .given .1)
 
 same-length-2 : tie.Need-same-length-2
 same-length-2 c = search needs
 
 returns-2 : tie.Need-returns-2
-returns-2 c = place-lane _ _ _ _ _ (c .before .before .before .before .before .before .before .before .before .before .before .before .before .before .pre) _ (c .before .before .before .before .before .before .before .before .before .before .count .ensures) _ (c .before .before .before .before .before .before .before .before .find-lane .ensures) _ (c .before .before .before .before .before .before .j .given .1) _ _ (c .next-lane .ensures) (c .before .before .before .put .ensures)
+returns-2 c = place-lane _ _ _ _ _ (called (c .before .before .before .before .before .before .before .before) .pre) _ (counted (c .before .before .before .before .before .before .before .before)) _ (c .before .before .before .before .before .before .before .before .find-lane .ensures) _ (c .before .before .before .before .before .before .j .given .1) _ _ (c .next-lane .ensures) (c .before .before .before .put .ensures)
 
 pub place-spec : {M : Type 1} → statement M
 place-spec =

@@ -5,9 +5,9 @@ use Prim.Native.Nat.{_+_, _*_, _-_, _≤_, _<_}
 use native.Mathlib.Omega.{arith}
 use lib.ListN.{length, getD, drop}
 use borrow.Author.Needs.{needs}
-use Rattle.words.proofs.PopLaws.{pop-le}
 use Rattle.reads.specs.ReadSet.{total}
 use Rattle.tries.specs.Decoded.{laneOf}
+use Rattle.tries.proofs.PairLaws.{count-le}
 use Rattle.tries.proofs.TableLaws.{row-end, row-stop, row-length-on, row-total-on}
 use Rattle.tries.proofs.row_load.Statement.{statement}
 use Rattle.tries.proofs.row_load.Tie as tie
@@ -56,7 +56,7 @@ count-requires : tie.Need-count-requires Inv-loop μ-loop
 count-requires c κs = search needs
 
 add-bits : tie.Need-add-bits Inv-loop μ-loop
-add-bits c = omega (arith, c .count .ensures, pop-le (getD (c .before .before .before .before .before .before .before .before .args .set .now) (2 * getD (c .before .before .before .before .before .before .before .before .args .row .now) (c .before .before .before .before .before .loop .pairs) 0 - 1) 0))
+add-bits c = omega (arith, count-le _ _ (c .count .ensures))
 
 add-pairs : tie.Need-add-pairs Inv-loop μ-loop
 add-pairs c = search needs
@@ -69,8 +69,9 @@ loop-again c =
     let ws = c .before .before .before .before .before .before .before .before .args .set .now in
     let es = c .before .before .before .before .before .before .before .before .args .row .now in
     let i = c .before .before .before .before .before .loop .pairs in
+    let h = c .before .before .before .before .loop-test .taken in
     let p : 0 < getD es i 0 = omega arith in
-    omega (arith, c .count .ensures, row-total-on ws es i (c .before .before .before .before .loop-test .taken) p, row-length-on ws es i (c .before .before .before .before .loop-test .taken) p, pop-le (getD ws (2 * getD es i 0 - 1) 0))
+    omega (arith, c .count .ensures, row-total-on ws es i h p, row-length-on ws es i h p, count-le _ _ (c .count .ensures))
 
 returns-2 : tie.Need-returns-2 Inv-loop μ-loop
 unfolding total

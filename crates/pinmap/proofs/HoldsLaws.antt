@@ -1,0 +1,148 @@
+-- Many puts, one after the other: what other crates cite. `Holds` begins at zeros (`holds-none`) and goes one put at a time (`holds-put`);
+-- `Renewed` begins at `Holds` and goes one put-where-there at a time. What is found is the last value put, and a pin never put is not.
+-- Assumes nothing.
+use mathlib.Core.Path.{_≡_, refl, sym, ap, _∙_}
+use mathlib.Core.Bool.{Bool, true, false}
+use mathlib.Core.Option.{Option, none, some}
+use mathlib.Core.List.{List, [], _∷_, _++_, append-nil}
+use Prim.Native.Nat.{ℕ, zero, suc, _+_, _*_, _/_, _≤_, _<_}
+use native.Mathlib.Omega.{arith}
+use lib.Dec.{eqb}
+use lib.ListN.{length, getD, replicate, length-append, length-replicate}
+use lib.Seq.{append-snoc}
+use Rattle.pinmap.specs.declared.PutAnswer.the-variants.{Stored}
+use Rattle.pinmap.specs.PinMap.{capacity, look, putIn, putAnswer, putThere, usedTo, used, Good, Entry, entry, replaced, lastFrom, lastPut, renewed, afterPuts, afterRenewals, Holds, Renewed}
+use Rattle.pinmap.proofs.ProbeLaws.{slot-taken}
+use Rattle.pinmap.proofs.PinMapLaws.{look-none, map-law, replaced-same, replaced-other, there-law, put-length, used-new, used-there, used-renewed, used-free-step, room-stored}
+
+-- ---- the empty map
+
+zeros-at : (n i : ℕ) → _≡_ {A = ℕ} (getD (replicate n 0) i 0) 0
+zeros-at zero i = refl
+zeros-at (suc n) zero = refl
+zeros-at (suc n) (suc i) = zeros-at n i
+
+pub zeros-good : (n : ℕ) → Good (replicate n 0)
+unfolding Good
+zeros-good n i q h e = absurd (omega (arith, e, zeros-at n (2 * i)))
+
+-- The cleared table finds nothing, and has no slot taken.
+pub zeros-look : (n q : ℕ) → look (replicate n 0) q ≡ none
+zeros-look n q = look-none (replicate n 0) q (λ k e. omega (arith, slot-taken (replicate n 0) q k e .1, zeros-at n (2 * k)))
+
+zeros-used-to : (n m : ℕ) → usedTo (replicate n 0) m ≡ 0
+unfolding usedTo
+zeros-used-to n zero = refl
+zeros-used-to n (suc m) = used-free-step (replicate n 0) m (zeros-at n (2 * m)) ∙ zeros-used-to n m
+
+pub zeros-used : (n : ℕ) → used (replicate n 0) ≡ 0
+zeros-used n = zeros-used-to n (capacity (replicate n 0))
+
+-- ---- the last value put
+
+pub last-snoc : (o : Option ℕ) (es : List Entry) (e : Entry) (q : ℕ) → lastFrom o (es ++ (e ∷ [])) q ≡ replaced e q (lastFrom o es q)
+unfolding lastFrom
+last-snoc o [] e q = refl
+last-snoc o (x ∷ es) e q = last-snoc (replaced x q o) es e q
+
+last-some : (w : ℕ) (es : List Entry) (q : ℕ) → (x : ℕ) × (lastFrom (some w) es q ≡ some x)
+unfolding lastFrom
+last-some w [] q = (w, refl)
+last-some w (e ∷ es) q = go (eqb q (e .pin)) (last-some (e .value) es q) (last-some w es q)
+  where
+    go : (b : Bool) → ((x : ℕ) × (lastFrom (some (e .value)) es q ≡ some x)) → ((x : ℕ) × (lastFrom (some w) es q ≡ some x))
+        → (x : ℕ) × (lastFrom (elim b [ true ↦ some (e .value) | false ↦ some w ]) es q ≡ some x)
+    go true a b = a
+    go false a b = b
+
+pub renewed-snoc : (o : Option ℕ) (es : List Entry) (e : Entry) (q : ℕ) → renewed o (es ++ (e ∷ [])) q ≡ renewed (renewed o es q) (e ∷ []) q
+unfolding renewed lastFrom
+renewed-snoc none es e q = refl
+renewed-snoc (some w) es e q =
+    let (x, is) = last-some w es q in
+    last-snoc (some w) es e q ∙ rw is
+
+-- A pin that no entry has keeps what it had.
+pub last-never : (o : Option ℕ) (es : List Entry) (q : ℕ) (d : Entry) → ((i : ℕ) → i < length es → getD es i d .pin ≡ q → ⊥) → lastFrom o es q ≡ o
+unfolding lastFrom
+last-never o [] q d n = refl
+last-never o (e ∷ es) q d n =
+    ap (λ (x : Option ℕ). lastFrom x es q) (replaced-other e q o (λ s. n 0 (omega arith) (sym s))) ∙ last-never o es q d (λ i h. n (suc i) (omega arith))
+
+-- A pin's value is that of its last entry.
+pub last-at : (o : Option ℕ) (es : List Entry) (q : ℕ) (d : Entry) (i : ℕ) → i < length es → getD es i d .pin ≡ q
+    → ((j : ℕ) → i < j → j < length es → getD es j d .pin ≡ q → ⊥) → lastFrom o es q ≡ some (getD es i d .value)
+unfolding lastFrom
+last-at o [] q d i h e n = absurd (omega arith)
+last-at o (x ∷ es) q d zero h e n =
+    ap (λ (y : Option ℕ). lastFrom y es q) (replaced-same x q o (sym e))
+    ∙ last-never (some (x .value)) es q d (λ j l. n (suc j) (omega arith) (omega arith))
+last-at o (x ∷ es) q d (suc i) h e n = last-at (replaced x q o) es q d i (omega arith) e (λ j a b. n (suc j) (omega arith) (omega arith))
+
+-- ---- one put at a time
+
+pub holds-none : (n : ℕ) → Holds (replicate n 0) []
+unfolding lastFrom
+holds-none n = record { good = zeros-good n; finds = zeros-look n; few = rw zeros-used (omega arith) }
+
+-- there is room for one put more, where the puts are fewer than the slots
+pub holds-room : (t : List ℕ) (puts : List Entry) (p : ℕ) → Holds t puts → length puts < capacity t → putAnswer t p ≡ Stored
+holds-room t puts p h l = room-stored t p (omega (arith, h .few))
+
+used-most : (t : List ℕ) (p v : ℕ) → putAnswer t p ≡ Stored → used (putIn t p v) ≤ 1 + used t
+used-most t p v h = go (look t p) refl
+  where
+    go : (o : Option ℕ) → look t p ≡ o → used (putIn t p v) ≤ 1 + used t
+    go none e = omega (arith, used-new t p v h e)
+    go (some w) e = omega (arith, used-there t p v w e)
+
+pub holds-put : (t : List ℕ) (puts : List Entry) (p v : ℕ) → Holds t puts → putAnswer t p ≡ Stored → Holds (putIn t p v) (puts ++ (entry p v ∷ []))
+holds-put t puts p v h a =
+    let (good, finds) = map-law t p v (h .good) a in
+    record {
+      good = good;
+      finds = λ q. finds q ∙ (ap (replaced (entry p v) q) (h .finds q) ∙ sym (last-snoc none puts (entry p v) q));
+      few = rw length-append (omega (arith, used-most t p v a, h .few));
+    }
+
+-- the same for a loop that counts its puts
+pub holds-more : (t : List ℕ) (puts : List Entry) (p v : ℕ) → Holds t puts → length puts < capacity t → Holds (putIn t p v) (puts ++ (entry p v ∷ []))
+holds-more t puts p v h l = holds-put t puts p v h (holds-room t puts p h l)
+
+pub holds-puts : (t : List ℕ) (puts es : List Entry) → Holds t puts → length puts + length es ≤ capacity t → Holds (afterPuts t es) (puts ++ es)
+unfolding afterPuts
+holds-puts t puts [] h l = rw append-nil h
+holds-puts t puts (e ∷ es) h l =
+    let stored : putAnswer t (e .pin) ≡ Stored = holds-room t puts (e .pin) h (omega arith) in
+    let size : length (putIn t (e .pin) (e .value)) ≡ length t = put-length t (e .pin) (e .value) in
+    let room : length (puts ++ (e ∷ [])) + length es ≤ capacity (putIn t (e .pin) (e .value)) = rw (length-append, size) (omega arith) in
+    rw append-snoc at (holds-puts (putIn t (e .pin) (e .value)) (puts ++ (e ∷ [])) es (holds-put t puts (e .pin) (e .value) h stored) room)
+
+-- What is found after puts into zeros is the last value put; a pin never put is not found.
+pub puts-look : (n : ℕ) (puts : List Entry) (q : ℕ) → length puts ≤ n / 2 → look (afterPuts (replicate n 0) puts) q ≡ lastPut puts q
+puts-look n puts q l = holds-puts (replicate n 0) [] puts (holds-none n) (rw length-replicate (omega arith)) .finds q
+
+-- ---- renewals of the pins that are there
+
+pub renewed-none : (t : List ℕ) (puts : List Entry) → Holds t puts → Renewed t puts []
+unfolding renewed lastFrom
+renewed-none t puts h = record { good = h .good; finds = λ q. h .finds q ∙ nothing (lastPut puts q) q; few = h .few }
+  where
+    nothing : (o : Option ℕ) (q : ℕ) → o ≡ renewed o [] q
+    nothing none q = refl
+    nothing (some w) q = refl
+
+pub renewed-there : (t : List ℕ) (puts es : List Entry) (p v : ℕ) → Renewed t puts es → Renewed (putThere t p v) puts (es ++ (entry p v ∷ []))
+renewed-there t puts es p v h =
+    let (good, finds) = there-law t p v (h .good) in
+    record {
+      good = good;
+      finds = λ q. finds q ∙ (ap (λ (o : Option ℕ). renewed o (entry p v ∷ []) q) (h .finds q) ∙ sym (renewed-snoc (lastPut puts q) es (entry p v) q));
+      few = rw used-renewed (h .few);
+    }
+
+pub renewed-all : (t : List ℕ) (puts es more : List Entry) → Renewed t puts es → Renewed (afterRenewals t more) puts (es ++ more)
+unfolding afterRenewals
+renewed-all t puts es [] h = rw append-nil h
+renewed-all t puts es (e ∷ more) h =
+    rw append-snoc at (renewed-all (putThere t (e .pin) (e .value)) puts (es ++ (e ∷ [])) more (renewed-there t puts es (e .pin) (e .value) h))

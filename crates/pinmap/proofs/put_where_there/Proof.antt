@@ -1,0 +1,70 @@
+-- `pinmap::put_where_there` meets its contract: one law of CodeLaws for each end of the probe.
+-- Assumes nothing.
+use borrow.Author.Needs.{needs}
+use Rattle.pinmap.proofs.CodeLaws.{within, there-free, there-taken, there-nowhere}
+use Rattle.pinmap.proofs.put_where_there.Statement.{statement}
+use Rattle.pinmap.proofs.put_where_there.Tie as tie
+
+probe-requires : tie.Need-probe-requires
+probe-requires c κs = search needs
+
+enum-told : tie.Need-enum-told
+enum-told c = search needs
+
+enum-known-i : tie.Need-enum-known-i
+enum-known-i c = search needs
+
+store-value-requires : tie.Need-store-value-requires
+store-value-requires c κs =
+    let i = c .before .before in
+    let a = i .before .before in
+    let s = a .before .before .before .args in
+    rw (i .i .given .1) at (within (s .t .now) (s .p .0) (a .probe .result) (a .probe .ensures))
+
+enum-told-2 : tie.Need-enum-told-2
+enum-told-2 c = search needs
+
+same-length : tie.Need-same-length
+same-length c = search needs
+
+returns : tie.Need-returns
+returns c =
+    let a = c .before .before in
+    let s = a .before .before .before .args in
+    there-free (s .t .now) (s .p .0) (a .probe .result) (a .probe .ensures) _ (s .v) (c .enum-told .given .1)
+
+same-length-2 : tie.Need-same-length-2
+same-length-2 c = search needs
+
+returns-2 : tie.Need-returns-2
+returns-2 c =
+    let u = c .before .before in
+    let i = u .before .before .before in
+    let a = i .before .before in
+    let s = a .before .before .before .args in
+    there-taken (s .t .now) (s .p .0) (a .probe .result) (a .probe .ensures) (s .v) _ _ (i .i .given .1) (u .store-value .ensures)
+
+same-length-3 : tie.Need-same-length-3
+same-length-3 c = search needs
+
+returns-3 : tie.Need-returns-3
+returns-3 c =
+    let a = c .before .before in
+    let s = a .before .before .before .args in
+    there-nowhere (s .t .now) (s .p .0) (a .probe .result) (a .probe .ensures) (s .v) (c .enum-told2 .given .1)
+
+pub put-where-there-spec : {M : Type 1} → statement M
+put-where-there-spec =
+    tie.close
+    (tie.spec
+    probe-requires
+    enum-told
+    enum-known-i
+    store-value-requires
+    enum-told-2
+    same-length
+    returns
+    same-length-2
+    returns-2
+    same-length-3
+    returns-3)
