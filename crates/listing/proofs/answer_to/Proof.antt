@@ -59,7 +59,7 @@ same-length c = search needs
 
 -- src/lib.rt:29:1
 returns : tie.Need-returns
-returns c = let b = (to-bad _ _ _ (refused-in _ _ _ (sym (c .before .before .before .before .before .b .given .1) ∙ c .before .before .before .before .before .before .before .before .read-set-of .ensures .0))) in (b .0, c .before .before .clear .ensures, b .1)
+returns c = let b = (to-bad _ _ _ (refused-in _ _ _ (sym (c .before .before .before .before .before .b .given .1) ∙ c .before .before .before .before .before .before .before .before .read-set-of .ensures .0))) in (b .0, (c .before .before .clear .ensures, b .1))
 
 -- src/lib.rt:29:1
 same-length-2 : tie.Need-same-length-2
@@ -71,7 +71,7 @@ same-length-3 c = search needs
 
 -- src/lib.rt:29:1
 returns-2 : tie.Need-returns-2
-returns-2 c = (to-rounds (records (c .before .before .before .before .before .before .before .before .before .before .before .before .before .before .before .before .before .before .before .before .args .s .now)) (keys-few _ 8192 0) (c .before .before .before .before .before .before .before .before .before .before .before .before .before .before .before .read-set-of .ensures .1) _ (sym (c .before .before .before .before .before .before .before .before .before .before .before .before .n .given .1) ∙ c .before .before .before .before .before .before .before .before .before .before .before .before .before .before .before .read-set-of .ensures .0) _ _ (c .before .before .before .before .before .before .before .before .before .before .before .before .before .before .before .before .before .before .before .before .pre .1) (c .before .before .before .before .before .before .before .before .before .before .before .before .before .before .before .before .before .before .before .before .pre .0) _ (sym (c .before .rounds .given .1) ∙ c .before .before .before .before .before .before .before .map-global-read-to-rounds .ensures .0), c .before .before .before .before .before .before .before .map-global-read-to-rounds .ensures .1 .1 ∙ room-zeros _ (c .before .before .before .before .before .before .before .before .before .before .before .before .before .before .before .before .before .before .before .before .pre .0), to-section (records (c .before .before .before .before .before .before .before .before .before .before .before .before .before .before .before .before .before .before .before .before .args .s .now)) (keys-few _ 8192 0) (c .before .before .before .before .before .before .before .before .before .before .before .before .before .before .before .read-set-of .ensures .1) _ (sym (c .before .before .before .before .before .before .before .before .before .before .before .before .n .given .1) ∙ c .before .before .before .before .before .before .before .before .before .before .before .before .before .before .before .read-set-of .ensures .0) _ _ (c .before .before .before .before .before .before .before .before .before .before .before .before .before .before .before .before .before .before .before .before .pre .1) (c .before .before .before .before .before .before .before .before .before .before .before .before .before .before .before .before .before .before .before .before .pre .0) _ _ (c .before .before .before .before .before .before .before .map-global-read-to-rounds .ensures .1 .0))
+returns-2 c = (to-rounds (records (c .before .before .before .before .before .before .before .before .before .before .before .before .before .before .before .before .before .before .before .before .args .s .now)) (keys-few _ 8192 0) (c .before .before .before .before .before .before .before .before .before .before .before .before .before .before .before .read-set-of .ensures .1) _ (sym (c .before .before .before .before .before .before .before .before .before .before .before .before .n .given .1) ∙ c .before .before .before .before .before .before .before .before .before .before .before .before .before .before .before .read-set-of .ensures .0) _ _ (c .before .before .before .before .before .before .before .before .before .before .before .before .before .before .before .before .before .before .before .before .pre .1) (c .before .before .before .before .before .before .before .before .before .before .before .before .before .before .before .before .before .before .before .before .pre .0) _ (sym (c .before .rounds .given .1) ∙ c .before .before .before .before .before .before .before .map-global-read-to-rounds .ensures .0), (c .before .before .before .before .before .before .before .map-global-read-to-rounds .ensures .1 .1 ∙ room-zeros _ (c .before .before .before .before .before .before .before .before .before .before .before .before .before .before .before .before .before .before .before .before .pre .0), to-section (records (c .before .before .before .before .before .before .before .before .before .before .before .before .before .before .before .before .before .before .before .before .args .s .now)) (keys-few _ 8192 0) (c .before .before .before .before .before .before .before .before .before .before .before .before .before .before .before .read-set-of .ensures .1) _ (sym (c .before .before .before .before .before .before .before .before .before .before .before .before .n .given .1) ∙ c .before .before .before .before .before .before .before .before .before .before .before .before .before .before .before .read-set-of .ensures .0) _ _ (c .before .before .before .before .before .before .before .before .before .before .before .before .before .before .before .before .before .before .before .before .pre .1) (c .before .before .before .before .before .before .before .before .before .before .before .before .before .before .before .before .before .before .before .before .pre .0) _ _ (c .before .before .before .before .before .before .before .map-global-read-to-rounds .ensures .1 .0)))
 
 -- src/lib.rt:29:1
 same-length-4 : tie.Need-same-length-4
@@ -83,7 +83,7 @@ same-length-5 c = search needs
 
 -- src/lib.rt:29:1
 returns-3 : tie.Need-returns-3
-returns-3 c = (to-refused (records (c .before .before .before .before .before .before .before .before .before .before .before .before .before .before .before .before .before .before .before .before .args .s .now)) (keys-few _ 8192 0) (c .before .before .before .before .before .before .before .before .before .before .before .before .before .before .before .read-set-of .ensures .1) _ (sym (c .before .before .before .before .before .before .before .before .before .before .before .before .n .given .1) ∙ c .before .before .before .before .before .before .before .before .before .before .before .before .before .before .before .read-set-of .ensures .0) _ _ (c .before .before .before .before .before .before .before .before .before .before .before .before .before .before .before .before .before .before .before .before .pre .1) (c .before .before .before .before .before .before .before .before .before .before .before .before .before .before .before .before .before .before .before .before .pre .0) _ (sym (c .before .refusal .given .1) ∙ c .before .before .before .before .before .before .before .map-global-read-to-rounds .ensures .0), c .before .before .before .before .before .before .before .map-global-read-to-rounds .ensures .1 .1 ∙ room-zeros _ (c .before .before .before .before .before .before .before .before .before .before .before .before .before .before .before .before .before .before .before .before .pre .0), to-section (records (c .before .before .before .before .before .before .before .before .before .before .before .before .before .before .before .before .before .before .before .before .args .s .now)) (keys-few _ 8192 0) (c .before .before .before .before .before .before .before .before .before .before .before .before .before .before .before .read-set-of .ensures .1) _ (sym (c .before .before .before .before .before .before .before .before .before .before .before .before .n .given .1) ∙ c .before .before .before .before .before .before .before .before .before .before .before .before .before .before .before .read-set-of .ensures .0) _ _ (c .before .before .before .before .before .before .before .before .before .before .before .before .before .before .before .before .before .before .before .before .pre .1) (c .before .before .before .before .before .before .before .before .before .before .before .before .before .before .before .before .before .before .before .before .pre .0) _ _ (c .before .before .before .before .before .before .before .map-global-read-to-rounds .ensures .1 .0))
+returns-3 c = (to-refused (records (c .before .before .before .before .before .before .before .before .before .before .before .before .before .before .before .before .before .before .before .before .args .s .now)) (keys-few _ 8192 0) (c .before .before .before .before .before .before .before .before .before .before .before .before .before .before .before .read-set-of .ensures .1) _ (sym (c .before .before .before .before .before .before .before .before .before .before .before .before .n .given .1) ∙ c .before .before .before .before .before .before .before .before .before .before .before .before .before .before .before .read-set-of .ensures .0) _ _ (c .before .before .before .before .before .before .before .before .before .before .before .before .before .before .before .before .before .before .before .before .pre .1) (c .before .before .before .before .before .before .before .before .before .before .before .before .before .before .before .before .before .before .before .before .pre .0) _ (sym (c .before .refusal .given .1) ∙ c .before .before .before .before .before .before .before .map-global-read-to-rounds .ensures .0), (c .before .before .before .before .before .before .before .map-global-read-to-rounds .ensures .1 .1 ∙ room-zeros _ (c .before .before .before .before .before .before .before .before .before .before .before .before .before .before .before .before .before .before .before .before .pre .0), to-section (records (c .before .before .before .before .before .before .before .before .before .before .before .before .before .before .before .before .before .before .before .before .args .s .now)) (keys-few _ 8192 0) (c .before .before .before .before .before .before .before .before .before .before .before .before .before .before .before .read-set-of .ensures .1) _ (sym (c .before .before .before .before .before .before .before .before .before .before .before .before .n .given .1) ∙ c .before .before .before .before .before .before .before .before .before .before .before .before .before .before .before .read-set-of .ensures .0) _ _ (c .before .before .before .before .before .before .before .before .before .before .before .before .before .before .before .before .before .before .before .before .pre .1) (c .before .before .before .before .before .before .before .before .before .before .before .before .before .before .before .before .before .before .before .before .pre .0) _ _ (c .before .before .before .before .before .before .before .map-global-read-to-rounds .ensures .1 .0)))
 
 pub answer-to-spec : {M : Type 1} → statement M
 answer-to-spec =

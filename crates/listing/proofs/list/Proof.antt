@@ -1,3 +1,6 @@
+-- `listing::list` meets its contract: the answer's text is the listing, and its length decides. Assumes nothing.
+use Rattle.listing.proofs.ListLaws.{list-short-room, after-short-room, room-kept, room-zeros, lists-short, lists-text}
+use mathlib.Core.Path.{sym, _∙_}
 use borrow.Author.Needs.{needs}
 use Rattle.listing.proofs.list.Statement.{statement}
 use Rattle.listing.proofs.list.Tie as tie
@@ -9,7 +12,7 @@ use Rattle.listing.proofs.text_length.Reads as text-length-reads
 
 -- src/lib.rt:63:9
 returns : tie.Need-returns
-returns c = ?
+returns c = (list-short-room _ _ _ (c .if1 .taken), (room-kept _ (c .if1 .taken), after-short-room _ _ _ (c .if1 .taken)))
 
 -- src/lib.rt:66:43
 slice-aggregate-answer-to : tie.Need-slice-aggregate-answer-to
@@ -33,7 +36,7 @@ same-length c = search needs
 
 -- src/lib.rt:69:9
 returns-2 : tie.Need-returns-2
-returns-2 c = ?
+returns-2 c = let l = lists-short (c .before .before .before .before .before .before .before .before .before .before .before .before .before .args .records .now) (c .before .before .before .before .before .before .before .before .before .before .before .before .before .args .room .now) (c .before .before .before .before .before .before .before .before .before .before .before .before .before .args .out .now) (c .before .before .before .before .before .before .before .before .before .if1 .left) (c .before .before .before .before .before .before .answer-to .ensures .1 .1) (c .before .before .before .before .before .before .answer-to .ensures .0) (c .before .text-length .ensures) (c .if2 .taken) in (l .0, (c .before .before .before .before .before .before .answer-to .ensures .1 .0 ∙ sym (room-zeros _ (c .before .before .before .before .before .before .before .before .before .if1 .left)), l .1))
 
 -- src/lib.rt:71:29
 slice-aggregate-put-answer : tie.Need-slice-aggregate-put-answer
@@ -53,7 +56,7 @@ same-length-3 c = search needs
 
 -- src/lib.rt:57:1
 returns-3 : tie.Need-returns-3
-returns-3 c = ?
+returns-3 c = let l = lists-text (c .before .before .before .before .before .before .before .before .before .before .before .before .before .before .before .before .before .before .args .records .now) (c .before .before .before .before .before .before .before .before .before .before .before .before .before .before .before .before .before .before .args .room .now) (c .before .before .before .before .before .before .before .before .before .before .before .before .before .before .before .before .before .before .args .out .now) (c .before .before .before .before .before .before .before .before .before .before .before .before .before .before .if1 .left) (c .before .before .before .before .before .before .before .before .before .before .before .answer-to .ensures .1 .1) (c .before .before .before .before .before .before .before .before .before .before .before .answer-to .ensures .0) (c .before .before .before .before .before .before .text-length .ensures) (c .before .before .before .before .before .if2 .left) (c .before .before .put-answer .ensures .holds) in (l .0, (c .before .before .before .before .before .before .before .before .before .before .before .answer-to .ensures .1 .0 ∙ sym (room-zeros _ (c .before .before .before .before .before .before .before .before .before .before .before .before .before .before .if1 .left)), l .1))
 
 pub list-spec : {M : Type 1} → statement M
 list-spec =
