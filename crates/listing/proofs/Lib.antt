@@ -9,3 +9,4 @@ pub mod ExampleLaws
 pub mod KeyLaws
 pub mod ListLaws
 pub mod AnswerToLaws
+pub mod LengthLaws
