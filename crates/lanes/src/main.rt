@@ -3,6 +3,7 @@ ghost use mathlib.Core.Path.{_≡_};
 ghost use Prim.Native.Nat.{_≤_};
 ghost use lib.ListN.{length};
 ghost use lib.Seq.{sets};
+ghost use Rattle.io.specs.Counts.{Counts};
 ghost use Rattle.listing.specs.Listing.{listing};
 use libc::STDIN_FILENO;
 use libc::STDOUT_FILENO;
@@ -11,7 +12,8 @@ use listing::Listed;
 // The text for some bytes of standard input. No text is longer than 237578 bytes.
 fn text_of(records: &[u8], out: &mut [u8]) -> usize
     requires { ⌜ 237578 ≤ length (now out) ⌝ }
-    ensures { λ r. ⌜ (r ≡ length (listing (now (records .entry)))) × (r ≤ length (now (out .exit))) ⌝ }
+    ensures { λ r. ⌜ Counts r (now (out .exit)) ⌝ }
+    ensures { λ r. ⌜ r ≡ length (listing (now (records .entry))) ⌝ }
     ensures { λ _. ⌜ now (out .exit) ≡ sets (now (out .entry)) 0 (listing (now (records .entry))) ⌝ }
 {
     let mut room = [0u32; 16384];

@@ -9,7 +9,9 @@ use native.Mathlib.Nat.{pow-suc}
 use native.Mathlib.Omega.{arith}
 use borrow.Author.Tests.{ltb-true, ltb-false, le-leb}
 use lib.Dec.{ltb}
-use lib.ListN.{length, getD, length-append}
+use lib.ListN.{length, getD, take, length-append}
+use lib.Seq.{sets, length-sets, length-take-le}
+use Rattle.words.specs.declared.refusals.Refusal.{Refusal}
 use Rattle.reads.specs.ReadSet.{pairsOf}
 use Rattle.reads.specs.Search.{Lane, longest}
 use Rattle.reads.specs.Asked.{readSetOf}
@@ -20,9 +22,10 @@ use Rattle.reads.proofs.PackingLaws.{lanes-packing}
 use Rattle.reads.proofs.OutcomeLaws.{placed-passed, fitted-placed}
 use Rattle.listing.specs.Records.{Parsed, records}
 use Rattle.listing.specs.Text.{decimalIn, decimal, hex, field, kindLetter, line}
-use Rattle.listing.specs.Listing.{laneLines, lines, roundsWord, refusedWord, atWord, printed, printedAt, said, listing, listed}
+use Rattle.listing.specs.Listing.{laneLines, lines, roundsWord, refusedWord, atWord, printed, printedAt, said, listing, listed, textAfter}
 use Rattle.listing.specs.declared.Listed.the-variants.{Text, Refused}
 use Rattle.listing.proofs.TextLaws.{decimal-one, decimal-more, decimal-short, hex-length}
+use Rattle.listing.proofs.ListLaws.{after-text}
 
 -- a number below 10^(k+1) has at most k+1 digits
 decimal-digits : (f k n : ℕ) → n < 10 ^ suc k → length (decimalIn f n) ≤ suc k
@@ -108,3 +111,21 @@ listing-length bs = go (records bs .fault) refl
 pub listed-text : (bs : List ℕ) (o r : ℕ) → 237578 ≤ o → 16384 ≤ r → listed bs o r ≡ Text (length (listing bs))
 unfolding listed
 listed-text bs o r h k = let g : length (listing bs) ≤ o = omega (arith, listing-length bs) in rw (le-leb _ _ k, le-leb _ _ g, listed)
+
+module _ (bs out : List ℕ) (r : ℕ) (h : 237578 ≤ length out) (k : 16384 ≤ r) where
+  pub text-never : (f : Refusal) → Refused f ≡ listed bs (length out) r → ⊥
+  text-never f e =
+      let q : Refused f ≡ Text (length (listing bs)) = e ∙ listed-text bs (length out) r h k in
+      let z : _≡_ {A = ℕ} 0 1 = cc in
+      omega arith
+
+  -- what a caller then holds: n bytes of text at the front
+  pub text-given : (n : ℕ) (new : List ℕ) → Text n ≡ listed bs (length out) r → new ≡ textAfter bs r out
+      → ((n ≤ length new) × (n ≡ length (take n new))) × ((n ≡ length (listing bs)) × (new ≡ sets out 0 (listing bs)))
+  text-given n new e g =
+      let q : Text n ≡ Text (length (listing bs)) = e ∙ listed-text bs (length out) r h k in
+      let s : n ≡ length (listing bs) = cc in
+      let w : new ≡ sets out 0 (listing bs) = g ∙ sym (after-text bs out r k (omega (arith, listing-length bs))) in
+      let l : length new ≡ length out = ap length w ∙ length-sets out 0 (listing bs) in
+      let m : n ≤ length new = omega (arith, listing-length bs) in
+      ((m, sym (length-take-le n new m)), (s, w))
