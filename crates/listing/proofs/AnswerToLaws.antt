@@ -1,9 +1,9 @@
 -- From a read set in lent words to the answer.
 -- Assumes nothing.
-use mathlib.Core.Path.{_≡_, refl, sym, ap, _∙_}
-use mathlib.Core.Option.{Option, none, some}
+use mathlib.Core.Path.{_≡_, sym, ap, _∙_}
+use mathlib.Core.Option.{none, some}
 use mathlib.Core.List.{List}
-use Prim.Native.Nat.{ℕ, _*_, _≤_}
+use Prim.Native.Nat.{ℕ, _≤_}
 use native.Mathlib.Omega.{arith}
 use lib.ListN.{length, take, replicate, length-replicate}
 use lib.Seq.{sets, length-sets, length-take-le}
@@ -14,7 +14,6 @@ use Rattle.reads.specs.Outcome.{Outcome, placed, refused, outcome, resultAfter}
 use Rattle.asks.proofs.FormLaws.{set-length-le}
 use Rattle.asks.proofs.StoreLaws.{take-front}
 use Rattle.rounds.specs.Rounds.{roundsOf}
-use Rattle.rounds.specs.declared.Rounds.{Rounds as Given}
 use Rattle.rounds.specs.declared.Rounds.the-variants.{Placed, Refused as Denied}
 use Rattle.listing.specs.Records.{Parsed}
 use Rattle.listing.specs.Reading.{setOf, setAfter}

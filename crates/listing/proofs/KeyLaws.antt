@@ -3,14 +3,13 @@
 use mathlib.Core.Path.{_≡_, refl, sym, ap, _∙_}
 use mathlib.Core.Bool.{Bool, true, false}
 use mathlib.Core.Option.{Option, none, some}
-use mathlib.Core.List.{List, [], _∷_, _++_}
-use Prim.Native.Nat.{ℕ, zero, suc, _+_, _*_, _^_, _≤_, _<_}
-use native.Mathlib.Nat.{zero-add}
+use mathlib.Core.List.{List}
+use Prim.Native.Nat.{ℕ, zero, suc, _+_, _^_, _≤_, _<_}
 use native.Mathlib.Numerals.{sub-one}
 use native.Mathlib.Omega.{arith}
 use lib.Dec.{leb, ltb}
 use lib.ListN.{length, getD, take, replicate, length-replicate}
-use lib.Seq.{sets, sets-eq, take-at, length-sets, length-take-le}
+use lib.Seq.{sets, length-sets, length-take-le}
 use Rattle.reads.specs.Asked.{readSetOf}
 use Rattle.asks.specs.Rising.{Settable}
 use Rattle.asks.proofs.StoreLaws.{take-front}
@@ -105,11 +104,10 @@ set-refused p b set t = (rw t, rw (t, setAfter))
 pub set-asked : (p : Parsed) (ks set new : List ℕ) (r : ℕ) → p .fault ≡ none → ks ≡ p .keys → r ≡ length (readSetOf ks) → new ≡ sets set 0 (readSetOf ks)
     → (Asked r ≡ setOf p) × (new ≡ setAfter p set)
 unfolding setAfter
-set-asked p ks set new r t k e h =
-    (
-      ap Asked (e ∙ ap (λ (l : List ℕ). length (readSetOf l)) k) ∙ (rw t),
-      h ∙ ap (λ (l : List ℕ). sets set 0 (readSetOf l)) k ∙ (rw (t, setAfter)),
-    )
+set-asked p ks set new r t k e h = (
+  ap Asked (e ∙ ap (λ (l : List ℕ). length (readSetOf l)) k) ∙ (rw t),
+  h ∙ ap (λ (l : List ℕ). sets set 0 (readSetOf l)) k ∙ (rw (t, setAfter)),
+)
 
 -- the keys that `read_records` put into 8192 zeros
 module _ (bs : List ℕ) {keys : List ℕ} (held : keys ≡ sets (replicate 8192 0) 0 (records bs .keys)) (n : ℕ) (asked : Asked n ≡ readOf (records bs)) where

@@ -1,18 +1,16 @@
 -- The lines that a read section's words give are those of its lanes: the words stand where the lanes have their pairs, and no pair has mask 0.
 -- Assumes nothing.
 use mathlib.Core.Path.{_≡_, refl, sym, ap, _∙_}
-use mathlib.Core.Logic.{⊎-elim}
 use mathlib.Core.Option.{none}
 use mathlib.Core.List.{List, [], _∷_, _++_}
-use Prim.Native.Nat.{ℕ, zero, suc, _+_, _*_, _≤_, _<_}
+use Prim.Native.Nat.{ℕ, zero, suc, _+_, _≤_, _<_}
 use native.Mathlib.Nat.{not-suc-le-zero, add-zero, zero-add, add-suc, suc-add, le-of-suc-le-suc}
 use native.Mathlib.Numerals.{add-one}
 use native.Mathlib.Omega.{arith}
-use lib.ListN.{length, getD, drop, replicate, length-replicate, List·getD-append, List·getD-eq-default, length-drop, getD-replicate}
-use lib.Seq.{sets, sets-eq, getD-append-add, getD-drop}
-use Rattle.words.proofs.BitLaws.{lt-or-ge}
+use lib.ListN.{length, getD, drop, replicate, length-replicate}
+use lib.Seq.{sets, sets-eq, getD-drop}
 use Rattle.reads.specs.ReadSet.{Pair, pairsOf, broken}
-use Rattle.reads.specs.Search.{Lane, lanesOf, longest}
+use Rattle.reads.specs.Search.{Lane, longest}
 use Rattle.reads.specs.Words.{readSection}
 use Rattle.reads.specs.Local.{wordIn, maskIn}
 use Rattle.reads.specs.Packing.{Packing}
@@ -22,7 +20,7 @@ use Rattle.reads.proofs.RoundLaws.{in-lanes, longest-ge}
 use Rattle.reads.proofs.SectionWordLaws.{section-length, section-word, section-mask}
 use Rattle.reads.proofs.PackingLaws.{lanes-packing}
 use Rattle.reads.proofs.OutcomeLaws.{Passed, placed-passed, fitted-placed}
-use Rattle.listing.specs.Section.{placeOf, placeLine, lanePlaces, places}
+use Rattle.listing.specs.Section.{placeOf, lanePlaces, places}
 use Rattle.listing.specs.Listing.{laneLines, lines}
 use Rattle.listing.proofs.SectionLaws.{no-line, one-line}
 

@@ -16,13 +16,13 @@ use Rattle.reads.specs.ReadSet.{pairsOf}
 use Rattle.reads.specs.Search.{Lane, longest}
 use Rattle.reads.specs.Asked.{readSetOf}
 use Rattle.reads.specs.Packing.{Packing}
-use Rattle.reads.specs.Outcome.{Outcome, placed, refused, readSet, fitted, outcome}
+use Rattle.reads.specs.Outcome.{Outcome, placed, refused, readSet, outcome}
 use Rattle.reads.proofs.RoundLaws.{longest-ge}
 use Rattle.reads.proofs.PackingLaws.{lanes-packing}
 use Rattle.reads.proofs.OutcomeLaws.{placed-passed, fitted-placed}
-use Rattle.listing.specs.Records.{Parsed, records}
+use Rattle.listing.specs.Records.{records}
 use Rattle.listing.specs.Text.{decimalIn, decimal, hex, field, kindLetter, line}
-use Rattle.listing.specs.Listing.{laneLines, lines, roundsWord, refusedWord, atWord, printed, printedAt, said, listing, listed, textAfter}
+use Rattle.listing.specs.Listing.{laneLines, lines, refusedWord, printed, printedAt, said, listing, listed, textAfter}
 use Rattle.listing.specs.declared.Listed.the-variants.{Text, Refused}
 use Rattle.listing.proofs.TextLaws.{decimal-one, decimal-more, decimal-short, hex-length}
 use Rattle.listing.proofs.ListLaws.{after-text}

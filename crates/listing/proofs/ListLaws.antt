@@ -1,6 +1,6 @@
 -- The answer's text is the listing, and what `list` answers with it.
 -- Assumes nothing.
-use mathlib.Core.Path.{_≡_, refl, sym, ap, _∙_}
+use mathlib.Core.Path.{_≡_, refl, ap, _∙_}
 use mathlib.Core.Option.{Option, none, some}
 use mathlib.Core.List.{List, [], _∷_, _++_}
 use Prim.Native.Nat.{ℕ, _≤_, _<_}
@@ -8,19 +8,15 @@ use native.Mathlib.Omega.{arith}
 use borrow.Author.Tests.{le-leb, lt-leb}
 use lib.ListN.{length, replicate}
 use lib.Seq.{sets}
-use Rattle.reads.specs.ReadSet.{pairsOf}
 use Rattle.reads.specs.Search.{longest}
-use Rattle.reads.specs.Words.{readSection}
 use Rattle.reads.specs.Asked.{readSetOf}
-use Rattle.reads.specs.Outcome.{Outcome, placed, refused, readSet, fitted, outcome, resultAfter, roomAfter}
+use Rattle.reads.specs.Outcome.{Outcome, placed, refused, outcome, resultAfter, roomAfter}
 use Rattle.listing.specs.Records.{Parsed, records}
 use Rattle.listing.specs.Text.{decimal}
-use Rattle.listing.specs.Section.{places}
-use Rattle.listing.specs.Listing.{roundsWord, printed, printedAt, said, listing, listed, textAfter, lines}
+use Rattle.listing.specs.Listing.{roundsWord, printed, printedAt, said, listing, listed, textAfter}
 use Rattle.listing.specs.Answer.{answered, found, answerTo, sectionAfter, answerText}
 use Rattle.listing.specs.declared.answer.Answer.{Answer}
 use Rattle.listing.specs.declared.answer.Answer.the-variants.{Bad}
-use Rattle.listing.specs.declared.Listed.{Listed}
 use Rattle.listing.specs.declared.Listed.the-variants.{Text, Refused}
 use Rattle.listing.proofs.LaneLaws.{placed-lines}
 

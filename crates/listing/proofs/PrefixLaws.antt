@@ -3,7 +3,7 @@
 use mathlib.Core.Path.{_≡_, refl, sym, ap, _∙_}
 use mathlib.Core.Bool.{Bool, true, false}
 use mathlib.Core.Logic.{⊎-elim}
-use mathlib.Core.Option.{Option, none, some}
+use mathlib.Core.Option.{some}
 use mathlib.Core.List.{List}
 use Prim.Native.Nat.{ℕ, zero, suc, _+_, _*_, _^_, _≤_, _<_}
 use native.Mathlib.Numerals.{sub-one}
@@ -13,7 +13,7 @@ use lib.Dec.{leb}
 use lib.ListN.{length, getD, take}
 use lib.Seq.{take-all, length-take-le, getD-take}
 use Rattle.words.proofs.BitLaws.{lt-or-ge}
-use Rattle.listing.specs.Records.{numberAt, positionAt, endAt, kindAt, recordAt, Parsed, recordsFrom, records, stopped, before}
+use Rattle.listing.specs.Records.{numberAt, positionAt, endAt, kindAt, recordAt, recordsFrom, records, stopped, before}
 use Rattle.listing.specs.Listing.{said, listing}
 use Rattle.listing.specs.declared.records.Record.{Record}
 use Rattle.listing.specs.declared.records.Record.the-variants.{Position, End, Bad}
@@ -40,6 +40,7 @@ full-stop bs at h = go (getD bs at 0) refl
     cut : (flag : ℕ) (b : Bool) → positionAt bs at flag ≡ recordAt bs at → leb (at + 5) (length bs) ≡ b → recordsFrom 0 bs at ≡ stopped (some at)
     cut flag true e t = rw (← e, t, positionAt, recordsFrom)
     cut flag false e t = rw (← e, t, positionAt, recordsFrom)
+
     go : (k : ℕ) → getD bs at 0 ≡ k → recordsFrom 0 bs at ≡ stopped (some (stopByte at k))
     go zero e = rw (← (by-kind bs at (omega arith) 0 e), end-refused bs at h, recordsFrom)
     go (suc zero) e = cut 0 (leb (at + 5) (length bs)) (by-kind bs at (omega arith) 1 e) refl
@@ -79,6 +80,7 @@ module _ (N : ℕ) (bs : List ℕ) (long : N < length bs) where
     where
       here : recordAt (take N bs) at ≡ recordAt bs at
       here = same-record at (omega arith)
+
       go : (x : Record) → recordAt bs at ≡ x → recordsFrom n (take N bs) (at + 5) ≡ recordsFrom n bs (at + 5) → recordsFrom (suc n) (take N bs) at ≡ recordsFrom (suc n) bs at
       go (Position q) e r =
           one-more (suc n) (take N bs) at q (here ∙ e) (omega arith) ∙ (rw sub-one (ap (before q) r)) ∙ sym (one-more (suc n) bs at q e (omega arith))

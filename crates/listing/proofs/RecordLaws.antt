@@ -2,7 +2,7 @@
 -- Assumes nothing.
 use mathlib.Core.Path.{_≡_, refl, sym, ap, _∙_}
 use mathlib.Core.Option.{Option, none, some}
-use mathlib.Core.List.{List, [], _∷_}
+use mathlib.Core.List.{List}
 use Prim.Native.Nat.{ℕ, zero, suc, _+_, _-_, _*_, _^_, _≤_, _<_}
 use native.Mathlib.Nat.{not-suc-le-zero, add-zero, zero-add, sub-zero}
 use native.Mathlib.Numerals.{add-one, sub-one}
@@ -11,7 +11,6 @@ use borrow.Author.Tests.{lt-ltb, le-ltb, le-leb, lt-leb}
 use lib.ListN.{length, getD, set, length-set}
 use lib.Seq.{sets}
 use Rattle.listing.specs.Records.{numberAt, positionAt, endAt, kindAt, recordAt, Parsed, recordsFrom, stopped, before}
-use Rattle.listing.specs.declared.records.Record.{Record}
 use Rattle.listing.specs.declared.records.Record.the-variants.{Position, End, Bad}
 use Rattle.listing.specs.Reading.{readOf}
 use Rattle.listing.specs.declared.records.Read.the-variants.{Asked, Refused}
@@ -120,12 +119,11 @@ module _ {m : ℕ} {bs keys₀ keys : List ℕ} {n at : ℕ} (R : Reading m bs k
   -- where reading stops, the answer is there
   pub reading-stops : (f : Option ℕ) → recordsFrom (m - n) bs at ≡ stopped f
       → (length (recordsFrom m bs 0 .keys) ≡ n) × (recordsFrom m bs 0 .fault ≡ f) × (keys ≡ sets keys₀ 0 (recordsFrom m bs 0 .keys))
-  reading-stops f e =
-      (
-        sym (R .counted) ∙ ap (λ (p : Parsed). n + length (p .keys)) e ∙ add-zero n,
-        sym (R .fault) ∙ ap (λ (p : Parsed). p .fault) e,
-        ap (λ (p : Parsed). sets keys n (p .keys)) (sym e) ∙ R .held,
-      )
+  reading-stops f e = (
+    sym (R .counted) ∙ ap (λ (p : Parsed). n + length (p .keys)) e ∙ add-zero n,
+    sym (R .fault) ∙ ap (λ (p : Parsed). p .fault) e,
+    ap (λ (p : Parsed). sets keys n (p .keys)) (sym e) ∙ R .held,
+  )
 
   pub reading-asked : recordAt bs at ≡ End → (Asked n ≡ readOf (recordsFrom m bs 0)) × (keys ≡ sets keys₀ 0 (recordsFrom m bs 0 .keys))
   reading-asked e =

@@ -7,7 +7,6 @@ use Prim.Native.Nat.{ℕ, _+_}
 use lib.Dec.{leb}
 use lib.ListN.{length}
 use lib.Seq.{sets}
-use Rattle.words.specs.declared.refusals.Refusal.{Refusal}
 use Rattle.reads.specs.Search.{Lane, longest}
 use Rattle.reads.specs.Asked.{readSetOf}
 use Rattle.reads.specs.Outcome.{Outcome, placed, refused, outcome}

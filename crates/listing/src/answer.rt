@@ -2,7 +2,7 @@
 ghost use mathlib.Core.List.{[], _∷_, _++_};
 ghost use Prim.Native.Nat.{_^_};
 ghost use Rattle.listing.specs.Text.{decimal};
-ghost use Rattle.listing.specs.Listing.{roundsWord, refusedWord, atWord};
+ghost use Rattle.listing.specs.Listing.{refusedWord, atWord};
 ghost use Rattle.listing.specs.Answer.{answerText};
 ghost use Rattle.listing.specs.Writing.{Put};
 use crate::lines::put_bytes;

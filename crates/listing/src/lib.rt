@@ -3,13 +3,15 @@ pub mod answer;
 pub mod lines;
 pub mod records;
 pub mod text;
+
 ghost use mathlib.Core.Path.{_≡_};
 ghost use Prim.Native.Nat.{_≤_};
-ghost use lib.ListN.{length, replicate};
+ghost use lib.ListN.{length, take, replicate};
+ghost use lib.Seq.{sets};
 ghost use Rattle.reads.specs.Outcome.{roomAfter};
 ghost use Rattle.listing.specs.Records.{records};
 ghost use Rattle.listing.specs.Answer.{answerTo, sectionAfter, answerText};
-ghost use Rattle.listing.specs.Listing.{listed, textAfter};
+ghost use Rattle.listing.specs.Listing.{listing, listed, textAfter};
 use answer::Answer;
 use answer::put_answer;
 use records::Read;
@@ -60,14 +62,36 @@ pub fn list(records: &[u8], room: &mut [u32], out: &mut [u8]) -> Listed
     ensures { λ _. ⌜ now (out .exit) ≡ textAfter (now (records .entry)) (length (now (room .entry))) (now (out .entry)) ⌝ }
 {
     if room.len() < 16384 {
-        return Listed::Refused(Refusal { number: ROOM_SHORT, part: 0, item: 0 });
+        return Listed::Refused(Refusal {
+            number: ROOM_SHORT,
+            part: 0,
+            item: 0,
+        });
     }
     let mut section = [0u32; 16384];
     let answer = answer_to(records, room, &mut section);
     let n = text_length(answer, &section);
     if out.len() < n {
-        return Listed::Refused(Refusal { number: RESULT_SHORT, part: 0, item: 0 });
+        return Listed::Refused(Refusal {
+            number: RESULT_SHORT,
+            part: 0,
+            item: 0,
+        });
     }
     put_answer(out, answer, &section);
     Listed::Text(n)
+}
+
+// The same for a program, whose lent bytes hold every text: the answer is the text's length, and a part of that length is there to lend.
+pub fn text_of(records: &[u8], out: &mut [u8]) -> usize
+    requires { ⌜ 237578 ≤ length (now out) ⌝ }
+    ensures { λ r. ⌜ (r ≤ length (now (out .exit))) × (r ≡ length (take r (now (out .exit)))) ⌝ }
+    ensures { λ r. ⌜ r ≡ length (listing (now (records .entry))) ⌝ }
+    ensures { λ _. ⌜ now (out .exit) ≡ sets (now (out .entry)) 0 (listing (now (records .entry))) ⌝ }
+{
+    let mut room = [0u32; 16384];
+    match list(records, &mut room, out) {
+        Listed::Text(n) => n,
+        Listed::Refused(_) => 0,
+    }
 }

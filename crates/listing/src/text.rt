@@ -1,7 +1,7 @@
 // Numbers and lines as text. A writer puts its text from byte `at` on, as far as the lent bytes go, and answers with the byte after it.
 ghost use mathlib.Core.Path.{_≡_};
 ghost use mathlib.Core.List.{[], _∷_, _++_};
-ghost use Prim.Native.Nat.{ℕ, _+_, _%_, _^_, _≤_, _<_};
+ghost use Prim.Native.Nat.{_+_, _%_, _^_, _<_};
 ghost use Rattle.listing.specs.Text.{decimal, hexDigit, hex, kindLetter, line};
 ghost use Rattle.listing.specs.Writing.{Put};
 

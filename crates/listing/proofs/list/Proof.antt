@@ -4,57 +4,40 @@ use mathlib.Core.Path.{sym, _∙_}
 use borrow.Author.Needs.{needs}
 use Rattle.listing.proofs.list.Statement.{statement}
 use Rattle.listing.proofs.list.Tie as tie
-use Rattle.listing.proofs.list.Reads as reads
-use Rattle.listing.proofs.list.Lts as lts
-use Rattle.listing.proofs.answer.put_answer.Reads as put-answer-reads
-use Rattle.listing.proofs.answer_to.Reads as answer-to-reads
-use Rattle.listing.proofs.text_length.Reads as text-length-reads
 
--- src/lib.rt:63:9
 returns : tie.Need-returns
 returns c = (list-short-room _ _ _ (c .if1 .taken), (room-kept _ (c .if1 .taken), after-short-room _ _ _ (c .if1 .taken)))
 
--- src/lib.rt:66:43
 slice-aggregate-answer-to : tie.Need-slice-aggregate-answer-to
 slice-aggregate-answer-to c = search needs
 
--- src/lib.rt:66:9
 answer-to-requires : tie.Need-answer-to-requires
 answer-to-requires c κs = search needs
 
--- src/lib.rt:67:33
 slice-aggregate-text-length : tie.Need-slice-aggregate-text-length
 slice-aggregate-text-length c = search needs
 
--- src/lib.rt:67:9
 text-length-requires : tie.Need-text-length-requires
 text-length-requires c κs = search needs
 
--- src/lib.rt:69:9
 same-length : tie.Need-same-length
 same-length c = search needs
 
--- src/lib.rt:69:9
 returns-2 : tie.Need-returns-2
 returns-2 c = let l = lists-short (c .before .before .before .before .before .before .before .before .before .before .before .before .before .args .records .now) (c .before .before .before .before .before .before .before .before .before .before .before .before .before .args .room .now) (c .before .before .before .before .before .before .before .before .before .before .before .before .before .args .out .now) (c .before .before .before .before .before .before .before .before .before .if1 .left) (c .before .before .before .before .before .before .answer-to .ensures .1 .1) (c .before .before .before .before .before .before .answer-to .ensures .0) (c .before .text-length .ensures) (c .if2 .taken) in (l .0, (c .before .before .before .before .before .before .answer-to .ensures .1 .0 ∙ sym (room-zeros _ (c .before .before .before .before .before .before .before .before .before .if1 .left)), l .1))
 
--- src/lib.rt:71:29
 slice-aggregate-put-answer : tie.Need-slice-aggregate-put-answer
 slice-aggregate-put-answer c = search needs
 
--- src/lib.rt:71:5
 put-answer-requires : tie.Need-put-answer-requires
 put-answer-requires c κs = search needs
 
--- src/lib.rt:57:1
 same-length-2 : tie.Need-same-length-2
 same-length-2 c = search needs
 
--- src/lib.rt:57:1
 same-length-3 : tie.Need-same-length-3
 same-length-3 c = search needs
 
--- src/lib.rt:57:1
 returns-3 : tie.Need-returns-3
 returns-3 c = let l = lists-text (c .before .before .before .before .before .before .before .before .before .before .before .before .before .before .before .before .before .before .args .records .now) (c .before .before .before .before .before .before .before .before .before .before .before .before .before .before .before .before .before .before .args .room .now) (c .before .before .before .before .before .before .before .before .before .before .before .before .before .before .before .before .before .before .args .out .now) (c .before .before .before .before .before .before .before .before .before .before .before .before .before .before .if1 .left) (c .before .before .before .before .before .before .before .before .before .before .before .answer-to .ensures .1 .1) (c .before .before .before .before .before .before .before .before .before .before .before .answer-to .ensures .0) (c .before .before .before .before .before .before .text-length .ensures) (c .before .before .before .before .before .if2 .left) (c .before .before .put-answer .ensures .holds) in (l .0, (c .before .before .before .before .before .before .before .before .before .before .before .answer-to .ensures .1 .0 ∙ sym (room-zeros _ (c .before .before .before .before .before .before .before .before .before .before .before .before .before .before .if1 .left)), l .1))
 

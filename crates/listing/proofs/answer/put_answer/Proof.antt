@@ -3,57 +3,40 @@ use Rattle.listing.proofs.AnswerLaws.{put-is-rounds, put-is-refused, pu
 use borrow.Author.Needs.{needs}
 use Rattle.listing.proofs.answer.put_answer.Statement.{statement}
 use Rattle.listing.proofs.answer.put_answer.Tie as tie
-use Rattle.listing.proofs.answer.put_answer.Reads as reads
-use Rattle.listing.proofs.answer.put_answer.Lts as lts
-use Rattle.listing.proofs.answer.put_bad.Reads as put-bad-reads
-use Rattle.listing.proofs.answer.put_refused.Reads as put-refused-reads
-use Rattle.listing.proofs.answer.put_rounds.Reads as put-rounds-reads
 
--- src/answer.rt:55:24
 enum-known-answer : tie.Need-enum-known-answer
 enum-known-answer c = search needs
 
--- src/answer.rt:55:35
 put-rounds-requires : tie.Need-put-rounds-requires
 put-rounds-requires c κs = search needs
 
--- src/answer.rt:56:25
 enum-known-answer-2 : tie.Need-enum-known-answer-2
 enum-known-answer-2 c = search needs
 
--- src/answer.rt:56:36
 put-refused-requires : tie.Need-put-refused-requires
 put-refused-requires c κs = search needs
 
--- src/answer.rt:57:21
 enum-known-answer-3 : tie.Need-enum-known-answer-3
 enum-known-answer-3 c = search needs
 
--- src/answer.rt:57:30
 put-bad-requires : tie.Need-put-bad-requires
 put-bad-requires c κs = search needs
 
--- src/answer.rt:51:1
 same-length : tie.Need-same-length
 same-length c = search needs
 
--- src/answer.rt:51:1
 returns : tie.Need-returns
 returns c = put-is-rounds _ (c .before .before .before .before .before .before .before .before .before .args .section .now) _ (c .before .before .before .before .before .answer .given .1) (c .before .before .put-rounds .ensures)
 
--- src/answer.rt:51:1
 same-length-2 : tie.Need-same-length-2
 same-length-2 c = search needs
 
--- src/answer.rt:51:1
 returns-2 : tie.Need-returns-2
 returns-2 c = put-is-refused _ (c .before .before .before .before .before .before .before .before .before .args .section .now) _ (c .before .before .before .before .before .answer2 .given .1) (c .before .before .put-refused .ensures)
 
--- src/answer.rt:51:1
 same-length-3 : tie.Need-same-length-3
 same-length-3 c = search needs
 
--- src/answer.rt:51:1
 returns-3 : tie.Need-returns-3
 returns-3 c = put-is-bad _ (c .before .before .before .before .before .before .before .before .before .args .section .now) _ (c .before .before .before .before .before .answer3 .given .1) (c .before .before .put-bad .ensures)
 

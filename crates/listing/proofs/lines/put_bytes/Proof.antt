@@ -5,15 +5,12 @@ use lib.Seq.{drop-cons}
 use lib.ListN.{drop-of-length-le}
 use lib.ListN.{length, drop}
 use Prim.Native.Nat.{_-_, _≤_}
-use mathlib.Core.Path.{_≡_, refl, sym, ap, _∙_}
+use mathlib.Core.Path.{_∙_}
 use Rattle.listing.proofs.WritingLaws.{Going, going-start, going-long, going-more, going-done}
 use native.Mathlib.Omega.{arith}
 use borrow.Author.Needs.{needs}
 use Rattle.listing.proofs.lines.put_bytes.Statement.{statement}
 use Rattle.listing.proofs.lines.put_bytes.Tie as tie
-use Rattle.listing.proofs.lines.put_bytes.Reads as reads
-use Rattle.listing.proofs.lines.put_bytes.Lts as lts
-use Rattle.listing.proofs.text.put.Reads as put-reads
 
 abbrev Inv-loop : tie.InvT-loop
 Inv-loop out₀ at text end₀ i₀ out end i = (i ≤ length text) × Going (drop i text) text i out₀ at out end
@@ -21,35 +18,27 @@ Inv-loop out₀ at text end₀ i₀ out end i = (i ≤ length text) × Going (dr
 abbrev μ-loop : tie.MeasureT-loop
 μ-loop out₀ at text end₀ i₀ out end i = length text - i
 
--- src/lines.rt:18:5
 loop-holds : tie.Need-loop-holds Inv-loop μ-loop
 loop-holds c = (omega arith, going-start _ _ _)
 
--- src/lines.rt:19:29
 shared-slice-read-put : tie.Need-shared-slice-read-put Inv-loop μ-loop
 shared-slice-read-put c = search needs
 
--- src/lines.rt:19:9
 put-requires : tie.Need-put-requires Inv-loop μ-loop
 put-requires c κs = search needs
 
--- src/lines.rt:20:9
 add-i : tie.Need-add-i Inv-loop μ-loop
 add-i c = search needs
 
--- src/lines.rt:18:5
 loop-less : tie.Need-loop-less Inv-loop μ-loop
 loop-less c = search needs
 
--- src/lines.rt:18:5
 loop-again : tie.Need-loop-again Inv-loop μ-loop
 loop-again c = (omega arith, going-more (c .before .before .before .before .before .before .loop .inv .1) (_ ∷ []) _ (drop-cons _ _ 0 (c .before .before .before .before .before .loop-test .taken) ∙ (rw add-one)) (c .before .before .put .ensures) (omega arith))
 
--- src/lines.rt:12:1
 same-length : tie.Need-same-length Inv-loop μ-loop
 same-length c = going-long (c .before .loop .inv .1)
 
--- src/lines.rt:12:1
 returns : tie.Need-returns Inv-loop μ-loop
 returns c = let h : length (c .before .before .before .before .args .text .now) ≤ c .before .loop .i = omega arith in going-done (c .before .loop .inv .1) _ (drop-of-length-le _ h) (c .before .loop .inv .0)
 

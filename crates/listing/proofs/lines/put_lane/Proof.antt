@@ -3,15 +3,11 @@ use native.Mathlib.Nat.{sub-zero}
 use Rattle.listing.proofs.SectionLaws.{next-round, last-round}
 use Rattle.listing.specs.Section.{lanePlaces}
 use Prim.Native.Nat.{_-_, _*_, _≤_}
-use mathlib.Core.Path.{_≡_, refl, sym, ap, _∙_}
 use Rattle.listing.proofs.WritingLaws.{Going, going-start, going-long, going-more, going-done}
 use native.Mathlib.Omega.{arith}
 use borrow.Author.Needs.{needs}
 use Rattle.listing.proofs.lines.put_lane.Statement.{statement}
 use Rattle.listing.proofs.lines.put_lane.Tie as tie
-use Rattle.listing.proofs.lines.put_lane.Reads as reads
-use Rattle.listing.proofs.lines.put_lane.Lts as lts
-use Rattle.listing.proofs.lines.put_place.Reads as put-place-reads
 
 abbrev Inv-loop : tie.InvT-loop
 Inv-loop out₀ at section lane rounds end₀ round₀ out end round = (round ≤ rounds) × Going (lanePlaces 256 section lane (rounds - round) round) (lanePlaces 256 section lane rounds 0) (74 * round) out₀ at out end
@@ -19,31 +15,24 @@ Inv-loop out₀ at section lane rounds end₀ round₀ out end round = (round �
 abbrev μ-loop : tie.MeasureT-loop
 μ-loop out₀ at section lane rounds end₀ round₀ out end round = rounds - round
 
--- src/lines.rt:55:5
 loop-holds : tie.Need-loop-holds Inv-loop μ-loop
 loop-holds c = (omega arith, rw sub-zero (going-start _ _ _))
 
--- src/lines.rt:56:9
 put-place-requires : tie.Need-put-place-requires Inv-loop μ-loop
 put-place-requires c κs = search needs
 
--- src/lines.rt:57:9
 add-round : tie.Need-add-round Inv-loop μ-loop
 add-round c = search needs
 
--- src/lines.rt:55:5
 loop-less : tie.Need-loop-less Inv-loop μ-loop
 loop-less c = search needs
 
--- src/lines.rt:55:5
 loop-again : tie.Need-loop-again Inv-loop μ-loop
 loop-again c = (omega arith, going-more (c .before .before .before .before .before .loop .inv .1) _ _ (next-round 256 (c .before .before .before .before .before .before .before .before .args .section .now) _ _ _ (c .before .before .before .before .loop-test .taken)) (c .before .before .put-place .ensures) (omega arith))
 
--- src/lines.rt:49:1
 same-length : tie.Need-same-length Inv-loop μ-loop
 same-length c = going-long (c .before .loop .inv .1)
 
--- src/lines.rt:49:1
 returns : tie.Need-returns Inv-loop μ-loop
 returns c = going-done (c .before .loop .inv .1) _ (last-round 256 (c .before .before .before .before .args .section .now) _ _ _ (c .loop-test .left)) (omega arith)
 

@@ -7,9 +7,6 @@ use native.Mathlib.Omega.{arith}
 use borrow.Author.Needs.{needs}
 use Rattle.listing.proofs.lines.put_lanes.Statement.{statement}
 use Rattle.listing.proofs.lines.put_lanes.Tie as tie
-use Rattle.listing.proofs.lines.put_lanes.Reads as reads
-use Rattle.listing.proofs.lines.put_lanes.Lts as lts
-use Rattle.listing.proofs.lines.put_lane.Reads as put-lane-reads
 
 abbrev Inv-loop : tie.InvT-loop
 Inv-loop out₀ at section rounds end₀ lane₀ out end lane = (lane ≤ 256) × Going (places 256 section rounds (256 - lane) lane) (places 256 section rounds 256 0) (lane * (74 * 2 ^ 32)) out₀ at out end
@@ -17,31 +14,24 @@ Inv-loop out₀ at section rounds end₀ lane₀ out end lane = (lane ≤ 256) �
 abbrev μ-loop : tie.MeasureT-loop
 μ-loop out₀ at section rounds end₀ lane₀ out end lane = 256 - lane
 
--- src/lines.rt:69:5
 loop-holds : tie.Need-loop-holds Inv-loop μ-loop
 loop-holds c = (omega arith, going-start _ _ _)
 
--- src/lines.rt:70:9
 put-lane-requires : tie.Need-put-lane-requires Inv-loop μ-loop
 put-lane-requires c κs = search needs
 
--- src/lines.rt:71:9
 add-lane : tie.Need-add-lane Inv-loop μ-loop
 add-lane c = search needs
 
--- src/lines.rt:69:5
 loop-less : tie.Need-loop-less Inv-loop μ-loop
 loop-less c = search needs
 
--- src/lines.rt:69:5
 loop-again : tie.Need-loop-again Inv-loop μ-loop
 loop-again c = (omega arith, going-more (c .before .before .before .before .before .loop .inv .1) _ _ (next-lane 256 (c .before .before .before .before .before .before .before .before .args .section .now) _ 256 _ (c .before .before .before .before .loop-test .taken)) (c .before .before .put-lane .ensures) (omega arith))
 
--- src/lines.rt:63:1
 same-length : tie.Need-same-length Inv-loop μ-loop
 same-length c = going-long (c .before .loop .inv .1)
 
--- src/lines.rt:63:1
 returns : tie.Need-returns Inv-loop μ-loop
 returns c = going-done (c .before .loop .inv .1) _ (last-lane 256 (c .before .before .before .before .args .section .now) _ 256 _ (c .loop-test .left)) (omega arith)
 

@@ -2,57 +2,41 @@
 use Rattle.listing.proofs.WritingLaws.{put-none, put-is}
 use mathlib.Core.List.{[]}
 use Rattle.listing.proofs.SectionLaws.{no-line, one-line}
-use mathlib.Core.Path.{_≡_, refl, sym, ap, _∙_}
-use native.Mathlib.Omega.{arith}
+use mathlib.Core.Path.{sym, _∙_}
 use borrow.Author.Needs.{needs}
 use Rattle.listing.proofs.lines.put_place.Statement.{statement}
 use Rattle.listing.proofs.lines.put_place.Tie as tie
-use Rattle.listing.proofs.lines.put_place.Reads as reads
-use Rattle.listing.proofs.lines.put_place.Lts as lts
-use Rattle.listing.proofs.lines.word_at.Reads as word-at-reads
-use Rattle.listing.proofs.text.put_line.Reads as put-line-reads
 
--- src/lines.rt:40:17
 mul-place : tie.Need-mul-place
 mul-place c = search needs
 
--- src/lines.rt:40:17
 mul-place-2 : tie.Need-mul-place-2
 mul-place-2 c = search needs
 
--- src/lines.rt:40:46
 mul-place-3 : tie.Need-mul-place-3
 mul-place-3 c = search needs
 
--- src/lines.rt:40:17
 add-place : tie.Need-add-place
 add-place c = search needs
 
--- src/lines.rt:41:33
 add-word-at : tie.Need-add-word-at
 add-word-at c = search needs
 
--- src/lines.rt:41:9
 word-at-requires : tie.Need-word-at-requires
 word-at-requires c κs = search needs
 
--- src/lines.rt:43:9
 returns : tie.Need-returns
 returns c = put-is [] _ (no-line 256 (c .before .before .before .before .args .section .now) _ _ (sym (c .before .word-at .ensures) ∙ c .if1 .taken)) (put-none _ _ _)
 
--- src/lines.rt:45:36
 word-at-requires-2 : tie.Need-word-at-requires-2
 word-at-requires-2 c κs = search needs
 
--- src/lines.rt:45:5
 put-line-requires : tie.Need-put-line-requires
 put-line-requires c κs = search needs
 
--- src/lines.rt:36:1
 same-length : tie.Need-same-length
 same-length c = search needs
 
--- src/lines.rt:36:1
 returns-2 : tie.Need-returns-2
 returns-2 c = put-is _ _ (one-line 256 (c .before .before .before .before .before .before .before .before .before .args .section .now) _ _ _ _ (c .before .before .before .word-at2 .ensures) (c .before .before .before .before .before .before .word-at .ensures) (c .before .before .before .before .before .if1 .left)) (c .before .before .put-line .ensures)
 

@@ -1,80 +1,60 @@
+-- `listing::records::number_at` meets its contract: the sum is the definition itself. Assumes nothing.
 use Rattle.listing.specs.Records.{numberAt}
 use borrow.Author.Needs.{needs}
 use Rattle.listing.proofs.records.number_at.Statement.{statement}
 use Rattle.listing.proofs.records.number_at.Tie as tie
-use Rattle.listing.proofs.records.number_at.Reads as reads
-use Rattle.listing.proofs.records.number_at.Lts as lts
-use Rattle.listing.proofs.records.wide.Reads as wide-reads
 
--- src/records.rt:33:10
 shared-slice-read-wide : tie.Need-shared-slice-read-wide
 shared-slice-read-wide c = search needs
 
--- src/records.rt:33:5
 wide-requires : tie.Need-wide-requires
 wide-requires c κs = search needs
 
--- src/records.rt:33:31
 add-wide : tie.Need-add-wide
 add-wide c = search needs
 
--- src/records.rt:33:29
 shared-slice-read-wide-2 : tie.Need-shared-slice-read-wide-2
 shared-slice-read-wide-2 c = search needs
 
--- src/records.rt:33:24
 wide-requires-2 : tie.Need-wide-requires-2
 wide-requires-2 c κs = search needs
 
--- src/records.rt:33:18
 mul-result : tie.Need-mul-result
 mul-result c = search needs
 
--- src/records.rt:33:5
 add-result : tie.Need-add-result
 add-result c = search needs
 
--- src/records.rt:33:56
 add-wide-2 : tie.Need-add-wide-2
 add-wide-2 c = search needs
 
--- src/records.rt:33:54
 shared-slice-read-wide-3 : tie.Need-shared-slice-read-wide-3
 shared-slice-read-wide-3 c = search needs
 
--- src/records.rt:33:49
 wide-requires-3 : tie.Need-wide-requires-3
 wide-requires-3 c κs = search needs
 
--- src/records.rt:33:41
 mul-result-2 : tie.Need-mul-result-2
 mul-result-2 c = search needs
 
--- src/records.rt:33:5
 add-result-2 : tie.Need-add-result-2
 add-result-2 c = search needs
 
--- src/records.rt:33:84
 add-wide-3 : tie.Need-add-wide-3
 add-wide-3 c = search needs
 
--- src/records.rt:33:82
 shared-slice-read-wide-4 : tie.Need-shared-slice-read-wide-4
 shared-slice-read-wide-4 c = search needs
 
--- src/records.rt:33:77
 wide-requires-4 : tie.Need-wide-requires-4
 wide-requires-4 c κs = search needs
 
--- src/records.rt:33:66
 mul-result-3 : tie.Need-mul-result-3
 mul-result-3 c = search needs
 
--- src/records.rt:33:5
 add-result-3 : tie.Need-add-result-3
 add-result-3 c = search needs
 
--- src/records.rt:29:1
 returns : tie.Need-returns
 unfolding numberAt
 returns c = search needs

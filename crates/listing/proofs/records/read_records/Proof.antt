@@ -3,14 +3,11 @@
 use Rattle.listing.proofs.RecordLaws.{Reading, reading-start, reading-more, reading-asked, reading-refused, stop-full, stop-bad}
 use lib.ListN.{length}
 use Prim.Native.Nat.{_-_}
-use mathlib.Core.Path.{_≡_, sym, _∙_}
+use mathlib.Core.Path.{sym, _∙_}
 use native.Mathlib.Omega.{arith}
 use borrow.Author.Needs.{needs}
 use Rattle.listing.proofs.records.read_records.Statement.{statement}
 use Rattle.listing.proofs.records.read_records.Tie as tie
-use Rattle.listing.proofs.records.read_records.Reads as reads
-use Rattle.listing.proofs.records.read_records.Lts as lts
-use Rattle.listing.proofs.records.record_at.Reads as record-at-reads
 
 abbrev Inv-loop : tie.InvT-loop
 Inv-loop s keys₀ n₀ at₀ keys n at = Reading (length keys₀) s keys₀ keys n at
@@ -18,71 +15,54 @@ Inv-loop s keys₀ n₀ at₀ keys n at = Reading (length keys₀) s keys₀ key
 abbrev μ-loop : tie.MeasureT-loop
 μ-loop s keys₀ n₀ at₀ keys n at = length keys₀ - n
 
--- src/records.rt:72:5
 loop-holds : tie.Need-loop-holds Inv-loop μ-loop
 loop-holds c = reading-start _ _ _
 
--- src/records.rt:73:15
 record-at-requires : tie.Need-record-at-requires Inv-loop μ-loop
 record-at-requires c κs = search needs
 
--- src/records.rt:74:30
 enum-known-key : tie.Need-enum-known-key Inv-loop μ-loop
 enum-known-key c = search needs
 
--- src/records.rt:76:21
 same-length : tie.Need-same-length Inv-loop μ-loop
 same-length c = c .before .before .before .before .before .loop .inv .long
 
--- src/records.rt:76:21
 returns : tie.Need-returns Inv-loop μ-loop
 returns c = reading-refused (c .before .before .before .before .before .loop .inv) _ (stop-full _ _ _ _ (sym (c .before .before .before .before .record-at .ensures) ∙ c .before .before .key .given .1) (omega arith))
 
--- src/records.rt:78:17
 mul-keys : tie.Need-mul-keys Inv-loop μ-loop
 mul-keys c = search needs
 
--- src/records.rt:78:17
 slice-write-keys : tie.Need-slice-write-keys Inv-loop μ-loop
 slice-write-keys c = search needs
 
--- src/records.rt:79:17
 add-n : tie.Need-add-n Inv-loop μ-loop
 add-n c = search needs
 
--- src/records.rt:80:17
 add-at : tie.Need-add-at Inv-loop μ-loop
 add-at c = search needs
 
--- src/records.rt:72:5
 loop-less : tie.Need-loop-less Inv-loop μ-loop
 loop-less c = search needs
 
--- src/records.rt:72:5
 loop-again : tie.Need-loop-again Inv-loop μ-loop
 loop-again c = reading-more (c .before .before .before .before .before .loop .inv) _ (sym (c .before .before .before .before .record-at .ensures) ∙ c .before .before .key .given .1) (omega arith)
 
--- src/records.rt:82:28
 enum-told : tie.Need-enum-told Inv-loop μ-loop
 enum-told c = search needs
 
--- src/records.rt:82:28
 same-length-2 : tie.Need-same-length-2 Inv-loop μ-loop
 same-length-2 c = c .before .before .before .loop .inv .long
 
--- src/records.rt:82:28
 returns-2 : tie.Need-returns-2 Inv-loop μ-loop
 returns-2 c = reading-asked (c .before .before .before .loop .inv) (sym (c .before .before .record-at .ensures) ∙ c .enum-told .given .1)
 
--- src/records.rt:83:25
 enum-known-b : tie.Need-enum-known-b Inv-loop μ-loop
 enum-known-b c = search needs
 
--- src/records.rt:83:31
 same-length-3 : tie.Need-same-length-3 Inv-loop μ-loop
 same-length-3 c = c .before .before .before .before .loop .inv .long
 
--- src/records.rt:83:31
 returns-3 : tie.Need-returns-3 Inv-loop μ-loop
 returns-3 c = reading-refused (c .before .before .before .before .loop .inv) _ (stop-bad _ _ _ _ (sym (c .before .before .before .record-at .ensures) ∙ c .before .b .given .1))
 

@@ -4,52 +4,37 @@ use mathlib.Core.Path.{refl, sym, _∙_}
 use borrow.Author.Needs.{needs}
 use Rattle.listing.proofs.records.read_set_of.Statement.{statement}
 use Rattle.listing.proofs.records.read_set_of.Tie as tie
-use Rattle.listing.proofs.records.read_set_of.Reads as reads
-use Rattle.listing.proofs.records.read_set_of.Lts as lts
-use Rattle.asks.proofs.read_set.Reads as read-set-reads
-use Rattle.listing.proofs.records.read_records.Reads as read-records-reads
 
--- src/records.rt:95:27
 slice-aggregate-read-records : tie.Need-slice-aggregate-read-records
 slice-aggregate-read-records c = search needs
 
--- src/records.rt:95:11
 read-records-requires : tie.Need-read-records-requires
 read-records-requires c κs = search needs
 
--- src/records.rt:96:23
 enum-known-b : tie.Need-enum-known-b
 enum-known-b c = search needs
 
--- src/records.rt:97:21
 enum-known-n : tie.Need-enum-known-n
 enum-known-n c = search needs
 
--- src/records.rt:99:40
 array-borrow-prefix-keys : tie.Need-array-borrow-prefix-keys
 array-borrow-prefix-keys c = told-few (c .before .before .before .before .before .before .before .before .args .s .now) (c .before .before .before .before .read-records .ensures .1) _ (sym (c .before .n .given .1) ∙ c .before .before .before .before .read-records .ensures .0)
 
--- src/records.rt:99:40
 slice-aggregate-read-set : tie.Need-slice-aggregate-read-set
 slice-aggregate-read-set c = told-front (c .before .before .before .before .before .before .before .before .before .args .s .now) (c .before .before .before .before .before .read-records .ensures .1) _ (sym (c .before .before .n .given .1) ∙ c .before .before .before .before .before .read-records .ensures .0)
 
--- src/records.rt:99:56
 slice-aggregate-read-set-2 : tie.Need-slice-aggregate-read-set-2
 slice-aggregate-read-set-2 c = search needs
 
--- src/records.rt:99:25
 read-set-requires : tie.Need-read-set-requires
 read-set-requires c κs = told-settable (c .before .before .before .before .before .before .before .before .before .before .before .args .s .now) (c .before .before .before .before .before .before .before .read-records .ensures .1) _ (sym (c .before .before .before .before .n .given .1) ∙ c .before .before .before .before .before .before .before .read-records .ensures .0) _ _ (λ i. c .before .before .before .before .before .before .before .before .before .before .shared-slice-known .given i .fits) refl (c .before .before .before .before .before .before .before .before .before .before .before .pre)
 
--- src/records.rt:89:1
 returns : tie.Need-returns
 returns c = set-refused _ _ _ (refused-in _ _ _ (sym (c .before .b .given .1) ∙ c .before .before .before .before .read-records .ensures .0))
 
--- src/records.rt:89:1
 same-length : tie.Need-same-length
 same-length c = search needs
 
--- src/records.rt:89:1
 returns-2 : tie.Need-returns-2
 returns-2 c = set-asked _ _ _ _ _ (asked-in _ _ _ (sym (c .before .before .before .before .before .before .before .before .before .n .given .1) ∙ c .before .before .before .before .before .before .before .before .before .before .before .before .read-records .ensures .0) .0) (told-keys (c .before .before .before .before .before .before .before .before .before .before .before .before .before .before .before .before .args .s .now) (c .before .before .before .before .before .before .before .before .before .before .before .before .read-records .ensures .1) _ (sym (c .before .before .before .before .before .before .before .before .before .n .given .1) ∙ c .before .before .before .before .before .before .before .before .before .before .before .before .read-records .ensures .0)) (c .before .before .before .before .read-set .ensures .0) (c .before .before .before .before .read-set .ensures .1 .1 .1)
 

@@ -2,68 +2,51 @@
 use Rattle.listing.specs.declared.records.Record.the-variants.{Position}
 use Prim.Native.Nat.{ℕ, _+_, _^_}
 use Rattle.listing.proofs.RecordLaws.{at-length, after-end, right-end, unknown-kind, cut-body, unstaged, staged}
-use mathlib.Core.Path.{_≡_, ap, _∙_}
+use mathlib.Core.Path.{ap, _∙_}
 use native.Mathlib.Omega.{arith}
 use borrow.Author.Needs.{needs}
 use Rattle.listing.proofs.records.record_at.Statement.{statement}
 use Rattle.listing.proofs.records.record_at.Tie as tie
-use Rattle.listing.proofs.records.record_at.Reads as reads
-use Rattle.listing.proofs.records.record_at.Lts as lts
-use Rattle.listing.proofs.records.number_at.Reads as number-at-reads
 
--- src/records.rt:42:9
 returns : tie.Need-returns
 returns c = at-length _ _ (c .if1 .taken)
 
--- src/records.rt:44:16
 shared-slice-read-kind : tie.Need-shared-slice-read-kind
 shared-slice-read-kind c = search needs
 
--- src/records.rt:46:12
 add-if3 : tie.Need-add-if3
 add-if3 c = search needs
 
--- src/records.rt:47:32
 add-t12 : tie.Need-add-t12
 add-t12 c = search needs
 
--- src/records.rt:47:13
 returns-2 : tie.Need-returns-2
 returns-2 c = after-end _ _ (c .before .before .before .if1 .left) (c .before .if2 .taken) (c .if3 .taken)
 
--- src/records.rt:49:9
 returns-3 : tie.Need-returns-3
 returns-3 c = right-end _ _ (c .before .before .before .if1 .left) (c .before .if2 .taken) (c .if3 .left)
 
--- src/records.rt:52:9
 returns-4 : tie.Need-returns-4
 returns-4 c = unknown-kind _ _ (c .before .before .before .if1 .left) (c .if4 .taken)
 
--- src/records.rt:54:18
 add-if5 : tie.Need-add-if5
 add-if5 c = search needs
 
--- src/records.rt:55:9
 returns-5 : tie.Need-returns-5
 returns-5 c = cut-body _ _ (c .before .before .before .before .if1 .left) (c .before .before .if2 .left) (c .before .if4 .left) (c .if5 .taken)
 
--- src/records.rt:57:33
 add-number-at : tie.Need-add-number-at
 add-number-at c = search needs
 
--- src/records.rt:57:9
 number-at-requires : tie.Need-number-at-requires
 number-at-requires c κs = search needs
 
--- src/records.rt:59:9
 returns-6 : tie.Need-returns-6
 returns-6 c = ap Position (c .before .number-at .ensures .0) ∙ unstaged _ _ (c .before .before .before .before .before .before .if1 .left) (c .if6 .taken) (c .before .before .if5 .left)
 
--- src/records.rt:61:22
 add-t14 : tie.Need-add-t14
 add-t14 c = search needs
 
--- src/records.rt:37:1
 returns-7 : tie.Need-returns-7
 returns-7 c = ap (λ (x : ℕ). Position (2 ^ 36 + x)) (c .before .number-at .ensures .0) ∙ staged _ _ (c .before .before .before .before .before .before .if1 .left) (omega arith) (c .before .before .if5 .left)
 

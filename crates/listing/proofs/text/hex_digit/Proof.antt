@@ -3,30 +3,22 @@ use Rattle.listing.proofs.TextLaws.{hex-low, hex-high}
 use borrow.Author.Needs.{needs}
 use Rattle.listing.proofs.text.hex_digit.Statement.{statement}
 use Rattle.listing.proofs.text.hex_digit.Tie as tie
-use Rattle.listing.proofs.text.hex_digit.Reads as reads
-use Rattle.listing.proofs.text.hex_digit.Lts as lts
 
--- src/text.rt:41:21
 cast-result : tie.Need-cast-result
 cast-result c = search needs
 
--- src/text.rt:41:16
 add-result : tie.Need-add-result
 add-result c = search needs
 
--- src/text.rt:41:9
 returns : tie.Need-returns
 returns c = hex-low _ (c .if1 .taken)
 
--- src/text.rt:43:10
 cast-result-2 : tie.Need-cast-result-2
 cast-result-2 c = search needs
 
--- src/text.rt:43:5
 add-result-2 : tie.Need-add-result-2
 add-result-2 c = search needs
 
--- src/text.rt:36:1
 returns-2 : tie.Need-returns-2
 returns-2 c = hex-high _ (c .if1 .left)
 

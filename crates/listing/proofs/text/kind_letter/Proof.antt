@@ -1,16 +1,11 @@
 -- `listing::text::kind_letter` meets its contract, by the two cases of bit 31. Assumes nothing.
 use Rattle.listing.proofs.TextLaws.{kind-n, kind-s}
-use borrow.Author.Needs.{needs}
 use Rattle.listing.proofs.text.kind_letter.Statement.{statement}
 use Rattle.listing.proofs.text.kind_letter.Tie as tie
-use Rattle.listing.proofs.text.kind_letter.Reads as reads
-use Rattle.listing.proofs.text.kind_letter.Lts as lts
 
--- src/text.rt:71:9
 returns : tie.Need-returns
 returns c = kind-n _ (c .if1 .taken)
 
--- src/text.rt:67:1
 returns-2 : tie.Need-returns-2
 returns-2 c = kind-s _ (c .if1 .left)
 

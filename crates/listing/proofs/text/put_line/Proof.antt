@@ -3,54 +3,37 @@ use Rattle.listing.proofs.TextLaws.{put-fields}
 use borrow.Author.Needs.{needs}
 use Rattle.listing.proofs.text.put_line.Statement.{statement}
 use Rattle.listing.proofs.text.put_line.Tie as tie
-use Rattle.listing.proofs.text.put_line.Reads as reads
-use Rattle.listing.proofs.text.put_line.Lts as lts
-use Rattle.listing.proofs.text.kind_letter.Reads as kind-letter-reads
-use Rattle.listing.proofs.text.put.Reads as put-reads
-use Rattle.listing.proofs.text.put_number.Reads as put-number-reads
-use Rattle.listing.proofs.text.put_hex.Reads as put-hex-reads
 
--- src/text.rt:81:9
 put-number-requires : tie.Need-put-number-requires
 put-number-requires c κs = search needs
 
--- src/text.rt:82:9
 put-number-requires-2 : tie.Need-put-number-requires-2
 put-number-requires-2 c κs = search needs
 
--- src/text.rt:83:42
 kind-letter-requires : tie.Need-kind-letter-requires
 kind-letter-requires c κs = search needs
 
--- src/text.rt:83:9
 put-requires : tie.Need-put-requires
 put-requires c κs = search needs
 
--- src/text.rt:84:9
 put-requires-2 : tie.Need-put-requires-2
 put-requires-2 c κs = search needs
 
--- src/text.rt:85:45
 cast-put-number : tie.Need-cast-put-number
 cast-put-number c = search needs
 
--- src/text.rt:85:9
 put-number-requires-3 : tie.Need-put-number-requires-3
 put-number-requires-3 c κs = search needs
 
--- src/text.rt:86:9
 put-hex-requires : tie.Need-put-hex-requires
 put-hex-requires c κs = search needs
 
--- src/text.rt:87:5
 put-requires-3 : tie.Need-put-requires-3
 put-requires-3 c κs = search needs
 
--- src/text.rt:77:1
 same-length : tie.Need-same-length
 same-length c = search needs
 
--- src/text.rt:77:1
 returns : tie.Need-returns
 returns c = put-fields _ _ _ _ _ (c .before .before .before .before .before .before .before .before .before .before .before .before .before .before .before .before .before .before .before .before .before .before .before .before .before .before .before .put-number .ensures) (c .before .before .before .before .before .before .before .before .before .before .before .before .before .before .before .before .before .before .before .before .before .before .before .put-number2 .ensures) (c .before .before .before .before .before .before .before .before .before .before .before .before .before .before .before .before .before .before .before .kind-letter .ensures) (c .before .before .before .before .before .before .before .before .before .before .before .before .before .before .before .before .before .before .put .ensures) (c .before .before .before .before .before .before .before .before .before .before .before .before .before .before .put2 .ensures) (c .before .before .before .before .before .before .before .before .before .before .put-number3 .ensures) (c .before .before .before .before .before .before .put-hex .ensures) (c .before .before .put3 .ensures)
 
