@@ -168,7 +168,7 @@ first-at f (suc m) i k h = go (f i) refl (first-at f m (i + 1) k)
           from = omega arith;
           below = omega arith;
           refused = a .refused;
-          passed = λ j l u. ⊎-elim (λ q. ap f (sym q) ∙ e) (λ q. a .passed j q u) (at-or-after i j l)
+          passed = λ j l u. ⊎-elim (λ q. ap f (sym q) ∙ e) (λ q. a .passed j q u) (at-or-after i j l);
         }
     go false e r =
         let q : some i ≡ some k = sym (first-here f (suc m) i (omega arith) e) ∙ h in
@@ -177,7 +177,7 @@ first-at f (suc m) i k h = go (f i) refl (first-at f m (i + 1) k)
           from = omega arith;
           below = omega arith;
           refused = ap f (sym s) ∙ e;
-          passed = λ j l u. absurd (omega arith)
+          passed = λ j l u. absurd (omega arith);
         }
 
 pub first-all : (f : ℕ → Bool) (m i : ℕ) → firstFrom f m i ≡ none → (j : ℕ) → i ≤ j → j < i + m → f j ≡ true
@@ -280,7 +280,7 @@ lowest-at bad (suc m) p x h = go (bad p) refl (lowest-at bad m (p + 1) x)
           from = omega arith;
           below = omega arith;
           refused = a .refused;
-          passed = λ q l u. ⊎-elim (λ z. ap bad (sym z) ∙ e) (λ z. a .passed q z u) (at-or-after p q l)
+          passed = λ q l u. ⊎-elim (λ z. ap bad (sym z) ∙ e) (λ z. a .passed q z u) (at-or-after p q l);
         }
     go (some i) e r =
         let q : some (record { part = p; item = i }) ≡ some x = sym (lowest-here bad m p i e) ∙ h in
@@ -290,7 +290,7 @@ lowest-at bad (suc m) p x h = go (bad p) refl (lowest-at bad m (p + 1) x)
           from = omega arith;
           below = omega arith;
           refused = e;
-          passed = λ q l u. absurd (omega arith)
+          passed = λ q l u. absurd (omega arith);
         })
 
 pub lowest-all : (bad : ℕ → Option ℕ) (m p : ℕ) → lowestFrom bad m p ≡ none → (q : ℕ) → p ≤ q → q < p + m → bad q ≡ none

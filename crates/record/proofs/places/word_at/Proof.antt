@@ -1,16 +1,11 @@
 -- A word is there or it is 0, as the test says.
 -- Assumes nothing.
 use mathlib.Core.Path.{sym, _∙_}
+use native.Mathlib.Omega.{arith}
 use Rattle.record.proofs.RecordLaws.{word-there, word-missing}
 use borrow.Author.Needs.{needs}
 use Rattle.record.proofs.places.word_at.Statement.{statement}
 use Rattle.record.proofs.places.word_at.Tie as tie
-
-mul-if1 : tie.Need-mul-if1
-mul-if1 c = search needs
-
-add-if1 : tie.Need-add-if1
-add-if1 c = search needs
 
 mul-word-of : tie.Need-mul-word-of
 mul-word-of c = search needs
@@ -49,17 +44,15 @@ word-of-requires : tie.Need-word-of-requires
 word-of-requires c κs = search needs
 
 returns : tie.Need-returns
-returns c = c .word-of .ensures ∙ sym (word-there _ _ (c .before .before .before .before .before .if1 .taken))
+returns c = c .word-of .ensures ∙ sym (word-there _ _ (omega arith))
 
 returns-2 : tie.Need-returns-2
-returns-2 c = sym (word-missing _ _ (c .if1 .left))
+returns-2 c = sym (word-missing _ _ (omega arith))
 
 pub word-at-spec : {M : Type 1} → statement M
 word-at-spec =
     tie.close
     (tie.spec
-    mul-if1
-    add-if1
     mul-word-of
     shared-slice-read-word-of
     mul-word-of-2
