@@ -151,15 +151,15 @@ different-sorted f r l = sym (sort-different f l) ∙ different-steps (map f (so
 pins-rise : (x y : ℕ) → x ≤ y → x / 2 ^ 33 ≤ y / 2 ^ 33
 pins-rise x y h = omega arith
 
-extra-same : (x y : ℕ) → y ≡ x → extra x y ≡ 0
+pub extra-same : (x y : ℕ) → y ≡ x → extra x y ≡ 0
 unfolding extra
 extra-same x y h = rw (eq-eqb y x h, extra)
 
-extra-yes : (x y : ℕ) → (y ≡ x → ⊥) → y / 2 ^ 33 ≡ x / 2 ^ 33 → extra x y ≡ 1
+pub extra-yes : (x y : ℕ) → (y ≡ x → ⊥) → y / 2 ^ 33 ≡ x / 2 ^ 33 → extra x y ≡ 1
 unfolding extra
 extra-yes x y h e = rw (ne-eqb y x h, eq-eqb (y / 2 ^ 33) (x / 2 ^ 33) e, extra)
 
-extra-no : (x y : ℕ) → (y ≡ x → ⊥) → (y / 2 ^ 33 ≡ x / 2 ^ 33 → ⊥) → extra x y ≡ 0
+pub extra-no : (x y : ℕ) → (y ≡ x → ⊥) → (y / 2 ^ 33 ≡ x / 2 ^ 33 → ⊥) → extra x y ≡ 0
 unfolding extra
 extra-no x y h e = rw (ne-eqb y x h, ne-eqb (y / 2 ^ 33) (x / 2 ^ 33) e, extra)
 
@@ -207,20 +207,3 @@ unfolding duplicatesIn
 duplicates-sorted l =
     let e : different l - different (map (λ a. a / 2 ^ 33) l) ≡ extras (sortOf l) = omega (arith, different-split l) in
     ap (λ (n : ℕ). (n + 31) / 32) e
-
--- ---- the loop over a sorted list
-
-extra-le : (x y : ℕ) → extra x y ≤ 1
-unfolding extra
-extra-le x y = go (eqb y x) refl (eqb (y / 2 ^ 33) (x / 2 ^ 33)) refl
-  where
-    go : (b : Bool) → eqb y x ≡ b → (t : Bool) → eqb (y / 2 ^ 33) (x / 2 ^ 33) ≡ t → extra x y ≤ 1
-    go true e t f = omega (arith, extra-same x y (eqb-true y x e))
-    go false e true f = omega (arith, extra-yes x y (eqb-false y x e) (eqb-true (y / 2 ^ 33) (x / 2 ^ 33) f))
-    go false e false f = omega (arith, extra-no x y (eqb-false y x e) (eqb-false (y / 2 ^ 33) (x / 2 ^ 33) f))
-
-pub extras-le : (l : List ℕ) → extras l ≤ length l
-unfolding extras
-extras-le [] = omega arith
-extras-le (x ∷ []) = omega arith
-extras-le (x ∷ (y ∷ ys)) = omega (arith, extra-le x y, extras-le (y ∷ ys))
