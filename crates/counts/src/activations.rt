@@ -3,9 +3,13 @@ ghost use mathlib.Core.Path.{_≡_};
 ghost use mathlib.Core.List.{[], _∷_, _++_};
 ghost use Prim.Native.Nat.{ℕ, _+_, _*_, _-_, _/_, _^_, _≤_, _<_};
 ghost use lib.ListN.{length, drop};
+ghost use lib.Seq.{sets};
 ghost use Rattle.sort.specs.Outcome.{keysAfter, scratchAfter};
-ghost use Rattle.counts.specs.Counts.{activationsOf, duplicatesIn};
+ghost use Rattle.record.specs.Record.{endpointKind, endpointX, endpointY};
+ghost use Rattle.counts.specs.Counts.{activationsOf, activations, duplicatesIn, duplicates};
+ghost use Rattle.counts.specs.Parts.{Countable, activationsAt};
 ghost use Rattle.counts.specs.Steps.{extra, extras};
+use record::bodies::{endpoint_kind, endpoint_x, endpoint_y, Body};
 
 // The activation of an endpoint that is no SRAM, as one number. A staged pin is doubled to be an inverted pin number.
 fn key_of(kind: u32, x: u32, y: u32) -> u64
@@ -56,4 +60,45 @@ fn duplicate_words(keys: &mut [u64], scratch: &mut [u64]) -> u32
 {
     sort::sort(keys, scratch);
     ((extras_in(keys) + 31) / 32) as u32
+}
+
+// Puts the activation of endpoint i, if it has one, at index n: the next free index.
+fn put_key(d: &[u8], p: usize, body: Body, i: usize, keys: &mut [u64], n: usize) -> usize
+    requires { ⌜ Countable (now d) p body × (i < body .endpoints) × (n < length (now keys)) ⌝ }
+    ensures { λ r. ⌜ r ≡ n + length (activationsAt (now (d .entry)) p i) ⌝ }
+    ensures { λ _. ⌜ now (keys .exit) ≡ sets (now (keys .entry)) n (activationsAt (now (d .entry)) p i) ⌝ }
+{
+    let kind = endpoint_kind(d, p, body, i);
+    if kind < 3 {
+        keys[n] = key_of(kind, endpoint_x(d, p, body, i), endpoint_y(d, p, body, i));
+        return n + 1;
+    }
+    n
+}
+
+// Puts the activations of a part at the front of `keys`: how many there are.
+fn collect(d: &[u8], p: usize, body: Body, keys: &mut [u64]) -> usize
+    requires { ⌜ Countable (now d) p body × (length (now keys) ≡ 8192) ⌝ }
+    ensures { λ r. ⌜ (r ≡ length (activations (now (d .entry)) p)) × (r ≤ 8192) ⌝ }
+    ensures { λ r. ⌜ now (keys .exit) ≡ activations (now (d .entry)) p ++ drop r (now (keys .entry)) ⌝ }
+{
+    let endpoints = body.endpoints;
+    let mut n = 0;
+    let mut i = 0;
+    while i < endpoints {
+        n = put_key(d, p, body, i, keys, n);
+        i += 1;
+    }
+    n
+}
+
+// The duplicate words of a part.
+pub fn duplicates_of(d: &[u8], p: usize, body: Body) -> u32
+    requires { ⌜ Countable (now d) p body ⌝ }
+    ensures { λ r. ⌜ r ≡ duplicates (now (d .entry)) p ⌝ }
+{
+    let mut keys = [0u64; 8192];
+    let mut scratch = [0u64; 8192];
+    let n = collect(d, p, body, &mut keys);
+    duplicate_words(&mut keys[..n], &mut scratch)
 }

@@ -1,38 +1,41 @@
+-- The extras of the sorted keys, over 32, rounded up.
+-- Assumes nothing.
+use mathlib.Core.Path.{_≡_}
+use Prim.Native.Nat.{_+_, _/_, _≤_}
+use native.Mathlib.Omega.{arith}
+use lib.ListN.{length}
+use Rattle.counts.specs.Counts.{duplicatesIn}
+use Rattle.counts.proofs.KeyLaws.{extras-sorted}
 use borrow.Author.Needs.{needs}
 use Rattle.counts.proofs.activations.duplicate_words.Statement.{statement}
 use Rattle.counts.proofs.activations.duplicate_words.Tie as tie
-use Rattle.counts.proofs.activations.duplicate_words.Reads as reads
-use Rattle.counts.proofs.activations.duplicate_words.Lts as lts
-use Rattle.counts.proofs.activations.extras_in.Reads as extras-in-reads
-use Rattle.sort.proofs.sort.Reads as sort-reads
 
--- src/activations.rt:57:5
+-- the extras that are found: no more than the keys, and those that make the duplicate words
+found : (c : tie.After-extras-in) → (c .extras-in .result ≤ length (c .before .before .before .before .before .before .before .before .before .before .before .args .keys .now)) × ((c .extras-in .result + 31) / 32 ≡ duplicatesIn (c .before .before .before .before .before .before .before .before .before .before .before .args .keys .now))
+found c =
+    let a = c .before .before .before .before .before .before in
+    extras-sorted (a .before .before .before .before .before .args .keys .now) (a .before .before .before .before .before .args .scratch .now) (a .sort .last .0) _ (a .before .before .before .before .before .pre .1) (a .sort .ensures .1 .0) (c .extras-in .ensures)
+
 sort-requires : tie.Need-sort-requires
 sort-requires c κs = search needs
 
--- src/activations.rt:58:7
 extras-in-requires : tie.Need-extras-in-requires
 extras-in-requires c κs = search needs
 
--- src/activations.rt:58:7
 add-result : tie.Need-add-result
-add-result c = search needs
+add-result c = omega (arith, found c .0)
 
--- src/activations.rt:58:5
 cast-result : tie.Need-cast-result
-cast-result c = search needs
+cast-result c = omega (arith, found c .0)
 
--- src/activations.rt:51:1
 same-length : tie.Need-same-length
 same-length c = search needs
 
--- src/activations.rt:51:1
 same-length-2 : tie.Need-same-length-2
 same-length-2 c = search needs
 
--- src/activations.rt:51:1
 returns : tie.Need-returns
-returns c = search needs
+returns c = (found c .1, c .before .before .before .before .before .before .sort .ensures .1)
 
 pub duplicate-words-spec : {M : Type 1} → statement M
 duplicate-words-spec =
