@@ -1,2 +1,3 @@
+pub mod CollectLaws
 pub mod CountLaws
 pub mod KeyLaws

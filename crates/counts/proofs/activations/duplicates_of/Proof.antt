@@ -1,0 +1,47 @@
+use borrow.Author.Needs.{needs}
+use Rattle.counts.proofs.activations.duplicates_of.Statement.{statement}
+use Rattle.counts.proofs.activations.duplicates_of.Tie as tie
+use Rattle.counts.proofs.activations.duplicates_of.Reads as reads
+use Rattle.counts.proofs.activations.duplicates_of.Lts as lts
+use Rattle.counts.proofs.activations.collect.Reads as collect-reads
+use Rattle.counts.proofs.activations.duplicate_words.Reads as duplicate-words-reads
+
+-- src/activations.rt:102:33
+slice-aggregate-collect : tie.Need-slice-aggregate-collect
+slice-aggregate-collect c = search needs
+
+-- src/activations.rt:102:9
+collect-requires : tie.Need-collect-requires
+collect-requires c κs = search needs
+
+-- src/activations.rt:103:21
+array-borrow-prefix-keys : tie.Need-array-borrow-prefix-keys
+array-borrow-prefix-keys c = search needs
+
+-- src/activations.rt:103:21
+slice-aggregate-duplicate-words : tie.Need-slice-aggregate-duplicate-words
+slice-aggregate-duplicate-words c = search needs
+
+-- src/activations.rt:103:37
+slice-aggregate-duplicate-words-2 : tie.Need-slice-aggregate-duplicate-words-2
+slice-aggregate-duplicate-words-2 c = search needs
+
+-- src/activations.rt:103:5
+duplicate-words-requires : tie.Need-duplicate-words-requires
+duplicate-words-requires c κs = search needs
+
+-- src/activations.rt:96:1
+returns : tie.Need-returns
+returns c = search needs
+
+pub duplicates-of-spec : {M : Type 1} → statement M
+duplicates-of-spec =
+    tie.close
+    (tie.spec
+    slice-aggregate-collect
+    collect-requires
+    array-borrow-prefix-keys
+    slice-aggregate-duplicate-words
+    slice-aggregate-duplicate-words-2
+    duplicate-words-requires
+    returns)
