@@ -79,6 +79,9 @@ collect-all d p i first keys n g e h =
     (g .count ∙ ap length acts, omega (arith, g .few), g .keys-are ∙ ap (λ (l : List ℕ). l ++ drop n first) acts)
 
 -- the front that holds them, lent to be sorted
-pub collected-front : (d : List ℕ) (p n : ℕ) (first keys : List ℕ) → n ≡ length (activations d p) → keys ≡ activations d p ++ drop n first
-    → take n keys ≡ activations d p
-collected-front d p n first keys c k = ap (take n) k ∙ take-at (activations d p) (drop n first) n (sym c)
+module _ (d : List ℕ) (p n : ℕ) (first keys : List ℕ) (count : n ≡ length (activations d p)) (put : keys ≡ activations d p ++ drop n first) where
+  pub front-is : take n keys ≡ activations d p
+  front-is = ap (take n) put ∙ take-at (activations d p) (drop n first) n (sym count)
+
+  pub front-length : n ≡ length (take n keys)
+  front-length = count ∙ ap length (sym front-is)
