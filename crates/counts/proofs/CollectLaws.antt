@@ -35,6 +35,13 @@ activations-few (suc zero) x y = omega arith
 activations-few (suc (suc zero)) x y = omega arith
 activations-few (suc (suc (suc k))) x y = omega arith
 
+pub activations-length : (d : List ℕ) (p n : ℕ) → length (activationsTo d p n) ≤ n
+unfolding activationsTo
+activations-length d p zero = omega arith
+activations-length d p (suc n) =
+    let one : length (activationsAt d p n) ≤ 1 = activations-few (endpointKind d p n) (endpointX d p n) (endpointY d p n) in
+    omega (arith, activations-length d p n, length-append (activationsTo d p n) (activationsAt d p n))
+
 -- ---- the endpoints below i
 
 pub record Collected (d : List ℕ) (p i : ℕ) (first keys : List ℕ) (n : ℕ) : Type 0 where
@@ -63,8 +70,8 @@ module _ (d : List ℕ) (p i : ℕ) (first keys : List ℕ) (n : ℕ) (g : Colle
       let one : length acts ≤ 1 = activations-few (endpointKind d p i) (endpointX d p i) (endpointY d p i) in
       let rest : drop (length acts) (drop n first) ≡ drop m first = drop-drop (length acts) n first ∙ ap (λ (k : ℕ). drop k first) (sym f) in
       let put : sets keys n acts ≡ activationsTo d p i ++ acts ++ drop m first =
-          ap (λ (l : List ℕ). sets l n acts) (g .keys-are) ∙ sets-seam (activationsTo d p i) (drop n first) acts n (g .count) (omega (arith, length-drop n first, g .few))
-          ∙ ap (λ (l : List ℕ). activationsTo d p i ++ acts ++ l) rest in
+      ap (λ (l : List ℕ). sets l n acts) (g .keys-are) ∙ sets-seam (activationsTo d p i) (drop n first) acts n (g .count) (omega (arith, length-drop n first, g .few))
+      ∙ ap (λ (l : List ℕ). activationsTo d p i ++ acts ++ l) rest in
       rw add-one
       (record {
         keys-are = e ∙ put;

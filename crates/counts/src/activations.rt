@@ -9,7 +9,10 @@ ghost use Rattle.record.specs.Record.{endpointKind, endpointX, endpointY};
 ghost use Rattle.counts.specs.Counts.{activationsOf, activations, duplicatesIn, duplicates};
 ghost use Rattle.counts.specs.Parts.{Countable, activationsAt};
 ghost use Rattle.counts.specs.Steps.{extra, extras};
-use record::bodies::{endpoint_kind, endpoint_x, endpoint_y, Body};
+use record::bodies::Body;
+use record::bodies::endpoint_kind;
+use record::bodies::endpoint_x;
+use record::bodies::endpoint_y;
 
 // The activation of an endpoint that is no SRAM, as one number. A staged pin is doubled to be an inverted pin number.
 fn key_of(kind: u32, x: u32, y: u32) -> u64

@@ -1,5 +1,6 @@
 // Activations, duplicate words and write-out words: refusal 7. Document 01, "Positions and counts".
 pub mod activations;
+
 ghost use mathlib.Core.Path.{_≡_};
 ghost use mathlib.Core.Bool.{true};
 ghost use Prim.Native.Nat.{_≤_};
@@ -7,7 +8,12 @@ ghost use Rattle.record.specs.Body.{BodyOf};
 ghost use Rattle.record.specs.Form.{planForm};
 ghost use Rattle.counts.specs.Counts.{isSram, srams, badCounts, refusal7};
 ghost use Rattle.counts.specs.Parts.{Countable, CountsOf, badLocation, itemOf, lowestOf};
-use record::bodies::{body_at, endpoint_kind, first_body, location, parts_of, Body};
+use record::bodies::Body;
+use record::bodies::body_at;
+use record::bodies::endpoint_kind;
+use record::bodies::first_body;
+use record::bodies::location;
+use record::bodies::parts_of;
 
 // A part's SRAMs, duplicate words and write-out words.
 pub struct Counts {

@@ -1,37 +1,35 @@
+-- The three ends of refusal 7 in a part.
+-- Assumes nothing.
+use native.Mathlib.Omega.{arith}
+use Rattle.counts.proofs.PartLaws.{counts-location, counts-fine, counts-many}
 use borrow.Author.Needs.{needs}
 use Rattle.counts.proofs.bad_counts.Statement.{statement}
 use Rattle.counts.proofs.bad_counts.Tie as tie
-use Rattle.counts.proofs.bad_counts.Reads as reads
-use Rattle.counts.proofs.bad_counts.Lts as lts
-use Rattle.counts.proofs.counts_of.Reads as counts-of-reads
-use Rattle.counts.proofs.first_bad_location.Reads as first-bad-location-reads
 
--- src/lib.rt:91:26
 first-bad-location-requires : tie.Need-first-bad-location-requires
 first-bad-location-requires c κs = search needs
 
--- src/lib.rt:91:21
 enum-known-l : tie.Need-enum-known-l
 enum-known-l c = search needs
 
--- src/lib.rt:92:9
 returns : tie.Need-returns
-returns c = search needs
+returns c = counts-location _ _ _ (c .before .before .before .first-bad-location .ensures) _ (c .before .l .given .1)
 
 enum-told : tie.Need-enum-told
 enum-told c = search needs
 
--- src/lib.rt:94:9
 counts-of-requires : tie.Need-counts-of-requires
 counts-of-requires c κs = search needs
 
--- src/lib.rt:96:9
 returns-2 : tie.Need-returns-2
-returns-2 c = search needs
+returns-2 c =
+    let w = c .before .before .counts-of .ensures .words-are in
+    counts-fine _ _ _ (c .before .before .before .before .before .first-bad-location .ensures) (c .before .before .before .enum-told .given .1) (omega (arith, w, c .if1 .taken))
 
--- src/lib.rt:87:1
 returns-3 : tie.Need-returns-3
-returns-3 c = search needs
+returns-3 c =
+    let w = c .before .before .counts-of .ensures .words-are in
+    counts-many _ _ _ (c .before .before .before .before .before .first-bad-location .ensures) (c .before .before .before .enum-told .given .1) _ (c .before .before .before .before .before .before .before .pre .body .locations) (omega (arith, w, c .if1 .left))
 
 pub bad-counts-spec : {M : Type 1} → statement M
 bad-counts-spec =

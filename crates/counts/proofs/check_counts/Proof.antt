@@ -1,65 +1,62 @@
+-- The lowest place from this part on is that of the plan; the bodies are walked from one's end to the next.
+-- Assumes nothing.
+use mathlib.Core.Path.{_≡_}
+use Prim.Native.Nat.{_-_, _≤_, _<_}
+use native.Mathlib.Omega.{arith}
+use Rattle.record.specs.Record.{partsOf, bodyAt}
+use Rattle.record.specs.Tests.{lowestFrom}
+use Rattle.record.proofs.FormLaws.{formed, body-ready}
+use Rattle.counts.specs.Counts.{badCounts, refusal7}
+use Rattle.counts.proofs.PartLaws.{countable, pass-start, pass-fault, pass-next, pass-end}
 use borrow.Author.Needs.{needs}
 use Rattle.counts.proofs.check_counts.Statement.{statement}
 use Rattle.counts.proofs.check_counts.Tie as tie
-use Rattle.counts.proofs.check_counts.Reads as reads
-use Rattle.counts.proofs.check_counts.Lts as lts
-use Rattle.counts.proofs.bad_counts.Reads as bad-counts-reads
-use Rattle.record.proofs.bodies.body_at.Reads as body-at-reads
-use Rattle.record.proofs.bodies.first_body.Reads as first-body-reads
-use Rattle.record.proofs.bodies.parts_of.Reads as parts-of-reads
 
 abbrev Inv-loop : tie.InvT-loop
-Inv-loop d parts at₀ p₀ at p = ?
+Inv-loop d parts at₀ p₀ at p = (p ≤ parts) × (at ≡ bodyAt d p) × (lowestFrom (badCounts d) (partsOf d - p) p ≡ refusal7 d)
 
 abbrev μ-loop : tie.MeasureT-loop
-μ-loop d parts at₀ p₀ at p = ?
+μ-loop d parts at₀ p₀ at p = parts - p
 
--- src/lib.rt:106:9
+-- the part is one of the plan's
+among : (c : tie.In-loop Inv-loop μ-loop) → c .before .loop .p < partsOf (c .before .before .before .before .before .args .d .now)
+among c = omega (arith, c .loop-test .taken, c .before .before .before .parts-of .ensures .0)
+
 parts-of-requires : tie.Need-parts-of-requires Inv-loop μ-loop
-parts-of-requires c κs = search needs
+parts-of-requires c κs = formed _ (c .before .pre) .head .majors
 
--- src/lib.rt:107:9
 first-body-requires : tie.Need-first-body-requires Inv-loop μ-loop
-first-body-requires c κs = search needs
+first-body-requires c κs = formed _ (c .before .before .pre) .head .majors
 
--- src/lib.rt:109:5
 loop-holds : tie.Need-loop-holds Inv-loop μ-loop
-loop-holds c = search needs
+loop-holds c = (omega arith, c .first-body .ensures .0, pass-start _)
 
--- src/lib.rt:110:13
 body-at-requires : tie.Need-body-at-requires Inv-loop μ-loop
-body-at-requires c κs = search needs
+body-at-requires c κs = body-ready _ (formed _ (c .before .before .before .before .before .pre) .sizes) _ _ (among c) (c .before .loop .inv .1)
 
--- src/lib.rt:111:30
 bad-counts-requires : tie.Need-bad-counts-requires Inv-loop μ-loop
-bad-counts-requires c κs = search needs
+bad-counts-requires c κs = countable _ _ _ (c .before .before .before .before .before .before .pre) (among (c .before)) (c .body-at .ensures)
 
--- src/lib.rt:111:25
 enum-known-i : tie.Need-enum-known-i Inv-loop μ-loop
 enum-known-i c = search needs
 
--- src/lib.rt:112:13
 returns : tie.Need-returns Inv-loop μ-loop
-returns c = search needs
+returns c = pass-fault _ _ (c .before .before .before .before .before .before .loop .inv .2) (among (c .before .before .before .before .before)) _ (c .before .before .before .bad-counts .ensures) _ (c .before .i .given .1)
 
 enum-told : tie.Need-enum-told Inv-loop μ-loop
 enum-told c = search needs
 
--- src/lib.rt:115:9
 add-p : tie.Need-add-p Inv-loop μ-loop
 add-p c = search needs
 
--- src/lib.rt:109:5
 loop-less : tie.Need-loop-less Inv-loop μ-loop
 loop-less c = search needs
 
--- src/lib.rt:109:5
 loop-again : tie.Need-loop-again Inv-loop μ-loop
-loop-again c = search needs
+loop-again c = (omega arith, c .before .before .before .body-at .ensures .end, pass-next _ _ (c .before .before .before .before .before .loop .inv .2) (among (c .before .before .before .before)) _ (c .before .before .bad-counts .ensures) (c .enum-told .given .1))
 
--- src/lib.rt:102:1
 returns-2 : tie.Need-returns-2 Inv-loop μ-loop
-returns-2 c = search needs
+returns-2 c = pass-end _ _ (c .before .loop .inv .2) (omega (arith, c .before .before .before .parts-of .ensures .0))
 
 pub check-counts-spec : {M : Type 1} → statement M
 check-counts-spec =

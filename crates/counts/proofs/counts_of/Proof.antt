@@ -1,38 +1,49 @@
+-- The counts of a part, and that duplicate words are few where endpoints are.
+-- Assumes nothing.
+use mathlib.Core.Path.{_≡_}
+use Prim.Native.Nat.{_≤_}
+use native.Mathlib.Omega.{arith}
+use Rattle.record.specs.Record.{endpointsOf}
+use Rattle.counts.specs.Counts.{writeOuts}
+use Rattle.counts.proofs.PartLaws.{duplicates-few}
 use borrow.Author.Needs.{needs}
 use Rattle.counts.proofs.counts_of.Statement.{statement}
 use Rattle.counts.proofs.counts_of.Tie as tie
-use Rattle.counts.proofs.counts_of.Reads as reads
-use Rattle.counts.proofs.counts_of.Lts as lts
-use Rattle.counts.proofs.activations.duplicates_of.Reads as duplicates-of-reads
-use Rattle.counts.proofs.srams_of.Reads as srams-of-reads
 
--- src/lib.rt:61:9
+few : (a : tie.Start) → endpointsOf (a .args .d .now) (a .args .p) ≤ 8192
+few a = omega (arith, a .pre .body .endpoints, a .pre .body .laid .endpoints)
+
 srams-of-requires : tie.Need-srams-of-requires
 srams-of-requires c κs = search needs
 
--- src/lib.rt:62:9
 duplicates-of-requires : tie.Need-duplicates-of-requires
 duplicates-of-requires c κs = search needs
 
--- src/lib.rt:66:33
 cast-t6 : tie.Need-cast-t6
 cast-t6 c = search needs
 
--- src/lib.rt:66:16
 add-t7 : tie.Need-add-t7
 add-t7 c = search needs
 
--- src/lib.rt:66:50
 cast-t8 : tie.Need-cast-t8
 cast-t8 c = search needs
 
--- src/lib.rt:66:16
 add-t9 : tie.Need-add-t9
 add-t9 c = search needs
 
--- src/lib.rt:57:1
 returns : tie.Need-returns
-returns c = search needs
+unfolding writeOuts
+returns c =
+    let a = c .before .before .before .before in
+    let s = c .before .before .srams-of .ensures in
+    let u = c .before .duplicates-of .ensures in
+    record {
+      srams-are = s .0;
+      duplicates-are = u;
+      words-are = omega (arith, a .pre .body .locations, s .0, u);
+      few-srams = s .1;
+      few-duplicates = omega (arith, u, duplicates-few _ _ (few a));
+    }
 
 pub counts-of-spec : {M : Type 1} → statement M
 counts-of-spec =

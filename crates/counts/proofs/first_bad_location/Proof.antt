@@ -11,9 +11,6 @@ use Rattle.counts.proofs.PartLaws.{bad-here, bad-next, bad-end}
 use borrow.Author.Needs.{needs}
 use Rattle.counts.proofs.first_bad_location.Statement.{statement}
 use Rattle.counts.proofs.first_bad_location.Tie as tie
-use Rattle.counts.proofs.first_bad_location.Reads as reads
-use Rattle.counts.proofs.first_bad_location.Lts as lts
-use Rattle.record.proofs.bodies.location.Reads as location-reads
 
 abbrev Inv-loop : tie.InvT-loop
 Inv-loop d p body locations l₀ l = (l ≤ locations) × (firstFrom (locationFits d p) (locationsOf d p - l) l ≡ badLocation d p)
@@ -21,31 +18,24 @@ Inv-loop d p body locations l₀ l = (l ≤ locations) × (firstFrom (locationFi
 abbrev μ-loop : tie.MeasureT-loop
 μ-loop d p body locations l₀ l = locations - l
 
--- src/lib.rt:77:5
 loop-holds : tie.Need-loop-holds Inv-loop μ-loop
 loop-holds c = (omega arith, ap (λ (n : ℕ). firstFrom (locationFits (c .before .args .d .now) (c .before .args .p)) n 0) (sub-zero _))
 
--- src/lib.rt:78:12
 location-requires : tie.Need-location-requires Inv-loop μ-loop
 location-requires c κs = search needs
 
--- src/lib.rt:79:13
 returns : tie.Need-returns Inv-loop μ-loop
 returns c = let a = c .before .before .before in let s = a .before .before in bad-here _ _ _ (omega (arith, s .pre .locations)) (omega (arith, c .before .location .ensures)) (a .loop .inv .1)
 
--- src/lib.rt:81:9
 add-l : tie.Need-add-l Inv-loop μ-loop
 add-l c = search needs
 
--- src/lib.rt:77:5
 loop-less : tie.Need-loop-less Inv-loop μ-loop
 loop-less c = search needs
 
--- src/lib.rt:77:5
 loop-again : tie.Need-loop-again Inv-loop μ-loop
 loop-again c = let a = c .before .before .before in let s = a .before .before in (omega arith, bad-next _ _ _ (omega (arith, s .pre .locations)) (omega (arith, c .before .location .ensures)) (a .loop .inv .1))
 
--- src/lib.rt:71:1
 returns-2 : tie.Need-returns-2 Inv-loop μ-loop
 returns-2 c = let a = c .before in let s = a .before .before in bad-end _ _ _ (omega (arith, s .pre .locations)) (a .loop .inv .1)
 

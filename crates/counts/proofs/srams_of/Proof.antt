@@ -10,10 +10,6 @@ use Rattle.counts.proofs.PartLaws.{sramsTo, srams-more}
 use borrow.Author.Needs.{needs}
 use Rattle.counts.proofs.srams_of.Statement.{statement}
 use Rattle.counts.proofs.srams_of.Tie as tie
-use Rattle.counts.proofs.srams_of.Reads as reads
-use Rattle.counts.proofs.srams_of.Lts as lts
-use Rattle.counts.proofs.sram_of.Reads as sram-of-reads
-use Rattle.record.proofs.bodies.endpoint_kind.Reads as endpoint-kind-reads
 
 abbrev Inv-loop : tie.InvT-loop
 Inv-loop d p body endpoints found₀ i₀ found i = (i ≤ endpoints) × (found ≡ sramsTo d p i) × (found ≤ i)
@@ -21,42 +17,33 @@ Inv-loop d p body endpoints found₀ i₀ found i = (i ≤ endpoints) × (found 
 abbrev μ-loop : tie.MeasureT-loop
 μ-loop d p body endpoints found₀ i₀ found i = endpoints - i
 
--- src/lib.rt:49:5
 loop-holds : tie.Need-loop-holds Inv-loop μ-loop
 unfolding sumTo
 loop-holds c = (omega arith, refl, omega arith)
 
--- src/lib.rt:50:26
 endpoint-kind-requires : tie.Need-endpoint-kind-requires Inv-loop μ-loop
 endpoint-kind-requires c κs = search needs
 
--- src/lib.rt:50:18
 sram-of-requires : tie.Need-sram-of-requires Inv-loop μ-loop
 sram-of-requires c κs = search needs
 
--- src/lib.rt:50:9
 add-found : tie.Need-add-found Inv-loop μ-loop
 add-found c = omega (arith, c .sram-of .ensures .1, c .before .before .before .before .before .pre .laid .endpoints)
 
--- src/lib.rt:51:9
 add-i : tie.Need-add-i Inv-loop μ-loop
 add-i c = search needs
 
--- src/lib.rt:49:5
 loop-less : tie.Need-loop-less Inv-loop μ-loop
 loop-less c = search needs
 
--- src/lib.rt:49:5
 loop-again : tie.Need-loop-again Inv-loop μ-loop
 loop-again c =
-    let a = c .before .before .before in
-    (
+    let a = c .before .before .before in (
       omega arith,
       ap₂ _+_ (a .loop .inv .1) (c .sram-of .ensures .0 ∙ ap isSram (c .before .endpoint-kind .ensures)) ∙ sym (srams-more (a .before .before .args .d .now) (a .before .before .args .p) (a .loop .i)),
-      omega (arith, c .sram-of .ensures .1)
+      omega (arith, c .sram-of .ensures .1),
     )
 
--- src/lib.rt:42:1
 returns : tie.Need-returns Inv-loop μ-loop
 returns c =
     let a = c .before in

@@ -9,9 +9,6 @@ use Rattle.counts.proofs.CollectLaws.{Collected, collect-start, collect
 use borrow.Author.Needs.{needs}
 use Rattle.counts.proofs.activations.collect.Statement.{statement}
 use Rattle.counts.proofs.activations.collect.Tie as tie
-use Rattle.counts.proofs.activations.collect.Reads as reads
-use Rattle.counts.proofs.activations.collect.Lts as lts
-use Rattle.counts.proofs.activations.put_key.Reads as put-key-reads
 
 abbrev Inv-loop : tie.InvT-loop
 Inv-loop d p body keys₀ endpoints n₀ i₀ keys n i = (i ≤ endpoints) × (length keys ≡ length keys₀) × Collected d p i keys₀ keys n
@@ -23,39 +20,31 @@ abbrev μ-loop : tie.MeasureT-loop
 room : (c : tie.After-put-key-arg Inv-loop μ-loop) → c .before .before .loop .i < length (c .before .before .before .before .before .args .keys .now)
 room c = let a = c .before .before .before .before .before in omega (arith, c .before .loop-test .taken, a .pre .0 .body .laid .endpoints, a .pre .1)
 
--- src/activations.rt:88:5
 loop-holds : tie.Need-loop-holds Inv-loop μ-loop
 loop-holds c = (omega arith, refl, collect-start _ _ _)
 
--- src/activations.rt:89:9
 put-key-requires : tie.Need-put-key-requires Inv-loop μ-loop
 put-key-requires c κs =
     let a = c .before .before .before .before .before in
     (a .pre .0, c .before .loop-test .taken, collect-room _ _ _ _ _ _ (c .before .before .loop .inv .2) (room c))
 
--- src/activations.rt:90:9
 add-i : tie.Need-add-i Inv-loop μ-loop
 add-i c = search needs
 
--- src/activations.rt:88:5
 loop-less : tie.Need-loop-less Inv-loop μ-loop
 loop-less c = search needs
 
--- src/activations.rt:88:5
 loop-again : tie.Need-loop-again Inv-loop μ-loop
 loop-again c =
-    let a = c .before .before .before .before .before .before .before .before in
-    (
+    let a = c .before .before .before .before .before .before .before .before in (
       omega arith,
       c .before .before .put-key .kept .1 .1 .1 .1 .0 ∙ c .before .before .before .before .before .loop .inv .1,
-      collect-more _ _ _ _ _ _ (c .before .before .before .before .before .loop .inv .2) (room (c .before .before .before)) _ _ (c .before .before .put-key .ensures .1) (c .before .before .put-key .ensures .0)
+      collect-more _ _ _ _ _ _ (c .before .before .before .before .before .loop .inv .2) (room (c .before .before .before)) _ _ (c .before .before .put-key .ensures .1) (c .before .before .put-key .ensures .0),
     )
 
--- src/activations.rt:80:1
 same-length : tie.Need-same-length Inv-loop μ-loop
 same-length c = c .before .loop .inv .1
 
--- src/activations.rt:80:1
 returns : tie.Need-returns Inv-loop μ-loop
 returns c =
     let a = c .before .before .before .before in

@@ -8,39 +8,28 @@ use Rattle.counts.proofs.CollectLaws.{front-is, front-length}
 use borrow.Author.Needs.{needs}
 use Rattle.counts.proofs.activations.duplicates_of.Statement.{statement}
 use Rattle.counts.proofs.activations.duplicates_of.Tie as tie
-use Rattle.counts.proofs.activations.duplicates_of.Reads as reads
-use Rattle.counts.proofs.activations.duplicates_of.Lts as lts
-use Rattle.counts.proofs.activations.collect.Reads as collect-reads
-use Rattle.counts.proofs.activations.duplicate_words.Reads as duplicate-words-reads
 
--- src/activations.rt:102:33
 slice-aggregate-collect : tie.Need-slice-aggregate-collect
 slice-aggregate-collect c = search needs
 
--- src/activations.rt:102:9
 collect-requires : tie.Need-collect-requires
 collect-requires c κs = search needs
 
--- src/activations.rt:103:21
 array-borrow-prefix-keys : tie.Need-array-borrow-prefix-keys
 array-borrow-prefix-keys c = search needs
 
--- src/activations.rt:103:21
 slice-aggregate-duplicate-words : tie.Need-slice-aggregate-duplicate-words
 slice-aggregate-duplicate-words c = let e = c .before .before .collect .ensures in front-length _ _ _ _ (c .before .before .collect .last .1 .1 .1 .0) (e .0 .0) (e .1)
 
--- src/activations.rt:103:37
 slice-aggregate-duplicate-words-2 : tie.Need-slice-aggregate-duplicate-words-2
 slice-aggregate-duplicate-words-2 c = search needs
 
--- src/activations.rt:103:5
 duplicate-words-requires : tie.Need-duplicate-words-requires
 duplicate-words-requires c κs =
     let e = c .before .before .before .collect .ensures in
     let n : c .before .before .before .collect .result ≡ length (take (c .before .before .before .collect .result) (c .before .before .before .collect .last .1 .1 .1 .0)) = front-length _ _ _ _ (c .before .before .before .collect .last .1 .1 .1 .0) (e .0 .0) (e .1) in
     (omega (arith, n, e .0 .1), omega (arith, n, e .0 .1))
 
--- src/activations.rt:96:1
 returns : tie.Need-returns
 returns c = let e = c .before .before .before .before .before .before .collect .ensures in c .before .before .duplicate-words .ensures .0 ∙ ap duplicatesIn (front-is _ _ _ _ (c .before .before .before .before .before .before .collect .last .1 .1 .1 .0) (e .0 .0) (e .1))
 

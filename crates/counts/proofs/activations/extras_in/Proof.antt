@@ -9,9 +9,6 @@ use Rattle.counts.proofs.KeyLaws.{extras-more, extras-end}
 use borrow.Author.Needs.{needs}
 use Rattle.counts.proofs.activations.extras_in.Statement.{statement}
 use Rattle.counts.proofs.activations.extras_in.Tie as tie
-use Rattle.counts.proofs.activations.extras_in.Reads as reads
-use Rattle.counts.proofs.activations.extras_in.Lts as lts
-use Rattle.counts.proofs.activations.extra_of.Reads as extra-of-reads
 
 abbrev Inv-loop : tie.InvT-loop
 Inv-loop keys found₀ i₀ found i = (i ≤ length keys) × (found ≤ i) × (found + extras (drop i keys) ≡ extras keys)
@@ -19,57 +16,44 @@ Inv-loop keys found₀ i₀ found i = (i ≤ length keys) × (found ≤ i) × (f
 abbrev μ-loop : tie.MeasureT-loop
 μ-loop keys found₀ i₀ found i = length keys - i
 
--- src/activations.rt:43:5
 loop-holds : tie.Need-loop-holds Inv-loop μ-loop
 loop-holds c = search needs
 
--- src/activations.rt:43:11
 add-loop : tie.Need-add-loop Inv-loop μ-loop
 add-loop c = search needs
 
--- src/activations.rt:44:27
 mul-extra-of : tie.Need-mul-extra-of Inv-loop μ-loop
 mul-extra-of c = search needs
 
--- src/activations.rt:44:27
 shared-slice-read-extra-of : tie.Need-shared-slice-read-extra-of Inv-loop μ-loop
 shared-slice-read-extra-of c = search needs
 
--- src/activations.rt:44:41
 add-extra-of : tie.Need-add-extra-of Inv-loop μ-loop
 add-extra-of c = search needs
 
--- src/activations.rt:44:36
 mul-extra-of-2 : tie.Need-mul-extra-of-2 Inv-loop μ-loop
 mul-extra-of-2 c = search needs
 
--- src/activations.rt:44:36
 shared-slice-read-extra-of-2 : tie.Need-shared-slice-read-extra-of-2 Inv-loop μ-loop
 shared-slice-read-extra-of-2 c = search needs
 
--- src/activations.rt:44:18
 extra-of-requires : tie.Need-extra-of-requires Inv-loop μ-loop
 extra-of-requires c κs = search needs
 
--- src/activations.rt:44:9
 add-found : tie.Need-add-found Inv-loop μ-loop
 add-found c = search needs
 
--- src/activations.rt:45:9
 add-i : tie.Need-add-i Inv-loop μ-loop
 add-i c = search needs
 
--- src/activations.rt:43:5
 loop-less : tie.Need-loop-less Inv-loop μ-loop
 loop-less c = search needs
 
--- src/activations.rt:43:5
 loop-again : tie.Need-loop-again Inv-loop μ-loop
 loop-again c =
     let a = c .before .before .before in
     (omega arith, omega arith, omega (arith, extras-more (a .before .before .before .args .keys .now) (a .before .loop .i) (a .loop-test .taken), c .extra-of .ensures .0))
 
--- src/activations.rt:38:1
 returns : tie.Need-returns Inv-loop μ-loop
 returns c = omega (arith, extras-end (c .before .before .before .args .keys .now) (c .before .loop .i) (c .loop-test .left))
 

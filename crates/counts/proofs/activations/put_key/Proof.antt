@@ -6,12 +6,6 @@ use Rattle.counts.proofs.CollectLaws.{put-key, put-nothing}
 use borrow.Author.Needs.{needs}
 use Rattle.counts.proofs.activations.put_key.Statement.{statement}
 use Rattle.counts.proofs.activations.put_key.Tie as tie
-use Rattle.counts.proofs.activations.put_key.Reads as reads
-use Rattle.counts.proofs.activations.put_key.Lts as lts
-use Rattle.counts.proofs.activations.key_of.Reads as key-of-reads
-use Rattle.record.proofs.bodies.endpoint_kind.Reads as endpoint-kind-reads
-use Rattle.record.proofs.bodies.endpoint_x.Reads as endpoint-x-reads
-use Rattle.record.proofs.bodies.endpoint_y.Reads as endpoint-y-reads
 
 endpoint-kind-requires : tie.Need-endpoint-kind-requires
 endpoint-kind-requires c κs = search needs
