@@ -1,17 +1,16 @@
 -- How many different numbers a list has does not depend on its order, and in an ascending list it is the number of steps. Dividing keeps
 -- a list ascending, so one sorted list of activations gives both counts; their difference is the number of extra activations.
 -- Assumes nothing.
-use mathlib.Core.Path.{_≡_, refl, sym, ap, ap₂, _∙_}
+use mathlib.Core.Path.{_≡_, refl, sym, ap, _∙_}
 use mathlib.Core.Bool.{Bool, true, false, _||_}
 use mathlib.Core.List.{List, [], _∷_, map}
-use Prim.Native.Nat.{ℕ, zero, suc, _+_, _-_, _/_, _^_, _≤_, _<_}
+use Prim.Native.Nat.{ℕ, zero, suc, _+_, _-_, _/_, _^_, _≤_}
 use native.Mathlib.Nat.{not-suc-le-zero}
 use native.Mathlib.Omega.{arith}
 use lib.Dec.{leb, eqb}
-use lib.ListN.{length, getD}
 use borrow.Author.Tests.{leb-true, leb-false, eqb-true, eqb-false, eq-eqb, ne-eqb}
 use Rattle.sort.specs.Sorted.{insert, sortOf, Ascending}
-use Rattle.sort.proofs.SortLaws.{AtMost, ascending-nil, ascending-cons, ascending-head, ascending-tail, at-most-cons, at-most-less, insert-here, insert-on, sort-ascending, sort-length}
+use Rattle.sort.proofs.SortLaws.{AtMost, ascending-nil, ascending-cons, ascending-head, ascending-tail, at-most-cons, at-most-less, insert-here, insert-on, sort-ascending}
 use Rattle.counts.specs.Counts.{isIn, different, duplicatesIn}
 use Rattle.counts.specs.Steps.{steps, extra, extras}
 

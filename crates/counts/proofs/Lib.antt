@@ -1,3 +1,4 @@
+pub mod AnswerLaws
 pub mod CollectLaws
 pub mod CountLaws
 pub mod KeyLaws

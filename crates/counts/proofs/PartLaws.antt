@@ -1,31 +1,30 @@
 -- A part's counts: SRAMs one endpoint more a turn, the two ends of refusal 7 in a part, and what a part that passed it has.
 -- Assumes nothing.
-use mathlib.Core.Path.{_≡_, refl, sym, ap, ap₂, _∙_}
+use mathlib.Core.Path.{_≡_, refl, sym, ap, _∙_}
 use mathlib.Core.Bool.{Bool, true, false}
 use mathlib.Core.Option.{Option, none, some}
 use mathlib.Core.List.{List}
 use Prim.Native.Nat.{ℕ, _+_, _-_, _≤_, _<_}
-use native.Mathlib.Nat.{sub-zero}
 use native.Mathlib.Omega.{arith}
-use lib.Dec.{leb, eqb}
-use borrow.Author.Tests.{leb-true, leb-false, le-leb, lt-leb, eq-eqb, ne-eqb}
+use lib.Dec.{leb}
+use borrow.Author.Tests.{leb-true, le-leb, lt-leb, eq-eqb, ne-eqb}
 use Rattle.words.specs.Sum.{sumTo}
 use Rattle.words.proofs.SumLaws.{sum-more}
 use Rattle.record.specs.Record.{partsOf, endpointKind, endpointsOf, locationsOf, locationAt}
 use Rattle.record.specs.declared.bodies.Body.{Body}
-use Rattle.record.specs.Tests.{firstFrom, lowestFrom, Place}
 use Rattle.record.specs.Form.{planForm}
 use Rattle.record.specs.Body.{BodyOf}
 use Rattle.record.proofs.FormLaws.{formed}
-use Rattle.record.proofs.TestLaws.{first-fault, first-next, first-end, not-none, lowest-fault, lowest-next, lowest-end, lowest-none}
+use Rattle.record.proofs.TestLaws.{not-none, lowest-none}
 use Rattle.sort.specs.Sorted.{sortOf}
 use Rattle.sort.proofs.SortLaws.{sort-length}
 use Rattle.counts.specs.Counts.{activations, isSram, srams, duplicates, writeOuts, badCounts, refusal7}
-use Rattle.counts.specs.declared.Item.{Item}
-use Rattle.counts.specs.declared.Item.the-variants.{Fine, At}
-use Rattle.counts.specs.declared.Lowest.the-variants as low
-use Rattle.counts.specs.Parts.{Countable, locationFits, badLocation, itemOf, lowestOf}
+use Rattle.counts.specs.declared.answers.Item.{Item}
+use Rattle.counts.specs.declared.answers.Item.the-variants.{Fine, At}
+use Rattle.counts.specs.Parts.{Countable, locationFits, badLocation}
+use Rattle.counts.specs.Answers.{itemOf}
 use Rattle.counts.specs.Steps.{extras}
+use Rattle.counts.proofs.AnswerLaws.{item-some, item-none}
 use Rattle.counts.proofs.CountLaws.{duplicates-sorted}
 use Rattle.counts.proofs.KeyLaws.{extras-le}
 use Rattle.counts.proofs.CollectLaws.{activations-length}
@@ -45,28 +44,7 @@ sramsTo d p i = sumTo (λ j. isSram (endpointKind d p j)) i
 pub srams-more : (d : List ℕ) (p i : ℕ) → sramsTo d p (i + 1) ≡ sramsTo d p i + isSram (endpointKind d p i)
 srams-more d p i = sum-more (λ j. isSram (endpointKind d p j)) i
 
--- ---- the first bad location, from location l on
-
-module _ (d : List ℕ) (p l : ℕ) where
-  pub bad-here : l < locationsOf d p → 255 < locationAt d p l → firstFrom (locationFits d p) (locationsOf d p - l) l ≡ badLocation d p → At l ≡ itemOf (badLocation d p)
-  bad-here h g e = ap itemOf (sym (first-fault (locationFits d p) (locationsOf d p) l h (lt-leb _ _ g)) ∙ e)
-
-  pub bad-next : l < locationsOf d p → locationAt d p l ≤ 255 → firstFrom (locationFits d p) (locationsOf d p - l) l ≡ badLocation d p
-      → firstFrom (locationFits d p) (locationsOf d p - (l + 1)) (l + 1) ≡ badLocation d p
-  bad-next h g e = sym (first-next (locationFits d p) (locationsOf d p) l h (le-leb _ _ g)) ∙ e
-
-  pub bad-end : locationsOf d p ≤ l → firstFrom (locationFits d p) (locationsOf d p - l) l ≡ badLocation d p → Fine ≡ itemOf (badLocation d p)
-  bad-end h e = ap itemOf (sym (first-end (locationFits d p) (locationsOf d p) l h) ∙ e)
-
 -- ---- the ends of refusal 7 in a part
-
-item-some : (o : Option ℕ) (i : ℕ) → itemOf o ≡ At i → o ≡ some i
-item-some none i h = let z : _≡_ {A = ℕ} 0 1 = cc in absurd (omega arith)
-item-some (some j) i h = let e : j ≡ i = cc in ap some e
-
-item-none : (o : Option ℕ) → itemOf o ≡ Fine → o ≡ none
-item-none none h = refl
-item-none (some j) h = let z : _≡_ {A = ℕ} 0 1 = cc in absurd (omega arith)
 
 module _ (d : List ℕ) (p : ℕ) (r : Item) (looked : r ≡ itemOf (badLocation d p)) where
   pub counts-location : (l : ℕ) → r ≡ At l → At l ≡ itemOf (badCounts d p)
@@ -82,7 +60,11 @@ module _ (d : List ℕ) (p : ℕ) (r : Item) (looked : r ≡ itemOf (badLocation
     unfolding badCounts
     counts-many n c h = let e : badLocation d p ≡ none = item-none _ (sym looked ∙ fine) in rw (e, lt-leb (writeOuts d p) 256 h, badCounts) (ap At c)
 
--- ---- bounds
+-- ---- what is known of a part
+
+-- a part of a plan in form may be counted
+pub countable : (d : List ℕ) (p : ℕ) (b : Body) → planForm d ≡ true → p < partsOf d → BodyOf d p b → Countable d p b
+countable d p b f l h = record { body = h; staged = λ i k e. formed d f .endpoint p i l (omega (arith, h .endpoints)) .staged e }
 
 pub duplicates-few : (d : List ℕ) (p : ℕ) → endpointsOf d p ≤ 8192 → duplicates d p ≤ 256
 duplicates-few d p h =
@@ -124,37 +106,3 @@ part-passed d p h = go (badLocation d p) refl (leb (writeOuts d p) 256) refl
 pub passed : (d : List ℕ) → refusal7 d ≡ none → (p : ℕ) → p < partsOf d → Passed d p
 unfolding refusal7
 passed d h p l = part-passed d p (lowest-none (badCounts d) (partsOf d) h p l)
-
--- ---- the pass over all parts, at part p
-
--- a part of a plan in form may be counted
-pub countable : (d : List ℕ) (p : ℕ) (b : Body) → planForm d ≡ true → p < partsOf d → BodyOf d p b → Countable d p b
-countable d p b f l h = record { body = h; staged = λ i k e. formed d f .endpoint p i l (omega (arith, h .endpoints)) .staged e }
-
-pub pass-start : (d : List ℕ) → lowestFrom (badCounts d) (partsOf d - 0) 0 ≡ refusal7 d
-unfolding refusal7
-pass-start d = rw sub-zero
-
-module _ (d : List ℕ) (p : ℕ) (here : lowestFrom (badCounts d) (partsOf d - p) p ≡ refusal7 d) where
-  pub pass-end : partsOf d ≤ p → low.Fine ≡ lowestOf (refusal7 d)
-  pass-end h = ap lowestOf (sym (lowest-end (badCounts d) (partsOf d) p h) ∙ here)
-
-  module _ (h : p < partsOf d) (r : Item) (asked : r ≡ itemOf (badCounts d p)) where
-    pub pass-fault : (i : ℕ) → r ≡ At i → low.At p i ≡ lowestOf (refusal7 d)
-    pass-fault i e = ap lowestOf (sym (lowest-fault (badCounts d) (partsOf d) p i h (item-some _ i (sym asked ∙ e))) ∙ here)
-
-    pub pass-next : r ≡ Fine → lowestFrom (badCounts d) (partsOf d - (p + 1)) (p + 1) ≡ refusal7 d
-    pass-next e = sym (lowest-next (badCounts d) (partsOf d) p h (item-none _ (sym asked ∙ e))) ∙ here
-
--- ---- what the code's answer says of the definition
-
-pub none-of-fine : (o : Option Place) → low.Fine ≡ lowestOf o → o ≡ none
-none-of-fine none h = refl
-none-of-fine (some x) h = let z : _≡_ {A = ℕ} 0 1 = cc in absurd (omega arith)
-
-pub some-of-at : (o : Option Place) (p i : ℕ) → low.At p i ≡ lowestOf o → o ≡ some (record { part = p; item = i })
-some-of-at none p i h = let z : _≡_ {A = ℕ} 0 1 = cc in absurd (omega arith)
-some-of-at (some x) p i h =
-    let a : x .part ≡ p = cc in
-    let b : x .item ≡ i = cc in
-    ap some (ap₂ (λ (u v : ℕ). record { part = u; item = v }) a b)

@@ -1,20 +1,16 @@
--- One part's counts as the code carries them, what is known of a part when it is counted, and what the answers of the code stand for.
+-- One part's counts as the code carries them, and what is known of a part when it is counted.
 -- Assumes nothing.
 use mathlib.Core.Path.{_≡_}
 use mathlib.Core.Bool.{Bool}
-use mathlib.Core.Option.{Option, none, some}
+use mathlib.Core.Option.{Option}
 use mathlib.Core.List.{List}
 use Prim.Native.Nat.{ℕ, _^_, _≤_, _<_}
 use lib.Dec.{leb}
 use Rattle.record.specs.declared.bodies.Body.{Body}
 use Rattle.record.specs.Record.{endpointKind, endpointX, endpointY, locationsOf, locationAt}
-use Rattle.record.specs.Tests.{firstNot, Place}
+use Rattle.record.specs.Tests.{firstNot}
 use Rattle.record.specs.Body.{BodyOf}
 use Rattle.counts.specs.declared.Counts.{Counts}
-use Rattle.counts.specs.declared.Item.{Item}
-use Rattle.counts.specs.declared.Item.the-variants as item
-use Rattle.counts.specs.declared.Lowest.{Lowest}
-use Rattle.counts.specs.declared.Lowest.the-variants as low
 use Rattle.counts.specs.Counts.{activationsOf, duplicates, srams, writeOuts}
 
 -- b is the body of part p, and the pins of its staged endpoints are in range
@@ -40,13 +36,3 @@ locationFits d p l = leb (locationAt d p l) 255
 
 abbrev pub badLocation : List ℕ → ℕ → Option ℕ
 badLocation d p = firstNot (locationFits d p) (locationsOf d p)
-
--- ---- the code's answers
-
-abbrev pub itemOf : Option ℕ → Item
-itemOf none = item.Fine
-itemOf (some i) = item.At i
-
-abbrev pub lowestOf : Option Place → Lowest
-lowestOf none = low.Fine
-lowestOf (some x) = low.At (x .part) (x .item)

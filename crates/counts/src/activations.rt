@@ -1,11 +1,10 @@
 // The activations of a part's endpoints, and the duplicate words that they ask for.
 ghost use mathlib.Core.Path.{_≡_};
 ghost use mathlib.Core.List.{[], _∷_, _++_};
-ghost use Prim.Native.Nat.{ℕ, _+_, _*_, _-_, _/_, _^_, _≤_, _<_};
+ghost use Prim.Native.Nat.{_+_, _*_, _-_, _/_, _^_, _≤_, _<_};
 ghost use lib.ListN.{length, drop};
 ghost use lib.Seq.{sets};
 ghost use Rattle.sort.specs.Outcome.{keysAfter, scratchAfter};
-ghost use Rattle.record.specs.Record.{endpointKind, endpointX, endpointY};
 ghost use Rattle.counts.specs.Counts.{activationsOf, activations, duplicatesIn, duplicates};
 ghost use Rattle.counts.specs.Parts.{Countable, activationsAt};
 ghost use Rattle.counts.specs.Steps.{extra, extras};

@@ -1,5 +1,6 @@
 // Activations, duplicate words and write-out words: refusal 7. Document 01, "Positions and counts".
 pub mod activations;
+pub mod answers;
 
 ghost use mathlib.Core.Path.{_≡_};
 ghost use mathlib.Core.Bool.{true};
@@ -7,7 +8,10 @@ ghost use Prim.Native.Nat.{_≤_};
 ghost use Rattle.record.specs.Body.{BodyOf};
 ghost use Rattle.record.specs.Form.{planForm};
 ghost use Rattle.counts.specs.Counts.{isSram, srams, badCounts, refusal7};
-ghost use Rattle.counts.specs.Parts.{Countable, CountsOf, badLocation, itemOf, lowestOf};
+ghost use Rattle.counts.specs.Parts.{Countable, CountsOf, badLocation};
+ghost use Rattle.counts.specs.Answers.{itemOf, lowestOf};
+use answers::Item;
+use answers::Lowest;
 use record::bodies::Body;
 use record::bodies::body_at;
 use record::bodies::endpoint_kind;
@@ -20,18 +24,6 @@ pub struct Counts {
     pub srams: u32,
     pub duplicates: u32,
     pub words: usize,
-}
-
-// The lowest item of a part that is refused, if there is one.
-pub enum Item {
-    Fine,
-    At(usize),
-}
-
-// The lowest place that is refused, part and item, if there is one.
-pub enum Lowest {
-    Fine,
-    At(usize, usize),
 }
 
 // 1 for an SRAM, else 0.

@@ -7,7 +7,8 @@ use Rattle.record.specs.Record.{partsOf, bodyAt}
 use Rattle.record.specs.Tests.{lowestFrom}
 use Rattle.record.proofs.FormLaws.{formed, body-ready}
 use Rattle.counts.specs.Counts.{badCounts, refusal7}
-use Rattle.counts.proofs.PartLaws.{countable, pass-start, pass-fault, pass-next, pass-end}
+use Rattle.counts.proofs.AnswerLaws.{pass-start, pass-fault, pass-next, pass-end}
+use Rattle.counts.proofs.PartLaws.{countable}
 use borrow.Author.Needs.{needs}
 use Rattle.counts.proofs.check_counts.Statement.{statement}
 use Rattle.counts.proofs.check_counts.Tie as tie
@@ -29,7 +30,8 @@ first-body-requires : tie.Need-first-body-requires Inv-loop μ-loop
 first-body-requires c κs = formed _ (c .before .before .pre) .head .majors
 
 loop-holds : tie.Need-loop-holds Inv-loop μ-loop
-loop-holds c = (omega arith, c .first-body .ensures .0, pass-start _)
+unfolding refusal7
+loop-holds c = (omega arith, c .first-body .ensures .0, pass-start _ _)
 
 body-at-requires : tie.Need-body-at-requires Inv-loop μ-loop
 body-at-requires c κs = body-ready _ (formed _ (c .before .before .before .before .before .pre) .sizes) _ _ (among c) (c .before .loop .inv .1)
@@ -41,7 +43,7 @@ enum-known-i : tie.Need-enum-known-i Inv-loop μ-loop
 enum-known-i c = search needs
 
 returns : tie.Need-returns Inv-loop μ-loop
-returns c = pass-fault _ _ (c .before .before .before .before .before .before .loop .inv .2) (among (c .before .before .before .before .before)) _ (c .before .before .before .bad-counts .ensures) _ (c .before .i .given .1)
+returns c = pass-fault _ _ _ _ (c .before .before .before .before .before .before .loop .inv .2) (among (c .before .before .before .before .before)) _ (c .before .before .before .bad-counts .ensures) _ (c .before .i .given .1)
 
 enum-told : tie.Need-enum-told Inv-loop μ-loop
 enum-told c = search needs
@@ -53,10 +55,10 @@ loop-less : tie.Need-loop-less Inv-loop μ-loop
 loop-less c = search needs
 
 loop-again : tie.Need-loop-again Inv-loop μ-loop
-loop-again c = (omega arith, c .before .before .before .body-at .ensures .end, pass-next _ _ (c .before .before .before .before .before .loop .inv .2) (among (c .before .before .before .before)) _ (c .before .before .bad-counts .ensures) (c .enum-told .given .1))
+loop-again c = (omega arith, c .before .before .before .body-at .ensures .end, pass-next _ _ _ _ (c .before .before .before .before .before .loop .inv .2) (among (c .before .before .before .before)) _ (c .before .before .bad-counts .ensures) (c .enum-told .given .1))
 
 returns-2 : tie.Need-returns-2 Inv-loop μ-loop
-returns-2 c = pass-end _ _ (c .before .loop .inv .2) (omega (arith, c .before .before .before .parts-of .ensures .0))
+returns-2 c = pass-end _ _ _ _ (c .before .loop .inv .2) (omega (arith, c .before .before .before .parts-of .ensures .0))
 
 pub check-counts-spec : {M : Type 1} → statement M
 check-counts-spec =

@@ -1,6 +1,5 @@
 -- The counts of a part, and that duplicate words are few where endpoints are.
 -- Assumes nothing.
-use mathlib.Core.Path.{_≡_}
 use Prim.Native.Nat.{_≤_}
 use native.Mathlib.Omega.{arith}
 use Rattle.record.specs.Record.{endpointsOf}

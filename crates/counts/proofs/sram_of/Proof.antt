@@ -3,7 +3,6 @@
 use mathlib.Core.Path.{sym}
 use native.Mathlib.Omega.{arith}
 use Rattle.counts.proofs.PartLaws.{sram-yes, sram-no}
-use borrow.Author.Needs.{needs}
 use Rattle.counts.proofs.sram_of.Statement.{statement}
 use Rattle.counts.proofs.sram_of.Tie as tie
 

@@ -3,7 +3,6 @@
 use mathlib.Core.Path.{sym}
 use native.Mathlib.Omega.{arith}
 use Rattle.counts.proofs.CountLaws.{extra-same, extra-yes, extra-no}
-use borrow.Author.Needs.{needs}
 use Rattle.counts.proofs.activations.extra_of.Statement.{statement}
 use Rattle.counts.proofs.activations.extra_of.Tie as tie
 

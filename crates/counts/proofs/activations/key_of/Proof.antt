@@ -1,6 +1,5 @@
 -- The key of each kind; a staged pin doubled fits, since the pin is in range.
 -- Assumes nothing.
-use mathlib.Core.Path.{_≡_}
 use native.Mathlib.Omega.{arith}
 use Rattle.counts.proofs.KeyLaws.{output-key, staged-key, register-key}
 use borrow.Author.Needs.{needs}

@@ -1,6 +1,6 @@
 -- The key of an endpoint, or none for an SRAM.
 -- Assumes nothing.
-use mathlib.Core.Path.{_≡_, sym, ap, _∙_}
+use mathlib.Core.Path.{sym, _∙_}
 use native.Mathlib.Omega.{arith}
 use Rattle.counts.proofs.CollectLaws.{put-key, put-nothing}
 use borrow.Author.Needs.{needs}
