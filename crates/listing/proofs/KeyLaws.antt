@@ -1,10 +1,10 @@
--- The bits that records ask for: no more than positions may come, each below 2^37; and the front of lent words that hold them.
+-- The bits that records ask for: no more than positions may come, each of the form that a read set needs; and the front of lent words that hold them.
 -- Assumes nothing.
 use mathlib.Core.Path.{_≡_, refl, sym, ap, _∙_}
 use mathlib.Core.Bool.{Bool, true, false}
 use mathlib.Core.Option.{Option, none, some}
 use mathlib.Core.List.{List}
-use Prim.Native.Nat.{ℕ, zero, suc, _+_, _^_, _≤_, _<_}
+use Prim.Native.Nat.{ℕ, zero, suc, _+_, _/_, _%_, _^_, _≤_, _<_}
 use native.Mathlib.Numerals.{sub-one}
 use native.Mathlib.Omega.{arith}
 use lib.Dec.{leb, ltb}
@@ -26,52 +26,56 @@ keyOf (Position q) = q
 keyOf End = 0
 keyOf (Bad b) = 0
 
+-- below 2^37, and its word, without the flag, below 2^27
+abbrev pub Asking : ℕ → Type 0
+Asking q = (q < 2 ^ 37) × (q / 32 % 2 ^ 31 < 2 ^ 27)
+
 module _ (bs : List ℕ) (bytes : (i : ℕ) → getD bs i 0 < 256) where
   number-small : (i : ℕ) → numberAt bs i < 2 ^ 32
   unfolding numberAt
   number-small i = omega (arith, bytes i, bytes (i + 1), bytes (i + 2), bytes (i + 3))
 
-  position-small : (at flag : ℕ) → flag ≤ 2 ^ 36 → keyOf (positionAt bs at flag) < 2 ^ 37
+  position-asks : (at flag : ℕ) → ((x : ℕ) → x < 2 ^ 32 → Asking (flag + x)) → Asking (keyOf (positionAt bs at flag))
   unfolding positionAt
-  position-small at flag h = go (leb (at + 5) (length bs)) refl
+  position-asks at flag f = go (leb (at + 5) (length bs)) refl
     where
-      go : (b : Bool) → leb (at + 5) (length bs) ≡ b → keyOf (positionAt bs at flag) < 2 ^ 37
-      go true e = rw (e, positionAt) (omega (arith, number-small (at + 1)))
-      go false e = rw (e, positionAt) (omega arith)
+      go : (b : Bool) → leb (at + 5) (length bs) ≡ b → Asking (keyOf (positionAt bs at flag))
+      go true e = rw (e, positionAt) (f (numberAt bs (at + 1)) (number-small (at + 1)))
+      go false e = rw (e, positionAt) (omega arith, omega arith)
 
-  kind-small : (at k : ℕ) → keyOf (kindAt bs at k) < 2 ^ 37
+  kind-asks : (at k : ℕ) → Asking (keyOf (kindAt bs at k))
   unfolding kindAt endAt
-  kind-small at zero = go (ltb (at + 1) (length bs)) refl
+  kind-asks at zero = go (ltb (at + 1) (length bs)) refl
     where
-      go : (b : Bool) → ltb (at + 1) (length bs) ≡ b → keyOf (endAt bs at) < 2 ^ 37
-      go true e = rw (e, endAt) (omega arith)
-      go false e = rw (e, endAt) (omega arith)
-  kind-small at (suc zero) = position-small at 0 (omega arith)
-  kind-small at (suc (suc zero)) = position-small at (2 ^ 36) (omega arith)
-  kind-small at (suc (suc (suc k))) = omega arith
+      go : (b : Bool) → ltb (at + 1) (length bs) ≡ b → Asking (keyOf (endAt bs at))
+      go true e = rw (e, endAt) (omega arith, omega arith)
+      go false e = rw (e, endAt) (omega arith, omega arith)
+  kind-asks at (suc zero) = position-asks at 0 (λ x h. (omega arith, omega arith))
+  kind-asks at (suc (suc zero)) = position-asks at (2 ^ 36) (λ x h. (omega arith, omega arith))
+  kind-asks at (suc (suc (suc k))) = (omega arith, omega arith)
 
-  record-small : (at : ℕ) → keyOf (recordAt bs at) < 2 ^ 37
+  record-asks : (at : ℕ) → Asking (keyOf (recordAt bs at))
   unfolding recordAt
-  record-small at = go (ltb at (length bs)) refl
+  record-asks at = go (ltb at (length bs)) refl
     where
-      go : (b : Bool) → ltb at (length bs) ≡ b → keyOf (recordAt bs at) < 2 ^ 37
-      go true e = rw (e, recordAt) (kind-small at (getD bs at 0))
-      go false e = rw (e, recordAt) (omega arith)
+      go : (b : Bool) → ltb at (length bs) ≡ b → Asking (keyOf (recordAt bs at))
+      go true e = rw (e, recordAt) (kind-asks at (getD bs at 0))
+      go false e = rw (e, recordAt) (omega arith, omega arith)
 
-  pub keys-small : (n at i : ℕ) → getD (recordsFrom n bs at .keys) i 0 < 2 ^ 37
-  keys-small zero at i = go (recordAt bs at) refl
+  pub keys-ask : (n at i : ℕ) → Asking (getD (recordsFrom n bs at .keys) i 0)
+  keys-ask zero at i = go (recordAt bs at) refl
     where
-      go : (x : Record) → recordAt bs at ≡ x → getD (recordsFrom 0 bs at .keys) i 0 < 2 ^ 37
-      go (Position q) e = rw (stop-full 0 bs at q e refl) (omega arith)
-      go End e = rw (stop-end 0 bs at e) (omega arith)
-      go (Bad b) e = rw (stop-bad 0 bs at b e) (omega arith)
-  keys-small (suc n) at i = go (recordAt bs at) refl i (keys-small n (at + 5))
+      go : (x : Record) → recordAt bs at ≡ x → Asking (getD (recordsFrom 0 bs at .keys) i 0)
+      go (Position q) e = rw (stop-full 0 bs at q e refl) (omega arith, omega arith)
+      go End e = rw (stop-end 0 bs at e) (omega arith, omega arith)
+      go (Bad b) e = rw (stop-bad 0 bs at b e) (omega arith, omega arith)
+  keys-ask (suc n) at i = go (recordAt bs at) refl i (keys-ask n (at + 5))
     where
-      go : (x : Record) → recordAt bs at ≡ x → (i : ℕ) → ((i : ℕ) → getD (recordsFrom n bs (at + 5) .keys) i 0 < 2 ^ 37) → getD (recordsFrom (suc n) bs at .keys) i 0 < 2 ^ 37
-      go (Position q) e zero r = rw (one-more (suc n) bs at q e (omega arith)) (rw e at (record-small at))
+      go : (x : Record) → recordAt bs at ≡ x → (i : ℕ) → ((i : ℕ) → Asking (getD (recordsFrom n bs (at + 5) .keys) i 0)) → Asking (getD (recordsFrom (suc n) bs at .keys) i 0)
+      go (Position q) e zero r = rw (one-more (suc n) bs at q e (omega arith)) (rw e at (record-asks at))
       go (Position q) e (suc i) r = rw (one-more (suc n) bs at q e (omega arith), sub-one) (r i)
-      go End e i r = rw (stop-end (suc n) bs at e) (omega arith)
-      go (Bad b) e i r = rw (stop-bad (suc n) bs at b e) (omega arith)
+      go End e i r = rw (stop-end (suc n) bs at e) (omega arith, omega arith)
+      go (Bad b) e i r = rw (stop-bad (suc n) bs at b e) (omega arith, omega arith)
 
 pub keys-few : (bs : List ℕ) (n at : ℕ) → length (recordsFrom n bs at .keys) ≤ n
 keys-few bs zero at = go (recordAt bs at) refl
@@ -131,7 +135,7 @@ module _ (bs : List ℕ) {keys : List ℕ} (held : keys ≡ sets (replicate 8192
   pub told-settable : (scratch set : List ℕ) → ((i : ℕ) → getD bs i 0 < 256) → length scratch ≡ 8192 → length set ≡ 16384 → Settable (take n keys) scratch set
   told-settable scratch set bytes s t =
       record {
-        small = λ i h. (rw told-keys (keys-small bs bytes 8192 0 i));
+        small = λ i h. (rw told-keys (keys-ask bs bytes 8192 0 i .0));
         scratch-room = omega (arith, told-front, few);
         room = omega (arith, told-front, few);
       }

@@ -10,3 +10,4 @@ pub mod KeyLaws
 pub mod ListLaws
 pub mod AnswerToLaws
 pub mod LengthLaws
+pub mod RefusalLaws
