@@ -55,13 +55,13 @@ module _ (block : ℕ → ℕ) where
   before-either i j h =
       ⊎-elim (λ l. inr (is-before j i (inl l)))
       (λ r.
-        ⊎-elim
-        (λ e.
-          ⊎-elim (λ l. inr (is-before j i (inr (e, l))))
-          (λ s. ⊎-elim (λ q. absurd (h q)) (λ l. inl (is-before i j (inr (sym e, l)))) s)
-          (three i j))
-        (λ l. inl (is-before i j (inl l)))
-        r)
+      ⊎-elim
+      (λ e.
+      ⊎-elim (λ l. inr (is-before j i (inr (e, l))))
+      (λ s. ⊎-elim (λ q. absurd (h q)) (λ l. inl (is-before i j (inr (sym e, l)))) s)
+      (three i j))
+      (λ l. inl (is-before i j (inl l)))
+      r)
       (three (block i) (block j))
 
   pub before-trans : (i j k : ℕ) → comesBefore block j i ≡ true → comesBefore block i k ≡ true → comesBefore block j k ≡ true
@@ -177,11 +177,12 @@ module _ (f : ℕ → ℕ) (c : ℕ) (below : (i : ℕ) → i < c → f i < c) (
     where
       go : (a : Bool) → eqb (f n) b ≡ a → sumTo (λ i. given (eqb (f i) b) 1) n ≤ 1 → sumTo (λ i. given (eqb (f i) b) 1) n + given (eqb (f n) b) 1 ≤ 1
       go true e r =
-          omega
-          (arith,
-          sum-zero (λ i. given (eqb (f i) b) 1) n
-          (λ i u. given-false (eqb (f i) b) 1 (ne-eqb (f i) b (λ q. omega (arith, apart i n (omega arith) l (q ∙ sym (eqb-true (f n) b e)))))),
-          given-le (eqb (f n) b) 1)
+          omega (
+            arith,
+            sum-zero (λ i. given (eqb (f i) b) 1) n
+                (λ i u. given-false (eqb (f i) b) 1 (ne-eqb (f i) b (λ q. omega (arith, apart i n (omega arith) l (q ∙ sym (eqb-true (f n) b e)))))),
+            given-le (eqb (f n) b) 1,
+          )
       go false e r = omega (arith, given-false (eqb (f n) b) 1 e)
 
   met-all : sumTo (λ b. sumTo (λ i. given (eqb (f i) b) 1) c) c ≡ c
@@ -199,19 +200,20 @@ module _ (f : ℕ → ℕ) (c : ℕ) (below : (i : ℕ) → i < c → f i < c) (
       go false e =
           let none : sumTo (λ i. given (eqb (f i) k) 1) c ≡ 0 = sum-zero _ c (λ i u. given-false (eqb (f i) k) 1 (some-none (λ x. eqb (f x) k) c i e u)) in
           let each : (b : ℕ) → b < c → sumTo (λ i. given (eqb (f i) b) 1) c + given (eqb b k) 1 ≤ 1 =
-            λ b u.
-              ⊎-elim (λ (h : b ≡ k). omega (arith, ap (λ (x : ℕ). sumTo (λ i. given (eqb (f i) x) 1) c) h, none, given-le (eqb b k) 1))
-              (λ (h : b ≡ k → ⊥). omega (arith, met-once b c (omega arith), given-false (eqb b k) 1 (ne-eqb b k h)))
-              (same-or b k)
+          λ b u.
+          ⊎-elim (λ (h : b ≡ k). omega (arith, ap (λ (x : ℕ). sumTo (λ i. given (eqb (f i) x) 1) c) h, none, given-le (eqb b k) 1))
+          (λ (h : b ≡ k → ⊥). omega (arith, met-once b c (omega arith), given-false (eqb b k) 1 (ne-eqb b k h)))
+          (same-or b k)
           in
           absurd
-          (omega
-          (arith,
-          sum-mono (λ b. sumTo (λ i. given (eqb (f i) b) 1) c + given (eqb b k) 1) (λ b. 1) c each,
-          sum-add (λ b. sumTo (λ i. given (eqb (f i) b) 1) c) (λ b. given (eqb b k) 1) c,
-          met-all,
-          sum-only (λ b. 1) c k l,
-          sum-const 1 c))
+          (omega (
+            arith,
+            sum-mono (λ b. sumTo (λ i. given (eqb (f i) b) 1) c + given (eqb b k) 1) (λ b. 1) c each,
+            sum-add (λ b. sumTo (λ i. given (eqb (f i) b) 1) c) (λ b. given (eqb b k) 1) c,
+            met-all,
+            sum-only (λ b. 1) c k l,
+            sum-const 1 c,
+          ))
 
 -- ---- ranks: how many parts come before a part
 
@@ -253,26 +255,28 @@ module _ (block : ℕ → ℕ) (c : ℕ) where
         each k u =
             ⊎-elim
             (λ q.
-              omega
-              (arith,
+            omega (
+              arith,
               given-true (comesBefore block j k) (words k) (ap (comesBefore block j) q ∙ first),
               given-false (comesBefore block i k) (words k) (ap (comesBefore block i) q ∙ before-self block i),
-              given-true (eqb k i) (words k) (eq-eqb k i q)))
+              given-true (eqb k i) (words k) (eq-eqb k i q),
+            ))
             (λ q.
-              ⊎-elim
-              (λ b.
-                let no : comesBefore block i k ≡ false = not-true-false _ (λ t. before-not block i k b t) in
-                let nor : comesBefore block j k ≡ false =
-                  not-true-false _ (λ t. omega (arith, taken-next block (λ x. 1) c i k l b, taken-next block (λ x. 1) c k j u t))
-                in
-                omega (arith, given-false _ (words k) no, given-false _ (words k) nor, given-false (eqb k i) (words k) (ne-eqb k i q)))
-              (λ b.
-                omega
-                (arith,
-                given-true _ (words k) b,
-                given-true _ (words k) (before-trans block i j k first b),
-                given-false (eqb k i) (words k) (ne-eqb k i q)))
-              (before-either block k i q))
+            ⊎-elim
+            (λ b.
+            let no : comesBefore block i k ≡ false = not-true-false _ (λ t. before-not block i k b t) in
+            let nor : comesBefore block j k ≡ false =
+            not-true-false _ (λ t. omega (arith, taken-next block (λ x. 1) c i k l b, taken-next block (λ x. 1) c k j u t))
+            in
+            omega (arith, given-false _ (words k) no, given-false _ (words k) nor, given-false (eqb k i) (words k) (ne-eqb k i q)))
+            (λ b.
+            omega (
+              arith,
+              given-true _ (words k) b,
+              given-true _ (words k) (before-trans block i j k first b),
+              given-false (eqb k i) (words k) (ne-eqb k i q),
+            ))
+            (before-either block k i q))
             (same-or k i)
 
     pub rank-first : (i : ℕ) → i < c → rank block c i ≡ 0 → takenBefore block words c i ≡ 0
@@ -288,12 +292,13 @@ module _ (block : ℕ → ℕ) (c : ℕ) where
         each k u =
             ⊎-elim
             (λ q.
-              omega
-              (arith,
+            omega (
+              arith,
               given-false (comesBefore block i k) (words k) (ap (comesBefore block i) q ∙ before-self block i),
-              given-true (eqb k i) (words k) (eq-eqb k i q)))
+              given-true (eqb k i) (words k) (eq-eqb k i q),
+            ))
             (λ q.
-              ⊎-elim (λ b. absurd (omega (arith, taken-next block (λ x. 1) c i k l b, rank-lt k u)))
-              (λ b. omega (arith, given-true (comesBefore block i k) (words k) b, given-false (eqb k i) (words k) (ne-eqb k i q)))
-              (before-either block k i q))
+            ⊎-elim (λ b. absurd (omega (arith, taken-next block (λ x. 1) c i k l b, rank-lt k u)))
+            (λ b. omega (arith, given-true (comesBefore block i k) (words k) b, given-false (eqb k i) (words k) (ne-eqb k i q)))
+            (before-either block k i q))
             (same-or k i)

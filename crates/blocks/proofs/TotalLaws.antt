@@ -77,14 +77,15 @@ sum-only f zero k h = absurd (not-suc-le-zero h)
 sum-only f (suc n) k h =
     ⊎-elim
     (λ l.
-      omega (arith, sum-only f n k l, given-false (eqb n k) (f n) (ne-eqb n k (omega arith))))
+    omega (arith, sum-only f n k l, given-false (eqb n k) (f n) (ne-eqb n k (omega arith))))
     (λ l.
-      let e : n ≡ k = omega arith in
-      omega
-      (arith,
+    let e : n ≡ k = omega arith in
+    omega (
+      arith,
       sum-zero (λ i. given (eqb i k) (f i)) n (λ i g. given-false (eqb i k) (f i) (ne-eqb i k (omega arith))),
       given-true (eqb n k) (f n) (eq-eqb n k e),
-      ap f e))
+      ap f e,
+    ))
     (lt-or-ge k n)
 
 -- a number k is met once by the numbers below n if it is below n, else never
@@ -95,24 +96,27 @@ sum-meets w k (suc n) = ⊎-elim (below (sum-meets w k n)) (λ r. ⊎-elim (here
   where
     below : sumTo (λ b. given (eqb k b) w) n ≡ given (ltb k n) w → k < n → sumTo (λ b. given (eqb k b) w) n + given (eqb k n) w ≡ given (ltb k (suc n)) w
     below r l =
-        omega
-        (arith,
-        given-true (ltb k n) w (lt-ltb k n l),
-        given-false (eqb k n) w (ne-eqb k n (omega arith)),
-        given-true (ltb k (suc n)) w (lt-ltb k (suc n) (omega arith)))
+        omega (
+          arith,
+          given-true (ltb k n) w (lt-ltb k n l),
+          given-false (eqb k n) w (ne-eqb k n (omega arith)),
+          given-true (ltb k (suc n)) w (lt-ltb k (suc n) (omega arith)),
+        )
 
     here : sumTo (λ b. given (eqb k b) w) n ≡ given (ltb k n) w → k ≡ n → sumTo (λ b. given (eqb k b) w) n + given (eqb k n) w ≡ given (ltb k (suc n)) w
     here r e =
-        omega
-        (arith,
-        given-false (ltb k n) w (le-ltb k n (omega arith)),
-        given-true (eqb k n) w (eq-eqb k n e),
-        given-true (ltb k (suc n)) w (lt-ltb k (suc n) (omega arith)))
+        omega (
+          arith,
+          given-false (ltb k n) w (le-ltb k n (omega arith)),
+          given-true (eqb k n) w (eq-eqb k n e),
+          given-true (ltb k (suc n)) w (lt-ltb k (suc n) (omega arith)),
+        )
 
     above : sumTo (λ b. given (eqb k b) w) n ≡ given (ltb k n) w → n < k → sumTo (λ b. given (eqb k b) w) n + given (eqb k n) w ≡ given (ltb k (suc n)) w
     above r l =
-        omega
-        (arith,
-        given-false (ltb k n) w (le-ltb k n (omega arith)),
-        given-false (eqb k n) w (ne-eqb k n (omega arith)),
-        given-false (ltb k (suc n)) w (le-ltb k (suc n) (omega arith)))
+        omega (
+          arith,
+          given-false (ltb k n) w (le-ltb k n (omega arith)),
+          given-false (eqb k n) w (ne-eqb k n (omega arith)),
+          given-false (ltb k (suc n)) w (le-ltb k (suc n) (omega arith)),
+        )
