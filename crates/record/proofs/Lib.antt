@@ -1,2 +1,4 @@
 pub mod RecordLaws
 pub mod TestLaws
+pub mod BodyLaws
+pub mod FormLaws

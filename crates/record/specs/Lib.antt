@@ -1,3 +1,4 @@
 pub mod Record
 pub mod Tests
 pub mod Form
+pub mod Body
