@@ -4,3 +4,4 @@ pub mod BlockLaws
 pub mod FillLaws
 pub mod StepLaws
 pub mod StartLaws
+pub mod TableLaws
