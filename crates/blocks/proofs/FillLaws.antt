@@ -1,6 +1,6 @@
 -- The part table: what a cell holds after the cells of one word of some rows were put.
 -- Assumes nothing.
-use mathlib.Core.Path.{_≡_, refl, sym, ap, _∙_}
+use mathlib.Core.Path.{_≡_, refl, sym, ap, ap₂, _∙_}
 use mathlib.Core.Logic.{_⊎_, inl, inr, ⊎-elim}
 use mathlib.Core.List.{List}
 use Prim.Native.Nat.{ℕ, zero, suc, _+_, _*_, _≤_, _<_}
@@ -69,3 +69,8 @@ unfolding putCells
 put-ext room k row row′ value value′ zero h g = refl
 put-ext room k row row′ value value′ (suc n) h g =
     cc (put-ext room k row row′ value value′ n (λ i l. h i (omega arith)) (λ i l. g i (omega arith)), h n (omega arith), g n (omega arith))
+
+pub put-cong : (room room′ : List ℕ) (k : ℕ) (row row′ value value′ : ℕ → ℕ) (n n′ : ℕ) → room ≡ room′ → n ≡ n′ → ((i : ℕ) → i < n → row i ≡ row′ i)
+    → ((i : ℕ) → i < n → value i ≡ value′ i) → putCells room k row value n ≡ putCells room′ k row′ value′ n′
+put-cong room room′ k row row′ value value′ n n′ e q h g =
+    put-ext room k row row′ value value′ n h g ∙ ap₂ (λ (r : List ℕ) (m : ℕ). putCells r k row′ value′ m) e q

@@ -5,3 +5,4 @@ pub mod FillLaws
 pub mod StepLaws
 pub mod StartLaws
 pub mod TableLaws
+pub mod StageLaws

@@ -1,3 +1,9 @@
+-- `blocks::stages::starts_in` meets its contract: the sums turned into starts are what comes before each part.
+-- Assumes nothing.
+use mathlib.Core.Path.{_≡_, refl, ap, sym, _∙_}
+use Prim.Native.Nat.{ℕ, _+_, _≤_, _<_}
+use native.Mathlib.Omega.{arith}
+use Rattle.blocks.proofs.StageLaws.{stage-sums, stage-total, stage-fits, stage-takes, stage-starts}
 use borrow.Author.Needs.{needs}
 use Rattle.blocks.proofs.stages.starts_in.Statement.{statement}
 use Rattle.blocks.proofs.stages.starts_in.Tie as tie
@@ -13,11 +19,13 @@ add-words-requires c κs = search needs
 
 -- src/stages.rt:44:9
 make-starts-requires : tie.Need-make-starts-requires
-make-starts-requires c κs = search needs
+make-starts-requires c κs =
+    stage-fits _ _ _ _ _ _ _ _ (c .before .before .before .before .before .before .before .before .pre .0) _ (c .before .before .before .add-words .ensures)
 
 -- src/stages.rt:45:5
 take-starts-requires : tie.Need-take-starts-requires
-take-starts-requires c κs = search needs
+take-starts-requires c κs =
+    stage-takes _ _ _ _ _ _ _ _ (c .before .before .before .before .before .before .before .before .before .before .before .before .before .pre .0) _ (c .before .before .before .before .before .before .before .before .add-words .ensures) _ (c .before .before .before .before .make-starts .ensures .1)
 
 -- src/stages.rt:38:1
 same-length : tie.Need-same-length
@@ -29,7 +37,11 @@ same-length-2 c = search needs
 
 -- src/stages.rt:38:1
 returns : tie.Need-returns
-returns c = search needs
+returns c =
+    let t = c .before .before .before .before .before .before .before .before .before .before .before .before .before .before .before .before .before .before .pre .0 in
+    let e = c .before .before .before .before .before .before .before .before .before .before .before .before .before .add-words .ensures in
+    let g = c .before .before .before .before .before .before .before .before .before .make-starts .ensures in
+    (g .0 ∙ stage-total _ _ _ _ _ _ _ _ t _ e, c .before .before .before .before .take-starts .ensures .0 ∙ stage-starts _ _ _ _ _ _ _ _ t _ e _ (g .1))
 
 pub starts-in-spec : {M : Type 1} → statement M
 starts-in-spec =
