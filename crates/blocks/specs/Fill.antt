@@ -2,6 +2,7 @@
 -- Assumes nothing.
 use mathlib.Core.Path.{_≡_}
 use mathlib.Core.Bool.{true, false}
+use mathlib.Core.Option.{none}
 use mathlib.Core.List.{List}
 use Prim.Native.Nat.{ℕ, zero, suc, _+_, _*_, _/_, _%_, _^_, _≤_, _<_}
 use lib.ListN.{length, getD, set, replicate}
@@ -9,7 +10,9 @@ use Rattle.words.specs.Sum.{sumTo}
 use Rattle.words.specs.Section.{listOf}
 use Rattle.record.specs.Record.{blocksOf, majorsOf, countAt, partsBefore, partsOf, stagesOf, bodyAt, locationsOf}
 use Rattle.record.specs.Form.{planForm}
-use Rattle.counts.specs.Counts.{srams, duplicates, writeOuts}
+use Rattle.record.specs.declared.bodies.Body.{Body}
+use Rattle.counts.specs.Counts.{srams, duplicates, writeOuts, refusal7}
+use Rattle.counts.specs.Parts.{Countable}
 use Rattle.blocks.specs.Blocks.{blockIn, blockOf, takenBefore, stateOf, sramOf, stateStart, sramStart, totalsFit}
 use Rattle.blocks.specs.declared.stages.Firsts.{Firsts}
 use Rattle.blocks.specs.Sums.{inBlock}
@@ -178,3 +181,30 @@ pub record StageReady (d room : List ℕ) (s blocks count : ℕ) (f : Firsts) : 
   pub blocks-are : blocks ≡ blocksOf d
   pub count-is : count ≡ countAt d s
   pub firsts : FirstsOf d s f
+
+-- the record is in form, and its table has room
+pub record InForm (d room : List ℕ) : Type 0 where
+  pub form : planForm d ≡ true
+  pub inside : 65536 + 16 * partsOf d ≤ length room
+
+-- and no part is refused by 7
+pub record Fillable (d room : List ℕ) : Type 0 where
+  pub ready : InForm d room
+  pub counts : refusal7 d ≡ none
+
+-- one part's row may be filled
+pub record RowReady (d room : List ℕ) (p : ℕ) (b : Body) : Type 0 where
+  pub part : p < 262144
+  pub inside : 65536 + 16 * p + 16 ≤ length room
+  pub countable : Countable d p b
+  pub few : writeOuts d p ≤ 256
+
+-- the parts are counted
+pub record Tallied (d room : List ℕ) : Type 0 where
+  pub ready : InForm d room
+  pub counted : (p : ℕ) → p < partsOf d → Counted d room p
+
+-- and their totals fit
+pub record Allottable (d room : List ℕ) : Type 0 where
+  pub tallied : Tallied d room
+  pub totals : totalsFit d ≡ true

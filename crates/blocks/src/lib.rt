@@ -2,3 +2,4 @@
 pub mod costs;
 pub mod starts;
 pub mod stages;
+pub mod table;

@@ -20,12 +20,12 @@ add-words-requires c κs = search needs
 -- src/stages.rt:44:9
 make-starts-requires : tie.Need-make-starts-requires
 make-starts-requires c κs =
-    stage-fits _ _ _ _ _ _ _ _ (c .before .before .before .before .before .before .before .before .pre .0) _ (c .before .before .before .add-words .ensures)
+    stage-fits _ (c .before .before .before .before .before .before .before .before .args .sums .now) _ _ _ _ _ _ (c .before .before .before .before .before .before .before .before .pre .0) _ (c .before .before .before .add-words .ensures)
 
 -- src/stages.rt:45:5
 take-starts-requires : tie.Need-take-starts-requires
 take-starts-requires c κs =
-    stage-takes _ _ _ _ _ _ _ _ (c .before .before .before .before .before .before .before .before .before .before .before .before .before .pre .0) _ (c .before .before .before .before .before .before .before .before .add-words .ensures) _ (c .before .before .before .before .make-starts .ensures .1)
+    stage-takes _ (c .before .before .before .before .before .before .before .before .before .before .before .before .before .args .sums .now) _ _ _ _ _ _ (c .before .before .before .before .before .before .before .before .before .before .before .before .before .pre .0) _ (c .before .before .before .before .before .before .before .before .add-words .ensures) _ (c .before .before .before .before .make-starts .ensures .1)
 
 -- src/stages.rt:38:1
 same-length : tie.Need-same-length
@@ -39,9 +39,10 @@ same-length-2 c = search needs
 returns : tie.Need-returns
 returns c =
     let t = c .before .before .before .before .before .before .before .before .before .before .before .before .before .before .before .before .before .before .pre .0 in
+    let z = c .before .before .before .before .before .before .before .before .before .before .before .before .before .before .before .before .before .before .args .sums .now in
     let e = c .before .before .before .before .before .before .before .before .before .before .before .before .before .add-words .ensures in
     let g = c .before .before .before .before .before .before .before .before .before .make-starts .ensures in
-    (g .0 ∙ stage-total _ _ _ _ _ _ _ _ t _ e, c .before .before .before .before .take-starts .ensures .0 ∙ stage-starts _ _ _ _ _ _ _ _ t _ e _ (g .1))
+    (g .0 ∙ stage-total _ z _ _ _ _ _ _ t _ e, c .before .before .before .before .take-starts .ensures .0 ∙ stage-starts _ z _ _ _ _ _ _ t _ e _ (g .1))
 
 pub starts-in-spec : {M : Type 1} → statement M
 starts-in-spec =

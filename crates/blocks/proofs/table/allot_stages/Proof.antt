@@ -1,0 +1,100 @@
+use borrow.Author.Needs.{needs}
+use Rattle.blocks.proofs.table.allot_stages.Statement.{statement}
+use Rattle.blocks.proofs.table.allot_stages.Tie as tie
+use Rattle.blocks.proofs.table.allot_stages.Reads as reads
+use Rattle.blocks.proofs.table.allot_stages.Lts as lts
+use Rattle.blocks.proofs.stages.allot_stage.Reads as allot-stage-reads
+use Rattle.record.proofs.places.word_at.Reads as word-at-reads
+
+abbrev Inv-loop : tie.InvT-loop
+Inv-loop d room₀ blocks majors at₀ s₀ room at s = ?
+
+abbrev μ-loop : tie.MeasureT-loop
+μ-loop d room₀ blocks majors at₀ s₀ room at s = ?
+
+-- src/table.rt:87:18
+word-at-requires : tie.Need-word-at-requires Inv-loop μ-loop
+word-at-requires c κs = search needs
+
+-- src/table.rt:87:18
+cast-blocks : tie.Need-cast-blocks Inv-loop μ-loop
+cast-blocks c = search needs
+
+-- src/table.rt:88:18
+word-at-requires-2 : tie.Need-word-at-requires-2 Inv-loop μ-loop
+word-at-requires-2 c κs = search needs
+
+-- src/table.rt:88:18
+cast-majors : tie.Need-cast-majors Inv-loop μ-loop
+cast-majors c = search needs
+
+-- src/table.rt:91:17
+word-at-requires-3 : tie.Need-word-at-requires-3 Inv-loop μ-loop
+word-at-requires-3 c κs = search needs
+
+-- src/table.rt:91:17
+add-t8 : tie.Need-add-t8 Inv-loop μ-loop
+add-t8 c = search needs
+
+-- src/table.rt:95:5
+loop-holds : tie.Need-loop-holds Inv-loop μ-loop
+loop-holds c = search needs
+
+-- src/table.rt:96:57
+add-word-at : tie.Need-add-word-at Inv-loop μ-loop
+add-word-at c = search needs
+
+-- src/table.rt:96:46
+word-at-requires-4 : tie.Need-word-at-requires-4 Inv-loop μ-loop
+word-at-requires-4 c κs = search needs
+
+-- src/table.rt:96:46
+cast-allot-stage : tie.Need-cast-allot-stage Inv-loop μ-loop
+cast-allot-stage c = search needs
+
+-- src/table.rt:96:9
+allot-stage-requires : tie.Need-allot-stage-requires Inv-loop μ-loop
+allot-stage-requires c κs = search needs
+
+-- src/table.rt:97:9
+add-s : tie.Need-add-s Inv-loop μ-loop
+add-s c = search needs
+
+-- src/table.rt:95:5
+loop-less : tie.Need-loop-less Inv-loop μ-loop
+loop-less c = search needs
+
+-- src/table.rt:95:5
+loop-again : tie.Need-loop-again Inv-loop μ-loop
+loop-again c = search needs
+
+-- src/table.rt:83:1
+same-length : tie.Need-same-length Inv-loop μ-loop
+same-length c = search needs
+
+-- src/table.rt:83:1
+returns : tie.Need-returns Inv-loop μ-loop
+returns c = search needs
+
+pub allot-stages-spec : {M : Type 1} → statement M
+allot-stages-spec =
+    tie.close
+    (tie.spec
+    Inv-loop
+    μ-loop
+    word-at-requires
+    cast-blocks
+    word-at-requires-2
+    cast-majors
+    word-at-requires-3
+    add-t8
+    loop-holds
+    add-word-at
+    word-at-requires-4
+    cast-allot-stage
+    allot-stage-requires
+    add-s
+    loop-less
+    loop-again
+    same-length
+    returns)
