@@ -6,3 +6,4 @@ pub mod StepLaws
 pub mod StartLaws
 pub mod TableLaws
 pub mod StageLaws
+pub mod WholeLaws

@@ -1,7 +1,7 @@
 // The part table: the parts' counts, then their blocks, ranks and starts where the totals fit.
 ghost use mathlib.Core.Path.{_≡_};
 ghost use mathlib.Core.Bool.{true};
-ghost use Prim.Native.Nat.{ℕ, _+_, _*_, _^_, _<_, _≤_};
+ghost use Prim.Native.Nat.{ℕ, _+_, _*_, _/_, _%_, _^_, _<_, _≤_};
 ghost use lib.ListN.{length, getD, set};
 ghost use Rattle.words.specs.Sum.{sumTo};
 ghost use Rattle.record.specs.Record.{majorsOf};
@@ -21,18 +21,34 @@ fn put_cell(room: &mut [u32], p: usize, k: usize, x: u32)
     room[65536 + 16 * p + k] = x;
 }
 
+// Where the body of part p begins, and its locations: words 0 to 2 of its row.
+fn put_body(room: &mut [u32], p: usize, at: usize, locations: usize)
+    requires { ⌜ (p < 262144) × (65536 + 16 * p + 16 ≤ length (now room)) × (locations ≤ 256) ⌝ }
+    ensures { λ _. ⌜ now (room .exit) ≡ set (set (set (now (room .entry)) (cell p 0) (at % 2 ^ 32)) (cell p 1) (at / 2 ^ 32)) (cell p 2) locations ⌝ }
+{
+    put_cell(room, p, 0, (at % 4294967296) as u32);
+    put_cell(room, p, 1, (at / 4294967296) as u32);
+    put_cell(room, p, 2, locations as u32);
+}
+
+// The counts of part p: words 3 to 5 of its row.
+fn put_counts(room: &mut [u32], p: usize, srams: u32, duplicates: u32, words: usize)
+    requires { ⌜ (p < 262144) × (65536 + 16 * p + 16 ≤ length (now room)) × (words ≤ 256) ⌝ }
+    ensures { λ _. ⌜ now (room .exit) ≡ set (set (set (now (room .entry)) (cell p 3) srams) (cell p 4) duplicates) (cell p 5) words ⌝ }
+{
+    put_cell(room, p, 3, srams);
+    put_cell(room, p, 4, duplicates);
+    put_cell(room, p, 5, words as u32);
+}
+
 // What the record says of part p: words 0 to 5 of its row.
 fn fill_row(d: &[u8], room: &mut [u32], p: usize, body: Body)
     requires { ⌜ RowReady (now d) (now room) p body ⌝ }
     ensures { λ _. ⌜ now (room .exit) ≡ countRow (now (d .entry)) (now (room .entry)) p ⌝ }
 {
     let counts = counts_of(d, p, body);
-    put_cell(room, p, 0, (body.at % 4294967296) as u32);
-    put_cell(room, p, 1, (body.at / 4294967296) as u32);
-    put_cell(room, p, 2, body.locations as u32);
-    put_cell(room, p, 3, counts.srams);
-    put_cell(room, p, 4, counts.duplicates);
-    put_cell(room, p, 5, counts.words as u32);
+    put_body(room, p, body.at, body.locations);
+    put_counts(room, p, counts.srams, counts.duplicates, counts.words);
 }
 
 // The same of every part.
