@@ -13,16 +13,15 @@ use Rattle.words.specs.Sum.{sumTo}
 use Rattle.words.specs.Section.{listOf}
 use Rattle.words.proofs.SumLaws.{sum-more, sum-le, sum-ext}
 use Rattle.words.proofs.SectionLaws.{length-listOf, getD-listOf}
-use Rattle.record.specs.Record.{blocksOf, majorsOf, countAt, partsBefore, partsOf, stagesOf}
-use Rattle.record.specs.Form.{planForm}
+use Rattle.record.specs.Record.{majorsOf, countAt, partsBefore, partsOf, stagesOf}
 use Rattle.record.proofs.TestLaws.{and-true}
 use Rattle.record.proofs.FormLaws.{formed, parts-in}
 use Rattle.counts.specs.Counts.{srams, writeOuts}
 use Rattle.blocks.specs.declared.stages.Firsts.{Firsts}
 use Rattle.blocks.specs.Blocks.{blockIn, blockOf, takenBefore, stateOf, sramOf, stateStart, sramStart, stateWords, sramWords, totalsFit}
 use Rattle.blocks.specs.Sums.{inBlock}
-use Rattle.blocks.specs.Table.{cell, rankOf, Counted}
-use Rattle.blocks.specs.Fill.{putCells, column, takes, blockFrom, startIn, rankedRows, startedRows, stageRows, Rows, Placeable, Summable, Takeable, Rankable, StagePlaceable, StageSummable, FirstsOf, StageReady}
+use Rattle.blocks.specs.Table.{rankOf}
+use Rattle.blocks.specs.Fill.{putCells, column, takes, blockFrom, startIn, rankedRows, startedRows, stageRows, Rows, Placeable, Takeable, Rankable, StagePlaceable, StageSummable, StageReady}
 use Rattle.blocks.proofs.TotalLaws.{sum-const}
 use Rattle.blocks.proofs.OrderLaws.{taken-blocks, taken-ext}
 use Rattle.blocks.proofs.BlockLaws.{in-lt, in-total, in-ext}
@@ -45,7 +44,7 @@ pub front-placeable : (d room : List ℕ) (N blocks base count : ℕ) → blocks
 front-placeable d room N blocks base count h t =
     let e = zeros-long N blocks h in
     let z : take blocks (replicate {A = ℕ} N 0) ≡ replicate (length (take blocks (replicate {A = ℕ} N 0))) 0 =
-      zeros-front N blocks h ∙ ap (λ (n : ℕ). replicate n 0) e
+    zeros-front N blocks h ∙ ap (λ (n : ℕ). replicate n 0) e
     in
     record {
       few = t .few;
@@ -92,12 +91,13 @@ module _ (block words : ℕ → ℕ) (B count first : ℕ) (blocks : (i : ℕ) �
 
   pub start-reach : (b : ℕ) → b < B → getD starts b 0 + inBlock block words b count ≤ first + sumTo words count
   start-reach b l =
-      omega
-      (arith,
-      start-of b l,
-      sum-more (λ k. inBlock block words k count) b,
-      sum-le (λ k. inBlock block words k count) (b + 1) B (omega arith),
-      in-total block words B count blocks)
+      omega (
+        arith,
+        start-of b l,
+        sum-more (λ k. inBlock block words k count) b,
+        sum-le (λ k. inBlock block words k count) (b + 1) B (omega arith),
+        in-total block words B count blocks,
+      )
 
   pub start-is : (i : ℕ) → i < count → getD starts (block i) 0 + inBlock block words (block i) i ≡ first + takenBefore block words count i
   start-is i l = omega (arith, start-of (block i) (blocks i l), taken-blocks block words count i (omega arith))
@@ -105,9 +105,6 @@ module _ (block words : ℕ → ℕ) (B count first : ℕ) (blocks : (i : ℕ) �
 -- ---- the starts of one word
 
 module _ (room sums₀ : List ℕ) (base count from scale to first : ℕ) (t : StageSummable room (length sums₀) base count from scale to first) where
-  pub stage-sums : sums₀ ≡ replicate (length sums₀) 0 → Summable room sums₀ base count from scale
-  stage-sums z = record { rows = t .rows; word = t .word; zeros = z; fits = omega (arith, t .fits) }
-
   module _ (sums : List ℕ) (sums-are : sums ≡ listOf (λ b. inBlock (column room base 6) (takes room base from scale) b count) (length sums₀)) where
     pub stage-total : first + sumTo (λ b. getD sums b 0) (length sums) ≡ first + sumTo (takes room base from scale) count
     stage-total =
@@ -128,11 +125,12 @@ module _ (room sums₀ : List ℕ) (base count from scale to first : ℕ) (t : S
         other = t .other;
         fits =
             λ b l.
-              omega
-              (arith,
+            omega (
+              arith,
               t .fits,
               start-reach (column room base 6) (takes room base from scale) (length sums₀) count first (t .rows .block) sums starts sums-are starts-are b
-              (omega (arith, long)));
+                  (omega (arith, long)),
+            );
       }
 
       pub stage-starts : putCells room to (λ i. base + i) (startIn room starts base (takes room base from scale)) count ≡ startedRows room base count from scale to first
@@ -162,11 +160,12 @@ module _ (d room costs counts₀ : List ℕ) (base count : ℕ) (t : Placeable d
 
   pub ranks-fit : 0 + sumTo (λ b. getD counts b 0) (length counts) < 2 ^ 32
   ranks-fit =
-      omega
-      (arith,
-      sums-all (blockFrom d (length costs) base) (λ i. 1) (length costs) count 0 block-lt counts _ counts-are refl,
-      sum-const 1 count,
-      t .few)
+      omega (
+        arith,
+        sums-all (blockFrom d (length costs) base) (λ i. 1) (length costs) count 0 block-lt counts _ counts-are refl,
+        sum-const 1 count,
+        t .few,
+      )
 
   module _ (starts : List ℕ) (starts-are : starts ≡ listOf (λ b. 0 + sumTo (λ k. getD counts k 0) b) (length counts)) where
     same-block : (i : ℕ) → i < count → column placed base 6 i ≡ blockFrom d (length costs) base i
@@ -189,11 +188,12 @@ module _ (d room costs counts₀ : List ℕ) (base count : ℕ) (t : Placeable d
       };
       below =
           λ b l.
-            omega
-            (arith,
+          omega (
+            arith,
             same-sum b count (omega arith),
             start-reach (blockFrom d (length costs) base) (λ i. 1) (length costs) count 0 block-lt counts starts counts-are starts-are b (omega (arith, rank-long)),
-            sum-const 1 count);
+            sum-const 1 count,
+          );
     }
 
     pub ranks-are : putCells placed 9 (λ i. base + startIn placed starts base (λ j. 1) i) (λ i. base + i) count ≡ rankedRows d room (length costs) base count
@@ -204,10 +204,11 @@ module _ (d room costs counts₀ : List ℕ) (base count : ℕ) (t : Placeable d
         each : (i : ℕ) → i < count → startIn placed starts base (λ j. 1) i ≡ takenBefore (blockFrom d (length costs) base) (λ j. 1) count i
         each i l =
             ap (λ (x : ℕ). getD starts x 0 + inBlock (column placed base 6) (λ j. 1) x i) (same-block i l)
-            ∙ omega
-            (arith,
-            same-sum (blockFrom d (length costs) base i) i (omega arith),
-            start-is (blockFrom d (length costs) base) (λ j. 1) (length costs) count 0 block-lt counts starts counts-are starts-are i l)
+            ∙ omega (
+              arith,
+              same-sum (blockFrom d (length costs) base i) i (omega arith),
+              start-is (blockFrom d (length costs) base) (λ j. 1) (length costs) count 0 block-lt counts starts counts-are starts-are i l,
+            )
 
 -- ---- a major stage of a plan
 
@@ -268,8 +269,8 @@ module _ (d room : List ℕ) (s blocks count : ℕ) (f : Firsts) (t : StageReady
       inside = omega (arith, ranked-long, stage-placeable .inside);
       block =
           λ i l.
-            omega
-            (arith, ranked-block i l, block-is i, in-lt blocks (λ j. stagesOf d (f .parts + j)) (stage-placeable .some-block) i);
+          omega
+          (arith, ranked-block i l, block-is i, in-lt blocks (λ j. stagesOf d (f .parts + j)) (stage-placeable .some-block) i);
     }
 
     state-words : (i : ℕ) → i < count → takes ranked (f .parts) 5 1 i ≡ writeOuts d (partsBefore d s + i)
@@ -282,12 +283,13 @@ module _ (d room : List ℕ) (s blocks count : ℕ) (f : Firsts) (t : StageReady
 
     pub state-total : f .state + sumTo (takes ranked (f .parts) 5 1) count ≡ stateOf d (s + 1)
     state-total =
-        omega
-        (arith,
-        t .firsts .state,
-        state-next d s,
-        sum-ext _ _ count state-words,
-        ap (sumTo (λ j. writeOuts d (partsBefore d s + j))) (t .count-is))
+        omega (
+          arith,
+          t .firsts .state,
+          state-next d s,
+          sum-ext _ _ count state-words,
+          ap (sumTo (λ j. writeOuts d (partsBefore d s + j))) (t .count-is),
+        )
 
     pub state-summable : StageSummable ranked blocks (f .parts) count 5 1 7 (f .state)
     state-summable = record {
@@ -317,12 +319,13 @@ module _ (d room : List ℕ) (s blocks count : ℕ) (f : Firsts) (t : StageReady
 
       pub sram-total : f .sram + sumTo (takes started (f .parts) 3 8192) count ≡ sramOf d (s + 1)
       sram-total =
-          omega
-          (arith,
-          t .firsts .sram,
-          sram-next d s,
-          sum-ext _ _ count sram-words,
-          ap (sumTo (λ j. 8192 * srams d (partsBefore d s + j))) (t .count-is))
+          omega (
+            arith,
+            t .firsts .sram,
+            sram-next d s,
+            sum-ext _ _ count sram-words,
+            ap (sumTo (λ j. 8192 * srams d (partsBefore d s + j))) (t .count-is),
+          )
 
       pub sram-summable : StageSummable started blocks (f .parts) count 3 8192 8 (f .sram)
       sram-summable = record {

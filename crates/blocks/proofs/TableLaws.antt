@@ -1,21 +1,21 @@
 -- The part table row by row: a major stage changes words 6 to 9 of its own parts' rows alone, the counts change words 0 to 5 alone.
 -- Assumes nothing.
-use mathlib.Core.Path.{_≡_, refl, sym, ap, _∙_}
-use mathlib.Core.Logic.{_⊎_, inl, inr, ⊎-elim}
+use mathlib.Core.Path.{_≡_, refl, ap, _∙_}
+use mathlib.Core.Logic.{⊎-elim}
 use mathlib.Core.List.{List}
-use Prim.Native.Nat.{ℕ, zero, suc, _+_, _*_, _-_, _/_, _%_, _^_, _≤_, _<_}
+use Prim.Native.Nat.{ℕ, zero, suc, _+_, _*_, _/_, _%_, _^_, _≤_, _<_}
 use native.Mathlib.Numerals.{add-one}
 use native.Mathlib.Omega.{arith}
 use lib.ListN.{length, getD, set, length-set}
 use lib.Seq.{getD-set-same, getD-set-other}
 use Rattle.words.proofs.BitLaws.{lt-or-ge}
 use Rattle.record.specs.Record.{majorsOf, countAt, partsBefore, partsOf, bodyAt, locationsOf}
-use Rattle.counts.specs.Counts.{srams, duplicates, writeOuts}
-use Rattle.blocks.specs.Blocks.{blockOf, stateStart, sramStart}
+use Rattle.counts.specs.Counts.{srams, duplicates}
+use Rattle.blocks.specs.Blocks.{blockOf, stateStart}
 use Rattle.blocks.specs.Table.{cell, rankOf, Counted, Allotted, Tabled}
 use Rattle.blocks.specs.Fill.{putCells, stageRows, allotRows, countRow, countRows, countedRoom, tabledRoom}
 use Rattle.blocks.proofs.FillLaws.{cell-same, put-long, put-other, put-here, put-word}
-use Rattle.blocks.proofs.StartLaws.{parts-mono, parts-next, part-same, rank-in, rank-same}
+use Rattle.blocks.proofs.StartLaws.{parts-mono, parts-next, rank-in, rank-same}
 
 -- ---- one major stage
 

@@ -2,9 +2,8 @@
 -- Assumes nothing.
 use mathlib.Core.Path.{_≡_, refl, sym, ap, ap₂, _∙_}
 use mathlib.Core.Bool.{Bool, true, false, _&&_}
-use mathlib.Core.Option.{none}
 use mathlib.Core.List.{List}
-use Prim.Native.Nat.{ℕ, zero, suc, _+_, _*_, _-_, _/_, _%_, _^_, _≤_, _<_}
+use Prim.Native.Nat.{ℕ, _+_, _*_, _-_, _/_, _%_, _^_, _≤_, _<_}
 use native.Mathlib.Numerals.{add-one}
 use native.Mathlib.Omega.{arith}
 use borrow.Author.Tests.{le-leb, lt-leb}
@@ -13,7 +12,7 @@ use lib.ListN.{length, getD, set}
 use Rattle.words.specs.Sum.{sumTo}
 use Rattle.words.proofs.SumLaws.{sum-ext}
 use Rattle.record.specs.declared.bodies.Body.{Body}
-use Rattle.record.specs.Record.{blocksOf, majorsOf, layoutOf, countAt, partsBefore, partsOf, bodyAt, locationsOf}
+use Rattle.record.specs.Record.{blocksOf, majorsOf, layoutOf, countAt, partsBefore, partsOf}
 use Rattle.record.specs.Body.{BodyOf}
 use Rattle.record.specs.Form.{planForm}
 use Rattle.record.proofs.FormLaws.{formed}
@@ -23,8 +22,8 @@ use Rattle.counts.specs.Parts.{CountsOf}
 use Rattle.counts.proofs.PartLaws.{countable, passed}
 use Rattle.blocks.specs.declared.stages.Firsts.{Firsts}
 use Rattle.blocks.specs.Blocks.{stateOf, sramOf, stateWords, sramWords, totalsFit}
-use Rattle.blocks.specs.Table.{cell, Counted, Tabled}
-use Rattle.blocks.specs.Fill.{stageRows, allotRows, countRow, countRows, countedRoom, tabledRoom, allottedRoom, FirstsOf, StageReady, InForm, Fillable, RowReady, Tallied, Allottable}
+use Rattle.blocks.specs.Table.{cell, Tabled}
+use Rattle.blocks.specs.Fill.{stageRows, allotRows, countRow, countRows, countedRoom, tabledRoom, allottedRoom, FirstsOf, StageReady, Fillable, RowReady, Tallied, Allottable}
 use Rattle.blocks.proofs.TotalLaws.{sum-scale}
 use Rattle.blocks.proofs.StartLaws.{state-first, sram-first}
 use Rattle.blocks.proofs.TableLaws.{allot-long, allot-counted, count-long, counted-room, counted-long, tabled-room}

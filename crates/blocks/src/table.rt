@@ -1,16 +1,20 @@
 // The part table: the parts' counts, then their blocks, ranks and starts where the totals fit.
 ghost use mathlib.Core.Path.{_≡_};
 ghost use mathlib.Core.Bool.{true};
-ghost use Prim.Native.Nat.{ℕ, _+_, _*_, _/_, _%_, _^_, _<_, _≤_};
+ghost use Prim.Native.Nat.{_+_, _*_, _/_, _%_, _^_, _<_, _≤_};
 ghost use lib.ListN.{length, getD, set};
 ghost use Rattle.words.specs.Sum.{sumTo};
 ghost use Rattle.record.specs.Record.{majorsOf};
 ghost use Rattle.blocks.specs.Blocks.{totalsFit};
 ghost use Rattle.blocks.specs.Table.{cell, Tabled};
 ghost use Rattle.blocks.specs.Fill.{Fillable, RowReady, Tallied, Allottable, countRow, countedRoom, allotRows, allottedRoom};
+use crate::stages::Firsts;
+use crate::stages::allot_stage;
 use counts::counts_of;
-use crate::stages::{allot_stage, Firsts};
-use record::bodies::{body_at, first_body, parts_of, Body};
+use record::bodies::Body;
+use record::bodies::body_at;
+use record::bodies::first_body;
+use record::bodies::parts_of;
 use record::places::word_at;
 
 // Word k of the row of part p becomes x.

@@ -1,35 +1,24 @@
 -- `blocks::stages::give_starts` meets its contract: it lends the first of 1024 zeros.
 -- Assumes nothing.
-use mathlib.Core.Path.{_≡_, refl, ap, sym, _∙_}
-use Prim.Native.Nat.{ℕ, _+_, _≤_, _<_}
-use native.Mathlib.Omega.{arith}
 use Rattle.blocks.proofs.StageLaws.{zeros-long, front-summable}
 use borrow.Author.Needs.{needs}
 use Rattle.blocks.proofs.stages.give_starts.Statement.{statement}
 use Rattle.blocks.proofs.stages.give_starts.Tie as tie
-use Rattle.blocks.proofs.stages.give_starts.Reads as reads
-use Rattle.blocks.proofs.stages.give_starts.Lts as lts
-use Rattle.blocks.proofs.stages.starts_in.Reads as starts-in-reads
 
--- src/stages.rt:56:21
 array-borrow-prefix-sums : tie.Need-array-borrow-prefix-sums
 array-borrow-prefix-sums c = search needs
 
--- src/stages.rt:56:21
 slice-aggregate-starts-in : tie.Need-slice-aggregate-starts-in
 slice-aggregate-starts-in c = zeros-long 1024 (c .before .before .before .args .blocks) (c .before .before .before .pre .few-blocks)
 
--- src/stages.rt:56:5
 starts-in-requires : tie.Need-starts-in-requires
 starts-in-requires c κs =
     let t = c .before .before .before in
     front-summable (t .args .room .now) 1024 (t .args .blocks) _ _ _ _ _ _ (t .pre .few-blocks) (t .pre)
 
--- src/stages.rt:50:1
 same-length : tie.Need-same-length
 same-length c = search needs
 
--- src/stages.rt:50:1
 returns : tie.Need-returns
 returns c = search needs
 

@@ -1,41 +1,28 @@
 -- `blocks::stages::starts_in` meets its contract: the sums turned into starts are what comes before each part.
 -- Assumes nothing.
-use mathlib.Core.Path.{_≡_, refl, ap, sym, _∙_}
-use Prim.Native.Nat.{ℕ, _+_, _≤_, _<_}
-use native.Mathlib.Omega.{arith}
-use Rattle.blocks.proofs.StageLaws.{stage-sums, stage-total, stage-fits, stage-takes, stage-starts}
+use mathlib.Core.Path.{_∙_}
+use Rattle.blocks.proofs.StageLaws.{stage-total, stage-fits, stage-takes, stage-starts}
 use borrow.Author.Needs.{needs}
 use Rattle.blocks.proofs.stages.starts_in.Statement.{statement}
 use Rattle.blocks.proofs.stages.starts_in.Tie as tie
-use Rattle.blocks.proofs.stages.starts_in.Reads as reads
-use Rattle.blocks.proofs.stages.starts_in.Lts as lts
-use Rattle.blocks.proofs.starts.add_words.Reads as add-words-reads
-use Rattle.blocks.proofs.starts.make_starts.Reads as make-starts-reads
-use Rattle.blocks.proofs.starts.take_starts.Reads as take-starts-reads
 
--- src/stages.rt:43:5
 add-words-requires : tie.Need-add-words-requires
 add-words-requires c κs = search needs
 
--- src/stages.rt:44:9
 make-starts-requires : tie.Need-make-starts-requires
 make-starts-requires c κs =
     stage-fits _ (c .before .before .before .before .before .before .before .before .args .sums .now) _ _ _ _ _ _ (c .before .before .before .before .before .before .before .before .pre .0) _ (c .before .before .before .add-words .ensures)
 
--- src/stages.rt:45:5
 take-starts-requires : tie.Need-take-starts-requires
 take-starts-requires c κs =
     stage-takes _ (c .before .before .before .before .before .before .before .before .before .before .before .before .before .args .sums .now) _ _ _ _ _ _ (c .before .before .before .before .before .before .before .before .before .before .before .before .before .pre .0) _ (c .before .before .before .before .before .before .before .before .add-words .ensures) _ (c .before .before .before .before .make-starts .ensures .1)
 
--- src/stages.rt:38:1
 same-length : tie.Need-same-length
 same-length c = search needs
 
--- src/stages.rt:38:1
 same-length-2 : tie.Need-same-length-2
 same-length-2 c = search needs
 
--- src/stages.rt:38:1
 returns : tie.Need-returns
 returns c =
     let t = c .before .before .before .before .before .before .before .before .before .before .before .before .before .before .before .before .before .before .pre .0 in

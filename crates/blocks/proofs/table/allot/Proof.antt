@@ -1,39 +1,27 @@
 -- `blocks::table::allot` meets its contract.
 -- Assumes nothing.
-use mathlib.Core.Path.{_≡_, refl, ap, sym, _∙_}
-use Prim.Native.Nat.{ℕ, _+_, _*_, _-_, _^_, _≤_, _<_}
-use native.Mathlib.Omega.{arith}
-use mathlib.Core.Bool.{true, false}
+use mathlib.Core.Path.{refl, sym, _∙_}
+use mathlib.Core.Bool.{false}
 use Rattle.record.proofs.TestLaws.{not-both}
 use Rattle.blocks.proofs.WholeLaws.{tallied, room-tabled, room-counted, room-full}
 use borrow.Author.Needs.{needs}
 use Rattle.blocks.proofs.table.allot.Statement.{statement}
 use Rattle.blocks.proofs.table.allot.Tie as tie
-use Rattle.blocks.proofs.table.allot.Reads as reads
-use Rattle.blocks.proofs.table.allot.Lts as lts
-use Rattle.blocks.proofs.table.allot_stages.Reads as allot-stages-reads
-use Rattle.blocks.proofs.table.fill_counts.Reads as fill-counts-reads
-use Rattle.blocks.proofs.table.totals_fit.Reads as totals-fit-reads
 
--- src/table.rt:124:5
 fill-counts-requires : tie.Need-fill-counts-requires
 fill-counts-requires c κs = search needs
 
--- src/table.rt:125:8
 totals-fit-requires : tie.Need-totals-fit-requires
 totals-fit-requires c κs =
     tallied _ _ _ (c .before .before .before .before .before .before .before .pre) (c .before .before .before .fill-counts .ensures)
 
--- src/table.rt:126:9
 allot-stages-requires : tie.Need-allot-stages-requires
 allot-stages-requires c κs =
     record { tallied = tallied _ _ _ (c .before .before .before .before .before .before .before .before .before .before .pre) (c .before .before .before .before .before .before .fill-counts .ensures); totals = sym (c .before .before .totals-fit .ensures) ∙ c .before .if1 .taken }
 
--- src/table.rt:127:9
 same-length : tie.Need-same-length
 same-length c = search needs
 
--- src/table.rt:127:9
 returns : tie.Need-returns
 returns c =
     let t = c .before .before .before .before .before .before .before .before .before .before .before .before .before .pre in
@@ -42,11 +30,9 @@ returns c =
     let g = c .before .before .allot-stages .ensures in
     (f, (room-full _ _ _ t e _ g (sym f), λ q. room-tabled _ _ _ t e _ g))
 
--- src/table.rt:118:1
 same-length-2 : tie.Need-same-length-2
 same-length-2 c = search needs
 
--- src/table.rt:118:1
 returns-2 : tie.Need-returns-2
 returns-2 c =
     let f = sym (c .if1 .left) ∙ c .before .totals-fit .ensures in

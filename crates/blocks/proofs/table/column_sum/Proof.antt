@@ -1,17 +1,15 @@
 -- `blocks::table::column_sum` meets its contract. The loop's invariant: the sum of the first p rows.
 -- Assumes nothing.
 use mathlib.Core.Path.{_≡_, refl, ap, sym, _∙_}
-use Prim.Native.Nat.{ℕ, _+_, _*_, _-_, _^_, _≤_, _<_}
+use Prim.Native.Nat.{ℕ, _+_, _*_, _-_, _≤_}
 use native.Mathlib.Omega.{arith}
-use lib.ListN.{length, getD, set}
+use lib.ListN.{getD}
 use Rattle.words.specs.Sum.{sumTo}
 use Rattle.words.proofs.SumLaws.{sum-more}
 use Rattle.blocks.specs.Table.{cell}
 use borrow.Author.Needs.{needs}
 use Rattle.blocks.proofs.table.column_sum.Statement.{statement}
 use Rattle.blocks.proofs.table.column_sum.Tie as tie
-use Rattle.blocks.proofs.table.column_sum.Reads as reads
-use Rattle.blocks.proofs.table.column_sum.Lts as lts
 
 abbrev Inv-loop : tie.InvT-loop
 Inv-loop room parts k sum₀ p₀ sum p = (p ≤ parts) × (sum ≡ sumTo (λ q. getD room (cell q k) 0) p) × (sum ≤ 4294967295 * p)
@@ -19,59 +17,48 @@ Inv-loop room parts k sum₀ p₀ sum p = (p ≤ parts) × (sum ≡ sumTo (λ q.
 abbrev μ-loop : tie.MeasureT-loop
 μ-loop room parts k sum₀ p₀ sum p = parts - p
 
--- src/table.rt:61:5
 loop-holds : tie.Need-loop-holds Inv-loop μ-loop
 unfolding sumTo
 loop-holds c = (omega arith, refl, omega arith)
 
--- src/table.rt:62:29
 mul-sum : tie.Need-mul-sum Inv-loop μ-loop
 mul-sum c = search needs
 
--- src/table.rt:62:21
 add-sum : tie.Need-add-sum Inv-loop μ-loop
 add-sum c = search needs
 
--- src/table.rt:62:21
 add-sum-2 : tie.Need-add-sum-2 Inv-loop μ-loop
 add-sum-2 c = search needs
 
--- src/table.rt:62:16
 mul-sum-2 : tie.Need-mul-sum-2 Inv-loop μ-loop
 mul-sum-2 c = search needs
 
--- src/table.rt:62:16
 shared-slice-read-sum : tie.Need-shared-slice-read-sum Inv-loop μ-loop
 shared-slice-read-sum c = search needs
 
--- src/table.rt:62:16
 cast-sum : tie.Need-cast-sum Inv-loop μ-loop
 cast-sum c =
     omega (arith, c .shared-slice-known .given (65536 + 16 * c .before .before .loop .p + c .before .before .before .args .k))
 
--- src/table.rt:62:9
 add-sum-3 : tie.Need-add-sum-3 Inv-loop μ-loop
 add-sum-3 c =
     omega (arith, c .shared-slice-known .given (65536 + 16 * c .before .before .loop .p + c .before .before .before .args .k))
 
--- src/table.rt:63:9
 add-p : tie.Need-add-p Inv-loop μ-loop
 add-p c = search needs
 
--- src/table.rt:61:5
 loop-less : tie.Need-loop-less Inv-loop μ-loop
 loop-less c = search needs
 
--- src/table.rt:61:5
 loop-again : tie.Need-loop-again Inv-loop μ-loop
 loop-again c =
     let a = c .before .before .before .args in
-    let l = c .before .before .loop in
-    (omega arith,
-    ap (λ (x : ℕ). x + getD (a .room .now) (cell (l .p) (a .k)) 0) (l .inv .1) ∙ sym (sum-more (λ q. getD (a .room .now) (cell q (a .k)) 0) (l .p)),
-    omega (arith, c .shared-slice-known .given (65536 + 16 * l .p + a .k)))
+    let l = c .before .before .loop in (
+      omega arith,
+      ap (λ (x : ℕ). x + getD (a .room .now) (cell (l .p) (a .k)) 0) (l .inv .1) ∙ sym (sum-more (λ q. getD (a .room .now) (cell q (a .k)) 0) (l .p)),
+      omega (arith, c .shared-slice-known .given (65536 + 16 * l .p + a .k)),
+    )
 
--- src/table.rt:55:1
 returns : tie.Need-returns Inv-loop μ-loop
 returns c =
     let a = c .before .before .args in

@@ -1,47 +1,33 @@
 -- `blocks::table::put_body` meets its contract: three cells, one after the other.
 -- Assumes nothing.
-use mathlib.Core.Path.{_≡_, refl, ap, sym, _∙_}
-use Prim.Native.Nat.{ℕ, _+_, _*_, _/_, _%_, _^_}
-use native.Mathlib.Omega.{arith}
-use lib.ListN.{length, getD, set}
+use Prim.Native.Nat.{_/_, _%_, _^_}
 use Rattle.blocks.specs.Table.{cell}
 use Rattle.blocks.proofs.WholeLaws.{three-cells}
 use borrow.Author.Needs.{needs}
 use Rattle.blocks.proofs.table.put_body.Statement.{statement}
 use Rattle.blocks.proofs.table.put_body.Tie as tie
-use Rattle.blocks.proofs.table.put_body.Reads as reads
-use Rattle.blocks.proofs.table.put_body.Lts as lts
-use Rattle.blocks.proofs.table.put_cell.Reads as put-cell-reads
 
--- src/table.rt:29:26
 cast-put-cell : tie.Need-cast-put-cell
 cast-put-cell c = search needs
 
--- src/table.rt:29:5
 put-cell-requires : tie.Need-put-cell-requires
 put-cell-requires c κs = search needs
 
--- src/table.rt:30:26
 cast-put-cell-2 : tie.Need-cast-put-cell-2
 cast-put-cell-2 c = search needs
 
--- src/table.rt:30:5
 put-cell-requires-2 : tie.Need-put-cell-requires-2
 put-cell-requires-2 c κs = search needs
 
--- src/table.rt:31:26
 cast-put-cell-3 : tie.Need-cast-put-cell-3
 cast-put-cell-3 c = search needs
 
--- src/table.rt:31:5
 put-cell-requires-3 : tie.Need-put-cell-requires-3
 put-cell-requires-3 c κs = search needs
 
--- src/table.rt:25:1
 same-length : tie.Need-same-length
 same-length c = search needs
 
--- src/table.rt:25:1
 returns : tie.Need-returns
 returns c =
     let a = c .before .before .before .before .before .before .before .before .before .before .before .before .before .args in

@@ -1,64 +1,49 @@
 -- `blocks::table::totals_fit` meets its contract: the columns' sums are the totals.
 -- Assumes nothing.
-use mathlib.Core.Path.{_≡_, refl, ap, sym, _∙_}
-use Prim.Native.Nat.{ℕ, _+_, _*_, _-_, _^_, _≤_, _<_}
+use mathlib.Core.Path.{ap, _∙_}
+use Prim.Native.Nat.{ℕ}
 use native.Mathlib.Omega.{arith}
 use lib.Dec.{leb}
 use Rattle.blocks.proofs.WholeLaws.{majors-few, parts-few, rows-inside, state-sum, sram-sum, state-over, state-within}
 use borrow.Author.Needs.{needs}
 use Rattle.blocks.proofs.table.totals_fit.Statement.{statement}
 use Rattle.blocks.proofs.table.totals_fit.Tie as tie
-use Rattle.blocks.proofs.table.totals_fit.Reads as reads
-use Rattle.blocks.proofs.table.totals_fit.Lts as lts
-use Rattle.blocks.proofs.table.column_sum.Reads as column-sum-reads
-use Rattle.record.proofs.bodies.parts_of.Reads as parts-of-reads
-use Rattle.record.proofs.places.word_at.Reads as word-at-reads
 
--- src/table.rt:89:9
 parts-of-requires : tie.Need-parts-of-requires
 parts-of-requires c κs = majors-few _ (c .before .before .pre .ready .form)
 
--- src/table.rt:90:18
 word-at-requires : tie.Need-word-at-requires
 word-at-requires c κs = search needs
 
--- src/table.rt:90:18
 cast-state : tie.Need-cast-state
 cast-state c = search needs
 
--- src/table.rt:90:18
 add-state : tie.Need-add-state
 add-state c = search needs
 
--- src/table.rt:90:52
 column-sum-requires : tie.Need-column-sum-requires
 column-sum-requires c κs =
     let t = c .before .before .before .before .pre in
     let e = c .before .parts-of .ensures .0 in
     (parts-few _ _ t _ e, omega arith, rows-inside _ _ t _ e)
 
--- src/table.rt:90:17
 add-state-2 : tie.Need-add-state-2
 add-state-2 c = search needs
 
--- src/table.rt:92:9
 returns : tie.Need-returns
 returns c =
     let h = state-sum _ _ (c .before .before .before .before .before .before .pre) _ (c .before .before .before .parts-of .ensures .0) _ _ (c .before .before .word-at .ensures) (c .before .column-sum .ensures .0) in
     state-over _ (omega (arith, h))
 
--- src/table.rt:94:23
 column-sum-requires-2 : tie.Need-column-sum-requires-2
 column-sum-requires-2 c κs =
     let t = c .before .before .before .before .before .before .pre in
     let e = c .before .before .before .parts-of .ensures .0 in
     (parts-few _ _ t _ e, omega arith, rows-inside _ _ t _ e)
 
--- src/table.rt:94:16
 mul-sram : tie.Need-mul-sram
 mul-sram c = search needs
 
--- src/table.rt:85:1
 returns-2 : tie.Need-returns-2
 returns-2 c =
     let t = c .before .before .before .before .before .before .before .pre in
