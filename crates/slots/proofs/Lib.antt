@@ -1,0 +1,4 @@
+pub mod TopLaws
+pub mod ItemLaws
+pub mod PutLaws
+pub mod SlotLaws
