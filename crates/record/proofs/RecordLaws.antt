@@ -1,16 +1,17 @@
 -- Laws of the record's words: a word is there or it is 0; the numbers of a plan stand in their order.
 -- Assumes nothing.
-use mathlib.Core.Path.{_≡_, refl}
+use mathlib.Core.Path.{_≡_, refl, ap}
 use mathlib.Core.Logic.{⊎-elim}
 use mathlib.Core.List.{List}
-use Prim.Native.Nat.{ℕ, zero, suc, _+_, _*_, _≤_, _<_}
-use native.Mathlib.Numerals.{add-one}
+use Prim.Native.Nat.{ℕ, zero, suc, _+_, _*_, _^_, _≤_, _<_}
 use native.Mathlib.Omega.{arith}
+use native.Mathlib.Numerals.{add-one}
 use borrow.Author.Tests.{le-leb, lt-leb}
 use lib.ListN.{length, getD}
+use Rattle.words.specs.Sum.{sumTo}
 use Rattle.words.proofs.SumLaws.{sum-more}
 use Rattle.words.proofs.BitLaws.{lt-or-ge}
-use Rattle.record.specs.Record.{wordAt, countAt, partsBefore, partsOf, headBase, stagesOf, endpointsOf, locationsIn, bodyWords, bodyAt, countBase, slotBase, locationBase, tableBase}
+use Rattle.record.specs.Record.{wordAt, countAt, partsBefore, partsOf, headBase, stagesOf, endpointsOf, locationsIn, locationsOf, stageLocations, bodyWords, bodyAt, countBase, slotBase, locationBase, tableBase}
 
 pub word-there : (d : List ℕ) (i : ℕ) → 4 * i + 4 ≤ length d
     → wordAt d i ≡ getD d (4 * i) 0 + 256 * getD d (4 * i + 1) 0 + 65536 * getD d (4 * i + 2) 0 + 16777216 * getD d (4 * i + 3) 0
@@ -21,6 +22,14 @@ pub word-missing : (d : List ℕ) (i : ℕ) → length d < 4 * i + 4 → wordAt 
 unfolding wordAt
 word-missing d i h = rw (lt-leb _ _ h, wordAt)
 
+-- a word of bytes
+pub word-lt : (d : List ℕ) (i : ℕ) → ((k : ℕ) → getD d k 0 < 256) → wordAt d i < 2 ^ 32
+word-lt d i h =
+    ⊎-elim
+    (λ l. omega (arith, word-missing d i l))
+    (λ l. omega (arith, word-there d i l, h (4 * i), h (4 * i + 1), h (4 * i + 2), h (4 * i + 3)))
+    (lt-or-ge (length d) (4 * i + 4))
+
 -- ---- sums over the record's counts: one more
 
 pub parts-more : (d : List ℕ) (s : ℕ) → partsBefore d (s + 1) ≡ partsBefore d s + wordAt d (5 + s)
@@ -30,6 +39,11 @@ parts-more d s = sum-more (countAt d) s
 pub locations-more : (d : List ℕ) (b n e : ℕ) → locationsIn d b (n + 1) e ≡ locationsIn d b n e + wordAt d (b + 3 * e + n)
 unfolding locationsIn
 locations-more d b n e = sum-more (λ s. wordAt d (b + 3 * e + s)) n
+
+-- the locations of a part are those of its stages
+pub locations-sum : (d : List ℕ) (p : ℕ) → locationsOf d p ≡ sumTo (stageLocations d p) (stagesOf d p)
+unfolding locationsIn countBase
+locations-sum d p = refl
 
 -- ---- bodies: each begins where the one before ends
 
@@ -51,6 +65,16 @@ body-mono d p (suc q) h =
     ⊎-elim (λ l. omega (arith, body-mono d p q (omega arith), rw add-one at (body-long d q)))
     (λ l. let e : p ≡ suc q = omega arith in rw e (omega arith))
     (lt-or-ge p (suc q))
+
+pub body-step : (d : List ℕ) (p at n e w : ℕ) → at ≡ bodyAt d p → n ≡ stagesOf d p → e ≡ endpointsOf d p → w ≡ bodyWords d at n e → at + w ≡ bodyAt d (p + 1)
+body-step d p at n e w a b g h = cc (body-more d p)
+
+-- the numbers of a part's head, read from where the heads begin
+pub stages-at : (d : List ℕ) (h p : ℕ) → h ≡ headBase d → wordAt d (h + 2 * p) ≡ stagesOf d p
+stages-at d h p e = ap (λ (x : ℕ). wordAt d (x + 2 * p)) e
+
+pub endpoints-at : (d : List ℕ) (h p : ℕ) → h ≡ headBase d → wordAt d (h + 2 * p + 1) ≡ endpointsOf d p
+endpoints-at d h p e = ap (λ (x : ℕ). wordAt d (x + 2 * p + 1)) e
 
 -- the lists of a body, one after the other
 pub tables-end : (d : List ℕ) (p : ℕ) → bodyAt d (p + 1) ≡ tableBase d p + 17664
