@@ -2,3 +2,4 @@ pub mod TopLaws
 pub mod ItemLaws
 pub mod PutLaws
 pub mod SlotLaws
+pub mod RightLaws

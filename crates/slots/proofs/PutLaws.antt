@@ -19,7 +19,7 @@ use Rattle.record.specs.Record.{slotAt}
 use Rattle.record.specs.Form.{empty}
 use Rattle.record.specs.Tests.{someBelow}
 use Rattle.slots.specs.Slots.{standsIn, readsPin, highestBelow, highest}
-use Rattle.slots.specs.Puts.{heldAt, heldBelow, positionPuts, readPuts, filled, foundIf, foundAt}
+use Rattle.slots.specs.Puts.{heldAt, heldBelow, positionPuts, readPuts, filled, FilledWith, foundIf, foundAt}
 
 -- ---- puts one after the other
 
@@ -219,3 +219,19 @@ reads-look d p x m h k =
     puts-look m (heldBelow (λ j. slotAt d p 0 (8192 + j)) (λ j. 0) 8192) x
     (omega (arith, held-length (λ j. slotAt d p 0 (8192 + j)) (λ j. 0) 8192))
     ∙ found-some (λ j. slotAt d p 0 (8192 + j)) 0 8192 x k
+
+-- ---- the same of a lent table
+
+pub positions-found : (d t : List ℕ) (p s x : ℕ) → FilledWith (positionPuts d p s) t → (x ≡ empty → ⊥) → look t x ≡ foundAt (highest d p s x)
+positions-found d t p s x f k = ap (λ (l : List ℕ). look l x) (f .is) ∙ positions-look d p s x (length t) (omega (arith, f .wide)) k
+
+pub reads-found : (d t : List ℕ) (p x : ℕ) → FilledWith (readPuts d p) t → (x ≡ empty → ⊥) → look t x ≡ foundIf (readsPin d p x) 0
+reads-found d t p x f k = ap (λ (l : List ℕ). look l x) (f .is) ∙ reads-look d p x (length t) (omega (arith, f .wide)) k
+
+pub filled-with : (t u : List ℕ) (puts : List Entry) → 32768 ≤ length t → u ≡ filled (length t) puts → FilledWith puts u
+filled-with t u puts h e =
+    let n : length u ≡ length t = ap length e ∙ filled-length (length t) puts in
+    record { wide = omega arith; is = e ∙ ap (λ (m : ℕ). filled m puts) (sym n) }
+
+pub cleared : (t u v : List ℕ) (puts : List Entry) → u ≡ filled (length t) puts → v ≡ replicate (length u) 0 → v ≡ replicate (length t) 0
+cleared t u v puts e h = h ∙ ap (λ (m : ℕ). replicate m 0) (ap length e ∙ filled-length (length t) puts)

@@ -70,8 +70,9 @@ power-is q h l =
     let w : 63 - leadingZeros 64 q ≡ j = omega (arith, k) in
     (omega (arith, k), ap (λ (x : ℕ). 2 ^ x) w ∙ sym (top-is 13 q j i t))
 
-pub power-shifted : (q : ℕ) → 0 < q → q < 8192 → 1 * 2 ^ (63 - leadingZeros 64 q) % 2 ^ 64 ≡ top q
+pub power-shifted : (q : ℕ) → 0 < q → q < 8192
+    → (1 * 2 ^ (63 - leadingZeros 64 q) % 2 ^ 64 ≡ top q) × (q + 2 * (1 * 2 ^ (63 - leadingZeros 64 q) % 2 ^ 64) < 16384)
 power-shifted q h l =
     let e : 2 ^ (63 - leadingZeros 64 q) ≡ top q = power-is q h l .1 in
-    let m : top q ≤ q = top-below q h l .least in
-    rw e (omega arith)
+    let m : Below q = top-below q h l in
+    rw e (omega arith, omega arith)

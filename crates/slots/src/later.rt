@@ -65,7 +65,7 @@ fn ten_stage(d: &[u8], p: usize, body: Body, s: usize, table: &mut [u32]) -> Par
 
 // The lowest item of part p that is refused: stage 0 has none.
 fn ten_part(d: &[u8], p: usize, body: Body, table: &mut [u32]) -> PartFault
-    requires { ⌜ BodyOf (now d) p body × Zeros (now table) ⌝ }
+    requires { ⌜ BodyOf (now d) p body × (0 < body .stages) × Zeros (now table) ⌝ }
     ensures { λ r. ⌜ r ≡ partFaultOf (badItem (now (d .entry)) (tenRight (now (d .entry)) p) p) ⌝ }
     ensures { λ r. ⌜ now (table .exit) ≡ now (table .entry) ⌝ }
 {

@@ -15,7 +15,7 @@ use words::units::Pin;
 // The largest power of two not above a position: slot a stands that far above it, slot b twice as far.
 pub fn top_power(q: usize) -> usize
     requires { ⌜ (0 < q) × (q < 8192) ⌝ }
-    ensures { λ r. ⌜ r ≡ top q ⌝ }
+    ensures { λ r. ⌜ (r ≡ top q) × (q + 2 * r < 16384) ⌝ }
 {
     1 << (63 - usize::leading_zeros(q))
 }

@@ -25,7 +25,9 @@ mul-items c = search needs
 
 -- src/computed.rt:45:5
 loop-holds : tie.Need-loop-holds Inv-loop μ-loop
-loop-holds c = ?
+loop-holds c =
+    let s = c .before .before .before in
+    (omega arith, items-all (s .args .d .now) (elevenRight (s .args .d .now) (s .args .p)) (s .args .p) (s .args .body .stages) (s .pre .0 .stages))
 
 -- src/computed.rt:46:12
 eleven-right-requires : tie.Need-eleven-right-requires Inv-loop μ-loop
@@ -41,15 +43,24 @@ loop-less c = search needs
 
 -- src/computed.rt:45:5
 loop-again : tie.Need-loop-again Inv-loop μ-loop
-loop-again c = ?
+loop-again c =
+    let l = c .before .before .before in
+    let d = l .before .before .before .before .args .d .now in
+    (omega arith, sym (first-next (overItems (elevenRight d (l .before .before .before .before .args .p))) _ (l .loop .i) (c .before .before .loop-test .taken) (sym (c .before .eleven-right .ensures) ∙ c .if1 .taken)) ∙ l .loop .inv .1)
 
 -- src/computed.rt:49:13
 returns : tie.Need-returns Inv-loop μ-loop
-returns c = ?
+returns c =
+    let l = c .before .before .before in
+    let d = l .before .before .before .before .args .d .now in
+    ap partFaultOf (sym (first-fault (overItems (elevenRight d (l .before .before .before .before .args .p))) _ (l .loop .i) (c .before .before .loop-test .taken) (sym (c .before .eleven-right .ensures) ∙ c .if1 .left)) ∙ l .loop .inv .1)
 
 -- src/computed.rt:39:1
 returns-2 : tie.Need-returns-2 Inv-loop μ-loop
-returns-2 c = ?
+returns-2 c =
+    let l = c .before in
+    let d = l .before .before .before .before .args .d .now in
+    ap partFaultOf (sym (first-end (overItems (elevenRight d (l .before .before .before .before .args .p))) _ (l .loop .i) (c .loop-test .left)) ∙ l .loop .inv .1)
 
 pub eleven-items-spec : {M : Type 1} → statement M
 eleven-items-spec =

@@ -1,3 +1,4 @@
+use Rattle.slots.proofs.ItemLaws.{stage-start, stage-next, stage-fault, stage-end}
 use mathlib.Core.Path.{_≡_, sym, ap, _∙_}
 use Prim.Native.Nat.{ℕ, _+_, _*_, _-_, _≤_, _<_}
 use native.Mathlib.Omega.{arith}
@@ -20,7 +21,7 @@ abbrev μ-loop : tie.MeasureT-loop
 
 -- src/later.rt:39:5
 loop-holds : tie.Need-loop-holds Inv-loop μ-loop
-loop-holds c = ?
+loop-holds c = (omega arith, stage-start _ _)
 
 -- src/later.rt:40:12
 ten-right-requires : tie.Need-ten-right-requires Inv-loop μ-loop
@@ -36,7 +37,10 @@ loop-less c = search needs
 
 -- src/later.rt:39:5
 loop-again : tie.Need-loop-again Inv-loop μ-loop
-loop-again c = ?
+loop-again c =
+    let l = c .before .before .before in
+    let o = l .before .before .before .args in
+    (omega arith, stage-next (tenRight (o .d .now) (o .p)) (o .s + 1) (l .loop .j) _ (l .loop .inv .1) (c .before .before .loop-test .taken) (sym (c .before .ten-right .ensures) ∙ c .if1 .taken))
 
 -- src/later.rt:43:44
 add-t9 : tie.Need-add-t9 Inv-loop μ-loop
@@ -52,11 +56,17 @@ add-t11 c = search needs
 
 -- src/later.rt:43:13
 returns : tie.Need-returns Inv-loop μ-loop
-returns c = ?
+returns c =
+    let l = c .before .before .before in
+    let o = l .before .before .before .args in
+    ap partFaultOf (stage-fault (tenRight (o .d .now) (o .p)) (o .s + 1) (l .loop .j) _ (l .loop .inv .1) (c .before .before .loop-test .taken) (sym (c .before .ten-right .ensures) ∙ c .if1 .left))
 
 -- src/later.rt:34:1
 returns-2 : tie.Need-returns-2 Inv-loop μ-loop
-returns-2 c = ?
+returns-2 c =
+    let l = c .before in
+    let o = l .before .before .before .args in
+    ap partFaultOf (stage-end (tenRight (o .d .now) (o .p)) (o .s + 1) (l .loop .j) _ (l .loop .inv .1) (omega arith))
 
 pub ten-items-spec : {M : Type 1} → statement M
 ten-items-spec =

@@ -1,3 +1,5 @@
+use mathlib.Core.Path.{_≡_, sym, ap, _∙_}
+use Rattle.slots.proofs.RightLaws.{ten-empty, ten-there, ten-absent}
 use borrow.Author.Needs.{needs}
 use Rattle.slots.proofs.later.ten_right.Statement.{statement}
 use Rattle.slots.proofs.later.ten_right.Tie as tie
@@ -20,7 +22,10 @@ slot-requires c κs = search needs
 
 -- src/later.rt:25:9
 returns : tie.Need-returns
-returns c = ?
+returns c =
+    let a = c .before in
+    let o = a .before .before .before .args in
+    ten-empty (o .d .now) (o .table .now) (o .p) (o .s) (o .j) (a .slot .result) (a .slot .ensures) (c .if1 .taken)
 
 -- src/later.rt:27:11
 look-up-requires : tie.Need-look-up-requires
@@ -36,11 +41,21 @@ enum-told-2 c = search needs
 
 -- src/later.rt:19:1
 returns-2 : tie.Need-returns-2
-returns-2 c = ?
+returns-2 c =
+    let k = c .before .before in
+    let a = k .before .before in
+    let s = a .before .before .before in
+    let o = s .args in
+    ten-there (o .d .now) (o .table .now) (o .p) (o .s) (o .j) (a .slot .result) (a .slot .ensures) (k .before .if1 .left) (s .pre .3) (k .look-up .result) (k .look-up .ensures) _ (c .enum-told .given .1)
 
 -- src/later.rt:19:1
 returns-3 : tie.Need-returns-3
-returns-3 c = ?
+returns-3 c =
+    let k = c .before .before in
+    let a = k .before .before in
+    let s = a .before .before .before in
+    let o = s .args in
+    ten-absent (o .d .now) (o .table .now) (o .p) (o .s) (o .j) (a .slot .result) (a .slot .ensures) (k .before .if1 .left) (s .pre .3) (k .look-up .result) (k .look-up .ensures) (c .enum-told2 .given .1)
 
 pub ten-right-spec : {M : Type 1} → statement M
 ten-right-spec =
