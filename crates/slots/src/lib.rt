@@ -2,6 +2,7 @@
 pub mod computed;
 pub mod later;
 pub mod tables;
+pub mod standing;
 
 // What a refusal finds in one part: the lowest item that is refused.
 pub enum PartFault {

@@ -1,3 +1,5 @@
+use Rattle.slots.specs.Puts.{readPuts}
+use Rattle.slots.proofs.PutLaws.{filled-with, cleared}
 use borrow.Author.Needs.{needs}
 use Rattle.slots.proofs.computed.eleven_part.Statement.{statement}
 use Rattle.slots.proofs.computed.eleven_part.Tie as tie
@@ -13,7 +15,10 @@ fill-reads-requires c κs = search needs
 
 -- src/computed.rt:68:9
 eleven-items-requires : tie.Need-eleven-items-requires
-eleven-items-requires c κs = ?
+eleven-items-requires c κs =
+    let s = c .before .before .before .before .before .before .before in
+    let o = s .args in
+    (s .pre .0, filled-with (o .table .now) _ (readPuts (o .d .now) (o .p)) (s .pre .2) (c .before .before .before .fill-reads .ensures))
 
 -- src/computed.rt:69:5
 clear-requires : tie.Need-clear-requires
@@ -25,7 +30,9 @@ same-length c = search needs
 
 -- src/computed.rt:62:1
 returns : tie.Need-returns
-returns c = ?
+returns c =
+    let o = c .before .before .before .before .before .before .before .before .before .before .before .before .args in
+    (c .before .before .before .before .eleven-items .ensures, cleared (o .table .now) _ _ (readPuts (o .d .now) (o .p)) (c .before .before .before .before .before .before .before .before .fill-reads .ensures) (c .before .before .clear .ensures))
 
 pub eleven-part-spec : {M : Type 1} → statement M
 eleven-part-spec =

@@ -1,3 +1,6 @@
+use lib.ListN.{length, replicate}
+use Rattle.slots.proofs.ItemLaws.{stages-first, stages-next, stages-fault, stages-end, fault-some, fault-none}
+use Rattle.slots.proofs.SlotLaws.{ten-first}
 use mathlib.Core.Path.{_≡_, refl, sym, ap, _∙_}
 use Prim.Native.Nat.{ℕ, _+_, _*_, _-_, _≤_, _<_}
 use native.Mathlib.Omega.{arith}
@@ -21,7 +24,10 @@ abbrev μ-loop : tie.MeasureT-loop
 
 -- src/later.rt:73:5
 loop-holds : tie.Need-loop-holds Inv-loop μ-loop
-loop-holds c = ?
+loop-holds c =
+    let s = c .before .before in
+    let o = s .args in
+    (s .pre .1, refl, stages-first (o .d .now) (tenRight (o .d .now) (o .p)) (o .p) (o .body .stages) (s .pre .0 .stages) (s .pre .1) (ten-first (o .d .now) (o .p)))
 
 -- src/later.rt:73:11
 add-if1 : tie.Need-add-if1 Inv-loop μ-loop
@@ -29,7 +35,10 @@ add-if1 c = search needs
 
 -- src/later.rt:74:15
 ten-stage-requires : tie.Need-ten-stage-requires Inv-loop μ-loop
-ten-stage-requires c κs = ?
+ten-stage-requires c κs =
+    let l = c .before .before .before in
+    let s = l .before .before .before in
+    (s .pre .0, c .before .if1 .taken, omega (arith, ap length (l .loop .inv .1), s .pre .2 .wide))
 
 -- src/later.rt:75:34
 enum-told : tie.Need-enum-told Inv-loop μ-loop
@@ -45,7 +54,13 @@ loop-less c = search needs
 
 -- src/later.rt:73:5
 loop-again : tie.Need-loop-again Inv-loop μ-loop
-loop-again c = ?
+loop-again c =
+    let k = c .before .before .before .before in
+    let l = c .before .before .before .before .before .before .before .before in
+    let s = l .before .before .before in
+    let o = s .args in
+    let zeros : k .ten-stage .last .1 .1 .1 .1 .0 ≡ o .table .now = k .ten-stage .ensures .1 ∙ (ap (λ (m : ℕ). replicate m 0) (ap length (l .loop .inv .1)) ∙ sym (s .pre .2 .is)) in
+    (c .before .before .before .before .before .before .if1 .taken, zeros, stages-next (overItems (tenRight (o .d .now) (o .p))) (o .body .stages) (l .loop .s + 1) _ (c .before .before .before .before .before .before .if1 .taken) (l .loop .inv .2) (fault-none _ (k .ten-stage .result) (k .ten-stage .ensures .0) (c .enum-told .given .1)))
 
 -- src/later.rt:76:29
 enum-known-i : tie.Need-enum-known-i Inv-loop μ-loop
@@ -57,7 +72,13 @@ same-length c = search needs
 
 -- src/later.rt:76:35
 returns : tie.Need-returns Inv-loop μ-loop
-returns c = ?
+returns c =
+    let k = c .before .before .before .before .before in
+    let l = c .before .before .before .before .before .before .before .before .before in
+    let s = l .before .before .before in
+    let o = s .args in
+    let zeros : k .ten-stage .last .1 .1 .1 .1 .0 ≡ o .table .now = k .ten-stage .ensures .1 ∙ (ap (λ (m : ℕ). replicate m 0) (ap length (l .loop .inv .1)) ∙ sym (s .pre .2 .is)) in
+    (ap partFaultOf (stages-fault (overItems (tenRight (o .d .now) (o .p))) (o .body .stages) (l .loop .s + 1) _ (c .before .before .before .before .before .before .before .if1 .taken) (l .loop .inv .2) _ (fault-some _ (k .ten-stage .result) _ (k .ten-stage .ensures .0) (c .before .i .given .1))), zeros)
 
 -- src/later.rt:67:1
 same-length-2 : tie.Need-same-length-2 Inv-loop μ-loop
@@ -65,7 +86,10 @@ same-length-2 c = search needs
 
 -- src/later.rt:67:1
 returns-2 : tie.Need-returns-2 Inv-loop μ-loop
-returns-2 c = ?
+returns-2 c =
+    let l = c .before .before in
+    let o = l .before .before .before .args in
+    (ap partFaultOf (stages-end (overItems (tenRight (o .d .now) (o .p))) (o .body .stages) (l .loop .s + 1) _ (c .if1 .left) (l .loop .inv .2)), l .loop .inv .1)
 
 pub ten-part-spec : {M : Type 1} → statement M
 ten-part-spec =

@@ -1,3 +1,5 @@
+use Rattle.slots.specs.Puts.{positionPuts}
+use Rattle.slots.proofs.PutLaws.{filled-with, cleared}
 use borrow.Author.Needs.{needs}
 use Rattle.slots.proofs.later.ten_stage.Statement.{statement}
 use Rattle.slots.proofs.later.ten_stage.Tie as tie
@@ -13,7 +15,10 @@ fill-positions-requires c κs = search needs
 
 -- src/later.rt:61:9
 ten-items-requires : tie.Need-ten-items-requires
-ten-items-requires c κs = ?
+ten-items-requires c κs =
+    let s = c .before .before .before .before .before .before .before in
+    let o = s .args in
+    (s .pre .0, s .pre .1, filled-with (o .table .now) _ (positionPuts (o .d .now) (o .p) (o .s)) (s .pre .2) (c .before .before .before .fill-positions .ensures))
 
 -- src/later.rt:62:5
 clear-requires : tie.Need-clear-requires
@@ -25,7 +30,9 @@ same-length c = search needs
 
 -- src/later.rt:55:1
 returns : tie.Need-returns
-returns c = ?
+returns c =
+    let o = c .before .before .before .before .before .before .before .before .before .before .before .before .args in
+    (c .before .before .before .before .ten-items .ensures, cleared (o .table .now) _ _ (positionPuts (o .d .now) (o .p) (o .s)) (c .before .before .before .before .before .before .before .before .fill-positions .ensures) (c .before .before .clear .ensures))
 
 pub ten-stage-spec : {M : Type 1} → statement M
 ten-stage-spec =
