@@ -8,12 +8,20 @@ ghost use Rattle.record.specs.Form.{planForm};
 ghost use Rattle.gates.specs.Gates.{badGate, gateOf};
 ghost use Rattle.slots.specs.Slots.{feeds, pinRight, slotRight, nineRight, badItem};
 ghost use Rattle.slots.specs.Puts.{partFaultOf, planFaultOf};
-use record::bodies::{Body, body_at, first_body, parts_of, slot};
-use gates::{GateFound, find_gate, gate_first, gate_second};
-use words::units::{Pin, EMPTY_PIN};
 use crate::PartFault;
 use crate::PlanFault;
 use crate::tables::top_power;
+use gates::GateFound;
+use gates::find_gate;
+use gates::gate_first;
+use gates::gate_second;
+use record::bodies::Body;
+use record::bodies::body_at;
+use record::bodies::first_body;
+use record::bodies::parts_of;
+use record::bodies::slot;
+use words::units::EMPTY_PIN;
+use words::units::Pin;
 
 // Whether a pin is empty or in range.
 fn pin_right(pin: u32) -> bool

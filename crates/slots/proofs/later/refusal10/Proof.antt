@@ -1,23 +1,17 @@
-use lib.ListN.{length}
-use Rattle.record.specs.Record.{partsOf}
-use Rattle.slots.proofs.PutLaws.{clear-zeros, clear-length}
-use Rattle.slots.proofs.ItemLaws.{parts-start, parts-fault, parts-next, parts-end, form-majors, form-ready, form-stages}
-use mathlib.Core.Path.{_≡_, refl, sym, ap, _∙_}
-use Prim.Native.Nat.{ℕ, _+_, _*_, _-_, _≤_, _<_}
+-- `slots::later::refusal10` meets its contract. The loop's invariant: the lowest place from part p on is the plan's, and the room is clear again.
+-- Assumes nothing.
+use mathlib.Core.Path.{_≡_, refl, _∙_}
+use Prim.Native.Nat.{_-_, _≤_}
 use native.Mathlib.Omega.{arith}
-use Rattle.record.specs.Record.{bodyAt}
+use borrow.Author.Needs.{needs}
+use lib.ListN.{length}
+use Rattle.record.specs.Record.{partsOf, bodyAt}
 use Rattle.record.specs.Tests.{lowestFrom}
 use Rattle.slots.specs.Slots.{tenRight, badItem, refusal10}
-use borrow.Author.Needs.{needs}
+use Rattle.slots.proofs.PutLaws.{clear-zeros, clear-length}
+use Rattle.slots.proofs.ItemLaws.{parts-start, parts-fault, parts-next, parts-end, form-majors, form-ready, form-stages}
 use Rattle.slots.proofs.later.refusal10.Statement.{statement}
 use Rattle.slots.proofs.later.refusal10.Tie as tie
-use Rattle.slots.proofs.later.refusal10.Reads as reads
-use Rattle.slots.proofs.later.refusal10.Lts as lts
-use Rattle.pinmap.proofs.clear.Reads as clear-reads
-use Rattle.record.proofs.bodies.body_at.Reads as body-at-reads
-use Rattle.record.proofs.bodies.first_body.Reads as first-body-reads
-use Rattle.record.proofs.bodies.parts_of.Reads as parts-of-reads
-use Rattle.slots.proofs.later.ten_part.Reads as ten-part-reads
 
 abbrev Inv-loop : tie.InvT-loop
 Inv-loop d room₀ parts at₀ p₀ room at p =
@@ -26,33 +20,27 @@ Inv-loop d room₀ parts at₀ p₀ room at p =
 abbrev μ-loop : tie.MeasureT-loop
 μ-loop d room₀ parts at₀ p₀ room at p = parts - p
 
--- src/later.rt:88:5
 clear-requires : tie.Need-clear-requires Inv-loop μ-loop
 clear-requires c κs = search needs
 
--- src/later.rt:89:9
 parts-of-requires : tie.Need-parts-of-requires Inv-loop μ-loop
 parts-of-requires c κs = let s = c .before .before .before .before .before .before in form-majors (s .args .d .now) (s .pre .0)
 
--- src/later.rt:90:9
 first-body-requires : tie.Need-first-body-requires Inv-loop μ-loop
 first-body-requires c κs = let s = c .before .before .before .before .before .before .before in form-majors (s .args .d .now) (s .pre .0)
 
--- src/later.rt:92:5
 loop-holds : tie.Need-loop-holds Inv-loop μ-loop
 unfolding refusal10
 loop-holds c =
     let d = c .before .before .before .before .before .before .before .before .args .d .now in
     (omega arith, c .first-body .ensures .0, refl, parts-start (λ q. badItem d (tenRight d q) q) (c .before .parts-of .result) (partsOf d) (c .before .parts-of .ensures .0))
 
--- src/later.rt:93:13
 body-at-requires : tie.Need-body-at-requires Inv-loop μ-loop
 body-at-requires c κs =
     let l = c .before in
     let s = l .before .before .before .before .before .before .before .before .before in
     form-ready (s .args .d .now) (s .pre .0) _ (l .loop .p) (l .loop .at) (l .before .before .parts-of .ensures .0) (c .loop-test .taken) (l .loop .inv .1)
 
--- src/later.rt:94:15
 ten-part-requires : tie.Need-ten-part-requires Inv-loop μ-loop
 ten-part-requires c κs =
     let b = c .before in
@@ -62,19 +50,15 @@ ten-part-requires c κs =
     let d = s .args .d .now in
     (b .body-at .ensures, form-stages d (s .pre .0) _ (l .loop .p) _ (l .before .before .parts-of .ensures .0) (c .before .before .loop-test .taken) (b .body-at .ensures), clear-zeros (length (s .args .room .now)) (z .clear .last .0) (l .loop .room) (z .clear .ensures) (l .loop .inv .2) (s .pre .1))
 
--- src/later.rt:96:17
 enum-told : tie.Need-enum-told Inv-loop μ-loop
 enum-told c = search needs
 
--- src/later.rt:97:17
 add-p : tie.Need-add-p Inv-loop μ-loop
 add-p c = search needs
 
--- src/later.rt:92:5
 loop-less : tie.Need-loop-less Inv-loop μ-loop
 loop-less c = search needs
 
--- src/later.rt:92:5
 loop-again : tie.Need-loop-again Inv-loop μ-loop
 loop-again c =
     let k = c .before .before .before .before in
@@ -84,11 +68,9 @@ loop-again c =
     let d = s .args .d .now in
     (omega (arith, c .before .before .before .before .before .before .before .loop-test .taken), c .before .before .before .before .before .before .body-at .ensures .end, k .ten-part .ensures .1 ∙ l .loop .inv .2, parts-next (λ q. badItem d (tenRight d q) q) _ (l .loop .p) _ (l .loop .inv .3) (k .ten-part .result) (c .before .before .before .before .before .before .before .loop-test .taken) (k .ten-part .ensures .0) (c .enum-told .given .1))
 
--- src/later.rt:99:29
 enum-known-i : tie.Need-enum-known-i Inv-loop μ-loop
 enum-known-i c = search needs
 
--- src/later.rt:99:35
 same-length : tie.Need-same-length Inv-loop μ-loop
 same-length c =
     let k = c .before .before .before .before .before in
@@ -97,7 +79,6 @@ same-length c =
     let s = l .before .before .before .before .before .before .before .before .before in
     clear-length (length (s .args .room .now)) (z .clear .last .0) (l .loop .room) (z .clear .ensures) (l .loop .inv .2) _ (k .ten-part .ensures .1 ∙ l .loop .inv .2)
 
--- src/later.rt:99:35
 returns : tie.Need-returns Inv-loop μ-loop
 returns c =
     let k = c .before .before .before .before .before in
@@ -107,11 +88,9 @@ returns c =
     let d = s .args .d .now in
     (parts-fault (λ q. badItem d (tenRight d q) q) _ (l .loop .p) _ (l .loop .inv .3) (k .ten-part .result) _ (c .before .before .before .before .before .before .before .before .loop-test .taken) (k .ten-part .ensures .0) (c .before .i .given .1), (k .ten-part .ensures .1 ∙ l .loop .inv .2) ∙ z .clear .ensures)
 
--- src/later.rt:83:1
 same-length-2 : tie.Need-same-length-2 Inv-loop μ-loop
 same-length-2 c = search needs
 
--- src/later.rt:83:1
 returns-2 : tie.Need-returns-2 Inv-loop μ-loop
 returns-2 c =
     let l = c .before in

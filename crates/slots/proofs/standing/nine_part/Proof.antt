@@ -1,17 +1,16 @@
+-- `slots::standing::nine_part` meets its contract. The loop's invariant: the answer from item i on is the part's.
+-- Assumes nothing.
 use mathlib.Core.Path.{_≡_, sym, ap, _∙_}
-use Prim.Native.Nat.{ℕ, _+_, _*_, _-_, _≤_, _<_}
+use Prim.Native.Nat.{_-_, _≤_}
 use native.Mathlib.Omega.{arith}
+use borrow.Author.Needs.{needs}
 use Rattle.record.specs.Tests.{firstFrom}
 use Rattle.record.proofs.TestLaws.{first-fault, first-next, first-end}
 use Rattle.slots.specs.Slots.{nineRight, badItem}
 use Rattle.slots.specs.Puts.{overItems, partFaultOf}
 use Rattle.slots.proofs.ItemLaws.{items-all}
-use borrow.Author.Needs.{needs}
 use Rattle.slots.proofs.standing.nine_part.Statement.{statement}
 use Rattle.slots.proofs.standing.nine_part.Tie as tie
-use Rattle.slots.proofs.standing.nine_part.Reads as reads
-use Rattle.slots.proofs.standing.nine_part.Lts as lts
-use Rattle.slots.proofs.standing.nine_right.Reads as nine-right-reads
 
 abbrev Inv-loop : tie.InvT-loop
 Inv-loop d p body items i₀ i = (i ≤ items) × (firstFrom (overItems (nineRight d p)) (items - i) i ≡ badItem d (nineRight d p) p)
@@ -19,43 +18,35 @@ Inv-loop d p body items i₀ i = (i ≤ items) × (firstFrom (overItems (nineRig
 abbrev μ-loop : tie.MeasureT-loop
 μ-loop d p body items i₀ i = items - i
 
--- src/standing.rt:85:17
 mul-items : tie.Need-mul-items Inv-loop μ-loop
 mul-items c = search needs
 
--- src/standing.rt:87:5
 loop-holds : tie.Need-loop-holds Inv-loop μ-loop
 loop-holds c =
     let s = c .before .before in
     (omega arith, items-all (s .args .d .now) (nineRight (s .args .d .now) (s .args .p)) (s .args .p) (s .args .body .stages) (s .pre .0 .stages))
 
--- src/standing.rt:88:12
 nine-right-requires : tie.Need-nine-right-requires Inv-loop μ-loop
 nine-right-requires c κs = search needs
 
--- src/standing.rt:89:13
 add-i : tie.Need-add-i Inv-loop μ-loop
 add-i c = search needs
 
--- src/standing.rt:87:5
 loop-less : tie.Need-loop-less Inv-loop μ-loop
 loop-less c = search needs
 
--- src/standing.rt:87:5
 loop-again : tie.Need-loop-again Inv-loop μ-loop
 loop-again c =
     let l = c .before .before .before in
     let o = l .before .before .before .args in
     (omega arith, sym (first-next (overItems (nineRight (o .d .now) (o .p))) _ (l .loop .i) (c .before .before .loop-test .taken) (sym (c .before .nine-right .ensures) ∙ c .if1 .taken)) ∙ l .loop .inv .1)
 
--- src/standing.rt:91:13
 returns : tie.Need-returns Inv-loop μ-loop
 returns c =
     let l = c .before .before .before in
     let o = l .before .before .before .args in
     ap partFaultOf (sym (first-fault (overItems (nineRight (o .d .now) (o .p))) _ (l .loop .i) (c .before .before .loop-test .taken) (sym (c .before .nine-right .ensures) ∙ c .if1 .left)) ∙ l .loop .inv .1)
 
--- src/standing.rt:81:1
 returns-2 : tie.Need-returns-2 Inv-loop μ-loop
 returns-2 c =
     let l = c .before in

@@ -1,46 +1,36 @@
+-- `slots::standing::nine_right` meets its contract. One law of RightLaws for each way out.
+-- Assumes nothing.
 use mathlib.Core.Path.{ap, _∙_}
+use borrow.Author.Needs.{needs}
 use Rattle.slots.specs.Slots.{pinRight}
 use Rattle.slots.proofs.RightLaws.{nine-level, nine-zero, nine-position}
-use borrow.Author.Needs.{needs}
 use Rattle.slots.proofs.standing.nine_right.Statement.{statement}
 use Rattle.slots.proofs.standing.nine_right.Tie as tie
-use Rattle.slots.proofs.standing.nine_right.Reads as reads
-use Rattle.slots.proofs.standing.nine_right.Lts as lts
-use Rattle.record.proofs.bodies.slot.Reads as slot-reads
-use Rattle.slots.proofs.standing.pin_right.Reads as pin-right-reads
-use Rattle.slots.proofs.standing.slot_right.Reads as slot-right-reads
 
--- src/standing.rt:71:38
 add-slot : tie.Need-add-slot
 add-slot c = search needs
 
--- src/standing.rt:71:18
 slot-requires : tie.Need-slot-requires
 slot-requires c κs = search needs
 
--- src/standing.rt:71:8
 pin-right-requires : tie.Need-pin-right-requires
 pin-right-requires c κs = search needs
 
--- src/standing.rt:73:13
 returns : tie.Need-returns
 returns c =
     let r = c .before .before in
     let o = r .before .before .before .args in
     nine-zero (o .d .now) (o .p) (o .s) (o .x) (r .pin-right .result) (r .pin-right .ensures ∙ ap pinRight (r .before .slot .ensures)) (c .before .if1 .taken) (c .if2 .taken)
 
--- src/standing.rt:75:9
 slot-right-requires : tie.Need-slot-right-requires
 slot-right-requires c κs = search needs
 
--- src/standing.rt:75:9
 returns-2 : tie.Need-returns-2
 returns-2 c =
     let r = c .before .before .before in
     let o = r .before .before .before .args in
     c .slot-right .ensures ∙ nine-position (o .d .now) (o .p) (o .s) (o .x) (r .pin-right .result) (r .pin-right .ensures ∙ ap pinRight (r .before .slot .ensures)) (c .before .before .if1 .taken) (c .before .if2 .left)
 
--- src/standing.rt:67:1
 returns-3 : tie.Need-returns-3
 returns-3 c =
     let r = c .before in

@@ -1,19 +1,15 @@
+-- `slots::standing::refusal9` meets its contract. The loop's invariant: the lowest place from part p on is the plan's.
+-- Assumes nothing.
 use mathlib.Core.Path.{_≡_}
 use Prim.Native.Nat.{_-_, _≤_}
 use native.Mathlib.Omega.{arith}
+use borrow.Author.Needs.{needs}
 use Rattle.record.specs.Record.{partsOf, bodyAt}
 use Rattle.record.specs.Tests.{lowestFrom}
 use Rattle.slots.specs.Slots.{nineRight, badItem, refusal9}
 use Rattle.slots.proofs.ItemLaws.{parts-start, parts-fault, parts-next, parts-end, form-majors, form-ready}
-use borrow.Author.Needs.{needs}
 use Rattle.slots.proofs.standing.refusal9.Statement.{statement}
 use Rattle.slots.proofs.standing.refusal9.Tie as tie
-use Rattle.slots.proofs.standing.refusal9.Reads as reads
-use Rattle.slots.proofs.standing.refusal9.Lts as lts
-use Rattle.record.proofs.bodies.body_at.Reads as body-at-reads
-use Rattle.record.proofs.bodies.first_body.Reads as first-body-reads
-use Rattle.record.proofs.bodies.parts_of.Reads as parts-of-reads
-use Rattle.slots.proofs.standing.nine_part.Reads as nine-part-reads
 
 abbrev Inv-loop : tie.InvT-loop
 Inv-loop d parts at₀ p₀ at p =
@@ -22,45 +18,36 @@ Inv-loop d parts at₀ p₀ at p =
 abbrev μ-loop : tie.MeasureT-loop
 μ-loop d parts at₀ p₀ at p = parts - p
 
--- src/standing.rt:102:9
 parts-of-requires : tie.Need-parts-of-requires Inv-loop μ-loop
 parts-of-requires c κs = let s = c .before in form-majors (s .args .d .now) (s .pre .0)
 
--- src/standing.rt:103:9
 first-body-requires : tie.Need-first-body-requires Inv-loop μ-loop
 first-body-requires c κs = let s = c .before .before in form-majors (s .args .d .now) (s .pre .0)
 
--- src/standing.rt:105:5
 loop-holds : tie.Need-loop-holds Inv-loop μ-loop
 unfolding refusal9
 loop-holds c =
     let d = c .before .before .before .args .d .now in
     (omega arith, c .first-body .ensures .0, parts-start (λ q. badItem d (nineRight d q) q) (c .before .parts-of .result) (partsOf d) (c .before .parts-of .ensures .0))
 
--- src/standing.rt:106:13
 body-at-requires : tie.Need-body-at-requires Inv-loop μ-loop
 body-at-requires c κs =
     let l = c .before in
     let s = l .before .before .before .before in
     form-ready (s .args .d .now) (s .pre .0) _ (l .loop .p) (l .loop .at) (l .before .before .parts-of .ensures .0) (c .loop-test .taken) (l .loop .inv .1)
 
--- src/standing.rt:107:15
 nine-part-requires : tie.Need-nine-part-requires Inv-loop μ-loop
 nine-part-requires c κs = search needs
 
--- src/standing.rt:109:17
 enum-told : tie.Need-enum-told Inv-loop μ-loop
 enum-told c = search needs
 
--- src/standing.rt:110:17
 add-p : tie.Need-add-p Inv-loop μ-loop
 add-p c = search needs
 
--- src/standing.rt:105:5
 loop-less : tie.Need-loop-less Inv-loop μ-loop
 loop-less c = search needs
 
--- src/standing.rt:105:5
 loop-again : tie.Need-loop-again Inv-loop μ-loop
 loop-again c =
     let k = c .before .before in
@@ -68,11 +55,9 @@ loop-again c =
     let d = l .before .before .before .before .args .d .now in
     (omega (arith, k .before .before .loop-test .taken), k .before .body-at .ensures .end, parts-next (λ q. badItem d (nineRight d q) q) _ (l .loop .p) _ (l .loop .inv .2) (k .nine-part .result) (k .before .before .loop-test .taken) (k .nine-part .ensures) (c .enum-told .given .1))
 
--- src/standing.rt:112:29
 enum-known-i : tie.Need-enum-known-i Inv-loop μ-loop
 enum-known-i c = search needs
 
--- src/standing.rt:112:35
 returns : tie.Need-returns Inv-loop μ-loop
 returns c =
     let k = c .before .before .before in
@@ -80,7 +65,6 @@ returns c =
     let d = l .before .before .before .before .args .d .now in
     parts-fault (λ q. badItem d (nineRight d q) q) _ (l .loop .p) _ (l .loop .inv .2) (k .nine-part .result) _ (k .before .before .loop-test .taken) (k .nine-part .ensures) (c .before .i .given .1)
 
--- src/standing.rt:98:1
 returns-2 : tie.Need-returns-2 Inv-loop μ-loop
 returns-2 c =
     let l = c .before in

@@ -1,44 +1,34 @@
-use Rattle.slots.proofs.RightLaws.{slot-empty, slot-far, slot-carried, slot-fed}
+-- `slots::standing::slot_right` meets its contract. One law of RightLaws for each way out.
+-- Assumes nothing.
 use borrow.Author.Needs.{needs}
+use Rattle.slots.proofs.RightLaws.{slot-empty, slot-far, slot-carried, slot-fed}
 use Rattle.slots.proofs.standing.slot_right.Statement.{statement}
 use Rattle.slots.proofs.standing.slot_right.Tie as tie
-use Rattle.slots.proofs.standing.slot_right.Reads as reads
-use Rattle.slots.proofs.standing.slot_right.Lts as lts
-use Rattle.record.proofs.bodies.slot.Reads as slot-reads
-use Rattle.slots.proofs.standing.fed_by.Reads as fed-by-reads
-use Rattle.slots.proofs.tables.top_power.Reads as top-power-reads
 
--- src/standing.rt:51:9
 slot-requires : tie.Need-slot-requires
 slot-requires c κs = search needs
 
--- src/standing.rt:53:9
 returns : tie.Need-returns
 returns c =
     let a = c .before in
     let o = a .before .before .args in
     slot-empty (o .d .now) (o .p) (o .s) (o .q) (a .slot .result) (a .slot .ensures) (c .if1 .taken)
 
--- src/standing.rt:56:9
 returns-2 : tie.Need-returns-2
 returns-2 c =
     let a = c .before .before in
     let o = a .before .before .args in
     slot-far (o .d .now) (o .p) (o .s) (o .q) (a .slot .result) (a .slot .ensures) (c .before .if1 .left) (c .if2 .taken)
 
--- src/standing.rt:58:9
 top-power-requires : tie.Need-top-power-requires
 top-power-requires c κs = search needs
 
--- src/standing.rt:59:33
 add-slot : tie.Need-add-slot
 add-slot c = search needs
 
--- src/standing.rt:59:9
 slot-requires-2 : tie.Need-slot-requires-2
 slot-requires-2 c κs = search needs
 
--- src/standing.rt:61:9
 returns-3 : tie.Need-returns-3
 returns-3 c =
     let m = c .before .before in
@@ -46,23 +36,18 @@ returns-3 c =
     let o = a .before .before .args in
     slot-carried (o .d .now) (o .p) (o .s) (o .q) (a .slot .result) (a .slot .ensures) (m .before .before .if1 .left) (m .before .if2 .left) (m .top-power .result) (c .before .slot2 .result) (m .top-power .ensures .0) (c .before .slot2 .ensures) (c .if3 .taken)
 
--- src/standing.rt:63:47
 mul-slot : tie.Need-mul-slot
 mul-slot c = search needs
 
--- src/standing.rt:63:43
 add-slot-2 : tie.Need-add-slot-2
 add-slot-2 c = search needs
 
--- src/standing.rt:63:23
 slot-requires-3 : tie.Need-slot-requires-3
 slot-requires-3 c κs = search needs
 
--- src/standing.rt:63:5
 fed-by-requires : tie.Need-fed-by-requires
 fed-by-requires c κs = search needs
 
--- src/standing.rt:47:1
 returns-4 : tie.Need-returns-4
 returns-4 c =
     let b = c .before in
