@@ -14,7 +14,7 @@ use Rattle.record.proofs.RecordLaws.{parts-more}
 use Rattle.counts.specs.Counts.{srams, writeOuts}
 use Rattle.blocks.specs.Blocks.{blockOf, takenBefore, stateOf, sramOf, stateStart, sramStart}
 use Rattle.blocks.specs.Table.{rankOf}
-use Rattle.blocks.proofs.TotalLaws.{three, sum-split}
+use Rattle.blocks.proofs.TotalLaws.{three, sum-zero, sum-split}
 use Rattle.blocks.proofs.OrderLaws.{taken-in, taken-apart, rank-lt, rank-apart, rank-taken, rank-order, rank-next, rank-first, rank-last}
 
 -- ---- parts of the major stages
@@ -203,6 +203,31 @@ module _ (d : List ℕ) where
       → stateStart d t j ≡ stateStart d s i + writeOuts d (partsBefore d s + i)
   unfolding stateOf stateStart
   state-after s t i j l m h = part-next d _ (writeOuts d) s t i j l m h
+
+  -- the part of rank 0 begins where the input layout ends, that of the highest rank ends where the state does
+  pub state-least : (s i : ℕ) → i < countAt d s → rankOf d s i ≡ 0 → stateStart d s i ≡ (layoutOf d + 31) / 32
+  unfolding stateOf stateStart rankOf
+  state-least s i l h =
+      let e : partsBefore d s ≡ 0 = omega arith in
+      omega (
+        arith,
+        ap (sumTo (writeOuts d)) e,
+        sum-zero (writeOuts d) 0 (λ j k. absurd (omega arith)),
+        rank-first (blockOf d s) (countAt d s) (λ j. writeOuts d (partsBefore d s + j)) i l (omega arith),
+      )
+
+  pub state-most : (n s i : ℕ) → s < n → i < countAt d s → rankOf d s i + 1 ≡ partsBefore d n → stateStart d s i + writeOuts d (partsBefore d s + i) ≡ stateOf d n
+  unfolding stateOf stateStart rankOf
+  state-most n s i u l h =
+      let a = rank-in d s i l .1 in
+      let b = parts-mono d (s + 1) n (omega arith) in
+      let e : partsBefore d (s + 1) ≡ partsBefore d n = omega (arith, parts-next d s) in
+      omega (
+        arith,
+        stage-next d ((layoutOf d + 31) / 32) (writeOuts d) s,
+        ap (sumTo (writeOuts d)) e,
+        rank-last (blockOf d s) (countAt d s) (λ j. writeOuts d (partsBefore d s + j)) i l (omega (arith, parts-next d s)),
+      )
 
   pub sram-first : sramOf d 0 ≡ 0
   unfolding sramOf partsBefore sumTo

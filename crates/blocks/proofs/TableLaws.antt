@@ -1,21 +1,22 @@
 -- The part table row by row: a major stage changes words 6 to 9 of its own parts' rows alone, the counts change words 0 to 5 alone.
 -- Assumes nothing.
-use mathlib.Core.Path.{_≡_, refl, ap, _∙_}
+use mathlib.Core.Path.{_≡_, refl, sym, ap, _∙_}
+use mathlib.Core.Bool.{Bool, true, false}
 use mathlib.Core.Logic.{⊎-elim}
 use mathlib.Core.List.{List}
-use Prim.Native.Nat.{ℕ, zero, suc, _+_, _*_, _/_, _%_, _^_, _≤_, _<_}
+use Prim.Native.Nat.{ℕ, zero, suc, _+_, _*_, _/_, _%_, _^_, _≤_, _<_, min}
 use native.Mathlib.Numerals.{add-one}
 use native.Mathlib.Omega.{arith}
-use lib.ListN.{length, getD, set, length-set}
-use lib.Seq.{getD-set-same, getD-set-other}
+use lib.ListN.{length, getD, set, take, length-set, length-take}
+use lib.Seq.{getD-set-same, getD-set-other, getD-take, ext-getD}
 use Rattle.words.proofs.BitLaws.{lt-or-ge}
 use Rattle.record.specs.Record.{majorsOf, countAt, partsBefore, partsOf, bodyAt, locationsOf}
 use Rattle.counts.specs.Counts.{srams, duplicates}
-use Rattle.blocks.specs.Blocks.{blockOf, stateStart}
+use Rattle.blocks.specs.Blocks.{blockOf, stateStart, totalsFit}
 use Rattle.blocks.specs.Table.{cell, rankOf, Counted, Allotted, Tabled}
-use Rattle.blocks.specs.Fill.{putCells, stageRows, allotRows, countRow, countRows, countedRoom, tabledRoom}
+use Rattle.blocks.specs.Fill.{putCells, stageRows, allotRows, countRow, countRows, countedRoom, tabledRoom, allottedRoom}
 use Rattle.blocks.proofs.FillLaws.{cell-same, put-long, put-other, put-here, put-word}
-use Rattle.blocks.proofs.StartLaws.{parts-mono, parts-next, rank-in, rank-same}
+use Rattle.blocks.proofs.StartLaws.{parts-mono, parts-next, rank-in, rank-same, rank-all}
 
 -- ---- one major stage
 
@@ -246,3 +247,35 @@ module _ (d room : List ℕ) where
   unfolding tabledRoom
   tabled-other x h =
       allot-other d (countedRoom d room) (majorsOf d) x (λ r k l a b. h r k l b) ∙ counted-other x (λ p k l a. h p k l (omega arith))
+
+  -- so is the room after `allot`, before the table and in words 10 to 15 of each row
+  pub allotted-long : length (allottedRoom d room) ≡ length room
+  unfolding allottedRoom
+  allotted-long = go (totalsFit d)
+    where
+      go : (b : Bool) → length {A = ℕ} (elim b [ true ↦ tabledRoom d room | false ↦ countedRoom d room ]) ≡ length room
+      go true = tabled-long
+      go false = counted-long
+
+  pub allotted-other : (x : ℕ) → ((p k : ℕ) → p < partsOf d → k < 10 → x ≡ cell p k → ⊥) → getD (allottedRoom d room) x 0 ≡ getD room x 0
+  unfolding allottedRoom
+  allotted-other x h = go (totalsFit d)
+    where
+      go : (b : Bool) → getD (elim b [ true ↦ tabledRoom d room | false ↦ countedRoom d room ]) x 0 ≡ getD room x 0
+      go true = tabled-other x h
+      go false = counted-other x (λ p k l u. h p k l (omega arith))
+
+  pub allotted-front : take 65536 (allottedRoom d room) ≡ take 65536 room
+  allotted-front =
+      ext-getD 0 _ _ (length-take 65536 (allottedRoom d room) ∙ ap (min 65536) allotted-long ∙ sym (length-take 65536 room))
+      (λ i l.
+      let u : i < 65536 = omega (arith, length-take 65536 (allottedRoom d room)) in
+      getD-take 65536 (allottedRoom d room) i 0 u ∙ allotted-other i (λ p k a b e. omega arith) ∙ sym (getD-take 65536 room i 0 u))
+
+-- ---- a table whole: the row of rank k names the part of that rank
+
+pub tabled-ranked : (d room : List ℕ) → Tabled d room → (k : ℕ) → k < partsOf d
+    → (s : ℕ) × (i : ℕ) × (s < majorsOf d) × (i < countAt d s) × (k ≡ rankOf d s i) × (getD room (cell k 9) 0 ≡ partsBefore d s + i)
+tabled-ranked d room t k l =
+    let (s, i, a, b, e) = rank-all d (majorsOf d) k l in
+    (s, i, a, b, e, ap (λ (x : ℕ). getD room (cell x 9) 0) e ∙ t .allotted s i a b .ranked)

@@ -2,8 +2,10 @@
 -- Assumes nothing.
 use mathlib.Core.Path.{_≡_, refl, sym, ap, ap₂, _∙_}
 use mathlib.Core.Bool.{Bool, true, false, _&&_}
+use mathlib.Core.Option.{none}
 use mathlib.Core.List.{List}
-use Prim.Native.Nat.{ℕ, _+_, _*_, _-_, _/_, _%_, _^_, _≤_, _<_}
+use Prim.Native.Nat.{ℕ, _+_, _*_, _-_, _/_, _%_, _^_, _≤_, _<_, min}
+use native.Mathlib.Nat.{min-eq-left}
 use native.Mathlib.Numerals.{add-one}
 use native.Mathlib.Omega.{arith}
 use borrow.Author.Tests.{le-leb, lt-leb}
@@ -14,10 +16,10 @@ use Rattle.words.proofs.SumLaws.{sum-ext}
 use Rattle.record.specs.declared.bodies.Body.{Body}
 use Rattle.record.specs.Record.{blocksOf, majorsOf, layoutOf, countAt, partsBefore, partsOf}
 use Rattle.record.specs.Body.{BodyOf}
-use Rattle.record.specs.Form.{planForm}
+use Rattle.record.specs.Form.{planForm, roomWords}
 use Rattle.record.proofs.FormLaws.{formed}
 use Rattle.counts.specs.declared.Counts.{Counts}
-use Rattle.counts.specs.Counts.{srams, duplicates, writeOuts}
+use Rattle.counts.specs.Counts.{srams, duplicates, writeOuts, refusal7}
 use Rattle.counts.specs.Parts.{CountsOf}
 use Rattle.counts.proofs.PartLaws.{countable, passed}
 use Rattle.blocks.specs.declared.stages.Firsts.{Firsts}
@@ -35,6 +37,13 @@ majors-few d h = formed d h .head .majors
 
 pub layout-few : (d : List ℕ) → planForm d ≡ true → layoutOf d ≤ 2 ^ 20
 layout-few d h = formed d h .head .layout
+
+-- what `allot` asks for: working room enough, and neither 5 nor 7
+pub fillable : (d room : List ℕ) → planForm d ≡ true → refusal7 d ≡ none → roomWords d ≤ length room → Fillable d room
+unfolding roomWords
+fillable d room f c h =
+    let e : min (majorsOf d) 64 ≡ majorsOf d = min-eq-left (majors-few d f) in
+    record { ready = record { form = f; inside = omega (arith, ap (partsBefore d) e) }; counts = c }
 
 -- ---- the counts, row by row
 

@@ -27,6 +27,13 @@ putCells room k row value (suc n) = set (putCells room k row value n) (cell (row
 unfoldable pub column : List ℕ → ℕ → ℕ → ℕ → ℕ
 column room base k i = getD room (cell (base + i) k) 0
 
+-- the block of part p, as its row says, and sums with w added to that of block b
+abbrev pub blockAt : List ℕ → ℕ → ℕ
+blockAt room p = getD room (cell p 6) 0
+
+abbrev pub added : List ℕ → ℕ → ℕ → List ℕ
+added sums b w = set sums b (getD sums b 0 + w)
+
 -- what part i takes: `scale` times word `from` of its row
 abbrev pub takes : List ℕ → ℕ → ℕ → ℕ → ℕ → ℕ
 takes room base from scale i = scale * column room base from i
@@ -95,6 +102,7 @@ pub record Rows (room : List ℕ) (blocks base count : ℕ) : Type 0 where
   pub inside : 65536 + 16 * (base + count) ≤ length room
   pub block : (i : ℕ) → i < count → column room base 6 i < blocks
 
+-- the parts may be placed, by zero costs and counts
 pub record Placeable (d room costs counts : List ℕ) (base count : ℕ) : Type 0 where
   pub few : count ≤ 4096
   pub parts : base + count ≤ 262144
@@ -118,16 +126,16 @@ pub record Addable (room sums : List ℕ) (p from scale : ℕ) : Type 0 where
   pub part : p < 262144
   pub inside : 65536 + 16 * p + 16 ≤ length room
   pub word : from < 16
-  pub block : getD room (cell p 6) 0 < length sums
-  pub fits : getD sums (getD room (cell p 6) 0) 0 + scale * getD room (cell p from) 0 < 2 ^ 32
+  pub block : blockAt room p < length sums
+  pub fits : getD sums (blockAt room p) 0 + scale * getD room (cell p from) 0 < 2 ^ 32
 
 -- and so for its rank, which is below `count`
 pub record RankReady (room sums : List ℕ) (base count i : ℕ) : Type 0 where
   pub part : base + count ≤ 262144
   pub number : i < count
   pub inside : 65536 + 16 * (base + count) ≤ length room
-  pub block : getD room (cell (base + i) 6) 0 < length sums
-  pub rank : getD sums (getD room (cell (base + i) 6) 0) 0 < count
+  pub block : blockAt room (base + i) < length sums
+  pub rank : getD sums (blockAt room (base + i)) 0 < count
 
 -- the sums are zero, and will fit
 pub record Summable (room sums : List ℕ) (base count from scale : ℕ) : Type 0 where

@@ -1,12 +1,12 @@
 // Parts to blocks: the costs and the part counts of the blocks, and each part's block.
 ghost use mathlib.Core.Path.{_≡_};
 ghost use Prim.Native.Nat.{_+_, _*_, _-_, _<_};
-ghost use lib.ListN.{length, getD, set};
+ghost use lib.ListN.{length};
 ghost use Rattle.words.specs.Section.{listOf};
 ghost use Rattle.record.specs.Record.{stagesOf};
 ghost use Rattle.blocks.specs.Blocks.{leastTo, blockFor, costsAfter};
 ghost use Rattle.blocks.specs.Sums.{inBlock};
-ghost use Rattle.blocks.specs.Fill.{Placeable, Puttable, putCells, blockFrom};
+ghost use Rattle.blocks.specs.Fill.{Placeable, Puttable, putCells, added, blockFrom};
 use record::places::head_base;
 use record::places::word_at;
 
@@ -37,11 +37,11 @@ pub fn block_for(costs: &[u32], i: usize) -> usize
     least_block(costs)
 }
 
-// A part more in block b.
+// A part more in block b: the one place where a block's cost and part count change.
 pub fn put_part(costs: &mut [u32], counts: &mut [u32], b: usize, stages: u32)
     requires { ⌜ Puttable (now costs) (now counts) b stages ⌝ }
-    ensures { λ _. ⌜ now (costs .exit) ≡ set (now (costs .entry)) b (getD (now (costs .entry)) b 0 + (stages + 3)) ⌝ }
-    ensures { λ _. ⌜ now (counts .exit) ≡ set (now (counts .entry)) b (getD (now (counts .entry)) b 0 + 1) ⌝ }
+    ensures { λ _. ⌜ now (costs .exit) ≡ added (now (costs .entry)) b (stages + 3) ⌝ }
+    ensures { λ _. ⌜ now (counts .exit) ≡ added (now (counts .entry)) b 1 ⌝ }
 {
     costs[b] += stages + 3;
     counts[b] += 1;
