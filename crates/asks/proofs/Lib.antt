@@ -1,0 +1,4 @@
+pub mod AskLaws
+pub mod FormLaws
+pub mod RequestLaws
+pub mod StoreLaws

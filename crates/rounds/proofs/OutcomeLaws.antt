@@ -1,0 +1,176 @@
+-- Which outcome each way through the code has, and what the table holds when a size has won.
+-- Assumes nothing.
+use mathlib.Core.Path.{_≡_, refl, sym, ap, subst, _∙_}
+use mathlib.Core.Bool.{Bool, true, false}
+use mathlib.Core.Option.{Option, none, some}
+use mathlib.Core.List.{List, [], _++_, append-nil}
+use Prim.Native.Nat.{ℕ, _+_, _*_, _/_, _^_, _≤_, _<_}
+use native.Mathlib.Nat.{le-trans, mul-le-mul-left}
+use native.Mathlib.Omega.{arith}
+use borrow.Author.Tests.{le-leb, lt-leb, lt-ltb, le-ltb}
+use lib.Dec.{leb, ltb}
+use lib.ListN.{length, getD, take, drop, replicate, length-append, length-drop}
+use lib.Seq.{sets, length-take-le}
+use Rattle.reads.specs.ReadSet.{pairsOf, broken}
+use Rattle.reads.specs.Search.{Lane, Tried, all, lanesOf, longest}
+use Rattle.reads.specs.Words.{roundsFrom}
+use Rattle.reads.specs.Outcome.{Outcome, placed, refused, packed, readSet, fitted, outcome, resultAfter, roomAfter}
+use Rattle.reads.proofs.SearchLaws.{win-first}
+use Rattle.tries.specs.Table.{tableOf}
+use Rattle.tries.specs.Tries.{lanesIn, triedOf}
+use Rattle.tries.specs.Decoded.{lanesAt, Kept}
+use Rattle.tries.proofs.PairLaws.{pairs-length}
+use Rattle.tries.proofs.TableLaws.{filled-of, filled-lanes}
+use Rattle.tries.proofs.TryLaws.{tried-kept}
+use Rattle.pieces.specs.Keys.{keysOf}
+use Rattle.readout.specs.Readout.{Readable}
+use Rattle.readout.proofs.FormLaws.{form-whole, form-masks}
+use Rattle.rounds.specs.declared.Rounds.{Rounds}
+use Rattle.rounds.specs.declared.Rounds.the-variants.{Placed}
+use Rattle.rounds.specs.Rounds.{roundsOf, isWon, tableAfter, Searchable, Solvable}
+use Rattle.rounds.proofs.SizeLaws.{tried-is}
+
+-- ---- which outcome: 1, 2, 3, 4, 14, each after those before it
+
+module _ (L : ℕ) (ws : List ℕ) (o : ℕ) where
+  abbrev pub end : Outcome
+  end = fitted L o (readSet L (pairsOf ws))
+
+  pub is-many : 16384 < length ws → end ≡ refused 1 0
+  unfolding readSet fitted
+  is-many h = rw (lt-leb (length (pairsOf ws)) 8192 (omega (arith, pairs-length 0 ws)), readSet)
+
+  module _ (few : length ws ≤ 16384) where
+    pairs-few : leb (length (pairsOf ws)) 8192 ≡ true
+    pairs-few = le-leb (length (pairsOf ws)) 8192 (omega (arith, pairs-length 0 ws))
+
+    pub is-bad : (i : ℕ) → broken (pairsOf ws) ≡ some i → end ≡ refused 2 i
+    unfolding readSet fitted
+    is-bad i e = rw (pairs-few, e, readSet)
+
+    module _ (form : broken (pairsOf ws) ≡ none) where
+      pub is-none : length ws ≡ 0 → end ≡ refused 3 0
+      unfolding readSet packed fitted
+      is-none z = rw (pairs-few, form, le-ltb 0 (length (pairsOf ws)) (omega (arith, pairs-length 0 ws)), readSet, packed)
+
+      module _ (some-words : length ws ≡ 0 → ⊥) where
+        some-pairs : ltb 0 (length (pairsOf ws)) ≡ true
+        some-pairs = lt-ltb 0 (length (pairsOf ws)) (omega (arith, pairs-length 0 ws))
+
+        pub is-stuck : lanesOf L (pairsOf ws) ≡ none → end ≡ refused 4 0
+        unfolding readSet packed fitted
+        is-stuck e = rw (pairs-few, form, some-pairs, e, readSet, packed)
+
+        module _ (lanes : List Lane) (e : lanesOf L (pairsOf ws) ≡ some lanes) where
+          pub is-packed : readSet L (pairsOf ws) ≡ placed lanes
+          unfolding readSet packed
+          is-packed = rw (pairs-few, form, some-pairs, e, readSet, packed)
+
+          pub is-short : o < 2 * L * longest lanes → end ≡ refused 14 0
+          unfolding fitted
+          is-short l = rw (is-packed, lt-leb (2 * L * longest lanes) o l, fitted)
+
+          pub is-placed : 2 * L * longest lanes ≤ o → end ≡ placed lanes
+          unfolding fitted
+          is-placed l = rw (is-packed, le-leb (2 * L * longest lanes) o l, fitted)
+
+-- ---- the answer and the result, by the outcome
+
+module _ (D : Outcome) (r : Rounds) (out : List ℕ) where
+  pub refused-post : (n i : ℕ) → D ≡ refused n i → r ≡ roundsOf (refused n i) → (r ≡ roundsOf D) × (out ≡ resultAfter D out)
+  unfolding resultAfter
+  refused-post n i e er = rw e (er, refl)
+
+pub placed-post : (D : Outcome) (lanes ls : List Lane) (n : ℕ) (out out′ : List ℕ) → D ≡ placed lanes → ls ≡ lanes → n ≡ longest ls
+    → out′ ≡ sets out 0 (roundsFrom ls n 0) → (Placed n ≡ roundsOf D) × (out′ ≡ resultAfter D out)
+unfolding resultAfter
+placed-post D lanes ls n out out′ e el en eo =
+    let q : n ≡ longest lanes = en ∙ ap longest el in
+    rw e (ap Placed q, rw (← q) (rw el at eo))
+
+-- ---- a set that has the form is searched
+
+pub searchable : {ws : List ℕ} {t K S L : ℕ} → Solvable t K S L → length ws ≤ 16384 → broken (pairsOf ws) ≡ none → ((x : ℕ) → getD ws x 0 < 2 ^ 32)
+    → Searchable ws t K S L
+searchable {ws} s few form small = record {
+  whole = form-whole ws form;
+  few = few;
+  masks = form-masks ws form small;
+  room = s .room;
+  some-lanes = s .some-lanes;
+  few-lanes = s .few-lanes;
+  keys-room = omega (arith, s .keys-room);
+  scratch-room = omega (arith, s .scratch-room);
+}
+
+-- ---- a size has won
+
+pub lost : (o : Option (List Lane)) (r : Bool) → r ≡ isWon o → r ≡ false → o ≡ none
+lost none r e f = refl
+lost (some lanes) r e f =
+    let q : true ≡ false = sym e ∙ f in
+    let z : _≡_ {A = ℕ} 0 1 = cc in
+    absurd (omega arith)
+
+-- the lanes that won, as the table says them
+pub record Win (ws table : List ℕ) (L : ℕ) : Type 0 where
+  pub lanes : List Lane
+  pub found : lanesOf L (pairsOf ws) ≡ some lanes
+  pub readable : Readable ws table L
+  pub same : lanesAt ws table L ≡ lanes
+
+module _ {ws : List ℕ} {t K S L : ℕ} (s : Searchable ws t K S L) where
+  won-kept : (lanes : List Lane) → lanesOf L (pairsOf ws) ≡ some lanes → Kept ws L lanes
+  won-kept lanes e =
+      let w = win-first L (pairsOf ws) 14 (length (pairsOf ws)) lanes e in
+      let k = length (pairsOf ws) / 2 ^ w .i in
+      let tried : triedOf L k ws (keysOf k (pairsOf ws)) ≡ all lanes = tried-is s (w .size) (keysOf k (pairsOf ws)) refl ∙ w .wins in
+      subst (λ (T : Tried). Kept ws L (lanesIn T)) tried (tried-kept ws (s .whole) (s .masks) L k (keysOf k (pairsOf ws)) (s .some-lanes))
+
+  pub won : (r : Bool) (table : List ℕ) → r ≡ isWon (lanesOf L (pairsOf ws)) → r ≡ true → table ≡ tableAfter L (lanesOf L (pairsOf ws)) → length table ≡ 32 * L
+      → Win ws table L
+  won r table e f et n = go (lanesOf L (pairsOf ws)) refl
+    where
+      go : (o : Option (List Lane)) → lanesOf L (pairsOf ws) ≡ o → Win ws table L
+      go none q =
+          let x : false ≡ true = sym (rw q at e) ∙ f in
+          let z : _≡_ {A = ℕ} 0 1 = cc in
+          absurd (omega arith)
+      go (some lanes) q =
+          let kept = won-kept lanes q in
+          let filled : table ≡ tableOf lanes ++ [] = (rw q at et) ∙ sym (append-nil (tableOf lanes)) in
+          record {
+            lanes = lanes;
+            found = q;
+            readable = record { few = s .few-lanes; in-room = omega arith; filled = filled-of kept [] filled };
+            same = filled-lanes kept [] filled;
+          }
+
+-- the words of 32 rounds of 256 lanes
+pub size-fits : (L n : ℕ) → L ≤ 256 → n ≤ 32 → 2 * L * n ≤ 16384
+size-fits L n h l = le-trans (mul-le-mul-left (2 * L) l) (omega arith)
+
+-- ---- 32 before all others
+
+-- what is promised of an answer, a result and a room
+abbrev pub Promised : (L : ℕ) (ws out room : List ℕ) → Rounds → (out′ room′ : List ℕ) → Type 0
+Promised L ws out room r out′ room′ =
+    (r ≡ roundsOf (outcome L ws (length out) (length room))) × ((out′ ≡ resultAfter (outcome L ws (length out) (length room)) out) × (room′ ≡ roomAfter room))
+
+pub short-post : (L : ℕ) (ws out room : List ℕ) (r : Rounds) → length room < 16384 → r ≡ roundsOf (refused 32 0) → Promised L ws out room r out room
+unfolding outcome resultAfter roomAfter
+short-post L ws out room r h e =
+    let t : leb 16384 (length room) ≡ false = lt-leb 16384 (length room) h in
+    (rw (t, outcome) e, (rw (t, outcome, resultAfter), rw (t, roomAfter)))
+
+pub long-post : (L : ℕ) (ws out room : List ℕ) (r : Rounds) (out′ room′ used : List ℕ) → 16384 ≤ length room → r ≡ roundsOf (end L ws (length out))
+    → out′ ≡ resultAfter (end L ws (length out)) out → room′ ≡ replicate (length used) 0 → length used ≡ length room → Promised L ws out room r out′ room′
+unfolding outcome roomAfter
+long-post L ws out room r out′ room′ used h er eo em n =
+    let t : leb 16384 (length room) ≡ true = le-leb 16384 (length room) h in
+    let o : outcome L ws (length out) (length room) ≡ end L ws (length out) = rw (t, outcome) in
+    (rw o er, (rw o eo, em ∙ rw (t, roomAfter, n)))
+
+-- a part comes back as long as it was lent
+pub part-length : (n : ℕ) (l part : List ℕ) → n ≤ length l → length part ≡ length (take n l) → length (part ++ drop n l) ≡ length l
+part-length n l part h e = omega (arith, length-append part (drop n l), length-take-le n l h, length-drop n l)

@@ -1,0 +1,129 @@
+-- A try at a piece size in the code's terms, and one size more of the search.
+-- Assumes nothing.
+use mathlib.Core.Path.{_≡_, refl, sym, ap, subst, _∙_}
+use mathlib.Core.Bool.{Bool, true, false}
+use mathlib.Core.Option.{none, some}
+use mathlib.Core.List.{List, [], _++_, append-nil}
+use Prim.Native.Nat.{ℕ, _+_, _*_, _-_, _/_, _%_, _≤_, _<_}
+use native.Mathlib.Nat.{le-refl, lt-of-le-of-lt}
+use native.Mathlib.Omega.{arith}
+use lib.Dec.{lit<}
+use lib.ListN.{length, drop, replicate, length-append, length-replicate, drop-of-length-le}
+use lib.Seq.{take-all}
+use Rattle.reads.specs.ReadSet.{Pair, pairsOf}
+use Rattle.reads.specs.Search.{Tried, all, stuck, tryFrom, try, firstWin, lanesOf}
+use Rattle.reads.proofs.SearchLaws.{win-none, win-all, win-stuck, win-fuel}
+use Rattle.tries.specs.Table.{tableOf}
+use Rattle.tries.specs.Tries.{isAll, lanesIn, triedOf, Ready}
+use Rattle.tries.proofs.PairLaws.{pairs-length}
+use Rattle.pieces.specs.Keys.{keysOf, pieceCount, Orderable}
+use Rattle.pieces.proofs.KeyLaws.{count-le}
+use Rattle.pieces.proofs.RunLaws.{run-is}
+use Rattle.rounds.specs.Rounds.{isWon, tableAfter, Searchable}
+
+pub zeros-length : {t : List ℕ} {n : ℕ} → t ≡ replicate n 0 → length t ≡ n
+zeros-length {t} {n} e = ap length e ∙ length-replicate n 0
+
+pub cleared : (t : List ℕ) (n : ℕ) {s : List ℕ} → s ≡ replicate (length t) 0 → length t ≡ n → s ≡ replicate n 0
+cleared t n e l = e ∙ ap (λ (m : ℕ). replicate m 0) l
+
+-- ---- a try at size k
+
+module _ {ws : List ℕ} {t K S L k : ℕ} (s : Searchable ws t K S L) (h : 0 < k) where
+  pub count-few : pieceCount (length ws / 2) k ≤ K
+  count-few = omega (arith, count-le (length ws / 2) k h, s .keys-room)
+
+  pub orderable : (keys scratch : List ℕ) → length keys ≡ pieceCount (length ws / 2) k → length scratch ≡ S → Orderable ws keys scratch k
+  orderable keys scratch e f = record {
+    fillable = record { even = s .whole; few = omega (arith, s .few); size = h; full = e };
+    room = omega (arith, count-le (length ws / 2) k h, s .scratch-room);
+  }
+
+  pub ready : (table : List ℕ) → table ≡ replicate (32 * L) 0 → k ≤ length ws / 2 → Ready ws table L k
+  ready table e l =
+      let n : length table ≡ 32 * L = zeros-length e in
+      record {
+        whole = s .whole;
+        pairs = s .few;
+        masks = s .masks;
+        in-room = omega arith;
+        empty = take-all (32 * L) table (omega arith) ∙ e;
+        some-lanes = s .some-lanes;
+        size = omega (arith, s .few);
+      }
+
+  -- the keys in order name the pairs that the definition's try places
+  pub tried-is : (keys : List ℕ) → keys ≡ keysOf k (pairsOf ws) → triedOf L k ws keys ≡ try L (pairsOf ws) k
+  tried-is keys e =
+      ap (λ (run : List Pair). tryFrom L run (replicate L []) 0) (rw e (run-is k (pairsOf ws) (omega (arith, pairs-length 0 ws, s .few)) h))
+
+  pub tried-table : (keys table table′ : List ℕ) → keys ≡ keysOf k (pairsOf ws) → length table ≡ 32 * L
+      → table′ ≡ tableOf (lanesIn (triedOf L k ws keys)) ++ drop (32 * L) table → table′ ≡ tableOf (lanesIn (try L (pairsOf ws) k))
+  tried-table keys table table′ e n f =
+      let q : length table ≤ 32 * L = omega arith in
+      f ∙ rw (drop-of-length-le table q, append-nil, tried-is keys e)
+
+-- the keys in front of others
+pub front-room : (keys rest : List ℕ) (m : ℕ) → length keys ≡ m → m ≤ length (keys ++ rest)
+front-room keys rest m e = omega (arith, length-append keys rest)
+
+-- ---- one size more
+
+-- from size k on the search ends as it does from the first
+abbrev pub Left : ℕ → List Pair → ℕ → Type 0
+Left L ps k = (k ≤ length ps) × (firstWin L ps 14 k ≡ lanesOf L ps)
+
+pub left-start : (L : ℕ) (ps : List Pair) → Left L ps (length ps)
+left-start L ps = (le-refl (length ps), refl)
+
+pub pairs-whole : (ws : List ℕ) → length ws % 2 ≡ 0 → length (pairsOf ws) ≡ length ws / 2
+pairs-whole ws h = omega (arith, pairs-length 0 ws)
+
+module _ {ws : List ℕ} {t K S L : ℕ} (s : Searchable ws t K S L) where
+  pub search-few : length (pairsOf ws) ≤ 8192
+  search-few = omega (arith, pairs-length 0 ws, s .few)
+
+  pub search-still : (t′ K′ S′ : ℕ) → t′ ≡ 32 * L → K′ ≡ K → S′ ≡ S → Searchable ws t′ K′ S′ L
+  search-still t′ K′ S′ et eK eS = record {
+    whole = s .whole;
+    few = s .few;
+    masks = s .masks;
+    room = et;
+    some-lanes = s .some-lanes;
+    few-lanes = s .few-lanes;
+    keys-room = rw eK (s .keys-room);
+    scratch-room = rw eS (s .scratch-room);
+  }
+
+  pub search-start : Left L (pairsOf ws) (length ws / 2)
+  search-start = subst (λ (k : ℕ). Left L (pairsOf ws) k) (pairs-whole ws (s .whole)) (left-start L (pairsOf ws))
+
+module _ (L : ℕ) (ps : List Pair) (few : length ps ≤ 8192) where
+  pub left-end : (k : ℕ) → k ≤ 0 → Left L ps k → lanesOf L ps ≡ none
+  left-end k h l = let z : k ≡ 0 = omega arith in sym (l .1) ∙ rw z (win-none L ps 14)
+
+  pub left-on : (k : ℕ) → 0 < k → Left L ps k → (r : Bool) → r ≡ isAll (try L ps k) → r ≡ false → Left L ps (k / 2)
+  left-on k h l r e f = go (try L ps k) refl
+    where
+      go : (T : Tried) → try L ps k ≡ T → Left L ps (k / 2)
+      go (all lanes) t =
+          let q : true ≡ false = sym (rw t at e) ∙ f in
+          let z : _≡_ {A = ℕ} 0 1 = cc in
+          absurd (omega arith)
+      go (stuck lanes) t =
+          let few-left : k / 2 ≤ 4096 = omega arith in
+          let same = win-fuel L ps 13 14 (k / 2) (lt-of-le-of-lt few-left (lit< tt)) (lt-of-le-of-lt few-left (lit< tt)) in
+          (omega arith, sym (win-stuck L ps 13 k lanes h t ∙ same) ∙ l .1)
+
+  pub left-won : (k : ℕ) → 0 < k → Left L ps k → (r : Bool) → r ≡ isAll (try L ps k) → r ≡ true → (table : List ℕ) → table ≡ tableOf (lanesIn (try L ps k))
+      → (true ≡ isWon (lanesOf L ps)) × (table ≡ tableAfter L (lanesOf L ps))
+  left-won k h l r e f table et = go (try L ps k) refl
+    where
+      go : (T : Tried) → try L ps k ≡ T → (true ≡ isWon (lanesOf L ps)) × (table ≡ tableAfter L (lanesOf L ps))
+      go (stuck lanes) t =
+          let q : false ≡ true = sym (rw t at e) ∙ f in
+          let z : _≡_ {A = ℕ} 0 1 = cc in
+          absurd (omega arith)
+      go (all lanes) t =
+          let won : lanesOf L ps ≡ some lanes = sym (l .1) ∙ win-all L ps 13 k lanes h t in
+          rw won (refl, rw t at et)

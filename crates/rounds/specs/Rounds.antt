@@ -1,0 +1,47 @@
+-- Document 01's numbers of the answer, and what the search over the piece sizes asks and leaves. L is the number of lanes.
+-- Assumes nothing.
+use mathlib.Core.Path.{_≡_}
+use mathlib.Core.Bool.{Bool, true, false}
+use mathlib.Core.Option.{Option, none, some}
+use mathlib.Core.List.{List}
+use Prim.Native.Nat.{ℕ, _+_, _*_, _/_, _%_, _≤_, _<_}
+use lib.ListN.{length, getD, replicate}
+use Rattle.words.specs.Bit.{pop}
+use Rattle.reads.specs.Search.{Lane, longest}
+use Rattle.reads.specs.Outcome.{Outcome, placed, refused}
+use Rattle.tries.specs.Table.{tableOf}
+use Rattle.rounds.specs.declared.Rounds.{Rounds}
+use Rattle.rounds.specs.declared.Rounds.the-variants.{Placed, Refused}
+
+-- the number of rounds, or the refusal's number and item: the part is 0 for a read set
+abbrev pub roundsOf : Outcome → Rounds
+roundsOf (placed lanes) = Placed (longest lanes)
+roundsOf (refused n i) = Refused (record { number = n; part = 0; item = i })
+
+-- whether a size wins, and the table then: that of its lanes, or empty
+abbrev pub isWon : Option (List Lane) → Bool
+isWon none = false
+isWon (some lanes) = true
+
+abbrev pub tableAfter : ℕ → Option (List Lane) → List ℕ
+tableAfter L none = replicate (32 * L) 0
+tableAfter L (some lanes) = tableOf lanes
+
+-- what a search asks: whole pairs, 8192 at most, with no mask that is 0; room for the table, and for keys and their scratch
+pub record Searchable (set : List ℕ) (table keys scratch L : ℕ) : Type 0 where
+  pub whole : length set % 2 ≡ 0
+  pub few : length set ≤ 16384
+  pub masks : (p : ℕ) → p < length set / 2 → 0 < pop (getD set (2 * p + 1) 0)
+  pub room : table ≡ 32 * L
+  pub some-lanes : 0 < L
+  pub few-lanes : L ≤ 256
+  pub keys-room : length set / 2 ≤ keys
+  pub scratch-room : length set / 2 ≤ scratch
+
+-- what any set's rounds ask
+pub record Solvable (table keys scratch L : ℕ) : Type 0 where
+  pub room : table ≡ 32 * L
+  pub some-lanes : 0 < L
+  pub few-lanes : L ≤ 256
+  pub keys-room : 8192 ≤ keys
+  pub scratch-room : 8192 ≤ scratch

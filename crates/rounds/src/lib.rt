@@ -1,0 +1,140 @@
+// Read rounds: document 01, "Read rounds". The Rust is `map_global_read_to_rounds`.
+ghost use mathlib.Core.Path.{_≡_};
+ghost use Prim.Native.Nat.{_*_, _/_, _≤_, _<_};
+ghost use lib.ListN.{length, replicate};
+ghost use Rattle.reads.specs.ReadSet.{pairsOf};
+ghost use Rattle.reads.specs.Search.{try, lanesOf};
+ghost use Rattle.reads.specs.Outcome.{refused, readSet, fitted, outcome, resultAfter, roomAfter};
+ghost use Rattle.tries.specs.Table.{tableOf};
+ghost use Rattle.tries.specs.Tries.{isAll, lanesIn};
+ghost use Rattle.rounds.specs.Rounds.{roundsOf, isWon, tableAfter, Searchable, Solvable};
+use words::edition::Edition;
+use words::refusals;
+
+// The number of rounds that were written, or the refusal.
+pub enum Rounds {
+    Placed(u32),
+    Refused(refusals::Refusal),
+}
+
+// Zeros everywhere.
+pub fn clear(s: &mut [u32])
+    ensures { λ _. ⌜ now (s .exit) ≡ replicate (length (now (s .entry))) 0 ⌝ }
+{
+    let mut i = 0;
+    while i < s.len() {
+        s[i] = 0;
+        i += 1;
+    }
+}
+
+// A try at piece size k: the pieces are put in order, and their pairs placed in the empty table.
+fn try_pieces(
+    set: &[u32],
+    table: &mut [u32],
+    keys: &mut [u64],
+    scratch: &mut [u64],
+    lanes: usize,
+    k: usize,
+) -> bool
+    requires { ⌜ Searchable (now set) (length (now table)) (length (now keys)) (length (now scratch)) lanes × (0 < k) × (k ≤ length (now set) / 2) × (now table ≡ replicate (32 * lanes) 0) ⌝ }
+    ensures { λ r. ⌜ r ≡ isAll (try lanes (pairsOf (now (set .entry))) k) ⌝ }
+    ensures { λ _. ⌜ now (table .exit) ≡ tableOf (lanesIn (try lanes (pairsOf (now (set .entry))) k)) ⌝ }
+{
+    let count = (set.len() / 2 + k - 1) / k;
+    pieces::order(set, &mut keys[..count], scratch, k);
+    tries::try_size(set, &keys[..count], table, lanes, k)
+}
+
+// The sizes n, n/2, n/4 .. 1, up to the first that places all: then true, with its lanes in the table. Else the table is empty.
+pub fn search_sizes(
+    set: &[u32],
+    table: &mut [u32],
+    keys: &mut [u64],
+    scratch: &mut [u64],
+    lanes: usize,
+) -> bool
+    requires { ⌜ Searchable (now set) (length (now table)) (length (now keys)) (length (now scratch)) lanes ⌝ }
+    ensures { λ r. ⌜ r ≡ isWon (lanesOf lanes (pairsOf (now (set .entry)))) ⌝ }
+    ensures { λ _. ⌜ now (table .exit) ≡ tableAfter lanes (lanesOf lanes (pairsOf (now (set .entry)))) ⌝ }
+{
+    let mut k = set.len() / 2;
+    clear(table);
+    while 0 < k {
+        if try_pieces(set, table, keys, scratch, lanes, k) {
+            return true;
+        }
+        clear(table);
+        k /= 2;
+    }
+    false
+}
+
+// A refusal of a read set: its part is 0.
+fn refused(number: u32, item: u64) -> Rounds
+    ensures { λ r. ⌜ r ≡ roundsOf (refused number item) ⌝ }
+{
+    Rounds::Refused(refusals::Refusal {
+        number,
+        part: 0,
+        item,
+    })
+}
+
+// The rounds of a set over any number of lanes: the table has 32 words a lane. What the table, the keys and the scratch hold afterwards is
+// left open.
+pub fn rounds_over(
+    set: &[u32],
+    table: &mut [u32],
+    out: &mut [u32],
+    keys: &mut [u64],
+    scratch: &mut [u64],
+    lanes: usize,
+) -> Rounds
+    requires { ⌜ Solvable (length (now table)) (length (now keys)) (length (now scratch)) lanes ⌝ }
+    ensures { λ r. ⌜ r ≡ roundsOf (fitted lanes (length (now (out .entry))) (readSet lanes (pairsOf (now (set .entry))))) ⌝ }
+    ensures { λ _. ⌜ now (out .exit) ≡ resultAfter (fitted lanes (length (now (out .entry))) (readSet lanes (pairsOf (now (set .entry))))) (now (out .entry)) ⌝ }
+{
+    if 16384 < set.len() {
+        return refused(refusals::MANY_PAIRS, 0);
+    }
+    if let readout::Form::Bad(i) = readout::check_form(set) {
+        return refused(refusals::PAIR_FORM, i as u64);
+    }
+    if set.len() == 0 {
+        return refused(refusals::NOTHING_TO_READ, 0);
+    }
+    if search_sizes(set, table, keys, scratch, lanes) {
+        let rounds = readout::longest_row(set, table, lanes);
+        if out.len() < 2 * lanes * rounds {
+            return refused(refusals::RESULT_SHORT, 0);
+        }
+        readout::write_rounds(set, table, lanes, rounds, out);
+        return Rounds::Placed(rounds as u32);
+    }
+    refused(refusals::NO_ROOM_FOUND, 0)
+}
+
+// The rounds of a read set at 256 lanes: word, mask, word, mask .. in; per round 512 words out. The answer, the lent result and the lent
+// room are as document 01 says.
+pub fn map_global_read_to_rounds(set: &[u32], room: &mut [u32], out: &mut [u32]) -> Rounds
+    ensures { λ r. ⌜ r ≡ roundsOf (outcome 256 (now (set .entry)) (length (now (out .entry))) (length (now (room .entry)))) ⌝ }
+    ensures { λ _. ⌜ now (out .exit) ≡ resultAfter (outcome 256 (now (set .entry)) (length (now (out .entry))) (length (now (room .entry)))) (now (out .entry)) ⌝ }
+    ensures { λ _. ⌜ now (room .exit) ≡ roomAfter (now (room .entry)) ⌝ }
+{
+    if room.len() < 16384 {
+        return refused(refusals::ROOM_SHORT, 0);
+    }
+    let mut keys = [0u64; 8192];
+    let mut scratch = [0u64; 8192];
+    let answer = rounds_over(
+        set,
+        &mut room[..8192],
+        out,
+        &mut keys,
+        &mut scratch,
+        Edition::LANES,
+    );
+    clear(room);
+    answer
+}

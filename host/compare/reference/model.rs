@@ -1,0 +1,14 @@
+//! The reference of the comparisons where GEM's sources are missing: the model of document 01.
+
+use std::collections::BTreeMap;
+
+pub const NAME: &str = "host/model";
+
+pub fn lanes(pairs: &[(u32, u32)]) -> Option<Vec<Vec<(u32, u32)>>> {
+    model::rounds::pack(pairs).map(|packing| packing.lanes)
+}
+
+pub fn lanes_of_map(set: &BTreeMap<u32, u32>) -> Option<Vec<Vec<(u32, u32)>>> {
+    let pairs: Vec<(u32, u32)> = set.iter().map(|(&word, &mask)| (word, mask)).collect();
+    lanes(&pairs)
+}

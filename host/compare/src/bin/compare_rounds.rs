@@ -1,0 +1,235 @@
+//! Compares the library's read rounds with the reference's on every kind of read set.
+//!
+//! compare_rounds [SEED]         all comparisons; stops at the first difference
+//! compare_rounds bench [SEED]   times of both on the same sets
+
+use compare::checker::{Checker, Lent, OutLength};
+use compare::damage;
+use compare::random::Random;
+use compare::sets;
+use juolgesot::SET_ROOM;
+use std::collections::BTreeMap;
+use std::time::{Duration, Instant};
+
+const SEED: u64 = 20_240_611;
+
+fn main() {
+    compare::silence_expected_panics();
+    let words: Vec<String> = std::env::args().skip(1).collect();
+    let bench = words.first().map_or(false, |word| word == "bench");
+    let seed = words.last().and_then(|word| word.parse().ok()).unwrap_or(SEED);
+    println!("reference: {}; seed {}", reference::NAME, seed);
+    if bench {
+        benchmark(&mut Random::new(seed));
+    } else {
+        compare_all(&mut Random::new(seed));
+    }
+}
+
+fn compare_all(random: &mut Random) {
+    let start = Instant::now();
+    let mut checker = Checker::new();
+    for set in sets::marked() {
+        checker.check("M1 to M5", &set, Lent::default());
+    }
+    sets::every_small_set(|set| checker.check("every set of up to 3 words", set, Lent::default()));
+    random_sets(&mut checker, random);
+    boundary_sets(&mut checker, random);
+    damaged_sets(&mut checker, random);
+    short_results(&mut checker, random);
+    short_rooms(&mut checker, random);
+
+    checker.tries.sort();
+    checker.rounds.sort();
+    for tally in [&checker.kinds, &checker.answers, &checker.tries, &checker.rounds] {
+        tally.print();
+    }
+    println!(
+        "compare_rounds: {} read sets, no difference, {:.1} s",
+        checker.kinds.total(),
+        start.elapsed().as_secs_f64()
+    );
+}
+
+/// Any room but a short one, any result room that is enough.
+fn any_lent(random: &mut Random) -> Lent {
+    Lent {
+        room: if random.chance(16) { SET_ROOM + random.below(100) } else { SET_ROOM },
+        room_is_zero: !random.chance(4),
+        out: OutLength::Spare(if random.chance(2) { 0 } else { random.below(600) }),
+    }
+}
+
+fn random_sets(checker: &mut Checker, random: &mut Random) {
+    for _ in 0..60_000 {
+        let pairs = random.between(1, 40);
+        let set = if random.chance(2) { sets::any(random, pairs) } else { sets::wide(random, pairs) };
+        checker.check("random, 1 to 40 pairs", &set, any_lent(random));
+    }
+    for _ in 0..4_000 {
+        let pairs = random.between(41, 500);
+        let set = if random.chance(2) { sets::any(random, pairs) } else { sets::wide(random, pairs) };
+        checker.check("random, 41 to 500 pairs", &set, any_lent(random));
+    }
+    for _ in 0..1_000 {
+        let set = sets::few_then_many(random);
+        checker.check("few bits, then many", &set, any_lent(random));
+    }
+    for _ in 0..1_000 {
+        let set = sets::runs(random);
+        checker.check("runs of equal bit counts", &set, any_lent(random));
+    }
+}
+
+fn boundary_sets(checker: &mut Checker, random: &mut Random) {
+    for pairs in [1, 2, 3, 255, 256, 257, 258, 511, 512, 513] {
+        for _ in 0..400 {
+            let set = if random.chance(2) { sets::any(random, pairs) } else { sets::wide(random, pairs) };
+            checker.check(&format!("{} pairs", pairs), &set, any_lent(random));
+        }
+    }
+    for pairs in [8191, 8192, 8193, 8194] {
+        for _ in 0..15 {
+            let mut bits = vec![1; pairs];
+            if random.chance(3) {
+                bits[random.below(pairs)] = 2;
+            }
+            let set = sets::with_bits(random, &bits);
+            checker.check(&format!("{} pairs", pairs), &set, any_lent(random));
+        }
+    }
+    for total in [8190, 8191, 8192, 8193] {
+        for _ in 0..150 {
+            let set = sets::of_total(random, total);
+            checker.check(&format!("{} bits in all", total), &set, any_lent(random));
+        }
+    }
+    for _ in 0..600 {
+        let total = random.between(6_000, 8_189);
+        let set = sets::of_total(random, total);
+        checker.check("6000 to 8189 bits in all", &set, any_lent(random));
+    }
+}
+
+fn damaged_sets(checker: &mut Checker, random: &mut Random) {
+    for kind in damage::KINDS {
+        for round in 0..2_000 {
+            let pairs = if round % 50 == 0 { random.between(200, 8192) } else { random.between(1, 20) };
+            let set = sets::any(random, pairs);
+            let set = damage::damaged(random, &set, kind);
+            let lent = Lent { out: OutLength::Spare(random.below(40)), ..any_lent(random) };
+            checker.check(&format!("damaged: {}", kind), &set, lent);
+        }
+    }
+    // 1 comes before 2, and a half pair counts.
+    for _ in 0..20 {
+        let mut set = sets::any(random, 8193);
+        checker.check("over 8192 pairs", &set, any_lent(random));
+        set.pop();
+        checker.check("over 8192 pairs, the last a half", &set, any_lent(random));
+        set.pop();
+        set.pop();
+        checker.check("8192 pairs, the last a half", &set, any_lent(random));
+        let longer = random.between(8194, 9000);
+        let set = sets::any(random, longer);
+        let set = damage::damaged(random, &set, "two words swapped");
+        checker.check("over 8192 pairs, damaged", &set, any_lent(random));
+    }
+}
+
+/// Result rooms around the length that is needed; 3 and 4 come before 14.
+fn short_results(checker: &mut Checker, random: &mut Random) {
+    for round in 0..6_000 {
+        let set = match round % 20 {
+            0 => sets::of_total(random, 5_000),
+            1 => sets::wide(random, 257),
+            2 => Vec::new(),
+            _ => {
+                let pairs = random.between(1, 30);
+                sets::any(random, pairs)
+            }
+        };
+        let out = match random.below(5) {
+            0 => OutLength::Exactly(0),
+            1 => OutLength::Short(1),
+            2 => OutLength::Short(512),
+            3 => OutLength::Short(0),
+            _ => OutLength::Exactly(random.below(700)),
+        };
+        checker.check("result room around what is needed", &set, Lent { out, ..any_lent(random) });
+    }
+}
+
+/// Working rooms that are too short, with good and with damaged sets: 32 comes first.
+fn short_rooms(checker: &mut Checker, random: &mut Random) {
+    for round in 0..6_000 {
+        let pairs = if round % 100 == 0 { random.between(8000, 8300) } else { random.between(1, 30) };
+        let mut set = sets::any(random, pairs);
+        if random.chance(3) {
+            let kind = random.pick(&damage::KINDS);
+            set = damage::damaged(random, &set, kind);
+        }
+        let room = match random.below(4) {
+            0 => 0,
+            1 => SET_ROOM - 1,
+            2 => random.below(64),
+            _ => random.below(SET_ROOM),
+        };
+        let out = OutLength::Exactly(random.below(600));
+        checker.check("working room too short", &set, Lent { room, room_is_zero: random.chance(2), out });
+    }
+}
+
+/// Times of both on the same sets: small, mid and full ones.
+fn benchmark(random: &mut Random) {
+    println!("time of a search with its read section; ratio: ours to the reference's");
+    let small: Vec<Vec<u32>> = (0..200).map(|_| sets::any(random, 8)).collect();
+    let mid: Vec<Vec<u32>> = (0..50)
+        .map(|_| {
+            let bits: Vec<u32> = (0..300).map(|_| random.between(1, 20) as u32).collect();
+            sets::with_bits(random, &bits)
+        })
+        .collect();
+    let thin: Vec<Vec<u32>> = (0..10).map(|_| sets::with_bits(random, &vec![1; 8192])).collect();
+    let full: Vec<Vec<u32>> = (0..10)
+        .map(|_| {
+            let bits = sets::bits_summing_to(random, 8192, |random| random.pick(&[1, 2, 4, 8, 16, 32]));
+            sets::with_bits(random, &bits)
+        })
+        .collect();
+    time_both("8 pairs", &small);
+    time_both("300 pairs", &mid);
+    time_both("8192 pairs of one bit", &thin);
+    time_both("8192 bits, mixed", &full);
+}
+
+fn time_both(name: &str, sets: &[Vec<u32>]) {
+    let maps: Vec<BTreeMap<u32, u32>> =
+        sets.iter().map(|set| set.chunks(2).map(|pair| (pair[0], pair[1])).collect()).collect();
+    let mut room = vec![0; SET_ROOM];
+    let mut out = vec![0; 32 * 512];
+    let (mut ours, mut theirs) = (Duration::ZERO, Duration::ZERO);
+    let (mut calls, mut our_rounds, mut their_rounds) = (0u32, 0, 0);
+    // Turn about, so that both see the same machine.
+    while ours + theirs < Duration::from_secs(3) {
+        for (set, map) in sets.iter().zip(&maps) {
+            let start = Instant::now();
+            our_rounds += juolgesot::read_rounds_into(set, &mut room, &mut out).unwrap_or(0);
+            ours += start.elapsed();
+            let start = Instant::now();
+            let section = reference::lanes_of_map(map).map(|lanes| model::rounds::section(&lanes));
+            their_rounds += section.map_or(0, |words| words.len() / 512);
+            theirs += start.elapsed();
+            calls += 1;
+        }
+    }
+    assert_eq!(our_rounds, their_rounds);
+    let each = |time: Duration| time.as_secs_f64() * 1e6 / calls as f64;
+    println!(
+        "  {:24} ours {:10.1} us, reference {:10.1} us, ratio {:.3}",
+        name,
+        each(ours),
+        each(theirs),
+        ours.as_secs_f64() / theirs.as_secs_f64()
+    );
+}

@@ -1,0 +1,65 @@
+//! Writes stored answers of the reference: make_answers FILE. The list of sets is fixed by the seed.
+//! The format is in compare/src/answers.rs.
+
+use compare::answers::{self, Case, Stored};
+use compare::random::Random;
+use compare::sets;
+use model::rounds::pairs_of;
+
+const SEED: u64 = 20_240_612;
+
+fn main() {
+    compare::silence_expected_panics();
+    let path = std::env::args().nth(1).expect("usage: make_answers FILE");
+    let cases: Vec<Case> = chosen_sets().iter().map(|set| Case::ask(pairs_of(set))).collect();
+    let bytes = answers::write(&cases);
+    std::fs::write(&path, &bytes).expect("the file can be written");
+    let refused = cases.iter().filter(|case| matches!(case.answer, Stored::Refused(_))).count();
+    println!(
+        "make_answers: {} cases of {} ({} refused), {} bytes",
+        cases.len(),
+        reference::NAME,
+        refused,
+        bytes.len()
+    );
+}
+
+fn chosen_sets() -> Vec<Vec<u32>> {
+    let mut random = Random::new(SEED);
+    let mut chosen = sets::marked();
+    for pairs in 1..=60 {
+        chosen.push(sets::any(&mut random, pairs));
+        chosen.push(sets::wide(&mut random, pairs));
+    }
+    for _ in 0..200 {
+        let pairs = random.between(1, 12);
+        chosen.push(sets::any(&mut random, pairs));
+    }
+    // Sets of more pairs than lanes, of every shape, the longest ones left out for the file's length.
+    for _ in 0..8 {
+        chosen.push(shorter(&mut random, 900, sets::few_then_many));
+        chosen.push(shorter(&mut random, 900, sets::runs));
+    }
+    for total in [8191, 8192, 8193] {
+        for _ in 0..3 {
+            chosen.push(shorter(&mut random, 700, |random| sets::of_total(random, total)));
+        }
+    }
+    for pairs in [255, 256, 257, 300] {
+        chosen.push(sets::wide(&mut random, pairs));
+        let bits: Vec<u32> = (0..pairs).map(|_| random.between(1, 20) as u32).collect();
+        chosen.push(sets::with_bits(&mut random, &bits));
+    }
+    chosen.push(sets::with_bits(&mut random, &[1; 8192]));
+    chosen
+}
+
+/// The first set made that has at most so many pairs.
+fn shorter(random: &mut Random, pairs: usize, mut make: impl FnMut(&mut Random) -> Vec<u32>) -> Vec<u32> {
+    loop {
+        let set = make(random);
+        if set.len() <= 2 * pairs {
+            return set;
+        }
+    }
+}

@@ -1,0 +1,19 @@
+//! What the comparison programs share.
+
+pub mod answers;
+pub mod checker;
+pub mod damage;
+pub mod random;
+pub mod sets;
+pub mod tally;
+
+/// Panics of the reference are expected and caught: keep them off the terminal.
+pub fn silence_expected_panics() {
+    let print = std::panic::take_hook();
+    std::panic::set_hook(Box::new(move |info| {
+        let expected = info.location().map_or(false, |place| place.file().ends_with("flatten.rs"));
+        if !expected {
+            print(info);
+        }
+    }));
+}

@@ -1,0 +1,72 @@
+# Sourced by host/check. Finds a rustc that builds for x86-64 (the archive's only machine),
+# a linker and, on another machine, an emulator; installs what is lacking from Debian.
+# Sets RUSTC, RUSTC_FLAGS (an array) and RUN (an array, put before a program's path).
+
+TARGET=x86_64-unknown-linux-gnu
+
+# apt-get with no questions and no output, unless it fails.
+quietly() {
+    local log
+    log=$(mktemp)
+    if ! DEBIAN_FRONTEND=noninteractive "$@" >"$log" 2>&1 </dev/null; then
+        cat "$log" >&2
+        rm -f "$log"
+        echo "host: failed: $*" >&2
+        return 1
+    fi
+    rm -f "$log"
+}
+
+install_packages() {
+    echo "host: installing $*"
+    local lists=/var/lib/apt/lists
+    if [ "$(uname -m)" != x86_64 ] && ! dpkg --print-foreign-architectures | grep -qx amd64; then
+        quietly dpkg --add-architecture amd64
+        quietly apt-get update
+    elif [ -z "$(find "$lists" -name '*_Packages*' -print -quit 2>/dev/null)" ]; then
+        quietly apt-get update
+    fi
+    quietly apt-get install -y --no-install-recommends "$@" || {
+        quietly apt-get update
+        quietly apt-get install -y --no-install-recommends "$@"
+    }
+}
+
+# True where the rustc $1 is there and has the standard library of x86-64.
+builds_for_target() {
+    local root
+    root=$("$1" --print sysroot 2>/dev/null) || return 1
+    compgen -G "$root/lib/rustlib/$TARGET/lib/libstd-*.rlib" >/dev/null
+}
+
+# The first rustc that will do: the caller's, the one on the path, Debian's.
+find_rustc() {
+    local candidate
+    for candidate in "${RUSTC:-}" rustc /usr/bin/rustc; do
+        if [ -n "$candidate" ] && builds_for_target "$candidate"; then
+            RUSTC=$candidate
+            return 0
+        fi
+    done
+    return 1
+}
+
+install_tools() {
+    if [ "$(uname -m)" = x86_64 ]; then
+        find_rustc || install_packages rustc
+        command -v cc >/dev/null || install_packages gcc libc6-dev
+        RUSTC_FLAGS=(--target "$TARGET")
+        RUN=()
+    else
+        find_rustc || install_packages rustc libstd-rust-dev:amd64
+        command -v x86_64-linux-gnu-gcc >/dev/null || install_packages gcc-x86-64-linux-gnu
+        [ -e /usr/lib/x86_64-linux-gnu/libc.so ] || install_packages libc6-dev:amd64
+        command -v qemu-x86_64 >/dev/null || install_packages qemu-user
+        RUSTC_FLAGS=(--target "$TARGET" -C linker=x86_64-linux-gnu-gcc)
+        RUN=(qemu-x86_64)
+    fi
+    find_rustc || {
+        echo "host: no rustc builds for $TARGET" >&2
+        return 1
+    }
+}
