@@ -1,1 +1,3 @@
-// Parts to blocks, state and SRAM starts: refusal 8.
+// Parts to blocks, state and SRAM starts, the part table, and refusal 8. Document 01, "Blocks and offsets".
+pub mod costs;
+pub mod starts;

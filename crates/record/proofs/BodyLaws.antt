@@ -1,13 +1,13 @@
 -- The body of a part: where it may be asked for, and that the numbers which the code adds up are the definition's.
 -- Assumes nothing.
-use mathlib.Core.Path.{_≡_, refl, ap, _∙_}
+use mathlib.Core.Path.{_≡_, refl, _∙_}
 use mathlib.Core.List.{List}
 use Prim.Native.Nat.{ℕ, _+_, _*_, _/_, _≤_}
 use native.Mathlib.Omega.{arith}
 use lib.ListN.{length}
 use Rattle.record.specs.Record.{wordAt, headBase, stagesOf, endpointsOf, locationsIn, bodyAt, countBase, slotBase, locationBase, tableBase}
 use Rattle.record.specs.Body.{BodyReady, BodyOf}
-use Rattle.record.proofs.RecordLaws.{body-long, tables-end}
+use Rattle.record.proofs.RecordLaws.{body-long, tables-end, stages-at, endpoints-at}
 
 module _ (d : List ℕ) (p at : ℕ) (ready : BodyReady d p at) where
   pub body-inside : at ≤ length d / 4
@@ -15,10 +15,10 @@ module _ (d : List ℕ) (p at : ℕ) (ready : BodyReady d p at) where
 
   module _ (h n e : ℕ) (head : h ≡ headBase d) (stages : n ≡ wordAt d (h + 2 * p)) (endpoints : e ≡ wordAt d (h + 2 * p + 1)) where
     stages-is : n ≡ stagesOf d p
-    stages-is = stages ∙ ap (λ (x : ℕ). wordAt d (x + 2 * p)) head
+    stages-is = stages ∙ stages-at d h p head
 
     endpoints-is : e ≡ endpointsOf d p
-    endpoints-is = endpoints ∙ ap (λ (x : ℕ). wordAt d (x + 2 * p + 1)) head
+    endpoints-is = endpoints ∙ endpoints-at d h p head
 
     pub body-sizes : (at ≤ length d / 4) × (n ≤ 255) × (e ≤ 8192)
     body-sizes = (body-inside, omega (arith, ready .stages, stages-is), omega (arith, ready .endpoints, endpoints-is))

@@ -1,22 +1,22 @@
 -- What a record in form gives: every range as an order of numbers, every body inside the record. Each `&&` is taken apart once, here.
 -- Assumes nothing.
 use mathlib.Core.Path.{_≡_, refl, sym, ap, _∙_}
-use mathlib.Core.Bool.{Bool, true, false, _&&_, _||_}
+use mathlib.Core.Bool.{Bool, true, false, _&&_, _||_, and-false}
 use mathlib.Core.List.{List}
 use mathlib.Core.Logic.{_⊎_, inl, inr}
 use Prim.Native.Nat.{ℕ, zero, suc, _+_, _*_, _/_, _%_, _^_, _≤_, _<_}
 use native.Mathlib.Omega.{arith}
-use borrow.Author.Tests.{leb-true, eqb-true}
+use borrow.Author.Tests.{leb-true, eqb-true, ne-eqb}
 use lib.Dec.{leb, eqb}
 use lib.ListN.{length}
 use Rattle.words.specs.Sum.{sumTo}
 use Rattle.words.proofs.SumLaws.{sum-le}
 use Rattle.record.specs.Tests.{allBelow}
-use Rattle.record.specs.Record.{wordAt, blocksOf, majorsOf, gatesOf, layoutOf, positionsOf, countAt, partsBefore, partsOf, gatePin, gateFirst, gateSecond, layoutPin, positionPin, positionStaged, stagesOf, endpointsOf, locationsOf, bodyWords, bodyAt, endpointKind, endpointX, endpointY}
+use Rattle.record.specs.Record.{blocksOf, majorsOf, gatesOf, layoutOf, positionsOf, countAt, partsBefore, partsOf, gatePin, gateFirst, gateSecond, layoutPin, positionPin, positionStaged, stagesOf, endpointsOf, locationsOf, bodyWords, bodyAt, endpointKind, endpointX, endpointY}
 use Rattle.record.specs.Form.{empty, headForm, countsForm, partForm, lengthForm, gateForm, layoutForm, positionForm, endpointNumbers, endpointForm, listsForm, planForm}
 use Rattle.record.specs.Body.{Headed, Measured, BodyReady}
 use Rattle.record.proofs.TestLaws.{and-true, all-at, not-both}
-use Rattle.record.proofs.RecordLaws.{body-more, body-mono, body-long}
+use Rattle.record.proofs.RecordLaws.{body-more, body-mono}
 
 -- ---- the head
 
@@ -84,16 +84,23 @@ length-exact d h =
     let (a, b) = and-true (eqb (length d % 4) 0) _ h in
     (eqb-true _ _ a, eqb-true _ _ b)
 
-module _ (d : List ℕ) (sizes : Measured d) where
-  pub part-in : (p : ℕ) → p < partsOf d → PartRanges d p
-  part-in p l = part-ranges d p (all-at (partForm d) (partsOf d) p (sizes .headed .heads) l)
+-- a body that begins past the record's words
+pub length-past : (d : List ℕ) (p : ℕ) → p ≤ partsOf d → length d / 4 < bodyAt d p → lengthForm d ≡ false
+unfolding lengthForm
+length-past d p l h =
+    let n : eqb (bodyAt d (partsOf d)) (length d / 4) ≡ false = ne-eqb (bodyAt d (partsOf d)) (length d / 4) (λ e. omega (arith, body-mono d p (partsOf d) l)) in
+    ap (λ (b : Bool). eqb (length d % 4) 0 && b) n ∙ and-false (eqb (length d % 4) 0)
 
+pub part-in : (d : List ℕ) → Headed d → (p : ℕ) → p < partsOf d → PartRanges d p
+part-in d headed p l = part-ranges d p (all-at (partForm d) (partsOf d) p (headed .heads) l)
+
+module _ (d : List ℕ) (sizes : Measured d) where
   pub body-in : (p : ℕ) → p ≤ partsOf d → bodyAt d p ≤ length d / 4
   body-in p l = omega (arith, body-mono d p (partsOf d) l, length-exact d (sizes .whole) .1)
 
   pub body-ready : (p at : ℕ) → p < partsOf d → at ≡ bodyAt d p → BodyReady d p at
   body-ready p at l h =
-      let r = part-in p l in
+      let r = part-in d (sizes .headed) p l in
       record {
         part = omega (arith, sizes .headed .parts);
         place = h;
@@ -173,6 +180,14 @@ endpoint-ranges (suc (suc (suc zero))) x y h =
     }
 endpoint-ranges (suc (suc (suc (suc k)))) x y h = absurd (not-both false h refl)
 
+pub other-kind : (k x y : ℕ) → (k ≡ 0 → ⊥) → (k ≡ 1 → ⊥) → (k ≡ 2 → ⊥) → eqb k 3 ≡ endpointNumbers k x y
+unfolding endpointNumbers
+other-kind zero x y a b c = absurd (a refl)
+other-kind (suc zero) x y a b c = absurd (b refl)
+other-kind (suc (suc zero)) x y a b c = absurd (c refl)
+other-kind (suc (suc (suc zero))) x y a b c = refl
+other-kind (suc (suc (suc (suc k)))) x y a b c = ne-eqb (suc (suc (suc (suc k)))) 3 (λ e. omega arith)
+
 -- ---- the whole
 
 pub record Formed (d : List ℕ) : Type 0 where
@@ -208,6 +223,18 @@ formed d h =
       gate = λ g k. gate-ranges d g (all-at (gateForm d) (gatesOf d) g gates k);
       layout = λ i k. layout-ranges d i (all-at (layoutForm d) (layoutOf d) i layout k);
       position = λ i k. position-ranges d i (all-at (positionForm d) (positionsOf d) i positions k);
-      part = part-in d sizes;
+      part = part-in d (sizes .headed);
       endpoint = λ p i k n. endpoint-ranges _ _ _ (all-at (endpointForm d p) (endpointsOf d p) i (all-at (λ q. allBelow (endpointForm d q) (endpointsOf d q)) (partsOf d) p ends k) n);
     }
+
+-- ---- the tests, one after the other
+
+pub lists-are : (d : List ℕ) (g l p e : Bool) → allBelow (gateForm d) (gatesOf d) ≡ g → allBelow (layoutForm d) (layoutOf d) ≡ l → allBelow (positionForm d) (positionsOf d) ≡ p
+    → allBelow (λ q. allBelow (endpointForm d q) (endpointsOf d q)) (partsOf d) ≡ e → listsForm d ≡ (g && l && p && e)
+unfolding listsForm
+lists-are d g l p e a b c f = cc
+
+pub plan-is : (d : List ℕ) (h c : Bool) → headForm d ≡ h → countsForm d ≡ c
+    → planForm d ≡ (h && c && allBelow (partForm d) (partsOf d) && lengthForm d && listsForm d)
+unfolding planForm
+plan-is d h c a b = cc

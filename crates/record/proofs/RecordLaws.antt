@@ -1,11 +1,11 @@
 -- Laws of the record's words: a word is there or it is 0; the numbers of a plan stand in their order.
 -- Assumes nothing.
-use mathlib.Core.Path.{_≡_, refl}
+use mathlib.Core.Path.{_≡_, refl, ap}
 use mathlib.Core.Logic.{⊎-elim}
 use mathlib.Core.List.{List}
 use Prim.Native.Nat.{ℕ, zero, suc, _+_, _*_, _≤_, _<_}
-use native.Mathlib.Numerals.{add-one}
 use native.Mathlib.Omega.{arith}
+use native.Mathlib.Numerals.{add-one}
 use borrow.Author.Tests.{le-leb, lt-leb}
 use lib.ListN.{length, getD}
 use Rattle.words.proofs.SumLaws.{sum-more}
@@ -51,6 +51,16 @@ body-mono d p (suc q) h =
     ⊎-elim (λ l. omega (arith, body-mono d p q (omega arith), rw add-one at (body-long d q)))
     (λ l. let e : p ≡ suc q = omega arith in rw e (omega arith))
     (lt-or-ge p (suc q))
+
+pub body-step : (d : List ℕ) (p at n e w : ℕ) → at ≡ bodyAt d p → n ≡ stagesOf d p → e ≡ endpointsOf d p → w ≡ bodyWords d at n e → at + w ≡ bodyAt d (p + 1)
+body-step d p at n e w a b g h = cc (body-more d p)
+
+-- the numbers of a part's head, read from where the heads begin
+pub stages-at : (d : List ℕ) (h p : ℕ) → h ≡ headBase d → wordAt d (h + 2 * p) ≡ stagesOf d p
+stages-at d h p e = ap (λ (x : ℕ). wordAt d (x + 2 * p)) e
+
+pub endpoints-at : (d : List ℕ) (h p : ℕ) → h ≡ headBase d → wordAt d (h + 2 * p + 1) ≡ endpointsOf d p
+endpoints-at d h p e = ap (λ (x : ℕ). wordAt d (x + 2 * p + 1)) e
 
 -- the lists of a body, one after the other
 pub tables-end : (d : List ℕ) (p : ℕ) → bodyAt d (p + 1) ≡ tableBase d p + 17664

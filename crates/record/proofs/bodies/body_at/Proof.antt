@@ -2,9 +2,9 @@
 -- Assumes nothing.
 use Prim.Native.Nat.{_/_, _≤_}
 use native.Mathlib.Omega.{arith}
+use borrow.Author.Needs.{needs}
 use lib.ListN.{length}
 use Rattle.record.proofs.BodyLaws.{body-sizes, body-made}
-use borrow.Author.Needs.{needs}
 use Rattle.record.proofs.bodies.body_at.Statement.{statement}
 use Rattle.record.proofs.bodies.body_at.Tie as tie
 

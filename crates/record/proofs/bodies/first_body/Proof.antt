@@ -1,8 +1,8 @@
 -- The bodies follow the part heads.
 -- Assumes nothing.
 use native.Mathlib.Omega.{arith}
-use Rattle.record.proofs.RecordLaws.{body-first}
 use borrow.Author.Needs.{needs}
+use Rattle.record.proofs.RecordLaws.{body-first}
 use Rattle.record.proofs.bodies.first_body.Statement.{statement}
 use Rattle.record.proofs.bodies.first_body.Tie as tie
 

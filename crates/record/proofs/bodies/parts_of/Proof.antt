@@ -1,8 +1,8 @@
 -- The parts before the last major stage's end.
 -- Assumes nothing.
 use mathlib.Core.Path.{ap, _∙_}
-use Rattle.record.specs.Record.{partsBefore}
 use borrow.Author.Needs.{needs}
+use Rattle.record.specs.Record.{partsBefore}
 use Rattle.record.proofs.bodies.parts_of.Statement.{statement}
 use Rattle.record.proofs.bodies.parts_of.Tie as tie
 

@@ -1,9 +1,9 @@
 -- The body's slots begin where the definition says.
 -- Assumes nothing.
 use mathlib.Core.Path.{ap, _∙_}
-use Prim.Native.Nat.{ℕ, _+_, _*_, _-_}
-use Rattle.record.specs.Record.{wordAt}
+use Prim.Native.Nat.{ℕ, _+_, _-_, _*_}
 use borrow.Author.Needs.{needs}
+use Rattle.record.specs.Record.{wordAt}
 use Rattle.record.proofs.bodies.slot.Statement.{statement}
 use Rattle.record.proofs.bodies.slot.Tie as tie
 

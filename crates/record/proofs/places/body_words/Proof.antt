@@ -1,7 +1,7 @@
 -- The definition, unfolded.
 -- Assumes nothing.
-use Rattle.record.specs.Record.{bodyWords}
 use borrow.Author.Needs.{needs}
+use Rattle.record.specs.Record.{bodyWords}
 use Rattle.record.proofs.places.body_words.Statement.{statement}
 use Rattle.record.proofs.places.body_words.Tie as tie
 

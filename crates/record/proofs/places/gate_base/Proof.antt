@@ -1,7 +1,7 @@
 -- The definition, unfolded.
 -- Assumes nothing.
-use Rattle.record.specs.Record.{gateBase}
 use borrow.Author.Needs.{needs}
+use Rattle.record.specs.Record.{gateBase}
 use Rattle.record.proofs.places.gate_base.Statement.{statement}
 use Rattle.record.proofs.places.gate_base.Tie as tie
 

@@ -1,7 +1,7 @@
 -- The definition, unfolded.
 -- Assumes nothing.
-use Rattle.record.specs.Record.{headBase}
 use borrow.Author.Needs.{needs}
+use Rattle.record.specs.Record.{headBase}
 use Rattle.record.proofs.places.head_base.Statement.{statement}
 use Rattle.record.proofs.places.head_base.Tie as tie
 

@@ -1,7 +1,7 @@
 -- The definition, unfolded.
 -- Assumes nothing.
-use Rattle.record.specs.Record.{layoutBase}
 use borrow.Author.Needs.{needs}
+use Rattle.record.specs.Record.{layoutBase}
 use Rattle.record.proofs.places.layout_base.Statement.{statement}
 use Rattle.record.proofs.places.layout_base.Tie as tie
 

@@ -1,12 +1,12 @@
 -- The sum so far is that of the stages passed.
 -- Assumes nothing.
 use mathlib.Core.Path.{_≡_, refl, sym, ap, ap₂, _∙_}
-use Prim.Native.Nat.{ℕ, _+_, _*_, _-_, _≤_}
+use Prim.Native.Nat.{ℕ, _+_, _-_, _*_, _≤_}
 use native.Mathlib.Omega.{arith}
+use borrow.Author.Needs.{needs}
 use Rattle.words.specs.Sum.{sumTo}
 use Rattle.record.specs.Record.{locationsIn}
 use Rattle.record.proofs.RecordLaws.{locations-more}
-use borrow.Author.Needs.{needs}
 use Rattle.record.proofs.places.locations_in.Statement.{statement}
 use Rattle.record.proofs.places.locations_in.Tie as tie
 

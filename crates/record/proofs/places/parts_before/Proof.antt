@@ -1,12 +1,12 @@
 -- The sum so far is that of the stages passed.
 -- Assumes nothing.
 use mathlib.Core.Path.{_≡_, refl, sym, ap, ap₂, _∙_}
-use Prim.Native.Nat.{_+_, _*_, _-_, _≤_}
+use Prim.Native.Nat.{_+_, _-_, _*_, _≤_}
 use native.Mathlib.Omega.{arith}
+use borrow.Author.Needs.{needs}
 use Rattle.words.specs.Sum.{sumTo}
 use Rattle.record.specs.Record.{partsBefore}
 use Rattle.record.proofs.RecordLaws.{parts-more}
-use borrow.Author.Needs.{needs}
 use Rattle.record.proofs.places.parts_before.Statement.{statement}
 use Rattle.record.proofs.places.parts_before.Tie as tie
 

@@ -1,7 +1,7 @@
 -- The definition, unfolded.
 -- Assumes nothing.
-use Rattle.record.specs.Record.{positionBase}
 use borrow.Author.Needs.{needs}
+use Rattle.record.specs.Record.{positionBase}
 use Rattle.record.proofs.places.position_base.Statement.{statement}
 use Rattle.record.proofs.places.position_base.Tie as tie
 

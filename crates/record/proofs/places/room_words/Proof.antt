@@ -3,9 +3,9 @@
 use mathlib.Core.Path.{_≡_, ap, _∙_}
 use Prim.Native.Nat.{ℕ, _+_, _*_, min}
 use native.Mathlib.Omega.{arith}
+use borrow.Author.Needs.{needs}
 use Rattle.record.specs.Record.{majorsOf, partsBefore}
 use Rattle.record.specs.Form.{roomWords}
-use borrow.Author.Needs.{needs}
 use Rattle.record.proofs.places.room_words.Statement.{statement}
 use Rattle.record.proofs.places.room_words.Tie as tie
 

@@ -2,8 +2,8 @@
 -- Assumes nothing.
 use mathlib.Core.Path.{sym, _∙_}
 use native.Mathlib.Omega.{arith}
-use Rattle.record.proofs.RecordLaws.{word-there, word-missing}
 use borrow.Author.Needs.{needs}
+use Rattle.record.proofs.RecordLaws.{word-there, word-missing}
 use Rattle.record.proofs.places.word_at.Statement.{statement}
 use Rattle.record.proofs.places.word_at.Tie as tie
 

@@ -1,0 +1,5 @@
+pub mod TotalLaws
+pub mod OrderLaws
+pub mod BlockLaws
+pub mod FillLaws
+pub mod StepLaws

@@ -1,0 +1,98 @@
+-- How the part table is filled, cell by cell, and what the functions that do it ask for.
+-- Assumes nothing.
+use mathlib.Core.Path.{_≡_}
+use mathlib.Core.List.{List}
+use Prim.Native.Nat.{ℕ, zero, suc, _+_, _*_, _^_, _≤_, _<_}
+use lib.ListN.{length, getD, set, replicate}
+use Rattle.words.specs.Sum.{sumTo}
+use Rattle.words.specs.Section.{listOf}
+use Rattle.record.specs.Record.{stagesOf}
+use Rattle.blocks.specs.Blocks.{blockIn}
+use Rattle.blocks.specs.Sums.{inBlock}
+use Rattle.blocks.specs.Table.{cell}
+
+-- word k of the rows that `row` names, for each of the first n numbers
+unfoldable pub putCells : List ℕ → ℕ → (ℕ → ℕ) → (ℕ → ℕ) → ℕ → List ℕ
+putCells room k row value zero = room
+putCells room k row value (suc n) = set (putCells room k row value n) (cell (row n) k) (value n)
+
+-- word k of the row of part i, the parts being counted from `base` on
+unfoldable pub column : List ℕ → ℕ → ℕ → ℕ → ℕ
+column room base k i = getD room (cell (base + i) k) 0
+
+-- what part i takes: `scale` times word `from` of its row
+abbrev pub takes : List ℕ → ℕ → ℕ → ℕ → ℕ → ℕ
+takes room base from scale i = scale * column room base from i
+
+-- the block of part i, of B blocks
+abbrev pub blockFrom : List ℕ → ℕ → ℕ → ℕ → ℕ
+blockFrom d B base i = blockIn B (λ j. stagesOf d (base + j)) i
+
+-- the sums of the blocks after n parts that take `words` each were added, and where part i then starts
+abbrev pub sumsIn : List ℕ → List ℕ → ℕ → (ℕ → ℕ) → ℕ → List ℕ
+sumsIn room sums base words n = listOf (λ b. getD sums b 0 + inBlock (column room base 6) words b n) (length sums)
+
+abbrev pub startIn : List ℕ → List ℕ → ℕ → (ℕ → ℕ) → ℕ → ℕ
+startIn room sums base words i = getD sums (column room base 6 i) 0 + inBlock (column room base 6) words (column room base 6 i) i
+
+-- ---- what is asked for
+
+-- the rows of the parts are in the room, and each part has a block
+pub record Rows (room : List ℕ) (blocks base count : ℕ) : Type 0 where
+  pub few : count ≤ 4096
+  pub parts : base + count ≤ 262144
+  pub inside : 65536 + 16 * (base + count) ≤ length room
+  pub block : (i : ℕ) → i < count → column room base 6 i < blocks
+
+pub record Placeable (d room costs counts : List ℕ) (base count : ℕ) : Type 0 where
+  pub few : count ≤ 4096
+  pub parts : base + count ≤ 262144
+  pub inside : 65536 + 16 * (base + count) ≤ length room
+  pub some-block : 0 < length costs
+  pub few-blocks : length costs ≤ 1024
+  pub same : length counts ≡ length costs
+  pub costs-zero : costs ≡ replicate (length costs) 0
+  pub counts-zero : counts ≡ replicate (length costs) 0
+  pub stages : (i : ℕ) → i < count → stagesOf d (base + i) ≤ 255
+
+-- a part more in block b
+pub record Puttable (costs counts : List ℕ) (b stages : ℕ) : Type 0 where
+  pub in-costs : b < length costs
+  pub in-counts : b < length counts
+  pub cost : getD costs b 0 + (stages + 3) < 2 ^ 32
+  pub number : getD counts b 0 + 1 < 2 ^ 32
+
+-- the row of part p is in the room, and the words that it adds to its block's sum fit
+pub record Addable (room sums : List ℕ) (p from scale : ℕ) : Type 0 where
+  pub part : p < 262144
+  pub inside : 65536 + 16 * p + 16 ≤ length room
+  pub word : from < 16
+  pub block : getD room (cell p 6) 0 < length sums
+  pub fits : getD sums (getD room (cell p 6) 0) 0 + scale * getD room (cell p from) 0 < 2 ^ 32
+
+-- and so for its rank, which is below `count`
+pub record RankReady (room sums : List ℕ) (base count i : ℕ) : Type 0 where
+  pub part : base + count ≤ 262144
+  pub number : i < count
+  pub inside : 65536 + 16 * (base + count) ≤ length room
+  pub block : getD room (cell (base + i) 6) 0 < length sums
+  pub rank : getD sums (getD room (cell (base + i) 6) 0) 0 < count
+
+-- the sums are zero, and will fit
+pub record Summable (room sums : List ℕ) (base count from scale : ℕ) : Type 0 where
+  pub rows : Rows room (length sums) base count
+  pub word : from < 16
+  pub zeros : sums ≡ replicate (length sums) 0
+  pub fits : sumTo (takes room base from scale) count < 2 ^ 32
+
+-- the starts of the blocks, to which the parts' words are added, fit
+pub record Takeable (room sums : List ℕ) (base count from scale to : ℕ) : Type 0 where
+  pub rows : Rows room (length sums) base count
+  pub word : from < 16
+  pub other : (to < 16) × (to ≡ 6 → ⊥) × (to ≡ from → ⊥)
+  pub fits : (b : ℕ) → b < length sums → getD sums b 0 + inBlock (column room base 6) (takes room base from scale) b count < 2 ^ 32
+
+-- the parts' ranks are below their number
+pub record Rankable (room sums : List ℕ) (base count : ℕ) : Type 0 where
+  pub rows : Rows room (length sums) base count
+  pub below : (b : ℕ) → b < length sums → getD sums b 0 + inBlock (column room base 6) (λ i. 1) b count ≤ count
