@@ -1,1 +1,2 @@
 // Planned positions and tables: refusals 12 and 13.
+pub mod winners;
