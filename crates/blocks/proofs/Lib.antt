@@ -3,3 +3,4 @@ pub mod OrderLaws
 pub mod BlockLaws
 pub mod FillLaws
 pub mod StepLaws
+pub mod StartLaws

@@ -302,3 +302,14 @@ module _ (block : ℕ → ℕ) (c : ℕ) where
             (λ b. omega (arith, given-true (comesBefore block i k) (words k) b, given-false (eqb k i) (words k) (ne-eqb k i q)))
             (before-either block k i q))
             (same-or k i)
+
+-- ---- the same parts, blocks and words
+
+pub taken-ext : (block block′ words words′ : ℕ → ℕ) (c i : ℕ) → i < c → ((j : ℕ) → j < c → block j ≡ block′ j) → ((j : ℕ) → j < c → words j ≡ words′ j)
+    → takenBefore block words c i ≡ takenBefore block′ words′ c i
+unfolding takenBefore comesBefore
+taken-ext block block′ words words′ c i l h g =
+    sum-ext _ _ c
+    (λ j u.
+    ap₂ (λ (x y : ℕ). given (ltb x y || (eqb x y && ltb j i)) (words j)) (h j u) (h i l)
+    ∙ ap (λ (w : ℕ). given (ltb (block′ j) (block′ i) || (eqb (block′ j) (block′ i) && ltb j i)) w) (g j u))

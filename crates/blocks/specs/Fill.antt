@@ -1,15 +1,17 @@
 -- How the part table is filled, cell by cell, and what the functions that do it ask for.
 -- Assumes nothing.
 use mathlib.Core.Path.{_≡_}
+use mathlib.Core.Bool.{true, false}
 use mathlib.Core.List.{List}
-use Prim.Native.Nat.{ℕ, zero, suc, _+_, _*_, _^_, _≤_, _<_}
+use Prim.Native.Nat.{ℕ, zero, suc, _+_, _*_, _/_, _%_, _^_, _≤_, _<_}
 use lib.ListN.{length, getD, set, replicate}
 use Rattle.words.specs.Sum.{sumTo}
 use Rattle.words.specs.Section.{listOf}
-use Rattle.record.specs.Record.{stagesOf}
-use Rattle.blocks.specs.Blocks.{blockIn}
+use Rattle.record.specs.Record.{majorsOf, countAt, partsBefore, partsOf, stagesOf, bodyAt, locationsOf}
+use Rattle.counts.specs.Counts.{srams, duplicates, writeOuts}
+use Rattle.blocks.specs.Blocks.{blockIn, blockOf, stateStart, sramStart, totalsFit}
 use Rattle.blocks.specs.Sums.{inBlock}
-use Rattle.blocks.specs.Table.{cell}
+use Rattle.blocks.specs.Table.{cell, rankOf, Counted}
 
 -- word k of the rows that `row` names, for each of the first n numbers
 unfoldable pub putCells : List ℕ → ℕ → (ℕ → ℕ) → (ℕ → ℕ) → ℕ → List ℕ
@@ -34,6 +36,40 @@ sumsIn room sums base words n = listOf (λ b. getD sums b 0 + inBlock (column ro
 
 abbrev pub startIn : List ℕ → List ℕ → ℕ → (ℕ → ℕ) → ℕ → ℕ
 startIn room sums base words i = getD sums (column room base 6 i) 0 + inBlock (column room base 6) words (column room base 6 i) i
+
+-- ---- the whole table
+
+-- the words of the rows that the blocks give: blocks, ranks, state starts and SRAM starts of major stage s
+unfoldable pub stageRows : List ℕ → List ℕ → ℕ → List ℕ
+stageRows d room s =
+    putCells (putCells
+    (putCells (putCells room 6 (λ i. partsBefore d s + i) (blockOf d s) (countAt d s)) 9 (rankOf d s) (λ i. partsBefore d s + i) (countAt d s))
+    7 (λ i. partsBefore d s + i) (stateStart d s) (countAt d s)) 8 (λ i. partsBefore d s + i) (sramStart d s) (countAt d s)
+
+-- of the first s major stages
+unfoldable pub allotRows : List ℕ → List ℕ → ℕ → List ℕ
+allotRows d room zero = room
+allotRows d room (suc s) = stageRows d (allotRows d room s) s
+
+-- the words that the record gives: body, locations, SRAMs, duplicates and write-outs of part p, and of the first n parts
+unfoldable pub countRow : List ℕ → List ℕ → ℕ → List ℕ
+countRow d room p =
+    set (set (set (set (set (set room (cell p 0) (bodyAt d p % 2 ^ 32)) (cell p 1) (bodyAt d p / 2 ^ 32)) (cell p 2) (locationsOf d p)) (cell p 3) (srams d p))
+    (cell p 4) (duplicates d p)) (cell p 5) (writeOuts d p)
+
+unfoldable pub countRows : List ℕ → List ℕ → ℕ → List ℕ
+countRows d room zero = room
+countRows d room (suc p) = countRow d (countRows d room p) p
+
+-- the room after the parts are counted, and after they have their starts where these fit
+unfoldable pub countedRoom : List ℕ → List ℕ → List ℕ
+countedRoom d room = countRows d room (partsOf d)
+
+unfoldable pub tabledRoom : List ℕ → List ℕ → List ℕ
+tabledRoom d room = allotRows d (countedRoom d room) (majorsOf d)
+
+unfoldable pub allottedRoom : List ℕ → List ℕ → List ℕ
+allottedRoom d room = elim (totalsFit d) [ true ↦ tabledRoom d room | false ↦ countedRoom d room ]
 
 -- ---- what is asked for
 
