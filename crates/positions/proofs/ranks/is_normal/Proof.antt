@@ -1,0 +1,53 @@
+use borrow.Author.Needs.{needs}
+use Rattle.positions.proofs.ranks.is_normal.Statement.{statement}
+use Rattle.positions.proofs.ranks.is_normal.Tie as tie
+use Rattle.positions.proofs.ranks.is_normal.Reads as reads
+use Rattle.positions.proofs.ranks.is_normal.Lts as lts
+use Rattle.positions.proofs.ranks.locations_at.Reads as locations-at-reads
+use Rattle.positions.proofs.ranks.parts_up_to.Reads as parts-up-to-reads
+use Rattle.positions.proofs.ranks.start_at.Reads as start-at-reads
+
+-- src/ranks.rt:52:9
+parts-up-to-requires : tie.Need-parts-up-to-requires
+parts-up-to-requires c κs = search needs
+
+-- src/ranks.rt:54:9
+returns : tie.Need-returns
+returns c = search needs
+
+-- src/ranks.rt:56:32
+sub-start-at : tie.Need-sub-start-at
+sub-start-at c = search needs
+
+-- src/ranks.rt:56:9
+start-at-requires : tie.Need-start-at-requires
+start-at-requires c κs = search needs
+
+-- src/ranks.rt:57:5
+sub-result : tie.Need-sub-result
+sub-result c = search needs
+
+-- src/ranks.rt:57:36
+sub-locations-at : tie.Need-sub-locations-at
+sub-locations-at c = search needs
+
+-- src/ranks.rt:57:17
+locations-at-requires : tie.Need-locations-at-requires
+locations-at-requires c κs = search needs
+
+-- src/ranks.rt:48:1
+returns-2 : tie.Need-returns-2
+returns-2 c = search needs
+
+pub is-normal-spec : {M : Type 1} → statement M
+is-normal-spec =
+    tie.close
+    (tie.spec
+    parts-up-to-requires
+    returns
+    sub-start-at
+    start-at-requires
+    sub-result
+    sub-locations-at
+    locations-at-requires
+    returns-2)
