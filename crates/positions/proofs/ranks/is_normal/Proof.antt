@@ -1,3 +1,5 @@
+use native.Mathlib.Omega.{arith}
+use Rattle.positions.proofs.RankLaws.{row-in, normal-none, normal-start, normal-last}
 use borrow.Author.Needs.{needs}
 use Rattle.positions.proofs.ranks.is_normal.Statement.{statement}
 use Rattle.positions.proofs.ranks.is_normal.Tie as tie
@@ -13,7 +15,9 @@ parts-up-to-requires c κs = search needs
 
 -- src/ranks.rt:54:9
 returns : tie.Need-returns
-returns c = search needs
+returns c =
+    let s = c .before .before .before in
+    normal-none (s .args .room .now) (s .args .n) (s .pre) (s .args .w) _ (c .before .parts-up-to .ensures .0) (c .if1 .taken)
 
 -- src/ranks.rt:56:32
 sub-start-at : tie.Need-sub-start-at
@@ -21,11 +25,15 @@ sub-start-at c = search needs
 
 -- src/ranks.rt:56:9
 start-at-requires : tie.Need-start-at-requires
-start-at-requires c κs = search needs
+start-at-requires c κs =
+    let s = c .before .before .before in
+    row-in (s .args .room .now) (s .args .n) (s .pre) _ (omega (arith, c .before .parts-up-to .ensures .1))
 
 -- src/ranks.rt:57:5
 sub-result : tie.Need-sub-result
-sub-result c = search needs
+sub-result c =
+    let s = c .before .before .before .before in
+    omega (arith, c .start-at .ensures, normal-start (s .args .room .now) (s .args .n) (s .pre) (s .args .w) _ (c .before .before .parts-up-to .ensures .0) (omega arith))
 
 -- src/ranks.rt:57:36
 sub-locations-at : tie.Need-sub-locations-at
@@ -33,11 +41,16 @@ sub-locations-at c = search needs
 
 -- src/ranks.rt:57:17
 locations-at-requires : tie.Need-locations-at-requires
-locations-at-requires c κs = search needs
+locations-at-requires c κs =
+    let s = c .before .before .before .before in
+    row-in (s .args .room .now) (s .args .n) (s .pre) _ (omega (arith, c .before .before .parts-up-to .ensures .1))
 
 -- src/ranks.rt:48:1
 returns-2 : tie.Need-returns-2
-returns-2 c = search needs
+returns-2 c =
+    let s = c .before .before .before .before .before in
+    rw (c .before .start-at .ensures, c .locations-at .ensures)
+    (normal-last (s .args .room .now) (s .args .n) (s .pre) (s .args .w) _ (c .before .before .before .parts-up-to .ensures .0) (omega arith) (c .before .before .before .parts-up-to .ensures .1))
 
 pub is-normal-spec : {M : Type 1} → statement M
 is-normal-spec =

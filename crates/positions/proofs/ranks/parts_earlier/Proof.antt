@@ -68,8 +68,7 @@ loop-less c = search needs
 loop-again : tie.Need-loop-again Inv-loop μ-loop
 loop-again c =
     let s = c .before .before .before .before .before .before .args in
-    let l = c .before .before .before .loop in
-    (
+    let l = c .before .before .before .loop in (
       omega arith,
       c .before .later-first .ensures ∙ earlier-more (s .d .now) (s .p) (l .s) (l .first) (l .next) (l .inv .1) (l .inv .2),
       omega (arith, l .inv .2, c .word-at2 .ensures, parts-more (s .d .now) (l .s)),
