@@ -1,15 +1,14 @@
 -- The block of least cost is the first least, each part's block is one of the blocks, and a block's cost is the sum of its parts' costs.
 -- Assumes nothing.
 use mathlib.Core.Path.{_≡_, refl, sym, ap, ap₂, _∙_}
-use mathlib.Core.Bool.{Bool, true, false}
 use mathlib.Core.Logic.{_⊎_, inl, inr, ⊎-elim}
 use mathlib.Core.List.{List}
-use Prim.Native.Nat.{ℕ, zero, suc, _+_, _*_, _-_, _^_, _≤_, _<_}
+use Prim.Native.Nat.{ℕ, zero, suc, _+_, _-_, _≤_, _<_}
 use native.Mathlib.Nat.{add-zero, zero-add}
 use native.Mathlib.Numerals.{add-one}
 use native.Mathlib.Omega.{arith}
-use borrow.Author.Tests.{eq-eqb, ne-eqb, lt-ltb, le-ltb, ltb-true, ltb-false}
-use lib.Dec.{eqb, ltb}
+use borrow.Author.Tests.{eq-eqb, ne-eqb, lt-ltb, le-ltb}
+use lib.Dec.{eqb}
 use lib.ListN.{length, getD, set, replicate, length-set, length-replicate, getD-replicate}
 use lib.Seq.{getD-set-same, getD-set-other}
 use Rattle.words.specs.Sum.{sumTo}
@@ -19,7 +18,7 @@ use Rattle.words.proofs.SectionLaws.{length-listOf, getD-listOf, listOf-is, lis
 use Rattle.words.proofs.BitLaws.{lt-or-ge}
 use Rattle.blocks.specs.Blocks.{leastTo, blockFor, costsAfter, blockIn}
 use Rattle.blocks.specs.Sums.{given, inBlock}
-use Rattle.blocks.proofs.TotalLaws.{same-or, given-le, given-true, given-false, sum-const, sum-mono, sum-most, sum-swap, sum-meets}
+use Rattle.blocks.proofs.TotalLaws.{same-or, given-le, given-true, given-false, sum-mono, sum-most, sum-swap, sum-meets}
 
 -- ---- the first least
 

@@ -1,17 +1,16 @@
 -- The part table: what a cell holds after the cells of one word of some rows were put.
 -- Assumes nothing.
-use mathlib.Core.Path.{_≡_, refl, sym, ap, _∙_}
-use mathlib.Core.Logic.{_⊎_, inl, inr, ⊎-elim}
+use mathlib.Core.Path.{_≡_, refl, ap, ap₂, _∙_}
+use mathlib.Core.Logic.{⊎-elim}
 use mathlib.Core.List.{List}
-use Prim.Native.Nat.{ℕ, zero, suc, _+_, _*_, _≤_, _<_}
+use Prim.Native.Nat.{ℕ, zero, suc, _+_, _≤_, _<_}
 use native.Mathlib.Numerals.{add-one}
 use native.Mathlib.Omega.{arith}
-use lib.ListN.{length, getD, set, take, drop, length-set}
-use lib.Seq.{getD-set-same, getD-set-other, take-set-le}
+use lib.ListN.{length, getD, set, length-set}
+use lib.Seq.{getD-set-same, getD-set-other}
 use Rattle.words.proofs.BitLaws.{lt-or-ge}
 use Rattle.blocks.specs.Table.{cell}
-use Rattle.blocks.specs.Fill.{putCells, column}
-use Rattle.blocks.proofs.TotalLaws.{same-or}
+use Rattle.blocks.specs.Fill.{putCells}
 
 -- two cells are the same only where row and word are
 pub cell-same : (p q k j : ℕ) → k < 16 → j < 16 → cell p k ≡ cell q j → (p ≡ q) × (k ≡ j)
@@ -69,3 +68,8 @@ unfolding putCells
 put-ext room k row row′ value value′ zero h g = refl
 put-ext room k row row′ value value′ (suc n) h g =
     cc (put-ext room k row row′ value value′ n (λ i l. h i (omega arith)) (λ i l. g i (omega arith)), h n (omega arith), g n (omega arith))
+
+pub put-cong : (room room′ : List ℕ) (k : ℕ) (row row′ value value′ : ℕ → ℕ) (n n′ : ℕ) → room ≡ room′ → n ≡ n′ → ((i : ℕ) → i < n → row i ≡ row′ i)
+    → ((i : ℕ) → i < n → value i ≡ value′ i) → putCells room k row value n ≡ putCells room′ k row′ value′ n′
+put-cong room room′ k row row′ value value′ n n′ e q h g =
+    put-ext room k row row′ value value′ n h g ∙ ap₂ (λ (r : List ℕ) (m : ℕ). putCells r k row′ value′ m) e q

@@ -4,3 +4,6 @@ pub mod BlockLaws
 pub mod FillLaws
 pub mod StepLaws
 pub mod StartLaws
+pub mod TableLaws
+pub mod StageLaws
+pub mod WholeLaws

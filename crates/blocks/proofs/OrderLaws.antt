@@ -3,14 +3,13 @@
 use mathlib.Core.Path.{_≡_, refl, sym, ap, ap₂, _∙_}
 use mathlib.Core.Bool.{Bool, true, false, _&&_, _||_}
 use mathlib.Core.Logic.{_⊎_, inl, inr, ⊎-elim}
-use Prim.Native.Nat.{ℕ, zero, suc, _+_, _*_, _-_, _≤_, _<_}
+use Prim.Native.Nat.{ℕ, zero, suc, _+_, _-_, _≤_, _<_}
 use native.Mathlib.Nat.{add-zero, zero-add, one-mul}
 use native.Mathlib.Omega.{arith}
-use borrow.Author.Tests.{eq-eqb, ne-eqb, lt-ltb, le-ltb, eqb-true, eqb-false, ltb-true, ltb-false}
+use borrow.Author.Tests.{eq-eqb, ne-eqb, lt-ltb, le-ltb, eqb-true, ltb-true}
 use lib.Dec.{eqb, ltb}
 use Rattle.words.specs.Sum.{sumTo}
-use Rattle.words.proofs.SumLaws.{sum-more, sum-le, sum-ext}
-use Rattle.words.proofs.BitLaws.{lt-or-ge}
+use Rattle.words.proofs.SumLaws.{sum-ext}
 use Rattle.record.specs.Tests.{someBelow}
 use Rattle.record.proofs.TestLaws.{not-both, some-found, some-none}
 use Rattle.blocks.specs.Blocks.{comesBefore, takenBefore}

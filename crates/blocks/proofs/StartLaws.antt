@@ -1,16 +1,15 @@
 -- Parts over all major stages: each part is part i of one major stage s; the parts' ranges of state words, and of SRAM words, are disjoint and
 -- consecutive in the order of the ranks; the ranks are the numbers below the number of parts.
 -- Assumes nothing.
-use mathlib.Core.Path.{_≡_, refl, sym, ap, ap₂, _∙_}
+use mathlib.Core.Path.{_≡_, refl, ap}
 use mathlib.Core.Logic.{_⊎_, inl, inr, ⊎-elim}
 use mathlib.Core.List.{List}
-use Prim.Native.Nat.{ℕ, zero, suc, _+_, _*_, _-_, _/_, _^_, _≤_, _<_}
-use native.Mathlib.Numerals.{add-one}
+use Prim.Native.Nat.{ℕ, zero, suc, _+_, _*_, _-_, _/_, _≤_, _<_}
 use native.Mathlib.Omega.{arith}
 use Rattle.words.specs.Sum.{sumTo}
-use Rattle.words.proofs.SumLaws.{sum-le, sum-ext}
+use Rattle.words.proofs.SumLaws.{sum-le}
 use Rattle.words.proofs.BitLaws.{lt-or-ge}
-use Rattle.record.specs.Record.{majorsOf, layoutOf, countAt, partsBefore, partsOf}
+use Rattle.record.specs.Record.{layoutOf, countAt, partsBefore}
 use Rattle.record.proofs.RecordLaws.{parts-more}
 use Rattle.counts.specs.Counts.{srams, writeOuts}
 use Rattle.blocks.specs.Blocks.{blockOf, takenBefore, stateOf, sramOf, stateStart, sramStart}

@@ -1,18 +1,17 @@
 -- One part more, for each pass over the parts of a major stage: what its turn may ask for, and what the sums and the rows then hold.
 -- Assumes nothing.
-use mathlib.Core.Path.{_≡_, refl, sym, ap, ap₂, _∙_, subst}
+use mathlib.Core.Path.{_≡_, refl, sym, ap, ap₂, _∙_}
 use mathlib.Core.Logic.{_⊎_, inl, inr, ⊎-elim}
 use mathlib.Core.List.{List}
-use Prim.Native.Nat.{ℕ, zero, suc, _+_, _*_, _^_, _≤_, _<_}
+use Prim.Native.Nat.{ℕ, _+_, _*_, _^_, _≤_, _<_}
 use native.Mathlib.Numerals.{add-one}
 use native.Mathlib.Omega.{arith}
-use lib.ListN.{length, getD, set, replicate, length-set}
+use lib.ListN.{length, getD, set, length-set}
 use lib.Seq.{getD-set-same, getD-set-other}
 use Rattle.words.specs.Sum.{sumTo}
 use Rattle.words.specs.Section.{listOf}
 use Rattle.words.proofs.SumLaws.{sum-more, sum-le}
 use Rattle.words.proofs.SectionLaws.{length-listOf, getD-listOf, listOf-is}
-use Rattle.words.proofs.BitLaws.{lt-or-ge}
 use Rattle.record.specs.Record.{headBase, stagesOf, wordAt}
 use Rattle.blocks.specs.Blocks.{blockFor, costsAfter, blockIn}
 use Rattle.blocks.specs.Sums.{inBlock}

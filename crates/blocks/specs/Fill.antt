@@ -2,14 +2,19 @@
 -- Assumes nothing.
 use mathlib.Core.Path.{_≡_}
 use mathlib.Core.Bool.{true, false}
+use mathlib.Core.Option.{none}
 use mathlib.Core.List.{List}
 use Prim.Native.Nat.{ℕ, zero, suc, _+_, _*_, _/_, _%_, _^_, _≤_, _<_}
 use lib.ListN.{length, getD, set, replicate}
 use Rattle.words.specs.Sum.{sumTo}
 use Rattle.words.specs.Section.{listOf}
-use Rattle.record.specs.Record.{majorsOf, countAt, partsBefore, partsOf, stagesOf, bodyAt, locationsOf}
-use Rattle.counts.specs.Counts.{srams, duplicates, writeOuts}
-use Rattle.blocks.specs.Blocks.{blockIn, blockOf, stateStart, sramStart, totalsFit}
+use Rattle.record.specs.Record.{blocksOf, majorsOf, countAt, partsBefore, partsOf, stagesOf, bodyAt, locationsOf}
+use Rattle.record.specs.Form.{planForm}
+use Rattle.record.specs.declared.bodies.Body.{Body}
+use Rattle.counts.specs.Counts.{srams, duplicates, writeOuts, refusal7}
+use Rattle.counts.specs.Parts.{Countable}
+use Rattle.blocks.specs.Blocks.{blockIn, blockOf, takenBefore, stateOf, sramOf, stateStart, sramStart, totalsFit}
+use Rattle.blocks.specs.declared.stages.Firsts.{Firsts}
 use Rattle.blocks.specs.Sums.{inBlock}
 use Rattle.blocks.specs.Table.{cell, rankOf, Counted}
 
@@ -36,6 +41,16 @@ sumsIn room sums base words n = listOf (λ b. getD sums b 0 + inBlock (column ro
 
 abbrev pub startIn : List ℕ → List ℕ → ℕ → (ℕ → ℕ) → ℕ → ℕ
 startIn room sums base words i = getD sums (column room base 6 i) 0 + inBlock (column room base 6) words (column room base 6 i) i
+
+-- the rows with the parts' blocks and ranks, and with what comes before each part, from `first` on
+abbrev pub rankedRows : List ℕ → List ℕ → ℕ → ℕ → ℕ → List ℕ
+rankedRows d room B base count =
+    putCells (putCells room 6 (λ i. base + i) (blockFrom d B base) count)
+    9 (λ i. base + takenBefore (blockFrom d B base) (λ j. 1) count i) (λ i. base + i) count
+
+abbrev pub startedRows : List ℕ → ℕ → ℕ → ℕ → ℕ → ℕ → ℕ → List ℕ
+startedRows room base count from scale to first =
+    putCells room to (λ i. base + i) (λ i. first + takenBefore (column room base 6) (takes room base from scale) count i) count
 
 -- ---- the whole table
 
@@ -132,3 +147,64 @@ pub record Takeable (room sums : List ℕ) (base count from scale to : ℕ) : Ty
 pub record Rankable (room sums : List ℕ) (base count : ℕ) : Type 0 where
   pub rows : Rows room (length sums) base count
   pub below : (b : ℕ) → b < length sums → getD sums b 0 + inBlock (column room base 6) (λ i. 1) b count ≤ count
+
+-- the parts of a major stage may be placed
+pub record StagePlaceable (d room : List ℕ) (blocks base count : ℕ) : Type 0 where
+  pub few : count ≤ 4096
+  pub parts : base + count ≤ 262144
+  pub inside : 65536 + 16 * (base + count) ≤ length room
+  pub some-block : 0 < blocks
+  pub few-blocks : blocks ≤ 1024
+  pub stages : (i : ℕ) → i < count → stagesOf d (base + i) ≤ 255
+
+-- and summed
+pub record StageSummable (room : List ℕ) (blocks base count from scale to first : ℕ) : Type 0 where
+  pub rows : Rows room blocks base count
+  pub few-blocks : blocks ≤ 1024
+  pub word : from < 16
+  pub other : (to < 16) × (to ≡ 6 → ⊥) × (to ≡ from → ⊥)
+  pub fits : first + sumTo (takes room base from scale) count < 2 ^ 32
+
+-- f holds what comes before major stage s
+pub record FirstsOf (d : List ℕ) (s : ℕ) (f : Firsts) : Type 0 where
+  pub parts : f .parts ≡ partsBefore d s
+  pub state : f .state ≡ stateOf d s
+  pub sram : f .sram ≡ sramOf d s
+
+-- the parts are counted, their totals fit, and major stage s is next
+pub record StageReady (d room : List ℕ) (s blocks count : ℕ) (f : Firsts) : Type 0 where
+  pub form : planForm d ≡ true
+  pub totals : totalsFit d ≡ true
+  pub inside : 65536 + 16 * partsOf d ≤ length room
+  pub counted : (p : ℕ) → p < partsOf d → Counted d room p
+  pub stage : s < majorsOf d
+  pub blocks-are : blocks ≡ blocksOf d
+  pub count-is : count ≡ countAt d s
+  pub firsts : FirstsOf d s f
+
+-- the record is in form, and its table has room
+pub record InForm (d room : List ℕ) : Type 0 where
+  pub form : planForm d ≡ true
+  pub inside : 65536 + 16 * partsOf d ≤ length room
+
+-- and no part is refused by 7
+pub record Fillable (d room : List ℕ) : Type 0 where
+  pub ready : InForm d room
+  pub counts : refusal7 d ≡ none
+
+-- one part's row may be filled
+pub record RowReady (d room : List ℕ) (p : ℕ) (b : Body) : Type 0 where
+  pub part : p < 262144
+  pub inside : 65536 + 16 * p + 16 ≤ length room
+  pub countable : Countable d p b
+  pub few : writeOuts d p ≤ 256
+
+-- the parts are counted
+pub record Tallied (d room : List ℕ) : Type 0 where
+  pub ready : InForm d room
+  pub counted : (p : ℕ) → p < partsOf d → Counted d room p
+
+-- and their totals fit
+pub record Allottable (d room : List ℕ) : Type 0 where
+  pub tallied : Tallied d room
+  pub totals : totalsFit d ≡ true

@@ -1,6 +1,6 @@
 // Parts to blocks: the costs and the part counts of the blocks, and each part's block.
 ghost use mathlib.Core.Path.{_≡_};
-ghost use Prim.Native.Nat.{ℕ, _+_, _*_, _-_, _<_};
+ghost use Prim.Native.Nat.{_+_, _*_, _-_, _<_};
 ghost use lib.ListN.{length, getD, set};
 ghost use Rattle.words.specs.Section.{listOf};
 ghost use Rattle.record.specs.Record.{stagesOf};

@@ -1,9 +1,9 @@
 -- `blocks::costs::place_parts` meets its contract. The loop's invariant: the first i parts have their blocks, and the costs and counts are theirs.
 -- Assumes nothing.
-use mathlib.Core.Path.{_≡_, refl, ap, sym, _∙_}
-use Prim.Native.Nat.{ℕ, _+_, _*_, _-_, _≤_, _<_}
+use mathlib.Core.Path.{_≡_, ap, sym, _∙_}
+use Prim.Native.Nat.{_+_, _-_, _≤_}
 use native.Mathlib.Omega.{arith}
-use lib.ListN.{length, getD, set}
+use lib.ListN.{length}
 use Rattle.words.specs.Section.{listOf}
 use Rattle.words.proofs.SectionLaws.{length-listOf}
 use Rattle.record.specs.Record.{stagesOf}
@@ -12,16 +12,10 @@ use Rattle.blocks.specs.Sums.{inBlock}
 use Rattle.blocks.specs.Fill.{putCells, blockFrom}
 use Rattle.blocks.proofs.BlockLaws.{sums-none, sums-plain, costs-none, costs-long}
 use Rattle.blocks.proofs.FillLaws.{put-none, put-long}
-use Rattle.blocks.proofs.StepLaws.{place-long, counts-long, put-ready, put-costs, put-counts, put-rows}
+use Rattle.blocks.proofs.StepLaws.{place-long, put-ready, put-costs, put-counts, put-rows}
 use borrow.Author.Needs.{needs}
 use Rattle.blocks.proofs.costs.place_parts.Statement.{statement}
 use Rattle.blocks.proofs.costs.place_parts.Tie as tie
-use Rattle.blocks.proofs.costs.place_parts.Reads as reads
-use Rattle.blocks.proofs.costs.place_parts.Lts as lts
-use Rattle.blocks.proofs.costs.block_for.Reads as block-for-reads
-use Rattle.blocks.proofs.costs.put_part.Reads as put-part-reads
-use Rattle.record.proofs.places.head_base.Reads as head-base-reads
-use Rattle.record.proofs.places.word_at.Reads as word-at-reads
 
 abbrev Inv-loop : tie.InvT-loop
 Inv-loop d room₀ costs₀ counts₀ base count heads i₀ room costs counts i = (i ≤ count) × (room ≡ putCells room₀ 6 (λ j. base + j) (blockFrom d (length costs₀) base) i) × (costs ≡ costsAfter (length costs₀) (λ j. stagesOf d (base + j)) i) × (counts ≡ listOf (λ b. 0 + inBlock (blockFrom d (length costs₀) base) (λ j. 1) b i) (length costs₀))
@@ -29,47 +23,38 @@ Inv-loop d room₀ costs₀ counts₀ base count heads i₀ room costs counts i 
 abbrev μ-loop : tie.MeasureT-loop
 μ-loop d room₀ costs₀ counts₀ base count heads i₀ room costs counts i = count - i
 
--- src/costs.rt:56:9
 head-base-requires : tie.Need-head-base-requires Inv-loop μ-loop
 head-base-requires c κs = search needs
 
--- src/costs.rt:58:5
 loop-holds : tie.Need-loop-holds Inv-loop μ-loop
 loop-holds c =
     let t = c .before .before .before .before .before .pre in
     (omega arith, sym (put-none _ _ _ _), t .costs-zero ∙ sym (costs-none _ _), t .counts-zero ∙ sums-none _ _ _)
 
--- src/costs.rt:59:13
 block-for-requires : tie.Need-block-for-requires Inv-loop μ-loop
 block-for-requires c κs =
     let l = c .before .before .loop in
     let n = place-long _ _ _ _ _ _ (c .before .before .before .before .before .before .before .before .pre) (l .costs) (l .counts) (l .i) (c .before .loop-test .taken) (l .inv .2) (l .inv .3) in
     omega (arith, n, c .before .before .before .before .before .before .before .before .pre .some-block)
 
--- src/costs.rt:60:60
 add-word-at : tie.Need-add-word-at Inv-loop μ-loop
 add-word-at c = search needs
 
--- src/costs.rt:60:55
 mul-word-at : tie.Need-mul-word-at Inv-loop μ-loop
 mul-word-at c = search needs
 
--- src/costs.rt:60:47
 add-word-at-2 : tie.Need-add-word-at-2 Inv-loop μ-loop
 add-word-at-2 c = search needs
 
--- src/costs.rt:60:36
 word-at-requires : tie.Need-word-at-requires Inv-loop μ-loop
 word-at-requires c κs = search needs
 
--- src/costs.rt:60:9
 put-part-requires : tie.Need-put-part-requires Inv-loop μ-loop
 put-part-requires c κs =
     let l = c .before .before .before .before .before .before .loop in
     put-ready _ _ _ _ _ _ (c .before .before .before .before .before .before .before .before .before .before .before .before .pre) (l .costs) (l .counts) (l .i) (c .before .before .before .before .before .loop-test .taken) (l .inv .2) (l .inv .3)
     (c .before .before .before .block-for .result) (c .before .before .before .before .before .before .before .head-base .result) (c .word-at .result) (c .before .before .before .block-for .ensures .0) (c .before .before .before .before .before .before .before .head-base .ensures .0) (c .word-at .ensures)
 
--- src/costs.rt:61:45
 cast-room : tie.Need-cast-room Inv-loop μ-loop
 cast-room c =
     let l = c .before .before .before .before .before .before .before .before .before .before .before .loop in
@@ -87,41 +72,32 @@ cast-room c =
       place-long _ _ _ _ _ _ (c .before .before .before .before .before .before .before .before .before .before .before .before .before .before .before .before .before .pre) (l .costs) (l .counts) (l .i) (c .before .before .before .before .before .before .before .before .before .before .loop-test .taken) (l .inv .2) (l .inv .3),
     )
 
--- src/costs.rt:61:28
 add-room : tie.Need-add-room Inv-loop μ-loop
 add-room c = search needs
 
--- src/costs.rt:61:22
 mul-room : tie.Need-mul-room Inv-loop μ-loop
 mul-room c = search needs
 
--- src/costs.rt:61:14
 add-room-2 : tie.Need-add-room-2 Inv-loop μ-loop
 add-room-2 c = search needs
 
--- src/costs.rt:61:14
 add-room-3 : tie.Need-add-room-3 Inv-loop μ-loop
 add-room-3 c = search needs
 
--- src/costs.rt:61:9
 mul-room-2 : tie.Need-mul-room-2 Inv-loop μ-loop
 mul-room-2 c = search needs
 
--- src/costs.rt:61:9
 slice-write-room : tie.Need-slice-write-room Inv-loop μ-loop
 slice-write-room c =
     let l = c .before .before .before .before .before .before .before .before .before .before .before .loop in
     omega (arith, ap length (l .inv .1) ∙ put-long _ _ _ _ _, c .before .before .before .before .before .before .before .before .before .before .before .before .before .before .before .before .before .pre .inside)
 
--- src/costs.rt:62:9
 add-i : tie.Need-add-i Inv-loop μ-loop
 add-i c = search needs
 
--- src/costs.rt:58:5
 loop-less : tie.Need-loop-less Inv-loop μ-loop
 loop-less c = search needs
 
--- src/costs.rt:58:5
 loop-again : tie.Need-loop-again Inv-loop μ-loop
 loop-again c =
     let l = c .before .before .before .before .before .before .before .before .before .before .before .loop in
@@ -141,21 +117,17 @@ loop-again c =
           b h w e g s,
     )
 
--- src/costs.rt:50:1
 same-length : tie.Need-same-length Inv-loop μ-loop
 same-length c = ap length (c .before .loop .inv .1) ∙ put-long _ _ _ _ _
 
--- src/costs.rt:50:1
 same-length-2 : tie.Need-same-length-2 Inv-loop μ-loop
 same-length-2 c =
     ap length (c .before .loop .inv .2) ∙ costs-long _ _ (c .before .before .before .before .before .before .before .pre .some-block) _
 
--- src/costs.rt:50:1
 same-length-3 : tie.Need-same-length-3 Inv-loop μ-loop
 same-length-3 c =
     ap length (c .before .loop .inv .3) ∙ length-listOf _ _ ∙ sym (c .before .before .before .before .before .before .before .pre .same)
 
--- src/costs.rt:50:1
 returns : tie.Need-returns Inv-loop μ-loop
 returns c =
     let l = c .before .loop in
