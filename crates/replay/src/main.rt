@@ -9,7 +9,7 @@ use rounds::Rounds;
 
 // Fills `words` with those of the file from word `at` on.
 fn load(file: &[u8], at: usize, words: &mut [u32])
-    requires { ⌜ at < 2 ^ 40 ⌝ }
+    requires { ⌜ at < 2 ^ 50 ⌝ }
 {
     let mut i = 0;
     while i < words.len() {
@@ -44,7 +44,7 @@ fn stands(section: &[u32], place: u32, word: u32, mask: u32) -> bool {
 
 // Whether each pair of the set stands at its stored place; the places are the file's words from `at` on.
 fn all_stand(file: &[u8], at: usize, set: &[u32], section: &[u32]) -> bool
-    requires { ⌜ at < 2 ^ 40 ⌝ }
+    requires { ⌜ at < 2 ^ 50 ⌝ }
 {
     let n = set.len() / 2;
     let mut p = 0;
@@ -60,7 +60,7 @@ fn all_stand(file: &[u8], at: usize, set: &[u32], section: &[u32]) -> bool
 
 // Whether a set gets what the file says from word `at` on: rounds and places, or 0 and the refusal's number.
 fn agrees(file: &[u8], at: usize, set: &[u32]) -> bool
-    requires { ⌜ at < 2 ^ 39 ⌝ }
+    requires { ⌜ at < 2 ^ 49 ⌝ }
 {
     let mut room = [0u32; 16384];
     let mut section = [0u32; 16384];
@@ -83,18 +83,18 @@ fn agrees(file: &[u8], at: usize, set: &[u32]) -> bool
     }
 }
 
-// The words of the case at word `at`, or 0 where our answer differs.
-fn case_words(file: &[u8], at: usize) -> usize
-    requires { ⌜ at < 2 ^ 38 ⌝ }
+// The words of the case at word `at`, or 0 where our answer differs. The set goes into `room`.
+fn case_words(file: &[u8], at: usize, room: &mut [u32]) -> usize
+    requires { ⌜ (at < 2 ^ 48) × (16384 ≤ length (now room)) ⌝ }
+    ensures { λ r. ⌜ r ≤ 32768 ⌝ }
 {
     let n = word_at(file, at) as usize;
     if 8192 < n {
         return 0;
     }
-    let mut set = [0u32; 16384];
     let words = 2 * n;
-    load(file, at + 1, &mut set[..words]);
-    if agrees(file, at + 1 + words, &set[..words]) {
+    load(file, at + 1, &mut room[..words]);
+    if agrees(file, at + 1 + words, &room[..words]) {
         if word_at(file, at + 1 + words) == 0 {
             return words + 3;
         }
@@ -103,25 +103,28 @@ fn case_words(file: &[u8], at: usize) -> usize
     0
 }
 
+// How many cases agree before the first that differs, of those that the file says it has.
+fn agreeing(file: &[u8], cases: u32) -> u32 {
+    let mut room = [0u32; 16384];
+    let mut at: usize = 1;
+    for i in 0..cases {
+        let words = case_words(file, at, &mut room);
+        if words == 0 {
+            return i;
+        }
+        at += words;
+    }
+    cases
+}
+
 fn main() {
     let mut file = [0u8; 524288];
     let length = io::read_full(STDIN_FILENO, &mut file);
     let cases = word_at(&file[..length], 0);
-    let mut at: usize = 1;
-    for i in 0..cases {
-        let words = case_words(&file[..length], at);
-        if words == 0 {
-            io::write_all(STDOUT_FILENO, b"difference in case ");
-            io::print_decimal(STDOUT_FILENO, i as u64);
-            io::write_all(STDOUT_FILENO, b"\n");
-            return;
-        }
-        at += words;
-        if 4294967296 < at {
-            return;
-        }
-    }
-    io::write_all(STDOUT_FILENO, b"cases that agree: ");
+    let agree = agreeing(&file[..length], cases);
+    io::write_all(STDOUT_FILENO, b"cases ");
     io::print_decimal(STDOUT_FILENO, cases as u64);
+    io::write_all(STDOUT_FILENO, b"\nagree ");
+    io::print_decimal(STDOUT_FILENO, agree as u64);
     io::write_all(STDOUT_FILENO, b"\n");
 }

@@ -1,3 +1,5 @@
+-- Indices are in range, and the loop ends.
+-- Assumes nothing.
 use mathlib.Core.Path.{_≡_, refl, _∙_}
 use Prim.Native.Nat.{_+_, _*_, _-_, _/_, _≤_, _<_}
 use native.Mathlib.Omega.{arith}
@@ -5,10 +7,6 @@ use lib.ListN.{length, length-set}
 use borrow.Author.Needs.{needs}
 use Rattle.replay.proofs.all_stand.Statement.{statement}
 use Rattle.replay.proofs.all_stand.Tie as tie
-use Rattle.replay.proofs.all_stand.Reads as reads
-use Rattle.replay.proofs.all_stand.Lts as lts
-use Rattle.record.proofs.places.word_at.Reads as word-at-reads
-use Rattle.replay.proofs.stands.Reads as stands-reads
 
 abbrev Inv-loop : tie.InvT-loop
 Inv-loop file at set section n p₀ p = p ≤ length set / 2
@@ -16,67 +14,51 @@ Inv-loop file at set section n p₀ p = p ≤ length set / 2
 abbrev μ-loop : tie.MeasureT-loop
 μ-loop file at set section n p₀ p = length set / 2 - p
 
--- src/main.rt:51:5
 loop-holds : tie.Need-loop-holds Inv-loop μ-loop
 loop-holds c = search needs
 
--- src/main.rt:52:42
 add-word-at : tie.Need-add-word-at Inv-loop μ-loop
 add-word-at c = search needs
 
--- src/main.rt:52:28
 word-at-requires : tie.Need-word-at-requires Inv-loop μ-loop
 word-at-requires c κs = search needs
 
--- src/main.rt:52:55
 mul-stands : tie.Need-mul-stands Inv-loop μ-loop
 mul-stands c = search needs
 
--- src/main.rt:52:51
 mul-stands-2 : tie.Need-mul-stands-2 Inv-loop μ-loop
 mul-stands-2 c = search needs
 
--- src/main.rt:52:51
 shared-slice-read-stands : tie.Need-shared-slice-read-stands Inv-loop μ-loop
 shared-slice-read-stands c = search needs
 
--- src/main.rt:52:67
 mul-stands-3 : tie.Need-mul-stands-3 Inv-loop μ-loop
 mul-stands-3 c = search needs
 
--- src/main.rt:52:67
 add-stands : tie.Need-add-stands Inv-loop μ-loop
 add-stands c = search needs
 
--- src/main.rt:52:63
 mul-stands-4 : tie.Need-mul-stands-4 Inv-loop μ-loop
 mul-stands-4 c = search needs
 
--- src/main.rt:52:63
 shared-slice-read-stands-2 : tie.Need-shared-slice-read-stands-2 Inv-loop μ-loop
 shared-slice-read-stands-2 c = search needs
 
--- src/main.rt:52:12
 stands-requires : tie.Need-stands-requires Inv-loop μ-loop
 stands-requires c κs = search needs
 
--- src/main.rt:53:13
 add-p : tie.Need-add-p Inv-loop μ-loop
 add-p c = search needs
 
--- src/main.rt:51:5
 loop-less : tie.Need-loop-less Inv-loop μ-loop
 loop-less c = search needs
 
--- src/main.rt:51:5
 loop-again : tie.Need-loop-again Inv-loop μ-loop
 loop-again c = search needs
 
--- src/main.rt:55:13
 returns : tie.Need-returns Inv-loop μ-loop
 returns c = search needs
 
--- src/main.rt:46:1
 returns-2 : tie.Need-returns-2 Inv-loop μ-loop
 returns-2 c = search needs
 

@@ -1,0 +1,3 @@
+pub mod GateLaws
+pub mod ValueLaws
+pub mod CodeLaws
