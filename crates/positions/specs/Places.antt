@@ -3,14 +3,22 @@
 -- Assumes nothing.
 use mathlib.Core.Path.{_≡_}
 use mathlib.Core.Bool.{Bool, true, false, _&&_}
-use mathlib.Core.Option.{Option}
+use mathlib.Core.Option.{Option, none, some}
 use mathlib.Core.List.{List}
-use Prim.Native.Nat.{ℕ, _+_, _*_, _≤_, _<_}
-use lib.Dec.{leb, ltb}
-use lib.ListN.{length, getD}
-use Rattle.record.specs.Tests.{firstNot}
-use Rattle.blocks.specs.Table.{cell}
-use Rattle.positions.specs.Positions.{twelveRight, thirteenRight}
+use Prim.Native.Nat.{ℕ, _+_, _*_, _/_, _≤_, _<_}
+use lib.Dec.{leb, ltb, eqb}
+use lib.ListN.{length, getD, take, replicate}
+use Rattle.pinmap.specs.PinMap.{afterRenewals}
+use Rattle.record.specs.declared.bodies.Body.{Body}
+use Rattle.record.specs.Tests.{firstNot, someBelow}
+use Rattle.record.specs.Record.{partsOf, partsBefore}
+use Rattle.record.specs.Form.{planForm}
+use Rattle.record.specs.Body.{BodyOf}
+use Rattle.blocks.specs.Blocks.{stateWords}
+use Rattle.blocks.specs.Table.{cell, Tabled}
+use Rattle.slots.specs.Puts.{filled, readPuts}
+use Rattle.positions.specs.Positions.{Planned, majorOf, normalWord, twelveRight, thirteenRight}
+use Rattle.positions.specs.Winners.{winnerPuts, Listed}
 
 -- the lowest slot, and the lowest entry, of part p that is refused
 abbrev pub badSlot : List ℕ → ℕ → Option ℕ
@@ -50,3 +58,43 @@ pub record Ranked (room : List ℕ) (n : ℕ) : Type 0 where
 -- the first part of a major stage: of one whose number of earlier parts is `next`, where that is not above p, else of the one before
 unfoldable pub latest : ℕ → ℕ → ℕ → ℕ
 latest p first next = elim (leb next p) [ true ↦ next | false ↦ first ]
+
+-- ---- refusal 12 of one slot
+
+-- 12, where the earlier major stages have n parts
+unfoldable pub placeIn : List ℕ → ℕ → Option Planned → Bool
+placeIn d n none = false
+placeIn d n (some x) = elim (eqb (x .staged) 0) [ true ↦ ltb (x .place / 32) (stateWords d) | false ↦ normalWord d n (x .place / 32) ]
+
+-- a table of m words with the pins that part p reads, each with the number of the entry that wins for it
+abbrev pub plannedTable : List ℕ → ℕ → ℕ → List ℕ
+plannedTable d p m = afterRenewals (filled m (readPuts d p)) (winnerPuts d)
+
+-- the part table can be searched for the normal words of the first n parts, and the state has `state` words
+pub record Searched (d room : List ℕ) (state n : ℕ) : Type 0 where
+  pub lists : Listed d
+  pub size : state ≡ stateWords d
+  pub rows : Ranked room n
+  pub finds : (w : ℕ) → someBelow (holdsWord room w) n ≡ normalWord d n w
+
+-- and the first words of the room are the table of part p, whose body b is
+pub record SlotsReady (d : List ℕ) (p : ℕ) (b : Body) (room : List ℕ) (state n : ℕ) : Type 0 where
+  pub body : BodyOf d p b
+  pub stages : 0 < b .stages
+  pub earlier : n ≡ partsBefore d (majorOf d p)
+  pub searched : Searched d room state n
+  pub wide : 32768 ≤ length room
+  pub table : take 32768 room ≡ plannedTable d p 32768
+
+-- a plan whose part table stands in the room, the first words of which are clear
+pub record Judgeable (d room : List ℕ) : Type 0 where
+  pub form : planForm d ≡ true
+  pub table : Tabled d room
+  pub wide : 65536 + 16 * partsOf d ≤ length room
+  pub clear : take 32768 room ≡ replicate 32768 0
+
+pub record PartReady (d : List ℕ) (p : ℕ) (b : Body) (room : List ℕ) (state : ℕ) : Type 0 where
+  pub plan : Judgeable d room
+  pub body : BodyOf d p b
+  pub part : p < partsOf d
+  pub size : state ≡ stateWords d
