@@ -201,21 +201,26 @@ module _ (d : List ℕ) (p : ℕ) (b : Body) (room : List ℕ) (state : ℕ) (re
   pub part-wide : 32768 ≤ length room
   part-wide = omega (arith, ready .plan .wide)
 
-  module _ (first other : List ℕ) (n : ℕ) (is : first ≡ plannedTable d p (length (take 32768 room))) (now : other ≡ first ++ drop 32768 room)
-      (earlier : n ≡ partsBefore d (majorOf d p)) where
+  -- the room with the table of the part in its first words
+  module _ (first other : List ℕ) (is : first ≡ plannedTable d p (length (take 32768 room))) (now : other ≡ first ++ drop 32768 room) where
     first-is : first ≡ plannedTable d p 32768
     first-is = is ∙ ap (plannedTable d p) (length-take-le 32768 room part-wide)
 
     first-size : length first ≡ 32768
     first-size = ap length first-is ∙ planned-length d p 32768
 
-    pub part-slots : SlotsReady d p b other state n
-    part-slots =
+    other-long : length other ≡ length room
+    other-long = ap length now ∙ room-length first room first-size part-wide
+
+    pub part-front : 32768 ≡ length (take 32768 other)
+    part-front = sym (length-take-le 32768 other (omega (arith, other-long, part-wide)))
+
+    pub part-slots : (n : ℕ) → n ≡ partsBefore d (majorOf d p) → SlotsReady d p b other state n
+    part-slots n earlier =
         let f : Formed d = formed d (ready .plan .form) in
         let m : MajorAt d p (majorOf d p) = major-at d p (ready .part) in
         let t : Tabled d other = rw now (tabled-kept d room (first ++ drop 32768 room) (row-kept first room first-size) (ready .plan .table)) in
-        let l : length other ≡ length room = ap length now ∙ room-length first room first-size part-wide in
-        let r : Ranked other (partsBefore d (majorOf d p)) = ranked d other t (majorOf d p) (omega arith) (f .sizes .headed .parts) (omega (arith, ready .plan .wide)) in
+        let r : Ranked other (partsBefore d (majorOf d p)) = ranked d other t (majorOf d p) (omega arith) (f .sizes .headed .parts) (omega (arith, ready .plan .wide, other-long)) in
         record {
           body = ready .body;
           stages = part-stages;
@@ -226,14 +231,20 @@ module _ (d : List ℕ) (p : ℕ) (b : Body) (room : List ℕ) (state : ℕ) (re
             rows = rw earlier r;
             finds = λ w. rw earlier (normal-is d other t (majorOf d p) (omega arith) w);
           };
-          wide = omega (arith, part-wide);
+          wide = omega (arith, part-wide, other-long);
           table = rw now (first-kept first room first-size) ∙ first-is;
         }
 
     -- cleared again, the room is as it was
-    pub part-cleared : (zeros after : List ℕ) → zeros ≡ replicate (length (take 32768 other)) 0 → after ≡ zeros ++ drop 32768 other → after ≡ room
-    part-cleared zeros after z a =
+    pub part-cleared : (zeros : List ℕ) → zeros ≡ replicate (length (take 32768 other)) 0 → zeros ++ drop 32768 other ≡ room
+    part-cleared zeros z =
         let f : take 32768 other ≡ first = rw now (first-kept first room first-size) in
         let g : drop 32768 other ≡ drop 32768 room = rw now (rest-kept first room first-size) in
-        let w : zeros ≡ take 32768 room = z ∙ (ap (λ (l : List ℕ). replicate (length l) 0) f ∙ (ap (λ (n : ℕ). replicate n 0) first-size ∙ sym (ready .plan .clear))) in
-        a ∙ (rw (w, g) (take-append-drop 32768 room))
+        let w : zeros ≡ take 32768 room =
+        z ∙ (ap (λ (l : List ℕ). replicate (length l) 0) f ∙ (ap (λ (n : ℕ). replicate n 0) first-size ∙ sym (ready .plan .clear)))
+        in
+        rw (w, g) (take-append-drop 32768 room)
+
+pub part-ready : (d room₀ room : List ℕ) (p : ℕ) (b : Body) (state : ℕ) → Judgeable d room₀ → room ≡ room₀ → BodyOf d p b → p < partsOf d → state ≡ stateWords d
+    → PartReady d p b room state
+part-ready d room₀ room p b state j e body l size = record { plan = rw e j; body = body; part = l; size = size }
