@@ -1,7 +1,7 @@
 // The activations of a part's endpoints, and the duplicate words that they ask for.
 ghost use mathlib.Core.Path.{_≡_};
 ghost use mathlib.Core.List.{[], _∷_, _++_};
-ghost use Prim.Native.Nat.{_+_, _*_, _-_, _/_, _^_, _≤_, _<_};
+ghost use Prim.Native.Nat.{_+_, _^_, _≤_, _<_};
 ghost use lib.ListN.{length, drop};
 ghost use lib.Seq.{sets};
 ghost use Rattle.sort.specs.Outcome.{keysAfter, scratchAfter};
@@ -13,7 +13,8 @@ use record::bodies::endpoint_kind;
 use record::bodies::endpoint_x;
 use record::bodies::endpoint_y;
 
-// The activation of an endpoint that is no SRAM, as one number. A staged pin is doubled to be an inverted pin number.
+// The activation of an endpoint that is no SRAM, as one number: the inverted pin number d times 2^32, and the enable. A staged pin is
+// doubled to be an inverted pin number.
 fn key_of(kind: u32, x: u32, y: u32) -> u64
     requires { ⌜ (kind < 3) × (kind ≡ 1 → x ≤ 2 ^ 30) ⌝ }
     ensures { λ r. ⌜ activationsOf kind x y ≡ r ∷ [] ⌝ }
@@ -27,7 +28,7 @@ fn key_of(kind: u32, x: u32, y: u32) -> u64
     4294967296 * (x as u64) + y as u64
 }
 
-// 1 where two activations of one pin differ.
+// 1 where two activations of one pin differ, else 0. The pin of an activation is the number over 2^33.
 fn extra_of(x: u64, y: u64) -> usize
     ensures { λ r. ⌜ (r ≡ extra x y) × (r ≤ 1) ⌝ }
 {

@@ -7,7 +7,7 @@ ghost use Rattle.record.specs.Body.{BodyOf};
 ghost use Rattle.record.specs.Form.{planForm};
 ghost use Rattle.gates.specs.Gates.{badGate, gateOf};
 ghost use Rattle.slots.specs.Slots.{feeds, pinRight, slotRight, nineRight, badItem};
-ghost use Rattle.slots.specs.Puts.{partFaultOf, planFaultOf};
+ghost use Rattle.slots.specs.Answers.{partFaultOf, planFaultOf};
 use crate::PartFault;
 use crate::PlanFault;
 use crate::tables::top_power;
@@ -23,6 +23,9 @@ use record::bodies::slot;
 use words::units::EMPTY_PIN;
 use words::units::Pin;
 
+// The last pin of all.
+const LAST_PIN: u32 = 0x4000_0000;
+
 // Whether a pin is empty or in range.
 fn pin_right(pin: u32) -> bool
     ensures { λ r. ⌜ r ≡ pinRight pin ⌝ }
@@ -30,7 +33,7 @@ fn pin_right(pin: u32) -> bool
     if pin == EMPTY_PIN {
         return true;
     }
-    pin <= 1073741824
+    pin <= LAST_PIN
 }
 
 // Whether a pin has a gate whose fan-in pins are a and b, in that order.
@@ -60,7 +63,7 @@ fn slot_right(d: &[u8], p: usize, body: Body, s: usize, q: usize) -> bool
     if pin == EMPTY_PIN {
         return true;
     }
-    if 1073741824 < pin {
+    if LAST_PIN < pin {
         return false;
     }
     let m = top_power(q);

@@ -23,13 +23,16 @@ counts-of-requires c κs = search needs
 
 returns-2 : tie.Need-returns-2
 returns-2 c =
+    let a = c .before .before .before in
     let w = c .before .before .counts-of .ensures .words-are in
-    counts-fine _ _ _ (c .before .before .before .before .before .first-bad-location .ensures) (c .before .before .before .enum-told .given .1) (omega (arith, w, c .if1 .taken))
+    counts-fine _ _ _ (a .before .before .first-bad-location .ensures) (a .enum-told .given .1) (omega (arith, w, c .if1 .taken))
 
 returns-3 : tie.Need-returns-3
 returns-3 c =
+    let a = c .before .before .before in
+    let n = c .before .before .before .before .before .before .before .pre .body .locations in
     let w = c .before .before .counts-of .ensures .words-are in
-    counts-many _ _ _ (c .before .before .before .before .before .first-bad-location .ensures) (c .before .before .before .enum-told .given .1) _ (c .before .before .before .before .before .before .before .pre .body .locations) (omega (arith, w, c .if1 .left))
+    counts-many _ _ _ (a .before .before .first-bad-location .ensures) (a .enum-told .given .1) _ n (omega (arith, w, c .if1 .left))
 
 pub bad-counts-spec : {M : Type 1} → statement M
 bad-counts-spec =

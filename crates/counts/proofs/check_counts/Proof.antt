@@ -34,7 +34,9 @@ unfolding refusal7
 loop-holds c = (omega arith, c .first-body .ensures .0, pass-start _ _)
 
 body-at-requires : tie.Need-body-at-requires Inv-loop μ-loop
-body-at-requires c κs = body-ready _ (formed _ (c .before .before .before .before .before .pre) .sizes) _ _ (among c) (c .before .loop .inv .1)
+body-at-requires c κs =
+    let sizes = formed _ (c .before .before .before .before .before .pre) .sizes in
+    body-ready _ sizes _ _ (among c) (c .before .loop .inv .1)
 
 bad-counts-requires : tie.Need-bad-counts-requires Inv-loop μ-loop
 bad-counts-requires c κs = countable _ _ _ (c .before .before .before .before .before .before .pre) (among (c .before)) (c .body-at .ensures)
@@ -43,7 +45,9 @@ enum-known-i : tie.Need-enum-known-i Inv-loop μ-loop
 enum-known-i c = search needs
 
 returns : tie.Need-returns Inv-loop μ-loop
-returns c = pass-fault _ _ _ _ (c .before .before .before .before .before .before .loop .inv .2) (among (c .before .before .before .before .before)) _ (c .before .before .before .bad-counts .ensures) _ (c .before .i .given .1)
+returns c =
+    let a = c .before .before .before .before .before in
+    pass-fault _ _ _ _ (a .before .loop .inv .2) (among a) _ (c .before .before .before .bad-counts .ensures) _ (c .before .i .given .1)
 
 enum-told : tie.Need-enum-told Inv-loop μ-loop
 enum-told c = search needs
@@ -55,7 +59,10 @@ loop-less : tie.Need-loop-less Inv-loop μ-loop
 loop-less c = search needs
 
 loop-again : tie.Need-loop-again Inv-loop μ-loop
-loop-again c = (omega arith, c .before .before .before .body-at .ensures .end, pass-next _ _ _ _ (c .before .before .before .before .before .loop .inv .2) (among (c .before .before .before .before)) _ (c .before .before .bad-counts .ensures) (c .enum-told .given .1))
+loop-again c =
+    let a = c .before .before .before .before in
+    let next = pass-next _ _ _ _ (a .before .loop .inv .2) (among a) _ (c .before .before .bad-counts .ensures) (c .enum-told .given .1) in
+    (omega arith, c .before .before .before .body-at .ensures .end, next)
 
 returns-2 : tie.Need-returns-2 Inv-loop μ-loop
 returns-2 c = pass-end _ _ _ _ (c .before .loop .inv .2) (omega (arith, c .before .before .before .parts-of .ensures .0))

@@ -36,10 +36,11 @@ loop-less c = search needs
 
 loop-again : tie.Need-loop-again Inv-loop μ-loop
 loop-again c =
-    let a = c .before .before .before .before .before .before .before .before in (
+    let a = c .before .before in
+    let g = c .before .before .before .before .before .loop .inv in (
       omega arith,
-      c .before .before .put-key .kept .1 .1 .1 .1 .0 ∙ c .before .before .before .before .before .loop .inv .1,
-      collect-more _ _ _ _ _ _ (c .before .before .before .before .before .loop .inv .2) (room (c .before .before .before)) _ _ (c .before .before .put-key .ensures .1) (c .before .before .put-key .ensures .0),
+      a .put-key .kept .1 .1 .1 .1 .0 ∙ g .1,
+      collect-more _ _ _ _ _ _ (g .2) (room (c .before .before .before)) _ _ (a .put-key .ensures .1) (a .put-key .ensures .0),
     )
 
 same-length : tie.Need-same-length Inv-loop μ-loop

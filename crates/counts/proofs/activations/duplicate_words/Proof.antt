@@ -11,10 +11,13 @@ use Rattle.counts.proofs.activations.duplicate_words.Statement.{stateme
 use Rattle.counts.proofs.activations.duplicate_words.Tie as tie
 
 -- the extras that are found: no more than the keys, and those that make the duplicate words
-found : (c : tie.After-extras-in) → (c .extras-in .result ≤ length (c .before .before .before .before .before .before .before .before .before .before .before .args .keys .now)) × ((c .extras-in .result + 31) / 32 ≡ duplicatesIn (c .before .before .before .before .before .before .before .before .before .before .before .args .keys .now))
+found : (c : tie.After-extras-in)
+    → (c .extras-in .result ≤ length (c .before .before .before .before .before .before .before .before .before .before .before .args .keys .now))
+    × ((c .extras-in .result + 31) / 32 ≡ duplicatesIn (c .before .before .before .before .before .before .before .before .before .before .before .args .keys .now))
 found c =
     let a = c .before .before .before .before .before .before in
-    extras-sorted (a .before .before .before .before .before .args .keys .now) (a .before .before .before .before .before .args .scratch .now) (a .sort .last .0) _ (a .before .before .before .before .before .pre .1) (a .sort .ensures .1 .0) (c .extras-in .ensures)
+    let s = a .before .before .before .before .before in
+    extras-sorted (s .args .keys .now) (s .args .scratch .now) (a .sort .last .0) _ (s .pre .1) (a .sort .ensures .1 .0) (c .extras-in .ensures)
 
 sort-requires : tie.Need-sort-requires
 sort-requires c κs = search needs

@@ -6,7 +6,7 @@ use native.Mathlib.Omega.{arith}
 use borrow.Author.Needs.{needs}
 use Rattle.record.specs.Tests.{firstFrom}
 use Rattle.slots.specs.Slots.{tenRight}
-use Rattle.slots.specs.Puts.{overItems, partFaultOf}
+use Rattle.slots.specs.Answers.{overItems, partFaultOf}
 use Rattle.slots.proofs.ItemLaws.{stage-start, stage-next, stage-fault, stage-end}
 use Rattle.slots.proofs.later.ten_items.Statement.{statement}
 use Rattle.slots.proofs.later.ten_items.Tie as tie

@@ -7,7 +7,7 @@ use borrow.Author.Needs.{needs}
 use lib.ListN.{length}
 use Rattle.record.specs.Tests.{firstFrom}
 use Rattle.slots.specs.Slots.{tenRight, badItem}
-use Rattle.slots.specs.Puts.{overItems, partFaultOf}
+use Rattle.slots.specs.Answers.{overItems, partFaultOf}
 use Rattle.slots.proofs.ItemLaws.{stages-first, stages-next, stages-fault, stages-end, fault-some, fault-none}
 use Rattle.slots.proofs.PutLaws.{clear-back}
 use Rattle.slots.proofs.SlotLaws.{ten-first}

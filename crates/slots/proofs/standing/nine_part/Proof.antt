@@ -7,7 +7,7 @@ use borrow.Author.Needs.{needs}
 use Rattle.record.specs.Tests.{firstFrom}
 use Rattle.record.proofs.TestLaws.{first-fault, first-next, first-end}
 use Rattle.slots.specs.Slots.{nineRight, badItem}
-use Rattle.slots.specs.Puts.{overItems, partFaultOf}
+use Rattle.slots.specs.Answers.{overItems, partFaultOf}
 use Rattle.slots.proofs.ItemLaws.{items-all}
 use Rattle.slots.proofs.standing.nine_part.Statement.{statement}
 use Rattle.slots.proofs.standing.nine_part.Tie as tie
