@@ -32,7 +32,7 @@ use Rattle.slots.proofs.PutLaws.{reads-hold, reads-look, filled-length}
 use Rattle.positions.specs.Positions.{Planned, majorOf, normalWord, placeRight, twelveRight}
 use Rattle.positions.specs.Winners.{winner, plannedBy, positionNumber, winnerPuts}
 use Rattle.positions.specs.Places.{holdsWord, Ranked, placeIn, plannedTable, Searched, SlotsReady, Judgeable, PartReady}
-use Rattle.positions.proofs.WinnerLaws.{by-none, by-layout, by-position, planned-winner, renewals-length, winners-look, winners-missing, listed}
+use Rattle.positions.proofs.WinnerLaws.{by-none, by-layout, by-position, planned-winner, mark-is, renewals-length, winners-look, winners-missing, listed}
 use Rattle.positions.proofs.MajorLaws.{MajorAt, major-at}
 use Rattle.positions.proofs.RankLaws.{ranked, normal-is}
 
@@ -103,14 +103,11 @@ module _ (d room : List ℕ) (state n : ℕ) (ready : Searched d room state n) (
   word-is : w ≡ positionPlace d i / 32
   word-is = word ∙ ap (λ (x : ℕ). x / 32) (read ∙ ap (λ (b : ℕ). wordAt d (b + 3 * i + 1)) at)
 
-  mark-is : m ≡ positionStaged d i
-  mark-is = mark ∙ ap (λ (b : ℕ). wordAt d (b + 3 * i + 2)) at
-
   pub unstaged-right : m ≡ 0 → ltb w state ≡ placeIn d n (plannedBy d (positionNumber d i))
-  unstaged-right h = ap₂ ltb word-is (ready .size) ∙ place-unstaged d n i (sym mark-is ∙ h)
+  unstaged-right h = ap₂ ltb word-is (ready .size) ∙ place-unstaged d n i (sym (mark-is d base i m at mark) ∙ h)
 
   pub staged-right : (r : Bool) → (m ≡ 0 → ⊥) → r ≡ someBelow (holdsWord room w) n → r ≡ placeIn d n (plannedBy d (positionNumber d i))
-  staged-right r h e = e ∙ (ready .finds w ∙ (ap (normalWord d n) word-is ∙ place-staged d n i (λ z. h (mark-is ∙ z))))
+  staged-right r h e = e ∙ (ready .finds w ∙ (ap (normalWord d n) word-is ∙ place-staged d n i (λ z. h (mark-is d base i m at mark ∙ z))))
 
 -- entry w
 module _ (d room : List ℕ) (state n : ℕ) (ready : Searched d room state n) (w layout : ℕ) (read : layout ≡ layoutOf d) where

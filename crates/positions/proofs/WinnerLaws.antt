@@ -129,13 +129,13 @@ module _ (d t : List ℕ) (base i x : ℕ) (at : base ≡ layoutBase d) (read : 
       ∙ (ap (λ (y : ℕ). putThere t y (1 + i)) layout-is
       ∙ chosen-in t (inUse d i) (layoutPin d i) (layoutNumber i) (ap not (ne-eqb _ _ (λ z. h (layout-is ∙ z)))))
 
--- entry i of the positions, with mark m read
-module _ (d t : List ℕ) (base i k m : ℕ) (at : base ≡ positionBase d) (read : m ≡ wordAt d (base + 3 * i + 2)) where
-  mark-is : m ≡ positionStaged d i
-  mark-is = read ∙ ap (λ (b : ℕ). wordAt d (b + 3 * i + 2)) at
+-- the mark of entry i of the positions, read as m
+pub mark-is : (d : List ℕ) (base i m : ℕ) → base ≡ positionBase d → m ≡ wordAt d (base + 3 * i + 2) → m ≡ positionStaged d i
+mark-is d base i m at read = read ∙ ap (λ (b : ℕ). wordAt d (b + 3 * i + 2)) at
 
+module _ (d t : List ℕ) (base i k m : ℕ) (at : base ≡ positionBase d) (read : m ≡ wordAt d (base + 3 * i + 2)) where
   pub position-other : (m ≡ k → ⊥) → t ≡ afterRenewals t (chosenPut (marked d k i) (positionPin d i) (positionNumber d i))
-  position-other h = chosen-out t (marked d k i) (positionPin d i) (positionNumber d i) (ne-eqb _ _ (λ z. h (mark-is ∙ z)))
+  position-other h = chosen-out t (marked d k i) (positionPin d i) (positionNumber d i) (ne-eqb _ _ (λ z. h (mark-is d base i m at read ∙ z)))
 
   pub position-is : (x : ℕ) → x ≡ wordAt d (base + 3 * i) → x ≡ positionPin d i
   position-is x h = h ∙ ap (λ (b : ℕ). wordAt d (b + 3 * i)) at
@@ -146,7 +146,7 @@ module _ (d t : List ℕ) (base i k m : ℕ) (at : base ≡ positionBase d) (rea
       e
       ∙ (ap (λ (y : ℕ). putThere t y (first + i)) (position-is x w)
       ∙ (ap (λ (y : ℕ). putThere t (positionPin d i) (y + i)) f
-      ∙ chosen-in t (marked d k i) (positionPin d i) (positionNumber d i) (eq-eqb _ _ (sym mark-is ∙ h))))
+      ∙ chosen-in t (marked d k i) (positionPin d i) (positionNumber d i) (eq-eqb _ _ (sym (mark-is d base i m at read) ∙ h))))
 
 -- all three lists
 pub winners-put : (d t a b e : List ℕ) → a ≡ afterRenewals t (markedPuts d 1 (positionsOf d)) → b ≡ afterRenewals a (layoutPuts d (layoutOf d))

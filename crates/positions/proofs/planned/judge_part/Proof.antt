@@ -44,8 +44,12 @@ same-length c = search needs
 
 returns : tie.Need-returns
 returns c =
-    let s = c .before .before .before .before .before .before .before .before .before .before .before .before .before in
-    (c .before .before .before .before .bad-slot .ensures, part-cleared (s .args .d .now) (s .args .p) (s .args .body) (s .args .room .now) (s .args .state) (s .pre) _ _ (c .before .before .before .before .before .before .before .before .before .fill-planned .ensures) refl _ (c .before .before .clear .ensures))
+    let judged = c .before .before .before .before in
+    let filled = judged .before .before .before .before .before in
+    let s = filled .before .before .before .before in (
+      judged .bad-slot .ensures,
+      part-cleared (s .args .d .now) (s .args .p) (s .args .body) (s .args .room .now) (s .args .state) (s .pre) _ _ (filled .fill-planned .ensures) refl _ (c .before .before .clear .ensures),
+    )
 
 pub judge-part-spec : {M : Type 1} → statement M
 judge-part-spec =

@@ -43,9 +43,11 @@ body-at-requires c κs = body-ready _ (formed _ (c .before .before .before .befo
 
 judge-part-requires : tie.Need-judge-part-requires Inv-loop μ-loop
 judge-part-requires c κs =
+    let walked = c .before in
+    let l = c .before .before .before .loop in
     let s = c .before .before .before .before .before .before .before .before .before .before in
-    part-ready (s .args .d .now) (s .args .room .now) (c .before .before .before .loop .room) (c .before .before .before .loop .p) (c .before .body-at .result) _ (s .pre) (c .before .before .before .loop .inv .2) (c .before .body-at .ensures) (among (c .before .before))
-    (c .before .before .before .before .before .before .state-words .ensures)
+    part-ready (s .args .d .now) (s .args .room .now) (l .room) (l .p) (walked .body-at .result) _ (s .pre) (l .inv .2) (walked .body-at .ensures)
+    (among (c .before .before)) (c .before .before .before .before .before .before .state-words .ensures)
 
 enum-known-i : tie.Need-enum-known-i Inv-loop μ-loop
 enum-known-i c = search needs
@@ -54,10 +56,13 @@ same-length : tie.Need-same-length Inv-loop μ-loop
 same-length c = ap length (c .before .before .before .before .before .judge-part .ensures .1 ∙ c .before .before .before .before .before .before .before .before .before .loop .inv .2)
 
 returns : tie.Need-returns Inv-loop μ-loop
-returns c = (
-  pass-fault _ _ _ _ (c .before .before .before .before .before .before .before .before .before .loop .inv .3) (among (c .before .before .before .before .before .before .before .before)) _ (c .before .before .before .before .before .judge-part .ensures .0) _ (c .before .i .given .1),
-  c .before .before .before .before .before .judge-part .ensures .1 ∙ c .before .before .before .before .before .before .before .before .before .loop .inv .2,
-)
+returns c =
+    let judged = c .before .before .before .before .before in
+    let turn = judged .before .before .before in
+    let l = turn .before .loop in (
+      pass-fault _ _ _ _ (l .inv .3) (among turn) _ (judged .judge-part .ensures .0) _ (c .before .i .given .1),
+      judged .judge-part .ensures .1 ∙ l .inv .2,
+    )
 
 enum-told : tie.Need-enum-told Inv-loop μ-loop
 enum-told c = search needs
@@ -69,12 +74,15 @@ loop-less : tie.Need-loop-less Inv-loop μ-loop
 loop-less c = search needs
 
 loop-again : tie.Need-loop-again Inv-loop μ-loop
-loop-again c = (
-  omega arith,
-  c .before .before .before .before .before .before .body-at .ensures .end,
-  c .before .before .before .before .judge-part .ensures .1 ∙ c .before .before .before .before .before .before .before .before .loop .inv .2,
-  pass-next _ _ _ _ (c .before .before .before .before .before .before .before .before .loop .inv .3) (among (c .before .before .before .before .before .before .before)) _ (c .before .before .before .before .judge-part .ensures .0) (c .enum-told .given .1),
-)
+loop-again c =
+    let judged = c .before .before .before .before in
+    let turn = judged .before .before .before in
+    let l = turn .before .loop in (
+      omega arith,
+      c .before .before .before .before .before .before .body-at .ensures .end,
+      judged .judge-part .ensures .1 ∙ l .inv .2,
+      pass-next _ _ _ _ (l .inv .3) (among turn) _ (judged .judge-part .ensures .0) (c .enum-told .given .1),
+    )
 
 same-length-2 : tie.Need-same-length-2 Inv-loop μ-loop
 same-length-2 c = search needs

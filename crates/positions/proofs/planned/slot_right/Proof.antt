@@ -14,7 +14,9 @@ slot-requires : tie.Need-slot-requires
 slot-requires c κs = search needs
 
 returns : tie.Need-returns
-returns c = slot-empty (c .before .before .before .before .args .d .now) (c .before .before .before .before .args .p) (c .before .before .before .before .args .j) (sym (c .before .slot .ensures) ∙ c .if1 .taken)
+returns c =
+    let s = c .before .before .before .before .args in
+    slot-empty (s .d .now) (s .p) (s .j) (sym (c .before .slot .ensures) ∙ c .if1 .taken)
 
 slice-aggregate-look-up : tie.Need-slice-aggregate-look-up
 slice-aggregate-look-up c = sym (length-take-le 32768 (c .before .before .before .before .before .args .room .now) (c .before .before .before .before .before .pre .0 .wide))
@@ -33,16 +35,20 @@ enum-told c = search needs
 
 returns-2 : tie.Need-returns-2
 returns-2 c =
-    let s = c .before .before .before .before .before .before .before .before .before .before in
-    slot-value (s .args .d .now) (s .args .p) (s .args .body) (s .args .room .now) (s .args .state) (s .args .n) (s .pre .0) (s .args .j) _ (s .pre .1) (c .before .before .before .before .before .before .before .slot .ensures) (c .before .before .before .before .before .before .if1 .left)
-    _ _ _ (c .before .before .before .before .look-up .ensures) (c .before .before .w .given .1) (c .place-right .ensures)
+    let looked = c .before .before .before .before in
+    let held = looked .before .before in
+    let s = held .before .before .before .before in
+    slot-value (s .args .d .now) (s .args .p) (s .args .body) (s .args .room .now) (s .args .state) (s .args .n) (s .pre .0) (s .args .j) _ (s .pre .1)
+    (held .before .slot .ensures) (held .if1 .left) _ _ _ (looked .look-up .ensures) (c .before .before .w .given .1) (c .place-right .ensures)
 
 returns-3 : tie.Need-returns-3
 returns-3 c =
-    let s = c .before .before .before .before .before .before .before .before in
+    let looked = c .before .before in
+    let held = looked .before .before in
+    let s = held .before .before .before .before in
     absurd
-    (slot-missing (s .args .d .now) (s .args .p) (s .args .body) (s .args .room .now) (s .args .state) (s .args .n) (s .pre .0) (s .args .j) _ (s .pre .1) (c .before .before .before .before .before .slot .ensures) (c .before .before .before .before .if1 .left)
-    _ (c .before .before .look-up .ensures) (c .enum-told .given .1))
+    (slot-missing (s .args .d .now) (s .args .p) (s .args .body) (s .args .room .now) (s .args .state) (s .args .n) (s .pre .0) (s .args .j) _ (s .pre .1)
+    (held .before .slot .ensures) (held .if1 .left) _ (looked .look-up .ensures) (c .enum-told .given .1))
 
 pub slot-right-spec : {M : Type 1} → statement M
 slot-right-spec =

@@ -53,7 +53,9 @@ cast-sum-2 c = omega (arith, c .shared-slice-known3 .given (65536 + 16 * c .befo
 
 add-sum-4 : tie.Need-add-sum-4 Inv-loop μ-loop
 add-sum-4 c =
-    omega (arith, c .shared-slice-known3 .given (65536 + 16 * c .before .before .loop .p + 5), c .before .before .loop .inv .2, formed _ (c .before .before .before .before .before .before .before .pre .form) .sizes .headed .parts, c .before .before .before .before .parts-of .ensures .0)
+    let l = c .before .before .loop in
+    let form = formed _ (c .before .before .before .before .before .before .before .pre .form) in
+    omega (arith, c .shared-slice-known3 .given (65536 + 16 * l .p + 5), l .inv .2, form .sizes .headed .parts, c .before .before .before .before .parts-of .ensures .0)
 
 add-p : tie.Need-add-p Inv-loop μ-loop
 add-p c = search needs

@@ -43,7 +43,10 @@ enum-known-i : tie.Need-enum-known-i Inv-loop μ-loop
 enum-known-i c = search needs
 
 returns : tie.Need-returns Inv-loop μ-loop
-returns c = pass-fault _ _ _ _ (c .before .before .before .before .before .before .loop .inv .2) (among (c .before .before .before .before .before)) _ (c .before .before .before .bad-entry .ensures) _ (c .before .i .given .1)
+returns c =
+    let looked = c .before .before .before in
+    let turn = looked .before .before in
+    pass-fault _ _ _ _ (turn .before .loop .inv .2) (among turn) _ (looked .bad-entry .ensures) _ (c .before .i .given .1)
 
 enum-told : tie.Need-enum-told Inv-loop μ-loop
 enum-told c = search needs
@@ -55,7 +58,13 @@ loop-less : tie.Need-loop-less Inv-loop μ-loop
 loop-less c = search needs
 
 loop-again : tie.Need-loop-again Inv-loop μ-loop
-loop-again c = (omega arith, c .before .before .before .body-at .ensures .end, pass-next _ _ _ _ (c .before .before .before .before .before .loop .inv .2) (among (c .before .before .before .before)) _ (c .before .before .bad-entry .ensures) (c .enum-told .given .1))
+loop-again c =
+    let looked = c .before .before in
+    let turn = looked .before .before in (
+      omega arith,
+      c .before .before .before .body-at .ensures .end,
+      pass-next _ _ _ _ (turn .before .loop .inv .2) (among turn) _ (looked .bad-entry .ensures) (c .enum-told .given .1),
+    )
 
 returns-2 : tie.Need-returns-2 Inv-loop μ-loop
 returns-2 c = pass-end _ _ _ _ (c .before .loop .inv .2) (omega (arith, c .before .before .before .parts-of .ensures .0))

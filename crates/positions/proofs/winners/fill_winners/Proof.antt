@@ -19,8 +19,10 @@ same-length c = search needs
 
 returns : tie.Need-returns
 returns c =
+    let staged = c .before .before .before .before .before .before .before .before .before .before in
+    let laid = c .before .before .before .before .before .before in
     let s = c .before .before .before .before .before .before .before .before .before .before .before .before .before .before .args in
-    winners-put (s .d .now) (s .table .now) _ _ _ (c .before .before .before .before .before .before .before .before .before .before .fill-marked .ensures) (c .before .before .before .before .before .before .fill-layout .ensures) (c .before .before .fill-marked2 .ensures)
+    winners-put (s .d .now) (s .table .now) _ _ _ (staged .fill-marked .ensures) (laid .fill-layout .ensures) (c .before .before .fill-marked2 .ensures)
 
 pub fill-winners-spec : {M : Type 1} → statement M
 fill-winners-spec =
