@@ -2,7 +2,7 @@
 // and goes on at the body's end.
 ghost use mathlib.Core.Path.{_≡_};
 ghost use Prim.Native.Nat.{_+_, _*_, _-_, _^_, _≤_, _<_};
-ghost use Rattle.record.specs.Record.{majorsOf, partsOf, stagesOf, bodyAt, endpointKind, endpointX, endpointY, stageLocations, slotAt, locationAt, tableAt};
+ghost use Rattle.record.specs.Record.{majorsOf, partsOf, bodyAt, endpointKind, endpointX, endpointY, stageLocations, slotAt, locationAt, tableAt};
 ghost use Rattle.record.specs.Body.{BodyReady, BodyOf};
 use crate::places::head_base;
 use crate::places::locations_in;

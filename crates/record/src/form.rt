@@ -1,12 +1,12 @@
 // The form of a plan record: refusal 5. The head is looked at first, then the numbers of parts, the part heads and the record's length; what the
-// lists hold comes last, when they are known to be there. So no loop runs longer than the record, and each ends at the first fault.
+// lists hold comes last, when they are known to be there. So past the 64 counts no loop runs longer than the record, and each ends at the first fault.
 ghost use mathlib.Core.Path.{_≡_};
-ghost use mathlib.Core.Bool.{true, _&&_, _||_};
+ghost use mathlib.Core.Bool.{_&&_, _||_};
 ghost use Prim.Native.Nat.{_^_, _≤_, _<_};
 ghost use lib.Dec.{leb};
 ghost use Rattle.record.specs.Record.{majorsOf, partsOf, gatesOf, layoutOf, positionsOf, endpointsOf, gateBase, layoutBase, positionBase, headBase};
 ghost use Rattle.record.specs.Tests.{allBelow};
-ghost use Rattle.record.specs.Form.{headForm, countsForm, partForm, lengthForm, gateForm, layoutForm, positionForm, endpointNumbers, endpointForm, listsForm, planForm, isPin, isPinIv, empty};
+ghost use Rattle.record.specs.Form.{headForm, countsForm, partForm, lengthForm, gateForm, layoutForm, positionForm, endpointNumbers, endpointForm, listsForm, planForm, isPin, isPinIv};
 ghost use Rattle.record.specs.Body.{Headed, Measured, BodyOf};
 use crate::bodies::Body;
 use crate::bodies::body_at;

@@ -1,7 +1,7 @@
 // The words of a plan record, and where its lists begin.
 ghost use mathlib.Core.Path.{_≡_};
-ghost use Prim.Native.Nat.{ℕ, _+_, _*_, _^_, _≤_, _<_, min};
-ghost use Rattle.record.specs.Record.{wordAt, majorsOf, partsBefore, gateBase, layoutBase, positionBase, headBase, stagesOf, endpointsOf, locationsIn, bodyWords};
+ghost use Prim.Native.Nat.{_+_, _*_, _^_, _≤_, _<_};
+ghost use Rattle.record.specs.Record.{wordAt, partsBefore, gateBase, layoutBase, positionBase, headBase, locationsIn, bodyWords};
 ghost use Rattle.record.specs.Form.{roomWords};
 
 // Four bytes as one number, the lowest first.
