@@ -2,3 +2,5 @@
 // length.
 pub mod head;
 pub mod sections;
+pub mod stages;
+pub mod parts;

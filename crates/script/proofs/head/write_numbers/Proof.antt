@@ -1,7 +1,7 @@
 -- Eight stores over zeros.
 -- Assumes nothing.
 use native.Mathlib.Omega.{arith}
-use lib.ListN.{length-set}
+use lib.ListN.{length, length-set}
 use Rattle.script.specs.Writers.{numberWords}
 use Rattle.script.proofs.HeadLaws.{numbers-stored}
 use borrow.Author.Needs.{needs}
@@ -40,8 +40,9 @@ same-length c = search needs
 
 returns : tie.Need-returns
 unfolding numberWords
-returns c = 
-    numbers-stored (c .before .before .clear .last .0) _ _ _ _ _ _ _ _ _ (c .before .before .clear .ensures) (omega arith)
+returns c =
+    let o = c .before .before .before .before .before in
+    numbers-stored (c .before .before .clear .last .0) (length (o .args .out .now)) _ _ _ _ _ _ _ _ (c .before .before .clear .ensures) (o .pre)
 
 pub write-numbers-spec : {M : Type 1} → statement M
 write-numbers-spec =
