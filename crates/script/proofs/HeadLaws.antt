@@ -7,12 +7,17 @@ use native.Mathlib.Numerals.{add-one}
 use native.Mathlib.Omega.{arith}
 use borrow.Author.Tests.{lt-ltb, le-ltb, le-leb, lt-leb}
 use lib.Bits.{bitOr, or-shifted-r}
-use lib.ListN.{set, replicate}
+use lib.ListN.{length, set, replicate}
 use lib.Pow.{shl-exact}
 use Rattle.words.specs.Sum.{sumTo}
 use Rattle.record.specs.Record.{stagesOf, stageLocations, locationsOf, locationAt}
+use Rattle.script.specs.declared.head.Numbers.{Numbers}
 use Rattle.script.specs.Script.{locationStage, locationHalf}
-use Rattle.script.specs.Writers.{endsBy}
+use Rattle.script.specs.Writers.{numberWords, endsBy}
+
+pub numbers-wide : (x : Numbers) → length (numberWords x) ≡ 128
+unfolding numberWords
+numbers-wide x = refl
 
 -- eight numbers over zeros
 pub numbers-stored : (l : List ℕ) (n a b c d e f g h : ℕ) → l ≡ replicate n 0 → n ≡ 128

@@ -48,7 +48,7 @@ module _ (n : ℕ) (d : List ℕ) (p : ℕ) where
 
   pub numbers-length : (last state sram : ℕ) → 16 ≤ n → length (numbers n d p last state sram) ≡ n / 2
   unfolding numbers
-  numbers-length last state sram h = omega (arith, length-replicate (n / 2 - 8) (0 + 0))
+  numbers-length last state sram h = omega (arith, length-replicate (n / 2 - 8) zero)
 
   pub locations-length : length (locationWords n d p) ≡ n / 2
   unfolding locationWords

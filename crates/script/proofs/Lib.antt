@@ -5,3 +5,4 @@ pub mod SectionsLaws
 pub mod MaskLaws
 pub mod EntryLaws
 pub mod LengthLaws
+pub mod ScriptLaws

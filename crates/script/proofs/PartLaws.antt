@@ -21,6 +21,17 @@ put-next a e xs ys h l k =
     let n : length (take a xs ++ ys) ≡ e = omega (arith, length-append (take a xs) ys, length-take-le a xs m) in
     ap (take e) (sym (append-assoc (take a xs) ys (drop (e - a) (drop a xs)))) ∙ take-at (take a xs ++ ys) (drop (e - a) (drop a xs)) e n
 
+pub put-length : (a e : ℕ) (xs ys : List ℕ) → a ≤ e → e ≤ length xs → length ys ≡ e - a → length (putMid a (e - a) xs ys) ≡ length xs
+put-length a e xs ys h l k =
+    let m : a ≤ length xs = omega arith in
+    omega
+    (arith,
+    length-append (take a xs) (ys ++ drop (e - a) (drop a xs)),
+    length-take-le a xs m,
+    length-append ys (drop (e - a) (drop a xs)),
+    length-drop (e - a) (drop a xs),
+    length-drop a xs)
+
 -- the first n words, then the rest
 pub two-parts : (n : ℕ) (xs ys zs : List ℕ) → length ys ≡ n → putMid n (length (ys ++ drop n xs) - n) (ys ++ drop n xs) zs ≡ ys ++ zs
 two-parts n xs ys zs h = put-rest n (ys ++ drop n xs) zs ∙ ap (λ (z : List ℕ). z ++ zs) (take-at ys (drop n xs) n h)

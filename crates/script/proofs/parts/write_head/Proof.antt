@@ -1,46 +1,53 @@
+-- 128 words, then the rest.
+-- Assumes nothing.
+use mathlib.Core.Path.{_≡_, sym, ap, ap₂, _∙_}
+use mathlib.Core.List.{_++_}
+use Prim.Native.Nat.{_≤_}
+use native.Mathlib.Omega.{arith}
+use lib.ListN.{length}
+use lib.Seq.{length-take-le}
+use Rattle.script.proofs.HeadLaws.{numbers-wide}
+use Rattle.script.proofs.PartLaws.{two-parts}
 use borrow.Author.Needs.{needs}
 use Rattle.script.proofs.parts.write_head.Statement.{statement}
 use Rattle.script.proofs.parts.write_head.Tie as tie
-use Rattle.script.proofs.parts.write_head.Reads as reads
-use Rattle.script.proofs.parts.write_head.Lts as lts
-use Rattle.script.proofs.head.write_locations.Reads as write-locations-reads
-use Rattle.script.proofs.head.write_numbers.Reads as write-numbers-reads
 
--- src/parts.rt:22:22
 slice-relend-prefix-write-numbers : tie.Need-slice-relend-prefix-write-numbers
 slice-relend-prefix-write-numbers c = search needs
 
--- src/parts.rt:22:22
 slice-aggregate-write-numbers : tie.Need-slice-aggregate-write-numbers
-slice-aggregate-write-numbers c = search needs
+slice-aggregate-write-numbers c =
+    let o = c .before .before .before in
+    let h : 128 ≤ length (o .args .out .now) = omega (arith, o .pre .1) in
+    sym (length-take-le 128 (o .args .out .now) h)
 
--- src/parts.rt:22:5
 write-numbers-requires : tie.Need-write-numbers-requires
-write-numbers-requires c κs = search needs
+write-numbers-requires c κs =
+    let o = c .before .before .before in
+    let h : 128 ≤ length (o .args .out .now) = omega (arith, o .pre .1) in
+    length-take-le 128 (o .args .out .now) h
 
--- src/parts.rt:23:33
 sub-write-locations : tie.Need-sub-write-locations
 sub-write-locations c = search needs
 
--- src/parts.rt:23:33
 part-write-locations-start : tie.Need-part-write-locations-start
 part-write-locations-start c = search needs
 
--- src/parts.rt:23:33
 part-write-locations-end : tie.Need-part-write-locations-end
 part-write-locations-end c = search needs
 
--- src/parts.rt:23:5
 write-locations-requires : tie.Need-write-locations-requires
 write-locations-requires c κs = search needs
 
--- src/parts.rt:18:1
 same-length : tie.Need-same-length
 same-length c = search needs
 
--- src/parts.rt:18:1
 returns : tie.Need-returns
-returns c = search needs
+returns c =
+    let o = c .before .before .before .before .before .before .before .before .before .before in
+    let a = c .before .before .before .before .before .before .write-numbers in
+    let b = c .before .before .write-locations in
+    two-parts 128 (o .args .out .now) (a .last .1 .0) (b .last .1 .1 .1 .0) (ap length (a .ensures) ∙ numbers-wide (o .args .x)) ∙ ap₂ _++_ (a .ensures) (b .ensures)
 
 pub write-head-spec : {M : Type 1} → statement M
 write-head-spec =

@@ -1,84 +1,95 @@
+-- After s turns the sections of stages 0 to s are there.
+-- Assumes nothing.
+use mathlib.Core.Path.{_≡_, refl, sym, ap, _∙_}
+use Prim.Native.Nat.{ℕ, _+_, _*_, _-_, _≤_}
+use native.Mathlib.Omega.{arith}
+use lib.ListN.{length, take, replicate}
+use Rattle.script.specs.Script.{stageSections}
+use Rattle.script.proofs.LengthLaws.{stage-length}
+use Rattle.script.proofs.PartLaws.{put-length}
+use Rattle.script.proofs.ScriptLaws.{stages-first, stages-more, stages-end}
 use borrow.Author.Needs.{needs}
 use Rattle.script.proofs.parts.write_stages.Statement.{statement}
 use Rattle.script.proofs.parts.write_stages.Tie as tie
-use Rattle.script.proofs.parts.write_stages.Reads as reads
-use Rattle.script.proofs.parts.write_stages.Lts as lts
-use Rattle.pinmap.proofs.clear.Reads as clear-reads
-use Rattle.script.proofs.stages.write_later.Reads as write-later-reads
 
 abbrev Inv-loop : tie.InvT-loop
-Inv-loop d p body table₀ out₀ stages s₀ table out s = ?
+Inv-loop d p body table₀ out₀ stages s₀ table out s = 
+    (s + 1 ≤ stages) × (length table ≡ length table₀) × (length out ≡ length out₀) × (take (5120 * (s + 1)) out ≡ stageSections 256 d p (s + 1))
 
 abbrev μ-loop : tie.MeasureT-loop
-μ-loop d p body table₀ out₀ stages s₀ table out s = ?
+μ-loop d p body table₀ out₀ stages s₀ table out s = stages - s
 
--- src/parts.rt:43:5
 loop-holds : tie.Need-loop-holds Inv-loop μ-loop
-loop-holds c = search needs
+loop-holds c =
+    let o = c .before .before .before in
+    (o .pre .1 .some, refl, refl, o .pre .1 .first ∙ stages-first (o .args .d .now) (o .args .p))
 
--- src/parts.rt:43:11
 add-loop : tie.Need-add-loop Inv-loop μ-loop
 add-loop c = search needs
 
--- src/parts.rt:44:28
 add-from : tie.Need-add-from Inv-loop μ-loop
 add-from c = search needs
 
--- src/parts.rt:44:20
 mul-from : tie.Need-mul-from Inv-loop μ-loop
 mul-from c = search needs
 
--- src/parts.rt:45:18
 add-to : tie.Need-add-to Inv-loop μ-loop
 add-to c = search needs
 
--- src/parts.rt:46:43
 mul-write-later : tie.Need-mul-write-later Inv-loop μ-loop
 mul-write-later c = search needs
 
--- src/parts.rt:46:43
 sub-write-later : tie.Need-sub-write-later Inv-loop μ-loop
 sub-write-later c = search needs
 
--- src/parts.rt:46:43
 part-write-later-start : tie.Need-part-write-later-start Inv-loop μ-loop
 part-write-later-start c = search needs
 
--- src/parts.rt:46:43
 part-write-later-end : tie.Need-part-write-later-end Inv-loop μ-loop
 part-write-later-end c = search needs
 
--- src/parts.rt:46:9
 write-later-requires : tie.Need-write-later-requires Inv-loop μ-loop
 write-later-requires c κs = search needs
 
--- src/parts.rt:47:9
 add-s : tie.Need-add-s Inv-loop μ-loop
 add-s c = search needs
 
--- src/parts.rt:43:5
 loop-less : tie.Need-loop-less Inv-loop μ-loop
 loop-less c = search needs
 
--- src/parts.rt:43:5
 loop-again : tie.Need-loop-again Inv-loop μ-loop
-loop-again c = search needs
+loop-again c =
+    let w = c .before .before .before .before .write-later in
+    let l = c .before .before .before .before .before .before .before .before .loop in
+    let o = c .before .before .before .before .before .before .before .before .before .before .before .before in
+    let d = o .args .d .now in
+    let from = 5120 * (l .s + 1) in
+    let room : from + 5120 ≤ length (l .out) = omega (arith, o .pre .1 .room) in
+    let added = w .last .1 .1 .1 .1 .1 .0 in
+    let fits : length added ≡ from + 5120 - from = omega (arith, ap length (w .ensures .1) ∙ stage-length 256 d (o .args .p) (l .s + 1)) in (
+      omega arith,
+      w .kept .1 .1 .1 .1 .0 ∙ l .inv .1,
+      put-length from (from + 5120) (l .out) added (omega arith) room fits ∙ l .inv .2,
+      stages-more d (o .args .p) (l .out) added (l .s + 1) from (from + 5120) refl refl room (w .ensures .1) (l .inv .3),
+    )
 
--- src/parts.rt:49:5
 clear-requires : tie.Need-clear-requires Inv-loop μ-loop
 clear-requires c κs = search needs
 
--- src/parts.rt:36:1
 same-length : tie.Need-same-length Inv-loop μ-loop
 same-length c = search needs
 
--- src/parts.rt:36:1
 same-length-2 : tie.Need-same-length-2 Inv-loop μ-loop
 same-length-2 c = search needs
 
--- src/parts.rt:36:1
 returns : tie.Need-returns Inv-loop μ-loop
-returns c = search needs
+returns c =
+    let l = c .before .before .before .before .before .loop in
+    let o = c .before .before .before .before .before .before .before .before .before in
+    let n = o .pre .0 .body .stages in (
+      c .before .before .clear .ensures ∙ ap (λ (n : ℕ). replicate n 0) (l .inv .1),
+      stages-end (o .args .d .now) (o .args .p) (l .out) (l .s + 1) _ (omega (arith, n, o .pre .1 .room)) (omega (arith, n)) (l .inv .3),
+    )
 
 pub write-stages-spec : {M : Type 1} → statement M
 write-stages-spec =
