@@ -14,7 +14,7 @@ use Rattle.record.specs.Tests.{firstFrom, firstNot, lowestFrom, lowest, Place}
 use Rattle.record.proofs.TestLaws.{first-here, first-on, first-none, not-none, none-not, lowest-fault, lowest-next, lowest-end, lowest-none}
 use Rattle.record.proofs.FormLaws.{formed, body-ready}
 use Rattle.slots.specs.Slots.{badItem}
-use Rattle.slots.specs.Puts.{overItems, partFaultOf, planFaultOf}
+use Rattle.slots.specs.Answers.{overItems, partFaultOf, planFaultOf}
 use Rattle.slots.specs.declared.PartFault.{PartFault}
 use Rattle.slots.specs.declared.PartFault.the-variants as part-fault
 use Rattle.slots.specs.declared.PlanFault.the-variants as plan-fault

@@ -4,22 +4,22 @@ use mathlib.Core.Path.{_≡_, refl, sym, ap, ap₂, _∙_}
 use mathlib.Core.Bool.{Bool, true, false, _&&_, _||_}
 use mathlib.Core.List.{List, [], _∷_, _++_, append-nil}
 use mathlib.Core.Logic.{⊎-elim}
-use mathlib.Core.Option.{Option, none, some}
-use Prim.Native.Nat.{ℕ, zero, suc, _+_, _*_, _-_, _/_, _≤_, _<_}
+use mathlib.Core.Option.{none, some}
+use Prim.Native.Nat.{ℕ, zero, suc, _+_, _/_, _≤_, _<_}
 use native.Mathlib.Omega.{arith}
 use native.Mathlib.Numerals.{add-one}
-use borrow.Author.Tests.{lt-ltb, eq-eqb, ne-eqb, eqb-true, eqb-false}
+use borrow.Author.Tests.{lt-ltb, ltb-true, ltb-false, eq-eqb, ne-eqb, eqb-true, eqb-false}
 use lib.Dec.{eqb, ltb}
 use lib.ListN.{length, replicate, length-append, length-replicate}
 use Rattle.words.proofs.BitLaws.{lt-or-ge}
-use Rattle.pinmap.specs.PinMap.{Entry, entry, look, putIn, replaced, lastFrom, lastPut, afterPuts}
-use Rattle.pinmap.proofs.HoldsLaws.{last-snoc, puts-look}
+use Rattle.pinmap.specs.PinMap.{Entry, entry, look, putIn, lastFrom, lastPut, afterPuts, Holds}
+use Rattle.pinmap.proofs.HoldsLaws.{last-snoc, holds-none, holds-puts}
 use Rattle.pinmap.proofs.PinMapLaws.{put-length, replaced-same, replaced-other}
 use Rattle.record.specs.Record.{slotAt}
 use Rattle.record.specs.Form.{empty}
 use Rattle.record.specs.Tests.{someBelow}
 use Rattle.slots.specs.Slots.{standsIn, readsPin, highestBelow, highest}
-use Rattle.slots.specs.Puts.{heldAt, heldBelow, positionPuts, readPuts, filled, FilledWith, foundIf, foundAt}
+use Rattle.slots.specs.Puts.{heldAt, heldBelow, positionPuts, readPuts, filled, FilledWith, Zeros, foundIf, foundAt}
 
 -- ---- puts one after the other
 
@@ -98,6 +98,19 @@ module _ (pin value : ℕ → ℕ) where
       go : (b : Bool) → lastPut (heldBelow pin value n ++ elim b [ true ↦ [] | false ↦ entry (pin n) (value n) ∷ [] ]) x ≡ lastPut (heldBelow pin value n) x
       go true = rw append-nil
       go false = last-snoc none (heldBelow pin value n) (entry (pin n) (value n)) x ∙ replaced-other (entry (pin n) (value n)) x _ (λ z. k (sym z))
+
+-- a table with a slot for each entry holds them
+pub filled-holds : (n : ℕ) (puts : List Entry) → length puts ≤ n / 2 → Holds (filled n puts) puts
+filled-holds n puts l = holds-puts (replicate n 0) [] puts (holds-none n) (rw length-replicate (omega arith))
+
+pub positions-hold : (d : List ℕ) (p s n : ℕ) → 16384 ≤ n → Holds (filled n (positionPuts d p s)) (positionPuts d p s)
+unfolding positionPuts
+positions-hold d p s n h =
+    filled-holds n (positionPuts d p s) (omega (arith, held-length (λ i. slotAt d p s (i + 1)) (λ i. i + 1) 8191))
+
+pub reads-hold : (d : List ℕ) (p n : ℕ) → 16384 ≤ n → Holds (filled n (readPuts d p)) (readPuts d p)
+unfolding readPuts
+reads-hold d p n h = filled-holds n (readPuts d p) (omega (arith, held-length (λ j. slotAt d p 0 (8192 + j)) (λ j. 0) 8192))
 
 -- ---- the pins that a part reads: found just where some slot has them
 
@@ -206,19 +219,27 @@ module _ (d : List ℕ) (p s x : ℕ) where
 
   pub positions-look : (m : ℕ) → 16384 ≤ m → (x ≡ empty → ⊥) → look (filled m (positionPuts d p s)) x ≡ foundAt (highest d p s x)
   unfolding positionPuts
-  positions-look m h k =
-      puts-look m (heldBelow (λ i. slotAt d p s (i + 1)) (λ i. i + 1) 8191) x
-      (omega (arith, held-length (λ i. slotAt d p s (i + 1)) (λ i. i + 1) 8191))
-      ∙ found-highest k 8191
+  positions-look m h k = positions-hold d p s m h .finds x ∙ found-highest k 8191
+
+  pub positions-absent : (m : ℕ) → 16384 ≤ m → (x ≡ empty → ⊥) → standsIn d p s x ≡ false → look (filled m (positionPuts d p s)) x ≡ none
+  positions-absent m h k e = positions-look m h k ∙ go (highest d p s x) (sym stands-highest ∙ e)
+    where
+      go : (q : ℕ) → ltb 0 q ≡ false → foundAt q ≡ none
+      go zero l = refl
+      go (suc q) l = absurd (omega (arith, ltb-false 0 (suc q) l))
+
+  pub positions-there : (m : ℕ) → 16384 ≤ m → (x ≡ empty → ⊥) → standsIn d p s x ≡ true → look (filled m (positionPuts d p s)) x ≡ some (highest d p s x)
+  positions-there m h k e = positions-look m h k ∙ go (highest d p s x) (sym stands-highest ∙ e)
+    where
+      go : (q : ℕ) → ltb 0 q ≡ true → foundAt q ≡ some q
+      go zero l = absurd (omega (arith, ltb-true 0 0 l))
+      go (suc q) l = refl
 
 -- ---- in a table of the pins read: found just where the part reads it
 
 pub reads-look : (d : List ℕ) (p x m : ℕ) → 16384 ≤ m → (x ≡ empty → ⊥) → look (filled m (readPuts d p)) x ≡ foundIf (readsPin d p x) 0
 unfolding readPuts readsPin
-reads-look d p x m h k =
-    puts-look m (heldBelow (λ j. slotAt d p 0 (8192 + j)) (λ j. 0) 8192) x
-    (omega (arith, held-length (λ j. slotAt d p 0 (8192 + j)) (λ j. 0) 8192))
-    ∙ found-some (λ j. slotAt d p 0 (8192 + j)) 0 8192 x k
+reads-look d p x m h k = reads-hold d p m h .finds x ∙ found-some (λ j. slotAt d p 0 (8192 + j)) 0 8192 x k
 
 -- ---- the same of a lent table
 
@@ -235,3 +256,24 @@ filled-with t u puts h e =
 
 pub cleared : (t u v : List ℕ) (puts : List Entry) → u ≡ filled (length t) puts → v ≡ replicate (length u) 0 → v ≡ replicate (length t) 0
 cleared t u v puts e h = h ∙ ap (λ (m : ℕ). replicate m 0) (ap length e ∙ filled-length (length t) puts)
+
+pub clear-back : (t l u : List ℕ) → Zeros t → l ≡ t → u ≡ replicate (length l) 0 → u ≡ t
+clear-back t l u z e h = h ∙ (ap (λ (m : ℕ). replicate m 0) (ap length e) ∙ sym (z .is))
+
+-- ---- a lent room that is clear: z, of n words, and t, which is it
+
+module _ (n : ℕ) (z t : List ℕ) (zeros : z ≡ replicate n 0) (same : t ≡ z) where
+  size : length t ≡ n
+  size = ap length (same ∙ zeros) ∙ length-replicate n 0
+
+  pub clear-wide : 32768 ≤ n → 32768 ≤ length t
+  clear-wide h = omega (arith, size)
+
+  pub clear-zeros : 32768 ≤ n → Zeros t
+  clear-zeros h = record { wide = clear-wide h; is = same ∙ (zeros ∙ ap (λ (m : ℕ). replicate m 0) (sym size)) }
+
+  pub clear-again : (u : List ℕ) → u ≡ replicate (length t) 0 → u ≡ z
+  clear-again u e = e ∙ (ap (λ (m : ℕ). replicate m 0) size ∙ sym zeros)
+
+  pub clear-length : (u : List ℕ) → u ≡ z → length u ≡ n
+  clear-length u e = ap length (e ∙ zeros) ∙ length-replicate n 0

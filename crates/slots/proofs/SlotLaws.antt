@@ -1,16 +1,16 @@
 -- What refusals 9, 10 and 11 exclude, slot by slot: a pin at a position is carried from slot a or is the gate of slots a and b; a later stage's pin
 -- stands in the stage before; a pin that is computed is not read.
 -- Assumes nothing.
-use mathlib.Core.Path.{_≡_, refl, sym, ap, _∙_}
-use mathlib.Core.Bool.{Bool, true, false, not, _&&_, _||_}
+use mathlib.Core.Path.{_≡_, refl, sym, _∙_, subst}
+use mathlib.Core.Bool.{Bool, true, false, _&&_, _||_}
 use mathlib.Core.List.{List}
 use mathlib.Core.Logic.{_⊎_, inl, inr, ⊎-elim}
 use mathlib.Core.Option.{Option, none, some}
-use Prim.Native.Nat.{ℕ, zero, suc, _+_, _*_, _-_, _/_, _^_, _≤_, _<_}
+use Prim.Native.Nat.{ℕ, _+_, _-_, _/_, _^_, _≤_, _<_}
 use native.Mathlib.Numerals.{add-one}
 use native.Mathlib.Omega.{arith}
-use borrow.Author.Tests.{leb-true, eq-eqb, ne-eqb, eqb-true, eqb-false, ltb-true, not-true}
-use lib.Dec.{leb, ltb, eqb}
+use borrow.Author.Tests.{leb-true, ne-eqb, eqb-true, eqb-false, ltb-true, not-true}
+use lib.Dec.{eqb}
 use Rattle.words.proofs.BitLaws.{lt-or-ge}
 use Rattle.record.specs.Record.{partsOf, stagesOf, slotAt, gateFirst, gateSecond}
 use Rattle.record.specs.Form.{isPin, empty}
@@ -93,6 +93,13 @@ module _ (d : List ℕ) (clear : refusal9 d ≡ none) (p s : ℕ) (part : p < pa
       go (vacant e) = inl e
       go (carried r e) = inr r
       go (computed r n f) = inr r
+
+  -- a slot of either kind, by its index
+  pub index-range : (q : ℕ) → 0 < q → q < 16384 → (slotAt d p s q ≡ empty) ⊎ (slotAt d p s q ≤ 2 ^ 30)
+  index-range q h l =
+      ⊎-elim (λ k. position-range q h k)
+      (λ k. let e : 8192 + (q - 8192) ≡ q = omega arith in subst (λ (i : ℕ). (slotAt d p s i ≡ empty) ⊎ (slotAt d p s i ≤ 2 ^ 30)) e (slot-range (q - 8192) (omega arith)))
+      (lt-or-ge q 8192)
 
 -- ---- 10
 

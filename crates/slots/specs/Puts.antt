@@ -1,21 +1,16 @@
 -- What the tables of pins hold: the positions of a stage, and the pins that a part reads. A table is one of crate pinmap, cleared, then filled in
--- the order of the slots, so that the highest of several wins. And what a refusal answers.
+-- the order of the slots, so that the highest of several wins.
 -- Assumes nothing.
 use mathlib.Core.Path.{_≡_}
 use mathlib.Core.Bool.{Bool, true, false}
 use mathlib.Core.Option.{Option, none, some}
 use mathlib.Core.List.{List, [], _∷_, _++_}
-use Prim.Native.Nat.{ℕ, zero, suc, _+_, _/_, _%_, _≤_}
+use Prim.Native.Nat.{ℕ, zero, suc, _+_, _≤_}
 use lib.Dec.{eqb}
 use lib.ListN.{length, replicate}
 use Rattle.pinmap.specs.PinMap.{Entry, entry, afterPuts}
 use Rattle.record.specs.Record.{slotAt}
 use Rattle.record.specs.Form.{empty}
-use Rattle.record.specs.Tests.{Place}
-use Rattle.slots.specs.declared.PartFault.{PartFault}
-use Rattle.slots.specs.declared.PartFault.the-variants as part-fault
-use Rattle.slots.specs.declared.PlanFault.{PlanFault}
-use Rattle.slots.specs.declared.PlanFault.the-variants as plan-fault
 
 -- the entry of a slot with pin x: of an empty slot none
 unfoldable pub heldAt : ℕ → ℕ → List Entry
@@ -55,16 +50,3 @@ foundAt (suc q) = some (suc q)
 pub record Zeros (table : List ℕ) : Type 0 where
   pub wide : 32768 ≤ length table
   pub is : table ≡ replicate (length table) 0
-
--- the test over stage and item as a test over the items of a part
-abbrev pub overItems : (ℕ → ℕ → Bool) → ℕ → Bool
-overItems right i = right (i / 8192) (i % 8192)
-
--- what a refusal answers over a part, and over the plan
-abbrev pub partFaultOf : Option ℕ → PartFault
-partFaultOf none = part-fault.Absent
-partFaultOf (some i) = part-fault.Item i
-
-abbrev pub planFaultOf : Option Place → PlanFault
-planFaultOf none = plan-fault.Absent
-planFaultOf (some x) = plan-fault.At (x .part) (x .item)

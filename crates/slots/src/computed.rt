@@ -1,12 +1,13 @@
 // Refusal 11: a part computes by gate a pin that it reads in stage 0.
 ghost use mathlib.Core.Path.{_≡_};
 ghost use mathlib.Core.Bool.{true};
-ghost use Prim.Native.Nat.{_+_, _*_, _-_, _≤_, _<_};
+ghost use Prim.Native.Nat.{_+_, _*_, _≤_, _<_};
 ghost use lib.ListN.{length, replicate};
 ghost use Rattle.record.specs.Body.{BodyOf};
 ghost use Rattle.record.specs.Form.{planForm};
 ghost use Rattle.slots.specs.Slots.{elevenRight, badItem};
-ghost use Rattle.slots.specs.Puts.{readPuts, FilledWith, partFaultOf, planFaultOf};
+ghost use Rattle.slots.specs.Puts.{readPuts, FilledWith};
+ghost use Rattle.slots.specs.Answers.{partFaultOf, planFaultOf};
 use crate::PartFault;
 use crate::PlanFault;
 use crate::tables::fill_reads;
@@ -58,7 +59,7 @@ fn eleven_items(d: &[u8], p: usize, body: Body, table: &[u32]) -> PartFault
     PartFault::Absent
 }
 
-// The same with a lent table, which is cleared.
+// The same with a lent table, which is left clear.
 fn eleven_part(d: &[u8], p: usize, body: Body, table: &mut [u32]) -> PartFault
     requires { ⌜ BodyOf (now d) p body × (0 < body .stages) × (32768 ≤ length (now table)) ⌝ }
     ensures { λ r. ⌜ r ≡ partFaultOf (badItem (now (d .entry)) (elevenRight (now (d .entry)) p) p) ⌝ }

@@ -1,13 +1,14 @@
 // Refusal 10: a pin of a later stage that is absent from the stage before.
 ghost use mathlib.Core.Path.{_≡_};
 ghost use mathlib.Core.Bool.{true};
-ghost use Prim.Native.Nat.{_+_, _*_, _-_, _≤_, _<_};
+ghost use Prim.Native.Nat.{_+_, _*_, _≤_, _<_};
 ghost use lib.ListN.{length, replicate};
 ghost use Rattle.record.specs.Body.{BodyOf};
 ghost use Rattle.record.specs.Form.{planForm};
 ghost use Rattle.record.specs.Tests.{firstFrom};
 ghost use Rattle.slots.specs.Slots.{tenRight, badItem};
-ghost use Rattle.slots.specs.Puts.{positionPuts, FilledWith, overItems, Zeros, partFaultOf, planFaultOf};
+ghost use Rattle.slots.specs.Puts.{positionPuts, FilledWith, Zeros};
+ghost use Rattle.slots.specs.Answers.{overItems, partFaultOf, planFaultOf};
 use crate::PartFault;
 use crate::PlanFault;
 use crate::tables::fill_positions;
@@ -20,7 +21,7 @@ use record::bodies::slot;
 use words::units::EMPTY_PIN;
 use words::units::Pin;
 
-// Whether slot j of level 0 of stage s is empty or its pin stands in the stage before, whose positions the table holds.
+// Whether slot j of level 0 of stage s + 1 is empty or its pin stands in stage s, whose positions the table holds.
 fn ten_right(d: &[u8], p: usize, body: Body, s: usize, j: usize, table: &[u32]) -> bool
     requires { ⌜ BodyOf (now d) p body × (s + 1 < body .stages) × (j < 8192) × FilledWith (positionPuts (now d) p s) (now table) ⌝ }
     ensures { λ r. ⌜ r ≡ tenRight (now (d .entry)) p (s + 1) j ⌝ }
@@ -51,7 +52,7 @@ fn ten_items(d: &[u8], p: usize, body: Body, s: usize, table: &[u32]) -> PartFau
     PartFault::Absent
 }
 
-// The same with a lent table, which is cleared.
+// The same with a lent table, which is left clear.
 fn ten_stage(d: &[u8], p: usize, body: Body, s: usize, table: &mut [u32]) -> PartFault
     requires { ⌜ BodyOf (now d) p body × (s + 1 < body .stages) × (32768 ≤ length (now table)) ⌝ }
     ensures { λ r. ⌜ r ≡ partFaultOf (firstFrom (overItems (tenRight (now (d .entry)) p)) 8192 (8192 * (s + 1))) ⌝ }
@@ -63,7 +64,7 @@ fn ten_stage(d: &[u8], p: usize, body: Body, s: usize, table: &mut [u32]) -> Par
     fault
 }
 
-// The lowest item of part p that is refused: stage 0 has none.
+// The lowest item of part p that is refused: stage 0 has none. The table is clear before and after.
 fn ten_part(d: &[u8], p: usize, body: Body, table: &mut [u32]) -> PartFault
     requires { ⌜ BodyOf (now d) p body × (0 < body .stages) × Zeros (now table) ⌝ }
     ensures { λ r. ⌜ r ≡ partFaultOf (badItem (now (d .entry)) (tenRight (now (d .entry)) p) p) ⌝ }

@@ -1,17 +1,16 @@
+-- `slots::computed::eleven_items` meets its contract. The loop's invariant: the answer from item i on is the part's.
+-- Assumes nothing.
 use mathlib.Core.Path.{_≡_, sym, ap, _∙_}
-use Prim.Native.Nat.{ℕ, _+_, _*_, _-_, _≤_, _<_}
+use Prim.Native.Nat.{_-_, _≤_}
 use native.Mathlib.Omega.{arith}
+use borrow.Author.Needs.{needs}
 use Rattle.record.specs.Tests.{firstFrom}
 use Rattle.record.proofs.TestLaws.{first-fault, first-next, first-end}
 use Rattle.slots.specs.Slots.{elevenRight, badItem}
-use Rattle.slots.specs.Puts.{overItems, partFaultOf}
+use Rattle.slots.specs.Answers.{overItems, partFaultOf}
 use Rattle.slots.proofs.ItemLaws.{items-all}
-use borrow.Author.Needs.{needs}
 use Rattle.slots.proofs.computed.eleven_items.Statement.{statement}
 use Rattle.slots.proofs.computed.eleven_items.Tie as tie
-use Rattle.slots.proofs.computed.eleven_items.Reads as reads
-use Rattle.slots.proofs.computed.eleven_items.Lts as lts
-use Rattle.slots.proofs.computed.eleven_right.Reads as eleven-right-reads
 
 abbrev Inv-loop : tie.InvT-loop
 Inv-loop d p body table items i₀ i = (i ≤ items) × (firstFrom (overItems (elevenRight d p)) (items - i) i ≡ badItem d (elevenRight d p) p)
@@ -19,43 +18,35 @@ Inv-loop d p body table items i₀ i = (i ≤ items) × (firstFrom (overItems (e
 abbrev μ-loop : tie.MeasureT-loop
 μ-loop d p body table items i₀ i = items - i
 
--- src/computed.rt:43:17
 mul-items : tie.Need-mul-items Inv-loop μ-loop
 mul-items c = search needs
 
--- src/computed.rt:45:5
 loop-holds : tie.Need-loop-holds Inv-loop μ-loop
 loop-holds c =
     let s = c .before .before .before in
     (omega arith, items-all (s .args .d .now) (elevenRight (s .args .d .now) (s .args .p)) (s .args .p) (s .args .body .stages) (s .pre .0 .stages))
 
--- src/computed.rt:46:12
 eleven-right-requires : tie.Need-eleven-right-requires Inv-loop μ-loop
 eleven-right-requires c κs = search needs
 
--- src/computed.rt:47:13
 add-i : tie.Need-add-i Inv-loop μ-loop
 add-i c = search needs
 
--- src/computed.rt:45:5
 loop-less : tie.Need-loop-less Inv-loop μ-loop
 loop-less c = search needs
 
--- src/computed.rt:45:5
 loop-again : tie.Need-loop-again Inv-loop μ-loop
 loop-again c =
     let l = c .before .before .before in
     let d = l .before .before .before .before .args .d .now in
     (omega arith, sym (first-next (overItems (elevenRight d (l .before .before .before .before .args .p))) _ (l .loop .i) (c .before .before .loop-test .taken) (sym (c .before .eleven-right .ensures) ∙ c .if1 .taken)) ∙ l .loop .inv .1)
 
--- src/computed.rt:49:13
 returns : tie.Need-returns Inv-loop μ-loop
 returns c =
     let l = c .before .before .before in
     let d = l .before .before .before .before .args .d .now in
     ap partFaultOf (sym (first-fault (overItems (elevenRight d (l .before .before .before .before .args .p))) _ (l .loop .i) (c .before .before .loop-test .taken) (sym (c .before .eleven-right .ensures) ∙ c .if1 .left)) ∙ l .loop .inv .1)
 
--- src/computed.rt:39:1
 returns-2 : tie.Need-returns-2 Inv-loop μ-loop
 returns-2 c =
     let l = c .before in

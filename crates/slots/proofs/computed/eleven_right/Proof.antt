@@ -1,45 +1,34 @@
-use mathlib.Core.Path.{_≡_, sym, ap, _∙_}
+-- `slots::computed::eleven_right` meets its contract. One law of RightLaws for each way out.
+-- Assumes nothing.
 use native.Mathlib.Omega.{arith}
-use Rattle.slots.proofs.RightLaws.{eleven-zero, eleven-empty, eleven-carried, eleven-read, eleven-unread}
 use borrow.Author.Needs.{needs}
+use Rattle.slots.proofs.RightLaws.{eleven-zero, eleven-empty, eleven-carried, eleven-read, eleven-unread}
 use Rattle.slots.proofs.computed.eleven_right.Statement.{statement}
 use Rattle.slots.proofs.computed.eleven_right.Tie as tie
-use Rattle.slots.proofs.computed.eleven_right.Reads as reads
-use Rattle.slots.proofs.computed.eleven_right.Lts as lts
-use Rattle.pinmap.proofs.look_up.Reads as look-up-reads
-use Rattle.record.proofs.bodies.slot.Reads as slot-reads
-use Rattle.slots.proofs.tables.top_power.Reads as top-power-reads
 
--- src/computed.rt:23:9
 returns : tie.Need-returns
 returns c = eleven-zero _ _ _ _ (c .if1 .taken)
 
--- src/computed.rt:25:9
 slot-requires : tie.Need-slot-requires
 slot-requires c κs = search needs
 
--- src/computed.rt:27:9
 returns-2 : tie.Need-returns-2
 returns-2 c =
     let a = c .before in
     let o = a .before .before .before .before .args in
     eleven-empty (o .d .now) (o .table .now) (o .p) (o .s) (o .q) (a .slot .result) (a .before .if1 .left) (a .slot .ensures) (c .if2 .taken)
 
--- src/computed.rt:29:39
 top-power-requires : tie.Need-top-power-requires
 top-power-requires c κs = search needs
 
--- src/computed.rt:29:35
 add-slot : tie.Need-add-slot
 add-slot c = omega (arith, c .top-power .ensures .1)
 
--- src/computed.rt:29:15
 slot-requires-2 : tie.Need-slot-requires-2
 slot-requires-2 c κs =
     let s = c .before .before .before .before .before .before in
     (s .pre .0, s .pre .1, omega (arith, c .top-power .ensures .1), omega (arith, c .top-power .ensures .1))
 
--- src/computed.rt:30:9
 returns-3 : tie.Need-returns-3
 returns-3 c =
     let m = c .before .before in
@@ -47,19 +36,15 @@ returns-3 c =
     let o = a .before .before .before .before .args in
     eleven-carried (o .d .now) (o .table .now) (o .p) (o .s) (o .q) (a .slot .result) (a .before .if1 .left) (a .slot .ensures) (m .before .if2 .left) (m .top-power .result) (c .before .slot2 .result) (m .top-power .ensures .0) (c .before .slot2 .ensures) (c .if3 .taken)
 
--- src/computed.rt:32:11
 look-up-requires : tie.Need-look-up-requires
 look-up-requires c κs = search needs
 
--- src/computed.rt:33:28
 enum-told : tie.Need-enum-told
 enum-told c = search needs
 
--- src/computed.rt:34:27
 enum-told-2 : tie.Need-enum-told-2
 enum-told-2 c = search needs
 
--- src/computed.rt:18:1
 returns-4 : tie.Need-returns-4
 returns-4 c =
     let k = c .before .before in
@@ -70,7 +55,6 @@ returns-4 c =
     let o = s .args in
     eleven-read (o .d .now) (o .table .now) (o .p) (o .s) (o .q) (a .slot .result) (a .before .if1 .left) (a .slot .ensures) (m .before .if2 .left) (m .top-power .result) (b .slot2 .result) (m .top-power .ensures .0) (b .slot2 .ensures) (k .before .if3 .left) (s .pre .3) (k .look-up .result) (k .look-up .ensures) _ (c .enum-told .given .1)
 
--- src/computed.rt:18:1
 returns-5 : tie.Need-returns-5
 returns-5 c =
     let k = c .before .before in

@@ -1,16 +1,15 @@
-use Rattle.slots.proofs.ItemLaws.{stage-start, stage-next, stage-fault, stage-end}
+-- `slots::later::ten_items` meets its contract. The loop's invariant: the answer from slot j on is the stage's answer.
+-- Assumes nothing.
 use mathlib.Core.Path.{_≡_, sym, ap, _∙_}
-use Prim.Native.Nat.{ℕ, _+_, _*_, _-_, _≤_, _<_}
+use Prim.Native.Nat.{_+_, _*_, _-_, _≤_}
 use native.Mathlib.Omega.{arith}
+use borrow.Author.Needs.{needs}
 use Rattle.record.specs.Tests.{firstFrom}
 use Rattle.slots.specs.Slots.{tenRight}
-use Rattle.slots.specs.Puts.{overItems, partFaultOf}
-use borrow.Author.Needs.{needs}
+use Rattle.slots.specs.Answers.{overItems, partFaultOf}
+use Rattle.slots.proofs.ItemLaws.{stage-start, stage-next, stage-fault, stage-end}
 use Rattle.slots.proofs.later.ten_items.Statement.{statement}
 use Rattle.slots.proofs.later.ten_items.Tie as tie
-use Rattle.slots.proofs.later.ten_items.Reads as reads
-use Rattle.slots.proofs.later.ten_items.Lts as lts
-use Rattle.slots.proofs.later.ten_right.Reads as ten-right-reads
 
 abbrev Inv-loop : tie.InvT-loop
 Inv-loop d p body s table j₀ j =
@@ -19,49 +18,39 @@ Inv-loop d p body s table j₀ j =
 abbrev μ-loop : tie.MeasureT-loop
 μ-loop d p body s table j₀ j = 8192 - j
 
--- src/later.rt:39:5
 loop-holds : tie.Need-loop-holds Inv-loop μ-loop
 loop-holds c = (omega arith, stage-start _ _)
 
--- src/later.rt:40:12
 ten-right-requires : tie.Need-ten-right-requires Inv-loop μ-loop
 ten-right-requires c κs = search needs
 
--- src/later.rt:41:13
 add-j : tie.Need-add-j Inv-loop μ-loop
 add-j c = search needs
 
--- src/later.rt:39:5
 loop-less : tie.Need-loop-less Inv-loop μ-loop
 loop-less c = search needs
 
--- src/later.rt:39:5
 loop-again : tie.Need-loop-again Inv-loop μ-loop
 loop-again c =
     let l = c .before .before .before in
     let o = l .before .before .before .args in
     (omega arith, stage-next (tenRight (o .d .now) (o .p)) (o .s + 1) (l .loop .j) _ (l .loop .inv .1) (c .before .before .loop-test .taken) (sym (c .before .ten-right .ensures) ∙ c .if1 .taken))
 
--- src/later.rt:43:44
 add-t9 : tie.Need-add-t9 Inv-loop μ-loop
 add-t9 c = search needs
 
--- src/later.rt:43:36
 mul-t10 : tie.Need-mul-t10 Inv-loop μ-loop
 mul-t10 c = search needs
 
--- src/later.rt:43:36
 add-t11 : tie.Need-add-t11 Inv-loop μ-loop
 add-t11 c = search needs
 
--- src/later.rt:43:13
 returns : tie.Need-returns Inv-loop μ-loop
 returns c =
     let l = c .before .before .before in
     let o = l .before .before .before .args in
     ap partFaultOf (stage-fault (tenRight (o .d .now) (o .p)) (o .s + 1) (l .loop .j) _ (l .loop .inv .1) (c .before .before .loop-test .taken) (sym (c .before .ten-right .ensures) ∙ c .if1 .left))
 
--- src/later.rt:34:1
 returns-2 : tie.Need-returns-2 Inv-loop μ-loop
 returns-2 c =
     let l = c .before in

@@ -1,45 +1,34 @@
-use mathlib.Core.Path.{_≡_, sym, ap, _∙_}
-use Rattle.slots.proofs.RightLaws.{ten-empty, ten-there, ten-absent}
+-- `slots::later::ten_right` meets its contract. One law of RightLaws for each way out.
+-- Assumes nothing.
 use borrow.Author.Needs.{needs}
+use Rattle.slots.proofs.RightLaws.{ten-empty, ten-there, ten-absent}
 use Rattle.slots.proofs.later.ten_right.Statement.{statement}
 use Rattle.slots.proofs.later.ten_right.Tie as tie
-use Rattle.slots.proofs.later.ten_right.Reads as reads
-use Rattle.slots.proofs.later.ten_right.Lts as lts
-use Rattle.pinmap.proofs.look_up.Reads as look-up-reads
-use Rattle.record.proofs.bodies.slot.Reads as slot-reads
 
--- src/later.rt:23:32
 add-slot : tie.Need-add-slot
 add-slot c = search needs
 
--- src/later.rt:23:39
 add-slot-2 : tie.Need-add-slot-2
 add-slot-2 c = search needs
 
--- src/later.rt:23:9
 slot-requires : tie.Need-slot-requires
 slot-requires c κs = search needs
 
--- src/later.rt:25:9
 returns : tie.Need-returns
 returns c =
     let a = c .before in
     let o = a .before .before .before .args in
     ten-empty (o .d .now) (o .table .now) (o .p) (o .s) (o .j) (a .slot .result) (a .slot .ensures) (c .if1 .taken)
 
--- src/later.rt:27:11
 look-up-requires : tie.Need-look-up-requires
 look-up-requires c κs = search needs
 
--- src/later.rt:28:28
 enum-told : tie.Need-enum-told
 enum-told c = search needs
 
--- src/later.rt:29:27
 enum-told-2 : tie.Need-enum-told-2
 enum-told-2 c = search needs
 
--- src/later.rt:19:1
 returns-2 : tie.Need-returns-2
 returns-2 c =
     let k = c .before .before in
@@ -48,7 +37,6 @@ returns-2 c =
     let o = s .args in
     ten-there (o .d .now) (o .table .now) (o .p) (o .s) (o .j) (a .slot .result) (a .slot .ensures) (k .before .if1 .left) (s .pre .3) (k .look-up .result) (k .look-up .ensures) _ (c .enum-told .given .1)
 
--- src/later.rt:19:1
 returns-3 : tie.Need-returns-3
 returns-3 c =
     let k = c .before .before in

@@ -1,17 +1,15 @@
+-- `slots::tables::fill_positions` meets its contract. The loop's invariant: the table holds the entries of the first i positions.
+-- Assumes nothing.
 use mathlib.Core.Path.{_≡_, refl, _∙_}
-use Prim.Native.Nat.{ℕ, _+_, _*_, _-_, _≤_, _<_}
+use Prim.Native.Nat.{_+_, _-_, _≤_}
 use native.Mathlib.Omega.{arith}
+use borrow.Author.Needs.{needs}
 use lib.ListN.{length}
 use Rattle.record.specs.Record.{slotAt}
 use Rattle.slots.specs.Puts.{heldBelow, positionPuts, filled}
 use Rattle.slots.proofs.PutLaws.{fill-start, fill-more, fill-end}
-use borrow.Author.Needs.{needs}
 use Rattle.slots.proofs.tables.fill_positions.Statement.{statement}
 use Rattle.slots.proofs.tables.fill_positions.Tie as tie
-use Rattle.slots.proofs.tables.fill_positions.Reads as reads
-use Rattle.slots.proofs.tables.fill_positions.Lts as lts
-use Rattle.pinmap.proofs.clear.Reads as clear-reads
-use Rattle.slots.proofs.tables.put_slot.Reads as put-slot-reads
 
 abbrev Inv-loop : tie.InvT-loop
 Inv-loop d p body s table₀ i₀ table i = (i ≤ 8191) × (length table ≡ length table₀) × (table ≡ filled (length table) (heldBelow (λ k. slotAt d p s (k + 1)) (λ k. k + 1) i))
@@ -19,11 +17,9 @@ Inv-loop d p body s table₀ i₀ table i = (i ≤ 8191) × (length table ≡ le
 abbrev μ-loop : tie.MeasureT-loop
 μ-loop d p body s table₀ i₀ table i = 8191 - i
 
--- src/tables.rt:38:5
 clear-requires : tie.Need-clear-requires Inv-loop μ-loop
 clear-requires c κs = search needs
 
--- src/tables.rt:40:5
 loop-holds : tie.Need-loop-holds Inv-loop μ-loop
 loop-holds c =
     let a = c .before .before in
@@ -33,31 +29,24 @@ loop-holds c =
     let s = o .s in
     (omega arith, refl, fill-start (λ k. slotAt d p s (k + 1)) (λ k. k + 1) _ (length (o .table .now)) (a .clear .ensures))
 
--- src/tables.rt:41:33
 add-put-slot : tie.Need-add-put-slot Inv-loop μ-loop
 add-put-slot c = search needs
 
--- src/tables.rt:41:41
 add-put-slot-2 : tie.Need-add-put-slot-2 Inv-loop μ-loop
 add-put-slot-2 c = search needs
 
--- src/tables.rt:41:40
 cast-put-slot : tie.Need-cast-put-slot Inv-loop μ-loop
 cast-put-slot c = search needs
 
--- src/tables.rt:41:9
 put-slot-requires : tie.Need-put-slot-requires Inv-loop μ-loop
 put-slot-requires c κs = search needs
 
--- src/tables.rt:42:9
 add-i : tie.Need-add-i Inv-loop μ-loop
 add-i c = search needs
 
--- src/tables.rt:40:5
 loop-less : tie.Need-loop-less Inv-loop μ-loop
 loop-less c = search needs
 
--- src/tables.rt:40:5
 loop-again : tie.Need-loop-again Inv-loop μ-loop
 loop-again c =
     let l = c .before .before .before .before .before in
@@ -68,11 +57,9 @@ loop-again c =
     let (size, is) = fill-more (λ k. slotAt d p s (k + 1)) (λ k. k + 1) (l .loop .table) _ (l .loop .i) (l .loop .inv .2) (c .before .before .put-slot .ensures) in
     (omega arith, size ∙ l .loop .inv .1, is)
 
--- src/tables.rt:34:1
 same-length : tie.Need-same-length Inv-loop μ-loop
 same-length c = search needs
 
--- src/tables.rt:34:1
 returns : tie.Need-returns Inv-loop μ-loop
 unfolding positionPuts
 returns c =

@@ -1,17 +1,15 @@
+-- `slots::tables::fill_reads` meets its contract. The loop's invariant: the table holds the entries of the first j slots of level 0.
+-- Assumes nothing.
 use mathlib.Core.Path.{_≡_, refl, _∙_}
-use Prim.Native.Nat.{ℕ, _+_, _*_, _-_, _≤_, _<_}
+use Prim.Native.Nat.{_+_, _-_, _≤_}
 use native.Mathlib.Omega.{arith}
+use borrow.Author.Needs.{needs}
 use lib.ListN.{length}
 use Rattle.record.specs.Record.{slotAt}
 use Rattle.slots.specs.Puts.{heldBelow, readPuts, filled}
 use Rattle.slots.proofs.PutLaws.{fill-start, fill-more, fill-end}
-use borrow.Author.Needs.{needs}
 use Rattle.slots.proofs.tables.fill_reads.Statement.{statement}
 use Rattle.slots.proofs.tables.fill_reads.Tie as tie
-use Rattle.slots.proofs.tables.fill_reads.Reads as reads
-use Rattle.slots.proofs.tables.fill_reads.Lts as lts
-use Rattle.pinmap.proofs.clear.Reads as clear-reads
-use Rattle.slots.proofs.tables.put_slot.Reads as put-slot-reads
 
 abbrev Inv-loop : tie.InvT-loop
 Inv-loop d p body table₀ j₀ table j = (j ≤ 8192) × (length table ≡ length table₀) × (table ≡ filled (length table) (heldBelow (λ k. slotAt d p 0 (8192 + k)) (λ k. 0) j))
@@ -19,11 +17,9 @@ Inv-loop d p body table₀ j₀ table j = (j ≤ 8192) × (length table ≡ leng
 abbrev μ-loop : tie.MeasureT-loop
 μ-loop d p body table₀ j₀ table j = 8192 - j
 
--- src/tables.rt:51:5
 clear-requires : tie.Need-clear-requires Inv-loop μ-loop
 clear-requires c κs = search needs
 
--- src/tables.rt:53:5
 loop-holds : tie.Need-loop-holds Inv-loop μ-loop
 loop-holds c =
     let a = c .before .before in
@@ -32,23 +28,18 @@ loop-holds c =
     let p = o .p in
     (omega arith, refl, fill-start (λ k. slotAt d p 0 (8192 + k)) (λ k. 0) _ (length (o .table .now)) (a .clear .ensures))
 
--- src/tables.rt:54:33
 add-put-slot : tie.Need-add-put-slot Inv-loop μ-loop
 add-put-slot c = search needs
 
--- src/tables.rt:54:9
 put-slot-requires : tie.Need-put-slot-requires Inv-loop μ-loop
 put-slot-requires c κs = search needs
 
--- src/tables.rt:55:9
 add-j : tie.Need-add-j Inv-loop μ-loop
 add-j c = search needs
 
--- src/tables.rt:53:5
 loop-less : tie.Need-loop-less Inv-loop μ-loop
 loop-less c = search needs
 
--- src/tables.rt:53:5
 loop-again : tie.Need-loop-again Inv-loop μ-loop
 loop-again c =
     let l = c .before .before .before .before .before in
@@ -58,11 +49,9 @@ loop-again c =
     let (size, is) = fill-more (λ k. slotAt d p 0 (8192 + k)) (λ k. 0) (l .loop .table) _ (l .loop .j) (l .loop .inv .2) (c .before .before .put-slot .ensures) in
     (omega arith, size ∙ l .loop .inv .1, is)
 
--- src/tables.rt:47:1
 same-length : tie.Need-same-length Inv-loop μ-loop
 same-length c = search needs
 
--- src/tables.rt:47:1
 returns : tie.Need-returns Inv-loop μ-loop
 unfolding readPuts
 returns c =

@@ -1,35 +1,28 @@
+-- `slots::tables::put_slot` meets its contract. One law for an empty slot, one for a put.
+-- Assumes nothing.
 use mathlib.Core.Path.{sym, ap, _∙_}
 use Prim.Native.Nat.{ℕ}
+use borrow.Author.Needs.{needs}
 use Rattle.pinmap.specs.PinMap.{putIn}
 use Rattle.slots.proofs.PutLaws.{held-none, held-one}
-use borrow.Author.Needs.{needs}
 use Rattle.slots.proofs.tables.put_slot.Statement.{statement}
 use Rattle.slots.proofs.tables.put_slot.Tie as tie
-use Rattle.slots.proofs.tables.put_slot.Reads as reads
-use Rattle.slots.proofs.tables.put_slot.Lts as lts
-use Rattle.pinmap.proofs.put.Reads as put-reads
-use Rattle.record.proofs.bodies.slot.Reads as slot-reads
 
--- src/tables.rt:26:9
 slot-requires : tie.Need-slot-requires
 slot-requires c κs = search needs
 
--- src/tables.rt:28:9
 returns : tie.Need-returns
 returns c =
     let a = c .before in
     let o = a .before .before .before .args in
     held-none (o .table .now) _ (o .v) (sym (a .slot .ensures) ∙ c .if1 .taken)
 
--- src/tables.rt:30:5
 put-requires : tie.Need-put-requires
 put-requires c κs = search needs
 
--- src/tables.rt:22:1
 same-length : tie.Need-same-length
 same-length c = search needs
 
--- src/tables.rt:22:1
 returns-2 : tie.Need-returns-2
 returns-2 c =
     let t = c .before .before .before .before in
