@@ -78,16 +78,17 @@ module _ (n : ℕ) (d : List ℕ) (p : ℕ) where
       let s = stageSections n d p (stagesOf d p) ++ t in
       let r = readSection (partLanes n d p) ++ s in
       let l = locationWords n d p ++ r in
-      omega
-      (arith,
-      length-append (numbers n d p last state sram) l,
-      length-append (locationWords n d p) r,
-      length-append (readSection (partLanes n d p)) s,
-      length-append (stageSections n d p (stagesOf d p)) t,
-      length-append (sramSection n d p) (enableSection n d p),
-      numbers-length last state sram h,
-      locations-length,
-      reads-length (omega arith),
-      stages-length (stagesOf d p),
-      sram-length,
-      enable-length)
+      omega (
+        arith,
+        length-append (numbers n d p last state sram) l,
+        length-append (locationWords n d p) r,
+        length-append (readSection (partLanes n d p)) s,
+        length-append (stageSections n d p (stagesOf d p)) t,
+        length-append (sramSection n d p) (enableSection n d p),
+        numbers-length last state sram h,
+        locations-length,
+        reads-length (omega arith),
+        stages-length (stagesOf d p),
+        sram-length,
+        enable-length,
+      )

@@ -24,13 +24,14 @@ put-next a e xs ys h l k =
 pub put-length : (a e : ℕ) (xs ys : List ℕ) → a ≤ e → e ≤ length xs → length ys ≡ e - a → length (putMid a (e - a) xs ys) ≡ length xs
 put-length a e xs ys h l k =
     let m : a ≤ length xs = omega arith in
-    omega
-    (arith,
-    length-append (take a xs) (ys ++ drop (e - a) (drop a xs)),
-    length-take-le a xs m,
-    length-append ys (drop (e - a) (drop a xs)),
-    length-drop (e - a) (drop a xs),
-    length-drop a xs)
+    omega (
+      arith,
+      length-append (take a xs) (ys ++ drop (e - a) (drop a xs)),
+      length-take-le a xs m,
+      length-append ys (drop (e - a) (drop a xs)),
+      length-drop (e - a) (drop a xs),
+      length-drop a xs,
+    )
 
 -- the first n words, then the rest
 pub two-parts : (n : ℕ) (xs ys zs : List ℕ) → length ys ≡ n → putMid n (length (ys ++ drop n xs) - n) (ys ++ drop n xs) zs ≡ ys ++ zs

@@ -4,7 +4,9 @@ ghost use Prim.Native.Nat.{_+_, _*_, _^_, _≤_, _<_};
 ghost use lib.ListN.{length};
 ghost use Rattle.script.specs.Script.{locationStage, locationHalf, locationWords};
 ghost use Rattle.script.specs.Writers.{Accepted, numberWords, endsBy};
-use record::bodies::{Body, location, stage_locations};
+use record::bodies::Body;
+use record::bodies::location;
+use record::bodies::stage_locations;
 
 // Words 0..7, in this order.
 pub struct Numbers {

@@ -6,9 +6,9 @@ ghost use lib.ListN.{length, replicate};
 ghost use Rattle.record.specs.Record.{stagesOf};
 ghost use Rattle.script.specs.Script.{locationWords, stageSections, sramSection, enableSection, partScript};
 ghost use Rattle.script.specs.Writers.{Accepted, numberWords, StagesRoom, ScriptRoom};
+use crate::head::Numbers;
 use crate::head::write_locations;
 use crate::head::write_numbers;
-use crate::head::Numbers;
 use crate::sections::write_enables;
 use crate::sections::write_sram;
 use crate::stages::write_later;
@@ -50,14 +50,7 @@ pub fn write_stages(d: &[u8], p: usize, body: Body, table: &mut [u32], out: &mut
 }
 
 // Writes a part's script around its read section and the section of its first stage.
-pub fn write_script(
-    d: &[u8],
-    p: usize,
-    body: Body,
-    x: Numbers,
-    table: &mut [u32],
-    out: &mut [u32],
-)
+pub fn write_script(d: &[u8], p: usize, body: Body, x: Numbers, table: &mut [u32], out: &mut [u32])
     requires { ⌜ Accepted (now d) p body × ScriptRoom (now d) p body x (now table) (now out) ⌝ }
     ensures { λ _. ⌜ now (table .exit) ≡ replicate (length (now (table .entry))) 0 ⌝ }
     ensures { λ _. ⌜ now (out .exit) ≡ partScript 256 (now (d .entry)) p (x .last) (x .state) (x .sram) ⌝ }

@@ -7,7 +7,8 @@ ghost use Rattle.words.specs.Section.{listOf, sectionOf};
 ghost use Rattle.record.specs.Record.{tableAt};
 ghost use Rattle.script.specs.Script.{laneList, sramSection, enableSection};
 ghost use Rattle.script.specs.Writers.{Accepted, wordsIn, LanesRoom, SectionRoom};
-use record::bodies::{Body, table_word};
+use record::bodies::Body;
+use record::bodies::table_word;
 use words::edition::Edition;
 use words::halves::pack;
 

@@ -7,17 +7,17 @@ ghost use Rattle.slots.specs.Puts.{positionPuts, filled, FilledWith};
 ghost use Rattle.script.specs.Script.{stageEntry, stageSection};
 ghost use Rattle.script.specs.Writers.{Accepted, MaskBits, LaneMasks, MaskLists, MasksRoom};
 use crate::sections::write_section;
+use gates::GateFound;
 use gates::find_gate;
 use gates::gate_first;
 use gates::gate_second;
-use gates::GateFound;
 use pinmap::Found;
-use record::bodies::slot;
 use record::bodies::Body;
+use record::bodies::slot;
 use slots::tables::fill_positions;
 use slots::tables::top_power;
-use words::units::Pin;
 use words::units::EMPTY_PIN;
+use words::units::Pin;
 
 // Mask bits of a position, or mask words of a lane.
 pub struct Masks {
@@ -32,14 +32,26 @@ fn masks_at(d: &[u8], p: usize, body: Body, s: usize, q: usize) -> Masks
     ensures { λ r. ⌜ MaskBits (now (d .entry)) p s q r ⌝ }
 {
     if q == 0 {
-        return Masks { xora: 0, xorb: 0, orb: 0 };
+        return Masks {
+            xora: 0,
+            xorb: 0,
+            orb: 0,
+        };
     }
     let pin = slot(d, p, body, s, q);
     if pin == EMPTY_PIN {
-        return Masks { xora: 0, xorb: 0, orb: 0 };
+        return Masks {
+            xora: 0,
+            xorb: 0,
+            orb: 0,
+        };
     }
     if pin == slot(d, p, body, s, q + top_power(q)) {
-        return Masks { xora: 0, xorb: 0, orb: 1 };
+        return Masks {
+            xora: 0,
+            xorb: 0,
+            orb: 1,
+        };
     }
     match find_gate(d, Pin(pin)) {
         GateFound::Gate(g) => {
@@ -47,7 +59,11 @@ fn masks_at(d: &[u8], p: usize, body: Body, s: usize, q: usize) -> Masks
             let xorb = gate_second(d, g).inversion();
             Masks { xora, xorb, orb: 0 }
         }
-        GateFound::Missing => Masks { xora: 0, xorb: 0, orb: 0 },
+        GateFound::Missing => Masks {
+            xora: 0,
+            xorb: 0,
+            orb: 0,
+        },
     }
 }
 

@@ -23,7 +23,7 @@ location-half-requires-2 : tie.Need-location-half-requires-2
 location-half-requires-2 c κs = search needs
 
 returns : tie.Need-returns
-returns c = 
+returns c =
     let low = c .before .location-half in
     let high = c .location-half2 in
     halves-join (low .result) (high .result) (low .ensures .1) (high .ensures .1)

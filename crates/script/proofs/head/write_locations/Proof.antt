@@ -37,7 +37,7 @@ loop-less : tie.Need-loop-less Inv-loop μ-loop
 loop-less c = search needs
 
 loop-again : tie.Need-loop-again Inv-loop μ-loop
-loop-again c = 
+loop-again c =
     let l = c .before .before .loop in
     let o = c .before .before .before .before .before .args in
     (omega arith, simp length-set (l .inv .1), fill-more (locationWord (o .d .now) (o .p)) (l .out) (l .j) _ (omega arith) (c .location-word .ensures) (l .inv .2))
@@ -47,7 +47,7 @@ same-length c = search needs
 
 returns : tie.Need-returns Inv-loop μ-loop
 unfolding locationWords
-returns c = 
+returns c =
     let l = c .before .loop in
     fill-end _ (l .out) (l .j) 128 (omega arith) (omega arith) (omega arith) (l .inv .2)
 

@@ -13,7 +13,7 @@ use Rattle.script.proofs.parts.write_stages.Statement.{statement}
 use Rattle.script.proofs.parts.write_stages.Tie as tie
 
 abbrev Inv-loop : tie.InvT-loop
-Inv-loop d p body table₀ out₀ stages s₀ table out s = 
+Inv-loop d p body table₀ out₀ stages s₀ table out s =
     (s + 1 ≤ stages) × (length table ≡ length table₀) × (length out ≡ length out₀) × (take (5120 * (s + 1)) out ≡ stageSections 256 d p (s + 1))
 
 abbrev μ-loop : tie.MeasureT-loop

@@ -39,7 +39,7 @@ loop-less : tie.Need-loop-less Inv-loop μ-loop
 loop-less c = search needs
 
 loop-again : tie.Need-loop-again Inv-loop μ-loop
-loop-again c = 
+loop-again c =
     let l = c .before .before .loop in
     let o = c .before .before .before .before .before .args in
     (omega arith, simp length-set (l .inv .1), fill-more (λ k. tableAt (o .d .now) (o .p) (o .from + k)) (l .out) (l .i) _ (omega arith) (c .table-word .ensures) (l .inv .2))
@@ -48,7 +48,7 @@ same-length : tie.Need-same-length Inv-loop μ-loop
 same-length c = search needs
 
 returns : tie.Need-returns Inv-loop μ-loop
-returns c = 
+returns c =
     let l = c .before .loop in
     fill-end _ (l .out) (l .i) _ (l .inv .1) (omega arith) (omega arith) (l .inv .2)
 

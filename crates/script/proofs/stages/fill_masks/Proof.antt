@@ -12,7 +12,7 @@ use Rattle.script.proofs.stages.fill_masks.Statement.{statement}
 use Rattle.script.proofs.stages.fill_masks.Tie as tie
 
 abbrev Inv-loop : tie.InvT-loop
-Inv-loop d p body s xora₀ xorb₀ orb₀ w₀ xora xorb orb w = 
+Inv-loop d p body s xora₀ xorb₀ orb₀ w₀ xora xorb orb w =
     (w ≤ 256)
     × (length xora ≡ 256)
     × (length xorb ≡ 256)

@@ -11,7 +11,7 @@ use Rattle.script.proofs.stages.lane_masks.Statement.{statement}
 use Rattle.script.proofs.stages.lane_masks.Tie as tie
 
 abbrev Inv-loop : tie.InvT-loop
-Inv-loop d p body s w xora₀ xorb₀ orb₀ k₀ xora xorb orb k = 
+Inv-loop d p body s w xora₀ xorb₀ orb₀ k₀ xora xorb orb k =
     (k ≤ 32)
     × (xora ≡ wordOf (λ i. xoraBit d p s (32 * w + i)) k)
     × (xorb ≡ wordOf (λ i. xorbBit d p s (32 * w + i)) k)
