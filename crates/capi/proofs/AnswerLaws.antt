@@ -8,7 +8,9 @@ use Rattle.rounds.specs.declared.Rounds.{Rounds}
 use Rattle.rounds.specs.declared.Rounds.the-variants.{Placed, Refused}
 use Rattle.words.specs.declared.refusals.Refusal.{Refusal}
 use Rattle.rounds.specs.Rounds.{roundsOf}
-use Rattle.capi.specs.Answers.{roundsNumber, roundsFirst, roundsSecond}
+use Rattle.listing.specs.declared.Listed.{Listed}
+use Rattle.listing.specs.declared.Listed.the-variants.{Text, Refused as NotListed}
+use Rattle.capi.specs.Answers.{roundsNumber, roundsFirst, roundsSecond, listedNumber, listedFirst, listedSecond}
 
 -- what the last two clauses say stays as it is
 pub rounds-placed : (o : Outcome) (r : Rounds) (n : ℕ) (A : Type 0) → r ≡ roundsOf o → r ≡ Placed n → A
@@ -23,3 +25,11 @@ rounds-refused (refused k i) r x A e f a =
     let q : Refused x ≡ Refused (record { number = k; part = 0; item = i }) = sym f ∙ e in
     let s : x ≡ record { number = k; part = 0; item = i } = cc in
     ((cc), ((cc), ((cc), a)))
+
+-- the same of a listing: a is what the definition gives, r what the code was handed
+pub listed-text : (a r : Listed) (n : ℕ) (A : Type 0) → r ≡ a → r ≡ Text n → A → (0 ≡ listedNumber a) × ((n ≡ listedFirst a) × ((0 ≡ listedSecond a) × A))
+listed-text a r n A e f x = rw (sym e ∙ f) (refl, (refl, (refl, x)))
+
+pub listed-refused : (a r : Listed) (q : Refusal) (A : Type 0) → r ≡ a → r ≡ NotListed q → A
+    → (q .number ≡ listedNumber a) × ((q .part ≡ listedFirst a) × ((q .item ≡ listedSecond a) × A))
+listed-refused a r q A e f x = rw (sym e ∙ f) (refl, (refl, (refl, x)))

@@ -3,6 +3,8 @@
 use Prim.Native.Nat.{ℕ}
 use Rattle.reads.specs.Search.{longest}
 use Rattle.reads.specs.Outcome.{Outcome, placed, refused}
+use Rattle.listing.specs.declared.Listed.{Listed}
+use Rattle.listing.specs.declared.Listed.the-variants.{Text, Refused}
 
 -- of a read set: 0 with the rounds and 0; or the number with part 0 and the item
 abbrev pub roundsNumber : Outcome → ℕ
@@ -16,3 +18,16 @@ roundsFirst (refused n i) = 0
 abbrev pub roundsSecond : Outcome → ℕ
 roundsSecond (placed lanes) = 0
 roundsSecond (refused n i) = i
+
+-- of a listing: 0 with the bytes of the text and 0; or the number with part and item
+abbrev pub listedNumber : Listed → ℕ
+listedNumber (Text n) = 0
+listedNumber (Refused r) = r .number
+
+abbrev pub listedFirst : Listed → ℕ
+listedFirst (Text n) = n
+listedFirst (Refused r) = r .part
+
+abbrev pub listedSecond : Listed → ℕ
+listedSecond (Text n) = 0
+listedSecond (Refused r) = r .item

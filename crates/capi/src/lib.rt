@@ -3,7 +3,9 @@
 ghost use mathlib.Core.Path.{_≡_};
 ghost use lib.ListN.{length};
 ghost use Rattle.reads.specs.Outcome.{outcome, resultAfter, roomAfter};
-ghost use Rattle.capi.specs.Answers.{roundsNumber, roundsFirst, roundsSecond};
+ghost use Rattle.listing.specs.Listing.{listed, textAfter};
+ghost use Rattle.capi.specs.Answers.{roundsNumber, roundsFirst, roundsSecond, listedNumber, listedFirst, listedSecond};
+use listing::Listed;
 use rounds::Rounds;
 
 // A read set's rounds: `first` is their number, or the refusal's part; `second` is 0, or its item.
@@ -28,6 +30,35 @@ pub extern "C" fn juolgesot_read_rounds(
             0
         }
         Rounds::Refused(refusal) => {
+            *first = refusal.part as u64;
+            *second = refusal.item;
+            refusal.number
+        }
+    }
+}
+
+// The listing program's text for any records: `first` is its length, or the refusal's part; `second` is 0, or its item.
+#[no_mangle]
+pub extern "C" fn juolgesot_list(
+    records: &[u8],
+    room: &mut [u32],
+    out: &mut [u8],
+    first: &mut u64,
+    second: &mut u64,
+) -> u32
+    ensures { λ r. ⌜ r ≡ listedNumber (listed (now (records .entry)) (length (now (out .entry))) (length (now (room .entry)))) ⌝ }
+    ensures { λ r. ⌜ now (first .exit) ≡ listedFirst (listed (now (records .entry)) (length (now (out .entry))) (length (now (room .entry)))) ⌝ }
+    ensures { λ r. ⌜ now (second .exit) ≡ listedSecond (listed (now (records .entry)) (length (now (out .entry))) (length (now (room .entry)))) ⌝ }
+    ensures { λ r. ⌜ now (out .exit) ≡ textAfter (now (records .entry)) (length (now (room .entry))) (now (out .entry)) ⌝ }
+    ensures { λ r. ⌜ now (room .exit) ≡ roomAfter (now (room .entry)) ⌝ }
+{
+    match listing::list(records, room, out) {
+        Listed::Text(n) => {
+            *first = n as u64;
+            *second = 0;
+            0
+        }
+        Listed::Refused(refusal) => {
             *first = refusal.part as u64;
             *second = refusal.item;
             refusal.number

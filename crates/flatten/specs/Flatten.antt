@@ -8,8 +8,6 @@ use lib.Dec.{leb, eqb}
 use lib.ListN.{length, replicate}
 use lib.Seq.{sets}
 use Rattle.words.specs.Edition.{partWords}
-use Rattle.reads.specs.Outcome.{Outcome, placed, refused}
-use Rattle.reads.specs.Search.{longest}
 use Rattle.record.specs.Record.{blocksOf, majorsOf, partsBefore, partsOf, countAt, stagesOf}
 use Rattle.record.specs.Tests.{lowest, Place}
 use Rattle.record.specs.Form.{planForm, roomWords}
@@ -18,7 +16,8 @@ use Rattle.counts.specs.Counts.{refusal7}
 use Rattle.blocks.specs.Blocks.{blockOf, stateStart, sramStart, totalsFit, stateWords, sramWords}
 use Rattle.slots.specs.Slots.{refusal9, refusal10, refusal11}
 use Rattle.positions.specs.Positions.{refusal12, refusal13}
-use Rattle.script.specs.Script.{partReads, partLanes, partScript}
+use Rattle.partreads.specs.PartReads.{refusedReads}
+use Rattle.script.specs.Script.{partScript}
 
 -- ---- "A plan: 5 to 13, each over the whole plan before the next, then 3, 4, 14."
 
@@ -46,14 +45,6 @@ unless k false r = some (nowhere k)
 abbrev pub gatePlace : Option ℕ → Option Place
 gatePlace none = none
 gatePlace (some g) = some (record { part = 0; item = g })
-
--- 3 and 4: the parts whose read set is refused with that number; "Else item 0"
-unfoldable pub badReads : ℕ → Outcome → Option ℕ
-badReads k (placed lanes) = none
-badReads k (refused m i) = elim (eqb m k) [ true ↦ some 0 | false ↦ none ]
-
-unfoldable pub refusedReads : ℕ → ℕ → List ℕ → Option Place
-refusedReads n k d = lowest (λ p. badReads k (partReads n d p)) (partsOf d)
 
 -- what a plan is refused with, but for room
 unfoldable pub planRefusal : ℕ → List ℕ → Option Refused

@@ -8,7 +8,12 @@ use Rattle.reads.specs.ReadSet.{total, pairsFrom, pairForm, brokenFrom}
 use Rattle.reads.specs.Search.{piecesIn, insertPiece, ordered, joined, firstRoom, tryFrom, firstWin, longest}
 use Rattle.reads.specs.Local.{maskIn, later, localAt, roundFrom, spotFrom, localOf}
 use Rattle.reads.specs.Outcome.{packed, readSet, fitted, outcome}
+use Rattle.words.specs.Sum.{sumTo}
+use Rattle.words.specs.Section.{listOf}
+use Rattle.counts.specs.Counts.{activationsOf, isIn, different, duplicatesIn}
+use Rattle.blocks.specs.Blocks.{leastTo, blockFor, costsAfter, blockIn, comesBefore, takenBefore}
 use Rattle.marked.specs.Reads.{same, ask, positions, seen, readRounds}
+use Rattle.marked.specs.Plans.{duplicateWords, stagesIn, blocksOfParts, startsOfParts}
 
 -- what the definitions give, and what document 01 says
 pub record Example : Type 0 where
@@ -33,6 +38,11 @@ marked =
       got = readRounds (same 256 0 1 ++ (256 ∷ 4294967295 ∷ [])) (ask 256 31 ∷ ask 256 0 ∷ ask 255 0 ∷ ask 0 0 ∷ []);
       said = 2 ∷ 0 ∷ 31 ∷ 32 ∷ 33 ∷ [];
     }
+    -- M7 output 10, staged 5, DFF d=10 en=1, output 11: one duplicate word
+    ∷ record { got = duplicateWords; said = 1 ∷ [] }
+    -- M8 two blocks, stages 4, 2, 1, 1: blocks (0,3), (1,2); with 40 inputs and one word each, starts 2, 4, 5, 3 by part
+    ∷ record { got = blocksOfParts; said = 0 ∷ 1 ∷ 1 ∷ 0 ∷ [] }
+    ∷ record { got = startsOfParts; said = 2 ∷ 4 ∷ 5 ∷ 3 ∷ [] }
     ∷ []
 
 unfoldable pub given : List Example → List (List ℕ)
@@ -44,5 +54,5 @@ told [] = []
 told (e ∷ es) = e .said ∷ told es
 
 pub marked-right : given marked ≡ told marked
-unfolding marked given told same positions seen popIn total pairsFrom pairForm brokenFrom piecesIn insertPiece ordered joined firstRoom tryFrom firstWin longest maskIn later localAt roundFrom spotFrom localOf packed readSet fitted outcome
+unfolding sumTo listOf activationsOf isIn different duplicatesIn leastTo blockFor costsAfter blockIn comesBefore takenBefore duplicateWords stagesIn blocksOfParts startsOfParts marked given told same positions seen popIn total pairsFrom pairForm brokenFrom piecesIn insertPiece ordered joined firstRoom tryFrom firstWin longest maskIn later localAt roundFrom spotFrom localOf packed readSet fitted outcome
 marked-right = refl

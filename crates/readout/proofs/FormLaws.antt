@@ -1,7 +1,7 @@
 -- The form, pair by pair, over the words that are left: pair i and those after it are the pairs from i of the words from 2i.
 -- Assumes nothing.
 use mathlib.Core.Path.{_≡_, refl, ap, _∙_}
-use mathlib.Core.Bool.{Bool, true, false}
+use mathlib.Core.Bool.{Bool, true, false, _&&_}
 use mathlib.Core.Option.{Option, none, some}
 use mathlib.Core.List.{List, [], _∷_}
 use Prim.Native.Nat.{ℕ, suc, _+_, _*_, _/_, _%_, _^_, _≤_, _<_}
@@ -12,7 +12,7 @@ use lib.ListN.{length, getD, drop, drop-of-length-le}
 use lib.Seq.{drop-cons}
 use Rattle.words.specs.Bit.{pop}
 use Rattle.words.proofs.PopLaws.{pop-some}
-use Rattle.reads.specs.ReadSet.{both, pairsFrom, pairsOf, pairForm, brokenFrom, broken}
+use Rattle.reads.specs.ReadSet.{pairsFrom, pairsOf, pairForm, brokenFrom, broken}
 use Rattle.reads.proofs.SetLaws.{times-at, mask-some}
 use Rattle.tries.specs.Decoded.{pairAt}
 use Rattle.tries.proofs.PairLaws.{pairs-length, pairs-at}
@@ -61,7 +61,7 @@ pub bad-half : (ws : List ℕ) (i low : ℕ) → 2 * i + 1 ≡ length ws → bro
 unfolding brokenFrom pairForm
 bad-half ws i low h = ap (brokenFrom low) (half-pair ws i h) ∙ go (leb low (getD ws (2 * i) 0)) (ltb (getD ws (2 * i) 0 % 2 ^ 31) (2 ^ 27))
   where
-    go : (a b : Bool) → elim (both a (both b false)) [ true ↦ none | false ↦ some i ] ≡ some i
+    go : (a b : Bool) → elim (a && (b && false)) [ true ↦ none | false ↦ some i ] ≡ some i
     go true true = refl
     go true false = refl
     go false b = refl
@@ -77,11 +77,11 @@ unfolding pairsFrom brokenFrom pairForm
 whole-from i low [] e = refl
 whole-from i low (w ∷ []) e = go (leb low w) (ltb (w % 2 ^ 31) (2 ^ 27)) e
   where
-    go : (a b : Bool) → _≡_ {A = Option ℕ} (elim (both a (both b false)) [ true ↦ none | false ↦ some i ]) none → 1 % 2 ≡ 0
+    go : (a b : Bool) → _≡_ {A = Option ℕ} (elim (a && (b && false)) [ true ↦ none | false ↦ some i ]) none → 1 % 2 ≡ 0
     go true true e = let z : _≡_ {A = ℕ} 0 1 = cc in absurd (omega arith)
     go true false e = let z : _≡_ {A = ℕ} 0 1 = cc in absurd (omega arith)
     go false b e = let z : _≡_ {A = ℕ} 0 1 = cc in absurd (omega arith)
-whole-from i low (w ∷ m ∷ ws) e = go (both (leb low w) (both (ltb (w % 2 ^ 31) (2 ^ 27)) (ltb 0 m))) e (whole-from (i + 1) (w + 1) ws)
+whole-from i low (w ∷ m ∷ ws) e = go (leb low w && (ltb (w % 2 ^ 31) (2 ^ 27) && ltb 0 m)) e (whole-from (i + 1) (w + 1) ws)
   where
     go : (a : Bool) → _≡_ {A = Option ℕ} (elim a [ true ↦ brokenFrom (w + 1) (pairsFrom (i + 1) ws) | false ↦ some i ]) none
         → (brokenFrom (w + 1) (pairsFrom (i + 1) ws) ≡ none → length ws % 2 ≡ 0) → suc (suc (length ws)) % 2 ≡ 0

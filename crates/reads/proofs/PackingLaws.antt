@@ -1,7 +1,7 @@
 -- What the search returns is a packing: cutting, ordering and placing keep how often each pair stands, and a pair is put only where it has room.
 -- Assumes nothing.
 use mathlib.Core.Path.{_≡_, refl, sym, ap, _∙_}
-use mathlib.Core.Bool.{Bool, true, false}
+use mathlib.Core.Bool.{Bool, true, false, _&&_}
 use mathlib.Core.Option.{Option, none, some}
 use mathlib.Core.List.{List, [], _∷_, _++_}
 use Prim.Native.Nat.{ℕ, zero, suc, _+_, _/_, _^_, _≤_, _<_}
@@ -11,7 +11,7 @@ use native.Mathlib.Omega.{arith}
 use lib.Dec.{leb, eqb}
 use lib.ListN.{length, getD, set, take, drop, replicate, length-drop, length-set, length-replicate, take-append-drop}
 use lib.Seq.{getD-set-same, getD-set-other}
-use Rattle.reads.specs.ReadSet.{Pair, bits, total, both}
+use Rattle.reads.specs.ReadSet.{Pair, bits, total}
 use Rattle.reads.specs.Search.{Lane, all, stuck, piecesIn, pieces, insertPiece, ordered, joined, next, firstRoom, push, tryFrom, try, lanesOf}
 use Rattle.reads.specs.Packing.{times, Packing}
 use Rattle.reads.proofs.SearchLaws.{next-lt, room-found, win-first}
@@ -24,7 +24,7 @@ times-nil w m = refl
 
 pub times-cons : (w m : ℕ) (p : Pair) (ps : List Pair) → times w m (p ∷ ps) ≡ times w m (p ∷ []) + times w m ps
 unfolding times
-times-cons w m p ps = go (both (eqb (p .word) w) (eqb (p .mask) m)) (times w m ps)
+times-cons w m p ps = go (eqb (p .word) w && eqb (p .mask) m) (times w m ps)
   where
     go : (t : Bool) (n : ℕ) → elim t [ true ↦ suc n | false ↦ n ] ≡ elim t [ true ↦ 1 | false ↦ 0 ] + n
     go true n = omega arith

@@ -1,7 +1,7 @@
 -- A read set in the form that refusal 2 asks, said of each word and mask that stands in it (`0 < times w m ps`), so that a packing carries it over.
 -- Assumes nothing.
 use mathlib.Core.Path.{_≡_, refl, sym, _∙_}
-use mathlib.Core.Bool.{Bool, true, false}
+use mathlib.Core.Bool.{Bool, true, false, _&&_}
 use mathlib.Core.Option.{none, some}
 use mathlib.Core.List.{List, [], _∷_}
 use mathlib.Core.Logic.{_⊎_, inl, inr, ⊎-elim}
@@ -12,11 +12,11 @@ use borrow.Author.Tests.{ltb-true, leb-true, eqb-true, eq-eqb}
 use lib.Dec.{leb, ltb, eqb}
 use lib.ListN.{length, getD}
 use Rattle.words.proofs.BitLaws.{lt-or-ge}
-use Rattle.reads.specs.ReadSet.{Pair, both, pairsFrom, pairForm, brokenFrom, broken}
+use Rattle.reads.specs.ReadSet.{Pair, pairsFrom, pairForm, brokenFrom, broken}
 use Rattle.reads.specs.Packing.{times}
 use Rattle.reads.proofs.PackingLaws.{times-nil, times-cons}
 
-both-true : (a b : Bool) → both a b ≡ true → (a ≡ true) × (b ≡ true)
+both-true : (a b : Bool) → a && b ≡ true → (a ≡ true) × (b ≡ true)
 both-true true b e = (refl, e)
 both-true false b e = let z : _≡_ {A = ℕ} 0 1 = cc in absurd (omega arith)
 
@@ -35,9 +35,9 @@ times-at (p ∷ ps) (suc i) d h =
 
 pub times-cases : (w m : ℕ) (p : Pair) (ps : List Pair) → 0 < times w m (p ∷ ps) → ((p .word ≡ w) × (p .mask ≡ m)) ⊎ (0 < times w m ps)
 unfolding times
-times-cases w m p ps h = go (both (eqb (p .word) w) (eqb (p .mask) m)) refl
+times-cases w m p ps h = go (eqb (p .word) w && eqb (p .mask) m) refl
   where
-    go : (t : Bool) → both (eqb (p .word) w) (eqb (p .mask) m) ≡ t → ((p .word ≡ w) × (p .mask ≡ m)) ⊎ (0 < times w m ps)
+    go : (t : Bool) → eqb (p .word) w && eqb (p .mask) m ≡ t → ((p .word ≡ w) × (p .mask ≡ m)) ⊎ (0 < times w m ps)
     go true t =
         let e = both-true (eqb (p .word) w) (eqb (p .mask) m) t in
         inl (eqb-true (p .word) w (e .0), eqb-true (p .mask) m (e .1))
@@ -54,15 +54,15 @@ record Kept (low : ℕ) (p : Pair) (ps : List Pair) : Type 0 where
 
 kept : (low : ℕ) (p : Pair) (ps : List Pair) → brokenFrom low (p ∷ ps) ≡ none → Kept low p ps
 unfolding brokenFrom pairForm
-kept low p ps e = go (both (leb low (p .word)) (pairForm p)) refl
+kept low p ps e = go (leb low (p .word) && pairForm p) refl
   where
-    go : (t : Bool) → both (leb low (p .word)) (pairForm p) ≡ t → Kept low p ps
+    go : (t : Bool) → leb low (p .word) && pairForm p ≡ t → Kept low p ps
     go false t =
         let q : some (p .at) ≡ none = rw (t, brokenFrom) at e in
         let z : _≡_ {A = ℕ} 0 1 = cc in
         absurd (omega arith)
     go true t =
-        let a = both-true (leb low (p .word)) (both (ltb (p .word % 2 ^ 31) (2 ^ 27)) (ltb 0 (p .mask))) t in
+        let a = both-true (leb low (p .word)) (ltb (p .word % 2 ^ 31) (2 ^ 27) && ltb 0 (p .mask)) t in
         let b = both-true (ltb (p .word % 2 ^ 31) (2 ^ 27)) (ltb 0 (p .mask)) (a .1) in
         record {
           ascending = leb-true low (p .word) (a .0);
@@ -97,7 +97,7 @@ same-mask low (p ∷ ps) e w m n h l =
 
 at-most-one : (w m : ℕ) (p : Pair) → times w m (p ∷ []) ≤ 1
 unfolding times
-at-most-one w m p = go (both (eqb (p .word) w) (eqb (p .mask) m))
+at-most-one w m p = go (eqb (p .word) w && eqb (p .mask) m)
   where
     go : (t : Bool) → elim t [ true ↦ 1 | false ↦ 0 ] ≤ 1
     go true = omega arith

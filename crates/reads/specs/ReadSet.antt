@@ -1,6 +1,6 @@
 -- A read set: document 01, "Read rounds", first paragraph, and refusals 1 and 2.
 -- Assumes nothing.
-use mathlib.Core.Bool.{Bool, true, false}
+use mathlib.Core.Bool.{Bool, true, false, _&&_}
 use mathlib.Core.Option.{Option, none, some}
 use mathlib.Core.List.{List, [], _∷_}
 use Prim.Native.Nat.{ℕ, _+_, _%_, _^_}
@@ -31,18 +31,14 @@ abbrev pub pairsOf : List ℕ → List Pair
 pairsOf ws = pairsFrom 0 ws
 
 -- "Bit 31 of a word means staged; the rest is below 2^27. Masks are nonzero."
-abbrev pub both : Bool → Bool → Bool
-both true b = b
-both false b = false
-
 unfoldable pub pairForm : Pair → Bool
-pairForm p = both (ltb (p .word % 2 ^ 31) (2 ^ 27)) (ltb 0 (p .mask))
+pairForm p = ltb (p .word % 2 ^ 31) (2 ^ 27) && ltb 0 (p .mask)
 
 -- "strictly ascending by word as an unsigned number": the first pair that breaks the form, in itself or by a word below `low`, which is one
 -- above the word before it
 unfoldable pub brokenFrom : ℕ → List Pair → Option ℕ
 brokenFrom low [] = none
-brokenFrom low (p ∷ ps) = elim (both (leb low (p .word)) (pairForm p)) [ true ↦ brokenFrom (p .word + 1) ps | false ↦ some (p .at) ]
+brokenFrom low (p ∷ ps) = elim (leb low (p .word) && pairForm p) [ true ↦ brokenFrom (p .word + 1) ps | false ↦ some (p .at) ]
 
 abbrev pub broken : List Pair → Option ℕ
 broken ps = brokenFrom 0 ps

@@ -20,7 +20,8 @@ use Rattle.reads.specs.Outcome.{Outcome, placed, refused, packed}
 use Rattle.reads.proofs.PackingLaws.{lanes-packing}
 use Rattle.reads.proofs.SectionWordLaws.{section-length as reads-section}
 use Rattle.record.specs.Record.{stagesOf}
-use Rattle.script.specs.Script.{readWords, partReads, lanesIn, partLanes, numbers, locationWords, laneList, stageSection, stageSections, sramSection, enableSection, partScript}
+use Rattle.partreads.specs.PartReads.{readWords, partReads, lanesIn, partLanes}
+use Rattle.script.specs.Script.{numbers, locationWords, laneList, stageSection, stageSections, sramSection, enableSection, partScript}
 use Rattle.script.proofs.SectionsLaws.{lanes-length}
 
 section-words : (n : ℕ) (e a b c : ℕ → ℕ) → length (sectionOf n e ++ laneList a b c n) ≡ sectionWords n

@@ -6,3 +6,4 @@ pub mod MaskLaws
 pub mod EntryLaws
 pub mod LengthLaws
 pub mod ScriptLaws
+pub mod AcceptedLaws

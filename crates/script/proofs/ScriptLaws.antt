@@ -11,8 +11,9 @@ use lib.Seq.{take-all, take-take, drop-drop, take-append-add, drop-append-add}
 use Rattle.record.specs.Record.{stagesOf}
 use Rattle.record.specs.declared.bodies.Body.{Body}
 use Rattle.reads.specs.Words.{readSection}
+use Rattle.partreads.specs.PartReads.{partLanes}
 use Rattle.script.specs.declared.head.Numbers.{Numbers}
-use Rattle.script.specs.Script.{partLanes, numbers, locationWords, stageSection, stageSections, sramSection, enableSection, partScript}
+use Rattle.script.specs.Script.{numbers, locationWords, stageSection, stageSections, sramSection, enableSection, partScript}
 use Rattle.script.specs.Writers.{numberWords, NumbersOf, StagesRoom, ScriptRoom}
 use Rattle.script.proofs.LengthLaws.{stage-length, stages-length}
 use Rattle.script.proofs.PartLaws.{put-rest, put-next, put-length}

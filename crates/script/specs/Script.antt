@@ -10,48 +10,15 @@ use lib.ListN.{replicate}
 use Rattle.words.specs.Sum.{sumTo}
 use Rattle.words.specs.Bit.{wordOf}
 use Rattle.words.specs.Section.{listOf, sectionOf}
-use Rattle.reads.specs.ReadSet.{pairsOf}
-use Rattle.reads.specs.Asked.{readSetOf}
-use Rattle.reads.specs.Search.{Lane, longest}
+use Rattle.reads.specs.Search.{longest}
 use Rattle.reads.specs.Words.{readSection}
-use Rattle.reads.specs.Local.{localOf}
-use Rattle.reads.specs.Outcome.{Outcome, placed, refused, packed}
 use Rattle.record.specs.Record.{stagesOf, stageLocations, locationsOf, locationAt, slotAt, tableAt, gateFirst, gateSecond}
 use Rattle.record.specs.Form.{empty}
 use Rattle.gates.specs.Gates.{gateOf}
 use Rattle.counts.specs.Counts.{srams, duplicates, writeOuts}
 use Rattle.slots.specs.Slots.{slotA, highest}
-use Rattle.positions.specs.Positions.{Planned, planned}
-
--- ---- what the part reads
-
--- the bit of a planned position as one number: 32·word + its place, the word having bit 31 set where staged
-abbrev pub bitNumber : Planned → ℕ
-bitNumber x = 2 ^ 36 * x .staged + x .place
-
--- the bits that the pins of level 0 of stage 0 ask for, slot by slot: of an empty slot none
-unfoldable pub askedBy : Bool → Option Planned → List ℕ
-askedBy true o = []
-askedBy false none = []
-askedBy false (some x) = bitNumber x ∷ []
-
-unfoldable pub askedTo : List ℕ → ℕ → ℕ → List ℕ
-askedTo d p zero = []
-askedTo d p (suc j) = askedTo d p j ++ askedBy (eqb (slotAt d p 0 (8192 + j)) empty) (planned d (slotAt d p 0 (8192 + j)))
-
--- the read set, and what the search makes of it
-unfoldable pub readWords : List ℕ → ℕ → List ℕ
-readWords d p = readSetOf (askedTo d p 8192)
-
-unfoldable pub partReads : ℕ → List ℕ → ℕ → Outcome
-partReads n d p = packed n (pairsOf (readWords d p))
-
-abbrev pub lanesIn : Outcome → List Lane
-lanesIn (placed lanes) = lanes
-lanesIn (refused k i) = []
-
-abbrev pub partLanes : ℕ → List ℕ → ℕ → List Lane
-partLanes n d p = lanesIn (partReads n d p)
+use Rattle.positions.specs.Positions.{planned}
+use Rattle.partreads.specs.PartReads.{partLanes, localPosition}
 
 -- ---- "Words 0..7: boomerang stages; 0, or 1 on the last part of a block; write-out words; state start; SRAMs; SRAM start; rounds; duplicate words."
 
@@ -75,14 +42,6 @@ locationWords n d p = listOf (λ j. locationHalf d p (2 * j + 1) * 2 ^ 16 + loca
 
 -- "Entry i of a stage is 0 for an empty slot. Else in stage 0 it is the local position of the pin's state bit, and later the pin's highest
 -- position in the stage just before."
-abbrev pub orZero : Option ℕ → ℕ
-orZero none = 0
-orZero (some x) = x
-
-unfoldable pub localPosition : List Lane → Option Planned → ℕ
-localPosition lanes none = 0
-localPosition lanes (some x) = orZero (localOf lanes (bitNumber x / 32) (bitNumber x % 32))
-
 unfoldable pub pinEntry : ℕ → List ℕ → ℕ → ℕ → ℕ → ℕ
 pinEntry n d p zero x = localPosition (partLanes n d p) (planned d x)
 pinEntry n d p (suc s) x = highest d p s x

@@ -14,10 +14,11 @@ use Rattle.reads.specs.Search.{longest}
 use Rattle.reads.specs.Words.{readSection}
 use Rattle.gates.specs.Gates.{badGate}
 use Rattle.counts.specs.Counts.{srams, duplicates, writeOuts}
+use Rattle.partreads.specs.PartReads.{partLanes}
 use Rattle.words.specs.Section.{listOf}
 use Rattle.script.specs.declared.head.Numbers.{Numbers}
 use Rattle.script.specs.declared.stages.Masks.{Masks}
-use Rattle.script.specs.Script.{partLanes, xoraBit, xorbBit, orbBit, laneWord, stageSection}
+use Rattle.script.specs.Script.{xoraBit, xorbBit, orbBit, laneWord, stageEntry, stageSection}
 
 -- b is the body of part p, and the plan passed refusals 6, 7 and 13
 pub record Accepted (d : List ℕ) (p : ℕ) (b : Body) : Type 0 where
@@ -70,6 +71,11 @@ pub record MaskLists (d : List ℕ) (p s : ℕ) (a b c : List ℕ) : Type 0 wher
   pub xora : a ≡ listOf (laneWord (xoraBit d p s)) 256
   pub xorb : b ≡ listOf (laneWord (xorbBit d p s)) 256
   pub orb : c ≡ listOf (laneWord (orbBit d p s)) 256
+
+-- the entries of stage s, each a position
+pub record EntriesOf (d : List ℕ) (p s : ℕ) (entries : List ℕ) : Type 0 where
+  pub is : entries ≡ listOf (stageEntry 256 d p s) 8192
+  pub small : (i : ℕ) → i < 8192 → stageEntry 256 d p s i ≤ 8191
 
 pub record MasksRoom (a b c : List ℕ) : Type 0 where
   pub first : length a ≡ 256

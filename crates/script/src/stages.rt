@@ -5,7 +5,7 @@ ghost use lib.ListN.{length};
 ghost use Rattle.words.specs.Section.{listOf};
 ghost use Rattle.slots.specs.Puts.{positionPuts, filled, FilledWith};
 ghost use Rattle.script.specs.Script.{stageEntry, stageSection};
-ghost use Rattle.script.specs.Writers.{Accepted, MaskBits, LaneMasks, MaskLists, MasksRoom};
+ghost use Rattle.script.specs.Writers.{Accepted, MaskBits, LaneMasks, MaskLists, MasksRoom, EntriesOf};
 use crate::sections::write_section;
 use gates::GateFound;
 use gates::find_gate;
@@ -136,6 +136,18 @@ fn later_entries(d: &[u8], p: usize, body: Body, s: usize, table: &[u32], entrie
     }
 }
 
+// Writes the section of stage s from its entries.
+pub fn write_stage(d: &[u8], p: usize, body: Body, s: usize, entries: &[u32], out: &mut [u32])
+    requires { ⌜ Accepted (now d) p body × (s < body .stages) × EntriesOf (now d) p s (now entries) × (length (now out) ≡ 5120) ⌝ }
+    ensures { λ _. ⌜ now (out .exit) ≡ stageSection 256 (now (d .entry)) p s ⌝ }
+{
+    let mut xora = [0u32; 256];
+    let mut xorb = [0u32; 256];
+    let mut orb = [0u32; 256];
+    fill_masks(d, p, body, s, &mut xora, &mut xorb, &mut orb);
+    write_section(entries, &xora, &xorb, &orb, out);
+}
+
 // Writes the section of stage s + 1. The table then holds the positions of stage s.
 pub fn write_later(d: &[u8], p: usize, body: Body, s: usize, table: &mut [u32], out: &mut [u32])
     requires { ⌜ Accepted (now d) p body × (s + 1 < body .stages) × (32768 ≤ length (now table)) × (length (now out) ≡ 5120) ⌝ }
@@ -143,11 +155,7 @@ pub fn write_later(d: &[u8], p: usize, body: Body, s: usize, table: &mut [u32], 
     ensures { λ _. ⌜ now (out .exit) ≡ stageSection 256 (now (d .entry)) p (s + 1) ⌝ }
 {
     let mut entries = [0u32; 8192];
-    let mut xora = [0u32; 256];
-    let mut xorb = [0u32; 256];
-    let mut orb = [0u32; 256];
     fill_positions(d, p, body, s, table);
     later_entries(d, p, body, s, table, &mut entries);
-    fill_masks(d, p, body, s + 1, &mut xora, &mut xorb, &mut orb);
-    write_section(&entries, &xora, &xorb, &orb, out);
+    write_stage(d, p, body, s + 1, &entries, out);
 }

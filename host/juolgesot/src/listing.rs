@@ -4,7 +4,7 @@ use crate::ffi;
 use crate::refusal::Refusal;
 
 /// Words of working room for a listing.
-pub const LIST_ROOM: usize = 65536;
+pub const LIST_ROOM: usize = 16384;
 /// Bytes that no listing passes: 8192 lines of at most 28 bytes, and the first line.
 pub const LIST_TEXT: usize = 8192 * 28 + 10;
 

@@ -4,7 +4,7 @@ use crate::rounds::{Lanes, Pair};
 use std::collections::BTreeMap;
 
 pub const MOST_POSITIONS: usize = 8192;
-pub const LIST_ROOM: usize = 65536;
+pub const LIST_ROOM: usize = 16384;
 
 /// The words of a read set for these records, or the offset of the bad record.
 fn read_set(records: &[u8]) -> Result<Vec<Pair>, usize> {

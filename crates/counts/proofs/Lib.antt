@@ -1,0 +1,5 @@
+pub mod AnswerLaws
+pub mod CollectLaws
+pub mod CountLaws
+pub mod KeyLaws
+pub mod PartLaws

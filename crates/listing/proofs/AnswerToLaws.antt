@@ -1,0 +1,79 @@
+-- From a read set in lent words to the answer.
+-- Assumes nothing.
+use mathlib.Core.Path.{_≡_, sym, ap, _∙_}
+use mathlib.Core.Option.{none, some}
+use mathlib.Core.List.{List}
+use Prim.Native.Nat.{ℕ, _≤_}
+use native.Mathlib.Omega.{arith}
+use lib.ListN.{length, take, replicate, length-replicate}
+use lib.Seq.{sets, length-sets, length-take-le}
+use Rattle.words.specs.declared.refusals.Refusal.{Refusal}
+use Rattle.reads.specs.Search.{longest}
+use Rattle.reads.specs.Asked.{readSetOf}
+use Rattle.reads.specs.Outcome.{Outcome, placed, refused, outcome, resultAfter}
+use Rattle.asks.proofs.FormLaws.{set-length-le}
+use Rattle.asks.proofs.StoreLaws.{take-front}
+use Rattle.rounds.specs.Rounds.{roundsOf}
+use Rattle.rounds.specs.declared.Rounds.the-variants.{Placed, Refused as Denied}
+use Rattle.listing.specs.Records.{Parsed}
+use Rattle.listing.specs.Reading.{setOf, setAfter}
+use Rattle.listing.specs.Answer.{answered, found, answerTo, sectionAfter}
+use Rattle.listing.specs.declared.records.Read.the-variants.{Asked}
+use Rattle.listing.specs.declared.answer.Answer.the-variants.{Rounds, Refused, Bad}
+use Rattle.listing.proofs.KeyLaws.{asked-in}
+use Rattle.listing.proofs.ListLaws.{room-enough}
+
+pub to-bad : (p : Parsed) (b : ℕ) (section : List ℕ) → p .fault ≡ some b → (Bad b ≡ answerTo p) × (section ≡ sectionAfter p section)
+unfolding answerTo sectionAfter
+to-bad p b section t = (rw (t, answerTo), rw (t, sectionAfter))
+
+as-rounds : (o : Outcome) (n : ℕ) → Placed n ≡ roundsOf o → Rounds n ≡ answered o
+unfolding answered
+as-rounds (placed lanes) n e = let s : n ≡ longest lanes = cc in ap Rounds s
+as-rounds (refused m i) n e = let z : _≡_ {A = ℕ} 0 1 = cc in absurd (omega arith)
+
+as-refused : (o : Outcome) (f : Refusal) → Denied f ≡ roundsOf o → Refused (f .number) ≡ answered o
+unfolding answered
+as-refused (placed lanes) f e = let z : _≡_ {A = ℕ} 0 1 = cc in absurd (omega arith)
+as-refused (refused m i) f e = let s : f ≡ record { number = m; part = 0; item = i } = cc in ap (λ (g : Refusal). Refused (g .number)) s
+
+-- the set at the front of 16384 words that held zeros
+module _ (p : Parsed) (small : length (p .keys) ≤ 8192) {set : List ℕ} (held : set ≡ setAfter p (replicate 16384 0)) (n : ℕ) (asked : Asked n ≡ setOf p) where
+  right : p .fault ≡ none
+  right = asked-in (p .fault) (length (readSetOf (p .keys))) n asked .0
+
+  count : n ≡ length (readSetOf (p .keys))
+  count = asked-in (p .fault) (length (readSetOf (p .keys))) n asked .1
+
+  is : set ≡ sets (replicate 16384 0) 0 (readSetOf (p .keys))
+  unfolding setAfter
+  is = held ∙ (rw (right, setAfter))
+
+  pub to-few : n ≤ length set
+  to-few = omega (arith, ap length is ∙ length-sets (replicate 16384 0) 0 (readSetOf (p .keys)), length-replicate {A = ℕ} 16384 0, count, set-length-le (p .keys))
+
+  pub to-front : n ≡ length (take n set)
+  to-front = sym (length-take-le n set to-few)
+
+  pub to-set : take n set ≡ readSetOf (p .keys)
+  to-set =
+      let h : length (readSetOf (p .keys)) ≤ length (replicate {A = ℕ} 16384 0) = (rw (length-replicate {A = ℕ} 16384 0) (omega (arith, set-length-le (p .keys)))) in
+      ap (λ (m : ℕ). take m set) count ∙ ap (take (length (readSetOf (p .keys)))) is ∙ take-front (replicate 16384 0) (readSetOf (p .keys)) h
+
+  module _ (o r : ℕ) (size : o ≡ 16384) (room : 16384 ≤ r) where
+    same : outcome 256 (take n set) o r ≡ found p
+    same = (rw (to-set, size)) ∙ room-enough (readSetOf (p .keys)) 16384 r room
+
+    answer-is : answered (found p) ≡ answerTo p
+    unfolding answerTo
+    answer-is = rw (right, answerTo)
+
+    pub to-rounds : (k : ℕ) → Placed k ≡ roundsOf (outcome 256 (take n set) o r) → Rounds k ≡ answerTo p
+    to-rounds k e = as-rounds (found p) k (e ∙ ap roundsOf same) ∙ answer-is
+
+    pub to-refused : (f : Refusal) → Denied f ≡ roundsOf (outcome 256 (take n set) o r) → Refused (f .number) ≡ answerTo p
+    to-refused f e = as-refused (found p) f (e ∙ ap roundsOf same) ∙ answer-is
+
+    pub to-section : (s new : List ℕ) → new ≡ resultAfter (outcome 256 (take n set) o r) s → new ≡ sectionAfter p s
+    unfolding sectionAfter
+    to-section s new e = e ∙ ap (λ (x : Outcome). resultAfter x s) same ∙ (rw (right, sectionAfter))

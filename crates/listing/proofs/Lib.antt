@@ -1,0 +1,13 @@
+pub mod WritingLaws
+pub mod TextLaws
+pub mod RecordLaws
+pub mod SectionLaws
+pub mod AnswerLaws
+pub mod LaneLaws
+pub mod PrefixLaws
+pub mod ExampleLaws
+pub mod KeyLaws
+pub mod ListLaws
+pub mod AnswerToLaws
+pub mod LengthLaws
+pub mod RefusalLaws

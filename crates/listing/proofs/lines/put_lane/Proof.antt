@@ -1,0 +1,51 @@
+-- `listing::lines::put_lane` meets its contract. The invariant: what is written, with the rounds that are left, is the whole text. Assumes nothing.
+use native.Mathlib.Nat.{sub-zero}
+use Rattle.listing.proofs.SectionLaws.{next-round, last-round}
+use Rattle.listing.specs.Section.{lanePlaces}
+use Prim.Native.Nat.{_-_, _*_, _≤_}
+use Rattle.listing.proofs.WritingLaws.{Going, going-start, going-long, going-more, going-done}
+use native.Mathlib.Omega.{arith}
+use borrow.Author.Needs.{needs}
+use Rattle.listing.proofs.lines.put_lane.Statement.{statement}
+use Rattle.listing.proofs.lines.put_lane.Tie as tie
+
+abbrev Inv-loop : tie.InvT-loop
+Inv-loop out₀ at section lane rounds end₀ round₀ out end round = (round ≤ rounds) × Going (lanePlaces 256 section lane (rounds - round) round) (lanePlaces 256 section lane rounds 0) (74 * round) out₀ at out end
+
+abbrev μ-loop : tie.MeasureT-loop
+μ-loop out₀ at section lane rounds end₀ round₀ out end round = rounds - round
+
+loop-holds : tie.Need-loop-holds Inv-loop μ-loop
+loop-holds c = (omega arith, rw sub-zero (going-start _ _ _))
+
+put-place-requires : tie.Need-put-place-requires Inv-loop μ-loop
+put-place-requires c κs = search needs
+
+add-round : tie.Need-add-round Inv-loop μ-loop
+add-round c = search needs
+
+loop-less : tie.Need-loop-less Inv-loop μ-loop
+loop-less c = search needs
+
+loop-again : tie.Need-loop-again Inv-loop μ-loop
+loop-again c = (omega arith, going-more (c .before .before .before .before .before .loop .inv .1) _ _ (next-round 256 (c .before .before .before .before .before .before .before .before .args .section .now) _ _ _ (c .before .before .before .before .loop-test .taken)) (c .before .before .put-place .ensures) (omega arith))
+
+same-length : tie.Need-same-length Inv-loop μ-loop
+same-length c = going-long (c .before .loop .inv .1)
+
+returns : tie.Need-returns Inv-loop μ-loop
+returns c = going-done (c .before .loop .inv .1) _ (last-round 256 (c .before .before .before .before .args .section .now) _ _ _ (c .loop-test .left)) (omega arith)
+
+pub put-lane-spec : {M : Type 1} → statement M
+put-lane-spec =
+    tie.close
+    (tie.spec
+    Inv-loop
+    μ-loop
+    loop-holds
+    put-place-requires
+    add-round
+    loop-less
+    loop-again
+    same-length
+    returns)

@@ -1,0 +1,65 @@
+-- What the listing program prints for any standard input: document 01, "Listing program".
+-- Assumes nothing.
+use mathlib.Core.Bool.{true, false}
+use mathlib.Core.Option.{none, some}
+use mathlib.Core.List.{List, [], _∷_, _++_}
+use Prim.Native.Nat.{ℕ, _+_}
+use lib.Dec.{leb}
+use lib.ListN.{length}
+use lib.Seq.{sets}
+use Rattle.reads.specs.Search.{Lane, longest}
+use Rattle.reads.specs.Asked.{readSetOf}
+use Rattle.reads.specs.Outcome.{Outcome, placed, refused, outcome}
+use Rattle.listing.specs.Records.{Parsed, records}
+use Rattle.listing.specs.Text.{decimal, line}
+use Rattle.listing.specs.declared.Listed.{Listed}
+use Rattle.listing.specs.declared.Listed.the-variants.{Text, Refused}
+
+-- "by lane, then round)": the lines of lane i from round r on, then those of the lanes from lane i on
+unfoldable pub laneLines : ℕ → ℕ → Lane → List ℕ
+laneLines i r [] = []
+laneLines i r (p ∷ ps) = line i r (p .word) (p .mask) ++ laneLines i (r + 1) ps
+
+unfoldable pub lines : ℕ → List Lane → List ℕ
+lines i [] = []
+lines i (l ∷ ls) = laneLines i 0 l ++ lines (i + 1) ls
+
+-- `rounds ` and `refused `
+abbrev pub roundsWord : List ℕ
+roundsWord = 114 ∷ 111 ∷ 117 ∷ 110 ∷ 100 ∷ 115 ∷ 32 ∷ []
+
+abbrev pub refusedWord : List ℕ
+refusedWord = 114 ∷ 101 ∷ 102 ∷ 117 ∷ 115 ∷ 101 ∷ 100 ∷ 32 ∷ []
+
+-- `17 at `
+abbrev pub atWord : List ℕ
+atWord = 49 ∷ 55 ∷ 32 ∷ 97 ∷ 116 ∷ 32 ∷ []
+
+-- "It prints `refused N`", or the rounds and the lines; each line ends in LF
+unfoldable pub printed : Outcome → List ℕ
+printed (refused n i) = refusedWord ++ (decimal n ++ (10 ∷ []))
+printed (placed lanes) = roundsWord ++ (decimal (longest lanes) ++ ((10 ∷ []) ++ lines 0 lanes))
+
+-- "and ` at B` for 17"
+unfoldable pub printedAt : ℕ → List ℕ
+printedAt b = refusedWord ++ (atWord ++ (decimal b ++ (10 ∷ [])))
+
+-- The text that records give. Rounds are at most 32, so 16384 result words and the working room that a read set asks for are enough.
+unfoldable pub said : Parsed → List ℕ
+said p = elim (p .fault) [ some b ↦ printedAt b | none ↦ printed (outcome 256 (readSetOf (p .keys)) 16384 16384) ]
+
+unfoldable pub listing : List ℕ → List ℕ
+listing bs = said (records bs)
+
+-- What `list` answers where it is lent o bytes for the text and r words of working room: 32, then 14, else the text's length.
+unfoldable pub listed : List ℕ → ℕ → ℕ → Listed
+listed bs o r =
+    elim (leb 16384 r) [
+      | false ↦ Refused (record { number = 32; part = 0; item = 0 })
+      | true ↦ elim (leb (length (listing bs)) o) [ false ↦ Refused (record { number = 14; part = 0; item = 0 }) | true ↦ Text (length (listing bs)) ]
+    ]
+
+-- the lent bytes then hold the text from their start, or what they held
+unfoldable pub textAfter : List ℕ → ℕ → List ℕ → List ℕ
+textAfter bs r out =
+    elim (leb 16384 r) [ false ↦ out | true ↦ elim (leb (length (listing bs)) (length out)) [ false ↦ out | true ↦ sets out 0 (listing bs) ] ]

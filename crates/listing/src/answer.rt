@@ -1,0 +1,49 @@
+// The answer as text.
+ghost use mathlib.Core.List.{[], _∷_, _++_};
+ghost use Prim.Native.Nat.{_^_};
+ghost use Rattle.listing.specs.Text.{decimal};
+ghost use Rattle.listing.specs.Listing.{refusedWord, atWord};
+ghost use Rattle.listing.specs.Answer.{answerText};
+ghost use Rattle.listing.specs.Writing.{Put};
+use crate::lines::put_bytes;
+use crate::lines::put_lanes;
+use crate::text::put_number;
+
+// Rounds that a read section holds; a refusal's number; or the byte of a bad record.
+pub enum Answer {
+    Rounds(u32),
+    Refused(u32),
+    Bad(usize),
+}
+
+fn put_rounds(out: &mut [u8], section: &[u32], rounds: u32) -> usize
+    ensures { λ r. ⌜ Put (2 ^ 60) (answerText (Answer.Rounds rounds) (now (section .entry))) (now (out .entry)) 0 (now (out .exit)) r ⌝ }
+{
+    let word_end = put_bytes(out, 0, b"rounds ");
+    let line_end = put_number(out, word_end, rounds as u64, b'\n');
+    put_lanes(out, line_end, section, rounds)
+}
+
+fn put_refused(out: &mut [u8], number: u32) -> usize
+    ensures { λ r. ⌜ Put 29 (refusedWord ++ (decimal number ++ (10 ∷ []))) (now (out .entry)) 0 (now (out .exit)) r ⌝ }
+{
+    let word_end = put_bytes(out, 0, b"refused ");
+    put_number(out, word_end, number as u64, b'\n')
+}
+
+fn put_bad(out: &mut [u8], byte: usize) -> usize
+    ensures { λ r. ⌜ Put 35 (refusedWord ++ (atWord ++ (decimal byte ++ (10 ∷ [])))) (now (out .entry)) 0 (now (out .exit)) r ⌝ }
+{
+    let word_end = put_bytes(out, 0, b"refused 17 at ");
+    put_number(out, word_end, byte as u64, b'\n')
+}
+
+pub fn put_answer(out: &mut [u8], answer: Answer, section: &[u32]) -> usize
+    ensures { λ r. ⌜ Put (2 ^ 60) (answerText answer (now (section .entry))) (now (out .entry)) 0 (now (out .exit)) r ⌝ }
+{
+    match answer {
+        Answer::Rounds(rounds) => put_rounds(out, section, rounds),
+        Answer::Refused(number) => put_refused(out, number),
+        Answer::Bad(byte) => put_bad(out, byte),
+    }
+}

@@ -1,0 +1,97 @@
+// The listing program's work: records read, lanes printed. Document 01, "Listing program".
+pub mod answer;
+pub mod lines;
+pub mod records;
+pub mod text;
+
+ghost use mathlib.Core.Path.{_≡_};
+ghost use Prim.Native.Nat.{_≤_};
+ghost use lib.ListN.{length, take, replicate};
+ghost use lib.Seq.{sets};
+ghost use Rattle.reads.specs.Outcome.{roomAfter};
+ghost use Rattle.listing.specs.Records.{records};
+ghost use Rattle.listing.specs.Answer.{answerTo, sectionAfter, answerText};
+ghost use Rattle.listing.specs.Listing.{listing, listed, textAfter};
+use answer::Answer;
+use answer::put_answer;
+use records::Read;
+use records::read_set_of;
+use rounds::Rounds;
+use words::refusals::RESULT_SHORT;
+use words::refusals::ROOM_SHORT;
+use words::refusals::Refusal;
+
+// The text's length, or the refusal.
+pub enum Listed {
+    Text(usize),
+    Refused(Refusal),
+}
+
+// The answer to records, with the read section of its rounds.
+fn answer_to(s: &[u8], room: &mut [u32], section: &mut [u32]) -> Answer
+    requires { ⌜ (16384 ≤ length (now room)) × (length (now section) ≡ 16384) ⌝ }
+    ensures { λ r. ⌜ r ≡ answerTo (records (now (s .entry))) ⌝ }
+    ensures { λ _. ⌜ now (room .exit) ≡ replicate (length (now (room .entry))) 0 ⌝ }
+    ensures { λ _. ⌜ now (section .exit) ≡ sectionAfter (records (now (s .entry))) (now (section .entry)) ⌝ }
+{
+    let mut set = [0u32; 16384];
+    match read_set_of(s, &mut set) {
+        Read::Refused(b) => {
+            rounds::clear(room);
+            Answer::Bad(b)
+        }
+        Read::Asked(n) => match rounds::map_global_read_to_rounds(&set[..n], room, section) {
+            Rounds::Placed(rounds) => Answer::Rounds(rounds),
+            Rounds::Refused(refusal) => Answer::Refused(refusal.number),
+        },
+    }
+}
+
+// How long an answer's text is: it is written past the end of no bytes.
+fn text_length(answer: Answer, section: &[u32]) -> usize
+    ensures { λ r. ⌜ r ≡ length (answerText answer (now (section .entry))) ⌝ }
+{
+    let mut nothing = [0u8; 0];
+    put_answer(&mut nothing, answer, section)
+}
+
+// What the listing program prints for the bytes of its standard input.
+pub fn list(records: &[u8], room: &mut [u32], out: &mut [u8]) -> Listed
+    ensures { λ r. ⌜ r ≡ listed (now (records .entry)) (length (now (out .entry))) (length (now (room .entry))) ⌝ }
+    ensures { λ _. ⌜ now (room .exit) ≡ roomAfter (now (room .entry)) ⌝ }
+    ensures { λ _. ⌜ now (out .exit) ≡ textAfter (now (records .entry)) (length (now (room .entry))) (now (out .entry)) ⌝ }
+{
+    if room.len() < 16384 {
+        return Listed::Refused(Refusal {
+            number: ROOM_SHORT,
+            part: 0,
+            item: 0,
+        });
+    }
+    let mut section = [0u32; 16384];
+    let answer = answer_to(records, room, &mut section);
+    let n = text_length(answer, &section);
+    if out.len() < n {
+        return Listed::Refused(Refusal {
+            number: RESULT_SHORT,
+            part: 0,
+            item: 0,
+        });
+    }
+    put_answer(out, answer, &section);
+    Listed::Text(n)
+}
+
+// The same for a program, whose lent bytes hold every text: the answer is the text's length, and a part of that length is there to lend.
+pub fn text_of(records: &[u8], out: &mut [u8]) -> usize
+    requires { ⌜ 237578 ≤ length (now out) ⌝ }
+    ensures { λ r. ⌜ (r ≤ length (now (out .exit))) × (r ≡ length (take r (now (out .exit)))) ⌝ }
+    ensures { λ r. ⌜ r ≡ length (listing (now (records .entry))) ⌝ }
+    ensures { λ _. ⌜ now (out .exit) ≡ sets (now (out .entry)) 0 (listing (now (records .entry))) ⌝ }
+{
+    let mut room = [0u32; 16384];
+    match list(records, &mut room, out) {
+        Listed::Text(n) => n,
+        Listed::Refused(_) => 0,
+    }
+}

@@ -1,0 +1,74 @@
+// The lines of a read section: by lane, then round.
+ghost use mathlib.Core.Path.{_≡_};
+ghost use Prim.Native.Nat.{_*_, _^_, _<_};
+ghost use lib.ListN.{getD, length};
+ghost use Rattle.listing.specs.Section.{placeLine, lanePlaces, places};
+ghost use Rattle.listing.specs.Writing.{Put};
+use crate::text::put;
+use crate::text::put_line;
+use words::edition::Edition;
+
+// All bytes of a text.
+pub fn put_bytes(out: &mut [u8], at: usize, text: &[u8]) -> usize
+    requires { ⌜ (at < 2 ^ 61) × (length (now text) < 2 ^ 61) ⌝ }
+    ensures { λ r. ⌜ Put (length (now (text .entry))) (now (text .entry)) (now (out .entry)) at (now (out .exit)) r ⌝ }
+{
+    let mut end = at;
+    let mut i = 0;
+    while i < text.len() {
+        end = put(out, end, text[i]);
+        i += 1;
+    }
+    end
+}
+
+// A word of a section, 0 past its end.
+fn word_at(section: &[u32], i: usize) -> u32
+    ensures { λ r. ⌜ r ≡ getD (now (section .entry)) i 0 ⌝ }
+{
+    if i < section.len() {
+        return section[i];
+    }
+    0
+}
+
+// The line of a lane in a round; none where the mask is 0.
+pub fn put_place(out: &mut [u8], at: usize, section: &[u32], lane: usize, round: usize) -> usize
+    requires { ⌜ (at < 2 ^ 60) × (lane < 2 ^ 32) × (round < 2 ^ 32) ⌝ }
+    ensures { λ r. ⌜ Put 74 (placeLine 256 (now (section .entry)) lane round) (now (out .entry)) at (now (out .exit)) r ⌝ }
+{
+    let place = 2 * Edition::LANES * round + 2 * lane;
+    let mask = word_at(section, place + 1);
+    if mask == 0 {
+        return at;
+    }
+    put_line(out, at, lane, round, word_at(section, place), mask)
+}
+
+// The lines of a lane.
+pub fn put_lane(out: &mut [u8], at: usize, section: &[u32], lane: usize, rounds: u32) -> usize
+    requires { ⌜ (at < 2 ^ 59) × (lane < 2 ^ 32) ⌝ }
+    ensures { λ r. ⌜ Put (74 * 2 ^ 32) (lanePlaces 256 (now (section .entry)) lane rounds 0) (now (out .entry)) at (now (out .exit)) r ⌝ }
+{
+    let mut end = at;
+    let mut round = 0;
+    while round < rounds as usize {
+        end = put_place(out, end, section, lane, round);
+        round += 1;
+    }
+    end
+}
+
+// All lines.
+pub fn put_lanes(out: &mut [u8], at: usize, section: &[u32], rounds: u32) -> usize
+    requires { ⌜ at < 2 ^ 58 ⌝ }
+    ensures { λ r. ⌜ Put (256 * (74 * 2 ^ 32)) (places 256 (now (section .entry)) rounds 256 0) (now (out .entry)) at (now (out .exit)) r ⌝ }
+{
+    let mut end = at;
+    let mut lane = 0;
+    while lane < Edition::LANES {
+        end = put_lane(out, end, section, lane, rounds);
+        lane += 1;
+    }
+    end
+}

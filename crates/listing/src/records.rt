@@ -1,0 +1,102 @@
+// The records of standard input, one after the other: document 01, "Listing program".
+ghost use mathlib.Core.Path.{_≡_};
+ghost use Prim.Native.Nat.{_+_, _^_, _≤_, _<_};
+ghost use lib.ListN.{length};
+ghost use lib.Seq.{sets};
+ghost use Rattle.listing.specs.Records.{numberAt, recordAt, recordsFrom, records};
+ghost use Rattle.listing.specs.Reading.{readOf, setOf, setAfter};
+
+// What stands at a byte: a position, as the bit it asks for; the end; or a record that is refused, with the byte it is told at.
+pub enum Record {
+    Position(u64),
+    End,
+    Bad(usize),
+}
+
+// What a run of records says: how many bits it asks for, or the byte of the first bad record.
+pub enum Read {
+    Asked(usize),
+    Refused(usize),
+}
+
+fn wide(b: u8) -> u64
+    ensures { λ r. ⌜ (r ≡ b) × (r < 256) ⌝ }
+{
+    b as u64
+}
+
+// The four-byte little-endian number at byte i.
+pub fn number_at(s: &[u8], i: usize) -> u64
+    requires { ⌜ i + 4 ≤ length (now s) ⌝ }
+    ensures { λ r. ⌜ (r ≡ numberAt (now (s .entry)) i) × (r < 2 ^ 32) ⌝ }
+{
+    wide(s[i]) + 256 * wide(s[i + 1]) + 65536 * wide(s[i + 2]) + 16777216 * wide(s[i + 3])
+}
+
+// The record at byte `at`.
+pub fn record_at(s: &[u8], at: usize) -> Record
+    requires { ⌜ at < 2 ^ 62 ⌝ }
+    ensures { λ r. ⌜ r ≡ recordAt (now (s .entry)) at ⌝ }
+{
+    if s.len() <= at {
+        return Record::Bad(at);
+    }
+    let kind = s[at];
+    if kind == 0 {
+        if at + 1 < s.len() {
+            return Record::Bad(at + 1);
+        }
+        return Record::End;
+    }
+    if kind > 2 {
+        return Record::Bad(at);
+    }
+    if s.len() < at + 5 {
+        return Record::Bad(at);
+    }
+    let position = number_at(s, at + 1);
+    if kind == 1 {
+        return Record::Position(position);
+    }
+    Record::Position(0x10_0000_0000 + position)
+}
+
+// All records: the bits they ask for are put into `keys`, which has a place for each position that may come.
+pub fn read_records(s: &[u8], keys: &mut [u64]) -> Read
+    requires { ⌜ length (now keys) < 2 ^ 32 ⌝ }
+    ensures { λ r. ⌜ r ≡ readOf (recordsFrom (length (now (keys .entry))) (now (s .entry)) 0) ⌝ }
+    ensures { λ _. ⌜ now (keys .exit) ≡ sets (now (keys .entry)) 0 (recordsFrom (length (now (keys .entry))) (now (s .entry)) 0 .keys) ⌝ }
+{
+    let mut n = 0;
+    let mut at = 0;
+    loop {
+        match record_at(s, at) {
+            Record::Position(key) => {
+                if n == keys.len() {
+                    return Read::Refused(at);
+                }
+                keys[n] = key;
+                n += 1;
+                at += 5;
+            }
+            Record::End => return Read::Asked(n),
+            Record::Bad(b) => return Read::Refused(b),
+        }
+    }
+}
+
+// The read set that the records ask for, from the start of `set`: how many words it has.
+pub fn read_set_of(s: &[u8], set: &mut [u32]) -> Read
+    requires { ⌜ length (now set) ≡ 16384 ⌝ }
+    ensures { λ r. ⌜ r ≡ setOf (records (now (s .entry))) ⌝ }
+    ensures { λ _. ⌜ now (set .exit) ≡ setAfter (records (now (s .entry))) (now (set .entry)) ⌝ }
+{
+    let mut keys = [0u64; 8192];
+    match read_records(s, &mut keys) {
+        Read::Refused(b) => Read::Refused(b),
+        Read::Asked(n) => {
+            let mut scratch = [0u64; 8192];
+            Read::Asked(asks::read_set(&mut keys[..n], &mut scratch, set))
+        }
+    }
+}

@@ -1,0 +1,24 @@
+-- M7 and M8: activations, and parts on blocks, with what the definitions of `counts` and `blocks` give for them.
+-- Assumes nothing.
+use mathlib.Core.List.{List, [], _∷_, _++_}
+use Prim.Native.Nat.{ℕ, zero, suc, _+_, _/_}
+use Rattle.words.specs.Section.{listOf}
+use Rattle.counts.specs.Counts.{activationsOf, duplicatesIn}
+use Rattle.blocks.specs.Blocks.{blockIn, takenBefore}
+
+-- M7: output 10, staged 5, a register with d = 10 and en = 1, output 11
+unfoldable pub duplicateWords : List ℕ
+duplicateWords = duplicatesIn (activationsOf 0 10 0 ++ (activationsOf 1 5 0 ++ (activationsOf 2 10 1 ++ activationsOf 0 11 0))) ∷ []
+
+-- M8: the stages of parts 0 to 3
+unfoldable pub stagesIn : ℕ → ℕ
+stagesIn zero = 4
+stagesIn (suc zero) = 2
+stagesIn (suc (suc i)) = 1
+
+unfoldable pub blocksOfParts : List ℕ
+blocksOfParts = listOf (blockIn 2 stagesIn) 4
+
+-- with 40 inputs and one word each
+unfoldable pub startsOfParts : List ℕ
+startsOfParts = listOf (λ i. (40 + 31) / 32 + takenBefore (blockIn 2 stagesIn) (λ j. 1) 4 i) 4

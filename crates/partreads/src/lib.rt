@@ -1,0 +1,1 @@
+// The reads of a part: its read set, its lanes, its pins' local positions.
