@@ -77,7 +77,9 @@ fn location_word(d: &[u8], p: usize, body: Body, j: usize) -> u32
     requires { ⌜ Accepted (now d) p body × (j < 128) ⌝ }
     ensures { λ r. ⌜ r ≡ locationHalf (now (d .entry)) p (2 * j + 1) * 2 ^ 16 + locationHalf (now (d .entry)) p (2 * j) ⌝ }
 {
-    location_half(d, p, body, 2 * j) | (location_half(d, p, body, 2 * j + 1) << 16)
+    let low = location_half(d, p, body, 2 * j);
+    let high = location_half(d, p, body, 2 * j + 1);
+    low | (high << 16)
 }
 
 // Writes the locations.

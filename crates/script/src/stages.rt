@@ -154,8 +154,9 @@ pub fn write_later(d: &[u8], p: usize, body: Body, s: usize, table: &mut [u32], 
     ensures { λ _. ⌜ now (table .exit) ≡ filled (length (now (table .entry))) (positionPuts (now (d .entry)) p s) ⌝ }
     ensures { λ _. ⌜ now (out .exit) ≡ stageSection 256 (now (d .entry)) p (s + 1) ⌝ }
 {
+    let next = s + 1;
     let mut entries = [0u32; 8192];
     fill_positions(d, p, body, s, table);
     later_entries(d, p, body, s, table, &mut entries);
-    write_stage(d, p, body, s + 1, &entries, out);
+    write_stage(d, p, body, next, &entries, out);
 }

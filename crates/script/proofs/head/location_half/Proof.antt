@@ -1,6 +1,6 @@
 -- Stage and location fit a half, since both are below 256.
 -- Assumes nothing.
-use mathlib.Core.Path.{_≡_, ap₂, _∙_}
+use mathlib.Core.Path.{ap₂, _∙_}
 use Prim.Native.Nat.{ℕ, _+_, _*_, _<_}
 use native.Mathlib.Omega.{arith}
 use Rattle.record.specs.Record.{locationsOf}

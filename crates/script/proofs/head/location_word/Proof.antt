@@ -1,6 +1,6 @@
 -- The two halves do not overlap.
 -- Assumes nothing.
-use mathlib.Core.Path.{_≡_, ap₂, _∙_}
+use mathlib.Core.Path.{ap₂, _∙_}
 use Prim.Native.Nat.{ℕ, _+_, _*_, _^_}
 use Rattle.script.proofs.HeadLaws.{halves-join}
 use borrow.Author.Needs.{needs}

@@ -1,7 +1,7 @@
 -- After k turns the words have the bits of the lane's first k positions.
 -- Assumes nothing.
 use mathlib.Core.Path.{_≡_, refl, ap, _∙_}
-use Prim.Native.Nat.{ℕ, _+_, _*_, _-_, _≤_}
+use Prim.Native.Nat.{_+_, _*_, _-_, _≤_}
 use native.Mathlib.Omega.{arith}
 use Rattle.words.specs.Bit.{wordOf}
 use Rattle.script.specs.Script.{xoraBit, xorbBit, orbBit}
