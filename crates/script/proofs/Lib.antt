@@ -7,3 +7,4 @@ pub mod EntryLaws
 pub mod LengthLaws
 pub mod ScriptLaws
 pub mod AcceptedLaws
+pub mod MarkedLaws

@@ -7,15 +7,15 @@ use mathlib.Core.Option.{none}
 use Prim.Native.Nat.{ℕ, _+_, _*_, _^_, _≤_, _<_}
 use lib.Dec.{leb}
 use lib.ListN.{length, getD, take, drop, replicate}
+use Rattle.words.specs.Section.{listOf}
+use Rattle.reads.specs.Search.{longest}
+use Rattle.reads.specs.Words.{readSection}
 use Rattle.record.specs.declared.bodies.Body.{Body}
 use Rattle.record.specs.Record.{stagesOf, locationsOf, locationAt, tableAt}
 use Rattle.record.specs.Body.{BodyOf}
-use Rattle.reads.specs.Search.{longest}
-use Rattle.reads.specs.Words.{readSection}
 use Rattle.gates.specs.Gates.{badGate}
 use Rattle.counts.specs.Counts.{srams, duplicates, writeOuts}
 use Rattle.partreads.specs.PartReads.{partLanes}
-use Rattle.words.specs.Section.{listOf}
 use Rattle.script.specs.declared.head.Numbers.{Numbers}
 use Rattle.script.specs.declared.stages.Masks.{Masks}
 use Rattle.script.specs.Script.{xoraBit, xorbBit, orbBit, laneWord, stageEntry, stageSection}
@@ -72,15 +72,16 @@ pub record MaskLists (d : List ℕ) (p s : ℕ) (a b c : List ℕ) : Type 0 wher
   pub xorb : b ≡ listOf (laneWord (xorbBit d p s)) 256
   pub orb : c ≡ listOf (laneWord (orbBit d p s)) 256
 
--- the entries of stage s, each a position
-pub record EntriesOf (d : List ℕ) (p s : ℕ) (entries : List ℕ) : Type 0 where
-  pub is : entries ≡ listOf (stageEntry 256 d p s) 8192
-  pub small : (i : ℕ) → i < 8192 → stageEntry 256 d p s i ≤ 8191
-
+-- and room for them
 pub record MasksRoom (a b c : List ℕ) : Type 0 where
   pub first : length a ≡ 256
   pub second : length b ≡ 256
   pub third : length c ≡ 256
+
+-- the entries of stage s, each a position
+pub record EntriesOf (d : List ℕ) (p s : ℕ) (entries : List ℕ) : Type 0 where
+  pub is : entries ≡ listOf (stageEntry 256 d p s) 8192
+  pub small : (i : ℕ) → i < 8192 → stageEntry 256 d p s i ≤ 8191
 
 -- room for the sections of all stages, of which the first is there already
 pub record StagesRoom (d : List ℕ) (p : ℕ) (b : Body) (table out : List ℕ) : Type 0 where
