@@ -1,0 +1,59 @@
+-- The numbers and the locations of a part, in the code's terms.
+-- Assumes nothing.
+use mathlib.Core.Path.{_≡_, refl}
+use mathlib.Core.List.{List, _∷_}
+use Prim.Native.Nat.{ℕ, suc, _+_, _*_, _^_, _%_, _≤_, _<_}
+use native.Mathlib.Numerals.{add-one}
+use native.Mathlib.Omega.{arith}
+use borrow.Author.Tests.{lt-ltb, le-ltb, le-leb, lt-leb}
+use lib.Bits.{bitOr, or-shifted-r}
+use lib.ListN.{length, set, replicate}
+use lib.Pow.{shl-exact}
+use Rattle.words.specs.Sum.{sumTo}
+use Rattle.record.specs.Record.{stagesOf, stageLocations, locationsOf, locationAt}
+use Rattle.script.specs.declared.head.Numbers.{Numbers}
+use Rattle.script.specs.Script.{locationStage, locationHalf}
+use Rattle.script.specs.Writers.{numberWords, endsBy}
+
+pub numbers-wide : (x : Numbers) → length (numberWords x) ≡ 128
+unfolding numberWords
+numbers-wide x = refl
+
+-- eight numbers over zeros
+pub numbers-stored : (l : List ℕ) (n a b c d e f g h : ℕ) → l ≡ replicate n 0 → n ≡ 128
+    → set (set (set (set (set (set (set (set l 0 a) 1 b) 2 c) 3 d) 4 e) 5 f) 6 g) 7 h ≡ a ∷ b ∷ c ∷ d ∷ e ∷ f ∷ g ∷ h ∷ replicate 120 0
+numbers-stored l n a b c d e f g h q k = rw (q, k)
+
+pub ends-yes : (e l : ℕ) → e ≤ l → 1 ≡ endsBy e l
+ends-yes e l h = rw (le-leb e l h, endsBy)
+
+pub ends-no : (e l : ℕ) → l < e → 0 ≡ endsBy e l
+ends-no e l h = rw (lt-leb e l h, endsBy)
+
+-- how many of the first n stages end at or before location l
+abbrev pub endedBy : List ℕ → ℕ → ℕ → ℕ → ℕ
+endedBy d p l n = sumTo (λ s. endsBy (sumTo (stageLocations d p) (suc s)) l) n
+
+pub ended-more : (d : List ℕ) (p l n e v : ℕ) → e ≡ sumTo (stageLocations d p) (n + 1) → v ≡ endsBy e l → endedBy d p l n + v ≡ endedBy d p l (n + 1)
+unfolding sumTo
+ended-more d p l n e v he hv = rw (hv, he, add-one)
+
+pub stage-is : (d : List ℕ) (p l n : ℕ) → n ≡ stagesOf d p → endedBy d p l n ≡ locationStage d p l
+unfolding locationStage
+stage-is d p l n h = rw h
+
+pub half-within : (d : List ℕ) (p l n : ℕ) → n ≡ locationsOf d p → l < n → 256 * locationStage d p l + locationAt d p l ≡ locationHalf d p l
+unfolding locationHalf
+half-within d p l n e h = let k : l < locationsOf d p = omega arith in rw (lt-ltb _ _ k, locationHalf)
+
+pub half-past : (d : List ℕ) (p l n : ℕ) → n ≡ locationsOf d p → n ≤ l → 65535 ≡ locationHalf d p l
+unfolding locationHalf
+half-past d p l n e h = let k : locationsOf d p ≤ l = omega arith in rw (le-ltb _ _ k, locationHalf)
+
+-- word j of the locations
+abbrev pub locationWord : List ℕ → ℕ → ℕ → ℕ
+locationWord d p j = locationHalf d p (2 * j + 1) * 2 ^ 16 + locationHalf d p (2 * j)
+
+-- two halves in one word
+pub halves-join : (low high : ℕ) → low < 2 ^ 16 → high < 2 ^ 16 → bitOr low ((high * 2 ^ 16) % 2 ^ 32) ≡ high * 2 ^ 16 + low
+halves-join low high a b = rw (shl-exact 16 16 32 b (omega arith)) (or-shifted-r high 16 low a)

@@ -1,0 +1,41 @@
+-- The two halves do not overlap.
+-- Assumes nothing.
+use mathlib.Core.Path.{ap₂, _∙_}
+use Prim.Native.Nat.{ℕ, _+_, _*_, _^_}
+use Rattle.script.proofs.HeadLaws.{halves-join}
+use borrow.Author.Needs.{needs}
+use Rattle.script.proofs.head.location_word.Statement.{statement}
+use Rattle.script.proofs.head.location_word.Tie as tie
+
+mul-location-half : tie.Need-mul-location-half
+mul-location-half c = search needs
+
+location-half-requires : tie.Need-location-half-requires
+location-half-requires c κs = search needs
+
+mul-location-half-2 : tie.Need-mul-location-half-2
+mul-location-half-2 c = search needs
+
+add-location-half : tie.Need-add-location-half
+add-location-half c = search needs
+
+location-half-requires-2 : tie.Need-location-half-requires-2
+location-half-requires-2 c κs = search needs
+
+returns : tie.Need-returns
+returns c =
+    let low = c .before .location-half in
+    let high = c .location-half2 in
+    halves-join (low .result) (high .result) (low .ensures .1) (high .ensures .1)
+    ∙ ap₂ (λ (a : ℕ) (b : ℕ). a * 2 ^ 16 + b) (high .ensures .0) (low .ensures .0)
+
+pub location-word-spec : {M : Type 1} → statement M
+location-word-spec =
+    tie.close
+    (tie.spec
+    mul-location-half
+    location-half-requires
+    mul-location-half-2
+    add-location-half
+    location-half-requires-2
+    returns)
