@@ -1,1 +1,4 @@
 pub mod Positions
+pub mod Winners
+pub mod Places
+pub mod Input

@@ -1,0 +1,6 @@
+pub mod WinnerLaws
+pub mod MajorLaws
+pub mod RankLaws
+pub mod EntryLaws
+pub mod PlannedLaws
+pub mod PositionLaws
