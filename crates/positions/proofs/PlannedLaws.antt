@@ -2,14 +2,14 @@
 -- words are normal ones of earlier major stages. The room's first words are the pins' table, so that the part table stays as it is.
 -- Assumes nothing.
 use mathlib.Core.Path.{_≡_, refl, sym, ap, ap₂, _∙_}
-use mathlib.Core.Bool.{Bool, true, false, _||_}
+use mathlib.Core.Bool.{Bool, true, false}
 use mathlib.Core.Option.{Option, none, some}
 use mathlib.Core.List.{List, _++_}
-use Prim.Native.Nat.{ℕ, zero, suc, _+_, _*_, _-_, _/_, _≤_, _<_}
+use Prim.Native.Nat.{ℕ, _+_, _*_, _-_, _/_, _≤_, _<_}
 use native.Mathlib.Omega.{arith}
 use borrow.Author.Tests.{eq-eqb, ne-eqb}
 use lib.Dec.{ltb, eqb}
-use lib.ListN.{length, getD, take, drop, replicate, take-append-drop, length-append, length-take, length-drop, length-replicate}
+use lib.ListN.{length, getD, take, drop, replicate, take-append-drop, length-append, length-drop}
 use lib.Seq.{length-take-le, take-at, drop-at, getD-append-add, getD-drop}
 use Rattle.words.specs.Sum.{sumTo}
 use Rattle.words.proofs.SumLaws.{sum-more}
@@ -18,7 +18,7 @@ use Rattle.pinmap.specs.declared.Found.the-variants.{Value, Missing}
 use Rattle.pinmap.specs.PinMap.{look, foundOf}
 use Rattle.record.specs.declared.bodies.Body.{Body}
 use Rattle.record.specs.Record.{wordAt, partsBefore, partsOf, layoutOf, positionBase, positionPlace, positionStaged, slotAt}
-use Rattle.record.specs.Form.{empty, planForm}
+use Rattle.record.specs.Form.{empty}
 use Rattle.record.specs.Body.{BodyOf}
 use Rattle.record.specs.Tests.{someBelow}
 use Rattle.record.proofs.TestLaws.{some-at}
@@ -29,7 +29,7 @@ use Rattle.blocks.specs.Table.{cell, rankOf, Counted, Allotted, Tabled}
 use Rattle.slots.specs.Slots.{readsPin}
 use Rattle.slots.specs.Puts.{filled, readPuts}
 use Rattle.slots.proofs.PutLaws.{reads-hold, reads-look, filled-length}
-use Rattle.positions.specs.Positions.{Planned, planned, majorOf, normalWord, placeRight, twelveRight}
+use Rattle.positions.specs.Positions.{Planned, majorOf, normalWord, placeRight, twelveRight}
 use Rattle.positions.specs.Winners.{winner, plannedBy, positionNumber, winnerPuts}
 use Rattle.positions.specs.Places.{holdsWord, Ranked, placeIn, plannedTable, Searched, SlotsReady, Judgeable, PartReady}
 use Rattle.positions.proofs.WinnerLaws.{by-none, by-layout, by-position, planned-winner, renewals-length, winners-look, winners-missing, listed}

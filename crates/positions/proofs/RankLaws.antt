@@ -1,11 +1,11 @@
 -- The part table names the parts in the order of the state, so that a search by halves over their starts finds the one that a word belongs to;
 -- and the parts of the first major stages are those of the lowest ranks.
 -- Assumes nothing.
-use mathlib.Core.Path.{_≡_, refl, sym, ap, ap₂, _∙_, subst}
+use mathlib.Core.Path.{_≡_, refl, sym, ap, _∙_, subst}
 use mathlib.Core.Bool.{Bool, true, false, _&&_, and-false}
 use mathlib.Core.List.{List}
 use mathlib.Core.Logic.{⊎-elim}
-use Prim.Native.Nat.{ℕ, zero, suc, _+_, _*_, _-_, _≤_, _<_}
+use Prim.Native.Nat.{ℕ, _+_, _*_, _-_, _≤_, _<_}
 use native.Mathlib.Omega.{arith}
 use borrow.Author.Tests.{le-leb, lt-leb, lt-ltb, le-ltb, ltb-true, ltb-false}
 use lib.Dec.{leb, ltb}
@@ -16,8 +16,7 @@ use Rattle.sort.proofs.SearchLaws.{least-between}
 use Rattle.record.specs.Tests.{someBelow}
 use Rattle.record.specs.Record.{majorsOf, countAt, partsBefore, partsOf, locationsOf}
 use Rattle.record.proofs.TestLaws.{not-both, some-found, some-at, some-false}
-use Rattle.counts.specs.Counts.{srams, duplicates, writeOuts}
-use Rattle.blocks.specs.Blocks.{stateStart}
+use Rattle.counts.specs.Counts.{writeOuts}
 use Rattle.blocks.specs.Table.{cell, rankOf, Counted, Allotted, Tabled}
 use Rattle.blocks.proofs.TotalLaws.{three}
 use Rattle.blocks.proofs.StartLaws.{parts-mono, parts-next, part-split, rank-in, rank-all, state-order}

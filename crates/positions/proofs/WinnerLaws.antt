@@ -3,21 +3,21 @@
 use mathlib.Core.Path.{_≡_, refl, sym, ap, _∙_}
 use mathlib.Core.Bool.{Bool, true, false, not, _&&_, and-false}
 use mathlib.Core.Option.{Option, none, some}
-use mathlib.Core.List.{List, [], _∷_, _++_, append-nil}
+use mathlib.Core.List.{List, [], _∷_, _++_}
 use Prim.Native.Nat.{ℕ, zero, suc, _+_, _*_, _-_, _≤_, _<_}
 use native.Mathlib.Numerals.{add-one}
 use native.Mathlib.Omega.{arith}
 use borrow.Author.Tests.{eq-eqb, ne-eqb, eqb-true, eqb-false, lt-ltb, le-ltb}
-use lib.Dec.{ltb, eqb}
+use lib.Dec.{eqb}
 use lib.ListN.{length}
-use Rattle.pinmap.specs.PinMap.{look, putThere, Entry, entry, replaced, lastFrom, lastPut, renewed, afterRenewals, Holds, Renewed}
+use Rattle.pinmap.specs.PinMap.{look, putThere, Entry, entry, replaced, lastFrom, renewed, afterRenewals, Holds}
 use Rattle.pinmap.proofs.PinMapLaws.{replaced-same, replaced-other, there-length}
-use Rattle.pinmap.proofs.HoldsLaws.{last-snoc, renewed-none, renewed-all}
+use Rattle.pinmap.proofs.HoldsLaws.{renewed-none, renewed-all}
 use Rattle.record.specs.Record.{wordAt, layoutOf, layoutBase, layoutPin, positionsOf, positionBase, positionPin, positionPlace, positionStaged}
 use Rattle.record.specs.Form.{empty, planForm}
-use Rattle.record.proofs.TestLaws.{and-true, not-both}
-use Rattle.record.proofs.FormLaws.{Formed, formed}
-use Rattle.positions.specs.Positions.{lastBelow, Planned, inLayout, inPositions, planned}
+use Rattle.record.proofs.TestLaws.{and-true}
+use Rattle.record.proofs.FormLaws.{formed}
+use Rattle.positions.specs.Positions.{lastBelow, inLayout, inPositions, planned}
 use Rattle.positions.specs.Winners.{layoutNumber, positionNumber, numbered, winner, plannedBy, chosenPut, chosenPuts, inUse, marked, layoutPuts, markedPuts, winnerPuts, Listed}
 
 -- ---- the last that a test holds of

@@ -2,11 +2,10 @@
 ghost use mathlib.Core.Path.{_≡_};
 ghost use Prim.Native.Nat.{_+_, _<_};
 ghost use lib.ListN.{length};
-ghost use Rattle.record.specs.Record.{layoutOf, positionPlace, positionStaged};
 ghost use Rattle.record.specs.Body.{BodyOf};
 ghost use Rattle.blocks.specs.Blocks.{stateWords};
 ghost use Rattle.counts.specs.Answers.{itemOf, lowestOf};
-ghost use Rattle.positions.specs.Positions.{Planned, twelveRight};
+ghost use Rattle.positions.specs.Positions.{twelveRight};
 ghost use Rattle.positions.specs.Winners.{Listed, plannedBy, positionNumber};
 ghost use Rattle.positions.specs.Places.{badSlot, placeIn, plannedTable, Searched, SlotsReady, Judgeable, PartReady};
 use crate::ranks::is_normal;

@@ -1,9 +1,7 @@
 // Winners: for each pin of a table the number of the entry, of the input layout or of the positions, that gives its planned position.
 ghost use mathlib.Core.Path.{_≡_};
-ghost use mathlib.Core.Bool.{true};
 ghost use Rattle.pinmap.specs.PinMap.{afterRenewals};
 ghost use Rattle.record.specs.Record.{layoutOf, layoutPin, positionsOf, positionPin};
-ghost use Rattle.record.specs.Form.{planForm};
 ghost use Rattle.positions.specs.Winners.{layoutNumber, positionNumber, chosenPut, inUse, marked, layoutPuts, markedPuts, winnerPuts, Listed, LayoutAt, PositionAt};
 use pinmap::put_where_there;
 use record::places::layout_base;

@@ -1,18 +1,16 @@
-use mathlib.Core.Path.{sym, _∙_}
+-- The first bad slot from here on is that of the part.
+-- Assumes nothing.
+use mathlib.Core.Path.{_≡_, sym, _∙_}
+use Prim.Native.Nat.{_-_, _≤_}
 use native.Mathlib.Omega.{arith}
 use borrow.Author.Tests.{not-true, not-false}
-use Rattle.counts.proofs.AnswerLaws.{look-start, look-fault, look-next, look-end}
-use mathlib.Core.Path.{_≡_}
-use Prim.Native.Nat.{_-_, _≤_}
+use borrow.Author.Needs.{needs}
 use Rattle.record.specs.Tests.{firstFrom}
+use Rattle.counts.proofs.AnswerLaws.{look-start, look-fault, look-next, look-end}
 use Rattle.positions.specs.Positions.{twelveRight}
 use Rattle.positions.specs.Places.{badSlot}
-use borrow.Author.Needs.{needs}
 use Rattle.positions.proofs.planned.bad_slot.Statement.{statement}
 use Rattle.positions.proofs.planned.bad_slot.Tie as tie
-use Rattle.positions.proofs.planned.bad_slot.Reads as reads
-use Rattle.positions.proofs.planned.bad_slot.Lts as lts
-use Rattle.positions.proofs.planned.slot_right.Reads as slot-right-reads
 
 abbrev Inv-loop : tie.InvT-loop
 Inv-loop d p body room state n j₀ j = (j ≤ 8192) × (firstFrom (twelveRight d p) (8192 - j) j ≡ badSlot d p)
@@ -20,31 +18,24 @@ Inv-loop d p body room state n j₀ j = (j ≤ 8192) × (firstFrom (twelveRight 
 abbrev μ-loop : tie.MeasureT-loop
 μ-loop d p body room state n j₀ j = 8192 - j
 
--- src/planned.rt:94:5
 loop-holds : tie.Need-loop-holds Inv-loop μ-loop
 loop-holds c = (omega arith, look-start _ _)
 
--- src/planned.rt:95:13
 slot-right-requires : tie.Need-slot-right-requires Inv-loop μ-loop
 slot-right-requires c κs = search needs
 
--- src/planned.rt:96:13
 returns : tie.Need-returns Inv-loop μ-loop
 returns c = look-fault _ _ _ _ (c .before .before .before .loop .inv .1) (omega arith) (sym (c .before .slot-right .ensures) ∙ not-true _ (c .if1 .taken))
 
--- src/planned.rt:98:9
 add-j : tie.Need-add-j Inv-loop μ-loop
 add-j c = search needs
 
--- src/planned.rt:94:5
 loop-less : tie.Need-loop-less Inv-loop μ-loop
 loop-less c = search needs
 
--- src/planned.rt:94:5
 loop-again : tie.Need-loop-again Inv-loop μ-loop
 loop-again c = (omega arith, look-next _ _ _ _ (c .before .before .before .loop .inv .1) (omega arith) (sym (c .before .slot-right .ensures) ∙ not-false _ (c .if1 .left)))
 
--- src/planned.rt:89:1
 returns-2 : tie.Need-returns-2 Inv-loop μ-loop
 returns-2 c = look-end _ _ _ _ (c .before .loop .inv .1) (omega arith)
 

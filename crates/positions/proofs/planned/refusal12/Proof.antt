@@ -1,25 +1,19 @@
-use mathlib.Core.Path.{refl, ap, _∙_}
+-- The lowest place from this part on is that of the plan; each part leaves the room as it was.
+-- Assumes nothing.
+use mathlib.Core.Path.{_≡_, refl, ap, _∙_}
+use Prim.Native.Nat.{_-_, _≤_, _<_}
 use native.Mathlib.Omega.{arith}
+use borrow.Author.Needs.{needs}
 use lib.ListN.{length}
 use Rattle.record.proofs.FormLaws.{formed, body-ready}
-use Rattle.counts.proofs.AnswerLaws.{pass-start, pass-fault, pass-next, pass-end}
-use Rattle.positions.proofs.PlannedLaws.{part-ready}
-use mathlib.Core.Path.{_≡_}
-use Prim.Native.Nat.{_-_, _≤_, _<_}
 use Rattle.record.specs.Record.{partsOf, bodyAt}
 use Rattle.record.specs.Tests.{lowestFrom}
+use Rattle.counts.proofs.AnswerLaws.{pass-start, pass-fault, pass-next, pass-end}
 use Rattle.positions.specs.Places.{badSlot}
 use Rattle.positions.specs.Positions as positions
-use borrow.Author.Needs.{needs}
+use Rattle.positions.proofs.PlannedLaws.{part-ready}
 use Rattle.positions.proofs.planned.refusal12.Statement.{statement}
 use Rattle.positions.proofs.planned.refusal12.Tie as tie
-use Rattle.positions.proofs.planned.refusal12.Reads as reads
-use Rattle.positions.proofs.planned.refusal12.Lts as lts
-use Rattle.positions.proofs.planned.judge_part.Reads as judge-part-reads
-use Rattle.positions.proofs.planned.state_words.Reads as state-words-reads
-use Rattle.record.proofs.bodies.body_at.Reads as body-at-reads
-use Rattle.record.proofs.bodies.first_body.Reads as first-body-reads
-use Rattle.record.proofs.bodies.parts_of.Reads as parts-of-reads
 
 abbrev Inv-loop : tie.InvT-loop
 Inv-loop d room₀ state parts at₀ p₀ room at p = (p ≤ parts) × (at ≡ bodyAt d p) × (room ≡ room₀) × (lowestFrom (badSlot d) (partsOf d - p) p ≡ positions.refusal12 d)
@@ -31,43 +25,34 @@ abbrev μ-loop : tie.MeasureT-loop
 among : (c : tie.In-loop Inv-loop μ-loop) → c .before .loop .p < partsOf (c .before .before .before .before .before .before .before .before .args .d .now)
 among c = omega (arith, c .loop-test .taken, c .before .before .before .parts-of .ensures .0)
 
--- src/planned.rt:130:9
 state-words-requires : tie.Need-state-words-requires Inv-loop μ-loop
 state-words-requires c κs = search needs
 
--- src/planned.rt:131:9
 parts-of-requires : tie.Need-parts-of-requires Inv-loop μ-loop
 parts-of-requires c κs = formed _ (c .before .before .before .before .pre .form) .head .majors
 
--- src/planned.rt:132:9
 first-body-requires : tie.Need-first-body-requires Inv-loop μ-loop
 first-body-requires c κs = formed _ (c .before .before .before .before .before .pre .form) .head .majors
 
--- src/planned.rt:134:5
 loop-holds : tie.Need-loop-holds Inv-loop μ-loop
 unfolding positions.refusal12
 loop-holds c = (omega arith, c .first-body .ensures .0, refl, pass-start _ _)
 
--- src/planned.rt:135:13
 body-at-requires : tie.Need-body-at-requires Inv-loop μ-loop
 body-at-requires c κs = body-ready _ (formed _ (c .before .before .before .before .before .before .before .before .pre .form) .sizes) _ _ (among c) (c .before .loop .inv .1)
 
--- src/planned.rt:136:30
 judge-part-requires : tie.Need-judge-part-requires Inv-loop μ-loop
 judge-part-requires c κs =
     let s = c .before .before .before .before .before .before .before .before .before .before in
     part-ready (s .args .d .now) (s .args .room .now) (c .before .before .before .loop .room) (c .before .before .before .loop .p) (c .before .body-at .result) _ (s .pre) (c .before .before .before .loop .inv .2) (c .before .body-at .ensures) (among (c .before .before))
     (c .before .before .before .before .before .before .state-words .ensures)
 
--- src/planned.rt:136:25
 enum-known-i : tie.Need-enum-known-i Inv-loop μ-loop
 enum-known-i c = search needs
 
--- src/planned.rt:137:13
 same-length : tie.Need-same-length Inv-loop μ-loop
 same-length c = ap length (c .before .before .before .before .before .judge-part .ensures .1 ∙ c .before .before .before .before .before .before .before .before .before .loop .inv .2)
 
--- src/planned.rt:137:13
 returns : tie.Need-returns Inv-loop μ-loop
 returns c = (
   pass-fault _ _ _ _ (c .before .before .before .before .before .before .before .before .before .loop .inv .3) (among (c .before .before .before .before .before .before .before .before)) _ (c .before .before .before .before .before .judge-part .ensures .0) _ (c .before .i .given .1),
@@ -77,15 +62,12 @@ returns c = (
 enum-told : tie.Need-enum-told Inv-loop μ-loop
 enum-told c = search needs
 
--- src/planned.rt:140:9
 add-p : tie.Need-add-p Inv-loop μ-loop
 add-p c = search needs
 
--- src/planned.rt:134:5
 loop-less : tie.Need-loop-less Inv-loop μ-loop
 loop-less c = search needs
 
--- src/planned.rt:134:5
 loop-again : tie.Need-loop-again Inv-loop μ-loop
 loop-again c = (
   omega arith,
@@ -94,11 +76,9 @@ loop-again c = (
   pass-next _ _ _ _ (c .before .before .before .before .before .before .before .before .loop .inv .3) (among (c .before .before .before .before .before .before .before)) _ (c .before .before .before .before .judge-part .ensures .0) (c .enum-told .given .1),
 )
 
--- src/planned.rt:125:1
 same-length-2 : tie.Need-same-length-2 Inv-loop μ-loop
 same-length-2 c = search needs
 
--- src/planned.rt:125:1
 returns-2 : tie.Need-returns-2 Inv-loop μ-loop
 returns-2 c = (pass-end _ _ _ _ (c .before .loop .inv .3) (omega (arith, c .before .before .before .parts-of .ensures .0)), c .before .loop .inv .2)
 

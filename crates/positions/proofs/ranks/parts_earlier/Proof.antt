@@ -1,20 +1,15 @@
-use mathlib.Core.Path.{ap, _∙_}
-use Prim.Native.Nat.{ℕ}
+-- After s major stages: the first part of the last of them that begins at p or before it, and the first part of the next one.
+-- Assumes nothing.
+use mathlib.Core.Path.{_≡_, ap, _∙_}
+use Prim.Native.Nat.{ℕ, _*_, _-_, _^_, _≤_}
 use native.Mathlib.Omega.{arith}
-use Rattle.record.specs.Record.{majorsOf}
-use Rattle.record.proofs.RecordLaws.{parts-more}
-use Rattle.positions.proofs.MajorLaws.{earlier-none, earlier-more}
-use mathlib.Core.Path.{_≡_}
-use Prim.Native.Nat.{_-_, _*_, _^_, _≤_}
-use Rattle.record.specs.Record.{partsBefore}
-use Rattle.positions.specs.Positions.{majorTo}
 use borrow.Author.Needs.{needs}
+use Rattle.record.specs.Record.{majorsOf, partsBefore}
+use Rattle.record.proofs.RecordLaws.{parts-more}
+use Rattle.positions.specs.Positions.{majorTo}
+use Rattle.positions.proofs.MajorLaws.{earlier-none, earlier-more}
 use Rattle.positions.proofs.ranks.parts_earlier.Statement.{statement}
 use Rattle.positions.proofs.ranks.parts_earlier.Tie as tie
-use Rattle.positions.proofs.ranks.parts_earlier.Reads as reads
-use Rattle.positions.proofs.ranks.parts_earlier.Lts as lts
-use Rattle.positions.proofs.ranks.later_first.Reads as later-first-reads
-use Rattle.record.proofs.places.word_at.Reads as word-at-reads
 
 abbrev Inv-loop : tie.InvT-loop
 Inv-loop d p majors first₀ next₀ s₀ first next s = (s ≤ majors) × (first ≡ partsBefore d (majorTo d p s)) × (next ≡ partsBefore d s) × (next ≤ 2 ^ 32 * s)
@@ -22,49 +17,38 @@ Inv-loop d p majors first₀ next₀ s₀ first next s = (s ≤ majors) × (firs
 abbrev μ-loop : tie.MeasureT-loop
 μ-loop d p majors first₀ next₀ s₀ first next s = majors - s
 
--- src/ranks.rt:75:18
 word-at-requires : tie.Need-word-at-requires Inv-loop μ-loop
 word-at-requires c κs = search needs
 
--- src/ranks.rt:75:18
 cast-majors : tie.Need-cast-majors Inv-loop μ-loop
 cast-majors c = search needs
 
--- src/ranks.rt:78:5
 loop-holds : tie.Need-loop-holds Inv-loop μ-loop
 loop-holds c =
     let s = c .before .before .args in
     (omega arith, earlier-none (s .d .now) (s .p) .0, earlier-none (s .d .now) (s .p) .1, omega arith)
 
--- src/ranks.rt:79:9
 later-first-requires : tie.Need-later-first-requires Inv-loop μ-loop
 later-first-requires c κs = search needs
 
--- src/ranks.rt:80:28
 add-word-at : tie.Need-add-word-at Inv-loop μ-loop
 add-word-at c = search needs
 
--- src/ranks.rt:80:17
 word-at-requires-2 : tie.Need-word-at-requires-2 Inv-loop μ-loop
 word-at-requires-2 c κs = search needs
 
--- src/ranks.rt:80:17
 cast-next : tie.Need-cast-next Inv-loop μ-loop
 cast-next c = search needs
 
--- src/ranks.rt:80:9
 add-next : tie.Need-add-next Inv-loop μ-loop
 add-next c = search needs
 
--- src/ranks.rt:78:9
 add-s : tie.Need-add-s Inv-loop μ-loop
 add-s c = search needs
 
--- src/ranks.rt:78:5
 loop-less : tie.Need-loop-less Inv-loop μ-loop
 loop-less c = search needs
 
--- src/ranks.rt:78:5
 loop-again : tie.Need-loop-again Inv-loop μ-loop
 loop-again c =
     let s = c .before .before .before .before .before .before .args in
@@ -75,7 +59,6 @@ loop-again c =
       omega (arith, l .inv .3),
     )
 
--- src/ranks.rt:71:1
 returns : tie.Need-returns Inv-loop μ-loop
 returns c =
     let s = c .before .before .before .before .args in

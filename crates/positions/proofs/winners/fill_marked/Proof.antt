@@ -1,22 +1,16 @@
-use mathlib.Core.Path.{ap, _∙_}
-use Prim.Native.Nat.{ℕ, _+_}
+-- The table after i entries is that of the first i positions with the mark.
+-- Assumes nothing.
+use mathlib.Core.Path.{_≡_, ap, _∙_}
+use Prim.Native.Nat.{ℕ, _+_, _-_, _≤_}
 use native.Mathlib.Omega.{arith}
-use lib.ListN.{length}
-use Rattle.record.specs.Record.{positionsOf, positionPin}
-use Rattle.positions.specs.Winners.{positionNumber, marked}
-use Rattle.positions.proofs.WinnerLaws.{renewals-length, chosen-none, chosen-more}
-use mathlib.Core.Path.{_≡_}
-use Prim.Native.Nat.{_-_, _≤_}
-use Rattle.pinmap.specs.PinMap.{afterRenewals}
-use Rattle.positions.specs.Winners.{layoutPuts, markedPuts}
 use borrow.Author.Needs.{needs}
+use lib.ListN.{length}
+use Rattle.pinmap.specs.PinMap.{afterRenewals}
+use Rattle.record.specs.Record.{positionsOf, positionPin}
+use Rattle.positions.specs.Winners.{positionNumber, marked, markedPuts}
+use Rattle.positions.proofs.WinnerLaws.{renewals-length, chosen-none, chosen-more}
 use Rattle.positions.proofs.winners.fill_marked.Statement.{statement}
 use Rattle.positions.proofs.winners.fill_marked.Tie as tie
-use Rattle.positions.proofs.winners.fill_marked.Reads as reads
-use Rattle.positions.proofs.winners.fill_marked.Lts as lts
-use Rattle.positions.proofs.winners.renew_position.Reads as renew-position-reads
-use Rattle.record.proofs.places.position_base.Reads as position-base-reads
-use Rattle.record.proofs.places.word_at.Reads as word-at-reads
 
 abbrev Inv-loop : tie.InvT-loop
 Inv-loop d table₀ mark base first count i₀ table i = (i ≤ count) × (table ≡ afterRenewals table₀ (markedPuts d mark i))
@@ -24,29 +18,23 @@ Inv-loop d table₀ mark base first count i₀ table i = (i ≤ count) × (table
 abbrev μ-loop : tie.MeasureT-loop
 μ-loop d table₀ mark base first count i₀ table i = count - i
 
--- src/winners.rt:55:9
 position-base-requires : tie.Need-position-base-requires Inv-loop μ-loop
 position-base-requires c κs = search needs
 
--- src/winners.rt:56:21
 word-at-requires : tie.Need-word-at-requires Inv-loop μ-loop
 word-at-requires c κs = search needs
 
--- src/winners.rt:56:17
 add-first : tie.Need-add-first Inv-loop μ-loop
 add-first c = search needs
 
--- src/winners.rt:57:9
 word-at-requires-2 : tie.Need-word-at-requires-2 Inv-loop μ-loop
 word-at-requires-2 c κs = search needs
 
--- src/winners.rt:58:5
 loop-holds : tie.Need-loop-holds Inv-loop μ-loop
 loop-holds c =
     let s = c .before .before .before .before .before .args in
     (search needs, chosen-none (s .table .now) (marked (s .d .now) (s .mark)) (positionPin (s .d .now)) (positionNumber (s .d .now)))
 
--- src/winners.rt:59:9
 renew-position-requires : tie.Need-renew-position-requires Inv-loop μ-loop
 renew-position-requires c κs =
     let s = c .before .before .before .before .before .before .before .before in
@@ -59,15 +47,12 @@ renew-position-requires c κs =
       pin = s .pre .pins (c .before .before .loop .i) (omega (arith, c .before .before .before .word-at2 .ensures));
     }
 
--- src/winners.rt:58:9
 add-i : tie.Need-add-i Inv-loop μ-loop
 add-i c = search needs
 
--- src/winners.rt:58:5
 loop-less : tie.Need-loop-less Inv-loop μ-loop
 loop-less c = search needs
 
--- src/winners.rt:58:5
 loop-again : tie.Need-loop-again Inv-loop μ-loop
 loop-again c =
     let s = c .before .before .before .before .before .before .before .before .before .before .before .args in (
@@ -76,11 +61,9 @@ loop-again c =
           ∙ chosen-more (s .table .now) _ (marked (s .d .now) (s .mark)) (positionPin (s .d .now)) (positionNumber (s .d .now)) (c .before .before .before .before .before .loop .i) (c .before .before .before .before .before .loop .inv .1),
     )
 
--- src/winners.rt:51:1
 same-length : tie.Need-same-length Inv-loop μ-loop
 same-length c = ap length (c .before .loop .inv .1) ∙ renewals-length _ _
 
--- src/winners.rt:51:1
 returns : tie.Need-returns Inv-loop μ-loop
 returns c =
     let s = c .before .before .before .before .before .before .before .args in
