@@ -212,7 +212,7 @@ module _ (d : List ℕ) (p : ℕ) (b : Body) (old new : List ℕ) where
       × (take 32768 (take 32768 room ++ (ys ++ drop (length room - 32768) (drop 32768 room))) ≡ filled 32768 (bitPuts d p old new 0))
   fill-first room ys body stages c e =
       let n : length (take 32768 room) ≡ 32768 = length-take-le 32768 room (omega (arith, c .wide)) in
-      let k : drop (length room - 32768) (drop 32768 room) ≡ [] = drop-of-length-le (drop 32768 room) (omega (arith, length-drop 32768 room)) in
+      let k : drop (length room - 32768) (drop 32768 room) ≡ [] = drop-of-length-le (drop 32768 room) {i = length room - 32768} (omega (arith, length-drop 32768 room)) in
       let z : ys ++ drop (length room - 32768) (drop 32768 room) ≡ ys = ap (λ (a : List ℕ). ys ++ a) k ∙ append-nil ys in
       let m : length ys ≡ length (take (length room - 32768) (drop 32768 room)) = ap length e ∙ planned-length d p _ in
       let r : length (take (length room - 32768) (drop 32768 room)) ≡ length room - 32768 = ap length (rest-is room 32768) ∙ length-drop 32768 room in
