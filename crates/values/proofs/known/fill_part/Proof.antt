@@ -1,3 +1,5 @@
+-- `values::known::fill_part` meets its contract. The loop's invariant: the first words hold the entries of the first j slots, the words after them the winners.
+-- Assumes nothing.
 use Rattle.values.proofs.KnownLaws.{fill-first, fill-next}
 use Rattle.positions.proofs.WinnerLaws.{listed}
 use mathlib.Core.Path.{_≡_, refl, ap, _∙_}
@@ -9,10 +11,6 @@ use Rattle.values.specs.Known.{bitPuts, Numbered}
 use borrow.Author.Needs.{needs}
 use Rattle.values.proofs.known.fill_part.Statement.{statement}
 use Rattle.values.proofs.known.fill_part.Tie as tie
-use Rattle.values.proofs.known.fill_part.Reads as reads
-use Rattle.values.proofs.known.fill_part.Lts as lts
-use Rattle.positions.proofs.planned.fill_planned.Reads as fill-planned-reads
-use Rattle.values.proofs.known.put_slot_bit.Reads as put-slot-bit-reads
 
 abbrev Inv-loop : tie.InvT-loop
 Inv-loop d p body old new room₀ j₀ room j = (j ≤ 8192) × (length room ≡ length room₀) × Numbered d p body room × (take 32768 room ≡ filled 32768 (bitPuts d p old new j))
@@ -20,47 +18,36 @@ Inv-loop d p body old new room₀ j₀ room j = (j ≤ 8192) × (length room ≡
 abbrev μ-loop : tie.MeasureT-loop
 μ-loop d p body old new room₀ j₀ room j = 8192 - j
 
--- src/known.rt:106:30
 sub-fill-planned : tie.Need-sub-fill-planned Inv-loop μ-loop
 sub-fill-planned c = search needs
 
--- src/known.rt:106:30
 part-fill-planned-start : tie.Need-part-fill-planned-start Inv-loop μ-loop
 part-fill-planned-start c = search needs
 
--- src/known.rt:106:30
 part-fill-planned-end : tie.Need-part-fill-planned-end Inv-loop μ-loop
 part-fill-planned-end c = search needs
 
--- src/known.rt:106:5
 fill-planned-requires : tie.Need-fill-planned-requires Inv-loop μ-loop
 fill-planned-requires c κs = let s = c .before .before .before .before .before in (listed _ (s .pre .0), s .pre .1, s .pre .2)
 
--- src/known.rt:108:5
 loop-holds : tie.Need-loop-holds Inv-loop μ-loop
 loop-holds c = let s = c .before .before .before .before .before .before .before .before in let (n, t) = fill-first (s .args .d .now) (s .args .p) (s .args .body) (s .args .old .now) (s .args .new .now) (s .args .room .now) _ (s .pre .1) (s .pre .2) (s .pre .3) (c .before .before .fill-planned .ensures) in (omega arith, refl, n, t)
 
--- src/known.rt:109:9
 put-slot-bit-requires : tie.Need-put-slot-bit-requires Inv-loop μ-loop
 put-slot-bit-requires c κs = search needs
 
--- src/known.rt:110:9
 add-j : tie.Need-add-j Inv-loop μ-loop
 add-j c = search needs
 
--- src/known.rt:108:5
 loop-less : tie.Need-loop-less Inv-loop μ-loop
 loop-less c = omega arith
 
--- src/known.rt:108:5
 loop-again : tie.Need-loop-again Inv-loop μ-loop
 loop-again c = let s = c .before .before .before .before .before .before .before .before .before .before .before .before .before .before in let l = c .before .before .before .before .before in let (e, n, t) = fill-next (s .args .d .now) (s .args .p) (s .args .body) (s .args .old .now) (s .args .new .now) (l .loop .room) _ (l .loop .j) (l .loop .inv .2) (l .loop .inv .3) (c .before .before .put-slot-bit .ensures) in (omega arith, e ∙ l .loop .inv .1, n, t)
 
--- src/known.rt:102:1
 same-length : tie.Need-same-length Inv-loop μ-loop
 same-length c = search needs
 
--- src/known.rt:102:1
 returns : tie.Need-returns Inv-loop μ-loop
 returns c = let s = c .before .before .before .before .before .before .before .before .before .before in c .before .loop .inv .3 ∙ ap (λ (j : ℕ). filled 32768 (bitPuts (s .args .d .now) (s .args .p) (s .args .old .now) (s .args .new .now) j)) (omega arith)
 

@@ -1,3 +1,5 @@
+-- `values::known::part_body` meets its contract. The loop's invariant: `at` is where the body of part k begins.
+-- Assumes nothing.
 use mathlib.Core.Path.{_≡_, ap, _∙_}
 use Prim.Native.Nat.{_-_, _≤_}
 use native.Mathlib.Omega.{arith}
@@ -6,10 +8,6 @@ use Rattle.record.proofs.FormLaws.{formed, body-ready}
 use borrow.Author.Needs.{needs}
 use Rattle.values.proofs.known.part_body.Statement.{statement}
 use Rattle.values.proofs.known.part_body.Tie as tie
-use Rattle.values.proofs.known.part_body.Reads as reads
-use Rattle.values.proofs.known.part_body.Lts as lts
-use Rattle.record.proofs.bodies.body_at.Reads as body-at-reads
-use Rattle.record.proofs.bodies.first_body.Reads as first-body-reads
 
 abbrev Inv-loop : tie.InvT-loop
 Inv-loop d p at₀ k₀ at k = (k ≤ p) × (at ≡ bodyAt d k)
@@ -17,35 +15,27 @@ Inv-loop d p at₀ k₀ at k = (k ≤ p) × (at ≡ bodyAt d k)
 abbrev μ-loop : tie.MeasureT-loop
 μ-loop d p at₀ k₀ at k = p - k
 
--- src/known.rt:119:9
 first-body-requires : tie.Need-first-body-requires Inv-loop μ-loop
 first-body-requires c κs = formed _ (c .before .pre .0) .head .majors
 
--- src/known.rt:121:5
 loop-holds : tie.Need-loop-holds Inv-loop μ-loop
 loop-holds c = search needs
 
--- src/known.rt:122:14
 body-at-requires : tie.Need-body-at-requires Inv-loop μ-loop
 body-at-requires c κs = body-ready _ (formed _ (c .before .before .before .before .pre .0) .sizes) _ _ (omega (arith, c .before .before .before .before .pre .1, c .loop-test .taken)) (c .before .loop .inv .1)
 
--- src/known.rt:123:9
 add-k : tie.Need-add-k Inv-loop μ-loop
 add-k c = search needs
 
--- src/known.rt:121:5
 loop-less : tie.Need-loop-less Inv-loop μ-loop
 loop-less c = search needs
 
--- src/known.rt:121:5
 loop-again : tie.Need-loop-again Inv-loop μ-loop
 loop-again c = search needs
 
--- src/known.rt:125:5
 body-at-requires-2 : tie.Need-body-at-requires-2 Inv-loop μ-loop
 body-at-requires-2 c κs = body-ready _ (formed _ (c .before .before .before .before .pre .0) .sizes) _ _ (c .before .before .before .before .pre .1) (c .before .loop .inv .1 ∙ ap (bodyAt (c .before .before .before .before .args .d .now)) (omega arith))
 
--- src/known.rt:115:1
 returns : tie.Need-returns Inv-loop μ-loop
 returns c = search needs
 

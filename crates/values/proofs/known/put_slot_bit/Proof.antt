@@ -1,3 +1,5 @@
+-- `values::known::put_slot_bit` meets its contract. The entry that is found for the pin gives its planned position, and each pin that is read is found.
+-- Assumes nothing.
 use mathlib.Core.Path.{sym}
 use native.Mathlib.Omega.{arith}
 use lib.Seq.{length-take-le}
@@ -5,72 +7,52 @@ use Rattle.values.proofs.KnownLaws.{bit-empty, bit-value, bit-missing, 
 use borrow.Author.Needs.{needs}
 use Rattle.values.proofs.known.put_slot_bit.Statement.{statement}
 use Rattle.values.proofs.known.put_slot_bit.Tie as tie
-use Rattle.values.proofs.known.put_slot_bit.Reads as reads
-use Rattle.values.proofs.known.put_slot_bit.Lts as lts
-use Rattle.pinmap.proofs.look_up.Reads as look-up-reads
-use Rattle.record.proofs.bodies.slot.Reads as slot-reads
-use Rattle.values.proofs.known.put_planned.Reads as put-planned-reads
 
--- src/known.rt:91:35
 add-slot : tie.Need-add-slot
 add-slot c = search needs
 
--- src/known.rt:91:9
 slot-requires : tie.Need-slot-requires
 slot-requires c κs = search needs
 
--- src/known.rt:93:9
 returns : tie.Need-returns
 returns c = let s = c .before .before .before .before .before .before in bit-empty (s .args .d .now) (s .args .p) (s .args .body) (s .args .old .now) (s .args .new .now) (s .args .room .now) (s .pre .0) (s .args .j) _ (s .pre .1) (c .before .slot .ensures) (c .if1 .taken)
 
--- src/known.rt:95:19
 sub-look-up : tie.Need-sub-look-up
 sub-look-up c = search needs
 
--- src/known.rt:95:19
 part-look-up-start : tie.Need-part-look-up-start
 part-look-up-start c = search needs
 
--- src/known.rt:95:19
 part-look-up-end : tie.Need-part-look-up-end
 part-look-up-end c = search needs
 
--- src/known.rt:95:11
 look-up-requires : tie.Need-look-up-requires
 look-up-requires c κs = search needs
 
--- src/known.rt:96:22
 enum-known-w : tie.Need-enum-known-w
 enum-known-w c = search needs
 
--- src/known.rt:96:53
 slice-relend-prefix-put-planned : tie.Need-slice-relend-prefix-put-planned
 slice-relend-prefix-put-planned c = search needs
 
--- src/known.rt:96:53
 slice-aggregate-put-planned : tie.Need-slice-aggregate-put-planned
 slice-aggregate-put-planned c = let s = c .before .before .before .before .before .before .before .before .before .before .before .before .before in sym (length-take-le 32768 (s .args .room .now) (omega (arith, s .pre .0 .wide)))
 
--- src/known.rt:96:28
 put-planned-requires : tie.Need-put-planned-requires
 put-planned-requires c κs = search needs
 
 enum-told : tie.Need-enum-told
 enum-told c = search needs
 
--- src/known.rt:79:1
 same-length : tie.Need-same-length
 same-length c = search needs
 
--- src/known.rt:79:1
 returns-2 : tie.Need-returns-2
 returns-2 c = let s = c .before .before .before .before .before .before .before .before .before .before .before .before .before .before .before .before in bit-value (s .args .d .now) (s .args .p) (s .args .body) (s .args .old .now) (s .args .new .now) (s .args .room .now) (s .pre .0) (s .args .j) _ (s .pre .1) (c .before .before .before .before .before .before .before .before .before .before .before .slot .ensures) (c .before .before .before .before .before .before .before .before .before .before .if1 .left) _ (rest-is (s .args .room .now) 32768) _ _ _ (c .before .before .before .before .before .before .before .look-up .ensures) (c .before .before .before .before .before .w .given .1) (c .before .before .put-planned .ensures)
 
--- src/known.rt:79:1
 same-length-2 : tie.Need-same-length-2
 same-length-2 c = search needs
 
--- src/known.rt:79:1
 returns-3 : tie.Need-returns-3
 returns-3 c = let s = c .before .before .before .before .before .before .before .before .before .before .before in absurd (bit-missing (s .args .d .now) (s .args .p) (s .args .body) (s .args .old .now) (s .args .new .now) (s .args .room .now) (s .pre .0) (s .args .j) _ (s .pre .1) (c .before .before .before .before .before .before .slot .ensures) (c .before .before .before .before .before .if1 .left) _ (rest-is (s .args .room .now) 32768) _ (c .before .before .look-up .ensures) (c .enum-told .given .1))
 
