@@ -53,21 +53,21 @@ module _ (old new : List ℕ) where
 
 -- entry i of the positions, which begin at word `base`: a and m are its place and its mark
 module _ (d old new : List ℕ) (base i a m : ℕ) (at : base ≡ positionBase d) (read : a ≡ wordAt d (base + 3 * i + 1)) (mark : m ≡ wordAt d (base + 3 * i + 2))
-    where
-  place-is : a ≡ positionPlace d i
-  place-is = read ∙ ap (λ (b : ℕ). wordAt d (b + 3 * i + 1)) at
+  where
+    place-is : a ≡ positionPlace d i
+    place-is = read ∙ ap (λ (b : ℕ). wordAt d (b + 3 * i + 1)) at
 
-  mark-is : m ≡ positionStaged d i
-  mark-is = mark ∙ ap (λ (b : ℕ). wordAt d (b + 3 * i + 2)) at
+    mark-is : m ≡ positionStaged d i
+    mark-is = mark ∙ ap (λ (b : ℕ). wordAt d (b + 3 * i + 2)) at
 
-  pub unstaged-bit : (r : ℕ) → m ≡ 0 → r ≡ bitAt old a → some r ≡ plannedBit old new (plannedBy d (positionNumber d i))
-  unstaged-bit r h e =
-      ap some (e ∙ ap (bitAt old) place-is) ∙ sym (ap (plannedBit old new) (by-position d (positionNumber d i) i refl) ∙ bit-old old new _ (sym mark-is ∙ h))
+    pub unstaged-bit : (r : ℕ) → m ≡ 0 → r ≡ bitAt old a → some r ≡ plannedBit old new (plannedBy d (positionNumber d i))
+    unstaged-bit r h e =
+        ap some (e ∙ ap (bitAt old) place-is) ∙ sym (ap (plannedBit old new) (by-position d (positionNumber d i) i refl) ∙ bit-old old new _ (sym mark-is ∙ h))
 
-  pub staged-bit : (r : ℕ) → (m ≡ 0 → ⊥) → r ≡ bitAt new a → some r ≡ plannedBit old new (plannedBy d (positionNumber d i))
-  staged-bit r h e =
-      ap some (e ∙ ap (bitAt new) place-is)
-      ∙ sym (ap (plannedBit old new) (by-position d (positionNumber d i) i refl) ∙ bit-new old new _ (λ z. h (mark-is ∙ z)))
+    pub staged-bit : (r : ℕ) → (m ≡ 0 → ⊥) → r ≡ bitAt new a → some r ≡ plannedBit old new (plannedBy d (positionNumber d i))
+    staged-bit r h e =
+        ap some (e ∙ ap (bitAt new) place-is)
+        ∙ sym (ap (plannedBit old new) (by-position d (positionNumber d i) i refl) ∙ bit-new old new _ (λ z. h (mark-is ∙ z)))
 
 -- entry w
 module _ (d old new : List ℕ) (w layout : ℕ) (read : layout ≡ layoutOf d) where

@@ -218,14 +218,15 @@ module _ (d : List ℕ) (p : ℕ) (b : Body) (old new : List ℕ) where
       let r : length (take (length room - 32768) (drop 32768 room)) ≡ length room - 32768 = ap length (rest-is room 32768) ∙ length-drop 32768 room in
       let t : take 32768 (take 32768 room ++ ys) ≡ take 32768 room = take-at (take 32768 room) ys 32768 n in
       let u : drop 32768 (take 32768 room ++ ys) ≡ ys = drop-at (take 32768 room) ys 32768 n in
-      rw z
-      (record {
-        body = body;
-        stages = stages;
-        wide = rw length-append (omega (arith, n, m, r, c .wide));
-        winners = u ∙ (e ∙ ap (plannedTable d p) (sym (ap length u ∙ m)));
-      },
-      t ∙ (clear-front room c ∙ found-start (λ i. slotAt d p 0 (8192 + i)) (heldBit d old new) (replicate 32768 0)))
+      rw z (
+        record {
+          body = body;
+          stages = stages;
+          wide = rw length-append (omega (arith, n, m, r, c .wide));
+          winners = u ∙ (e ∙ ap (plannedTable d p) (sym (ap length u ∙ m)));
+        },
+        t ∙ (clear-front room c ∙ found-start (λ i. slotAt d p 0 (8192 + i)) (heldBit d old new) (replicate 32768 0)),
+      )
 
   pub fill-next : (room u : List ℕ) (j : ℕ) → Numbered d p b room → take 32768 room ≡ filled 32768 (bitPuts d p old new j)
       → u ≡ afterPuts (take 32768 room) (foundPut (slotAt d p 0 (8192 + j)) (heldBit d old new (slotAt d p 0 (8192 + j)))) ++ drop 32768 room
@@ -235,10 +236,11 @@ module _ (d : List ℕ) (p : ℕ) (b : Body) (old new : List ℕ) where
       let n : length (afterPuts (take 32768 room) q) ≡ 32768 = puts-length (take 32768 room) q ∙ length-take-le 32768 room (omega (arith, r .wide)) in
       let t : take 32768 u ≡ afterPuts (take 32768 room) q = ap (take 32768) e ∙ take-at (afterPuts (take 32768 room) q) (drop 32768 room) 32768 n in
       let v : drop 32768 u ≡ drop 32768 room = ap (drop 32768) e ∙ drop-at (afterPuts (take 32768 room) q) (drop 32768 room) 32768 n in
-      let s : length u ≡ length room = ap length e ∙ (length-append (afterPuts (take 32768 room) q) (drop 32768 room) ∙ omega (arith, n, length-drop 32768 room, r .wide)) in
-      (s,
-      record { body = r .body; stages = r .stages; wide = omega (arith, s, r .wide); winners = v ∙ (r .winners ∙ ap (λ (a : List ℕ). plannedTable d p (length a)) (sym v)) },
-      t ∙ (ap (λ (a : List ℕ). afterPuts a q) h ∙ found-more (λ i. slotAt d p 0 (8192 + i)) (heldBit d old new) (replicate 32768 0) j))
+      let s : length u ≡ length room = ap length e ∙ (length-append (afterPuts (take 32768 room) q) (drop 32768 room) ∙ omega (arith, n, length-drop 32768 room, r .wide)) in (
+        s,
+        record { body = r .body; stages = r .stages; wide = omega (arith, s, r .wide); winners = v ∙ (r .winners ∙ ap (λ (a : List ℕ). plannedTable d p (length a)) (sym v)) },
+        t ∙ (ap (λ (a : List ℕ). afterPuts a q) h ∙ found-more (λ i. slotAt d p 0 (8192 + i)) (heldBit d old new) (replicate 32768 0) j),
+      )
 
 module _ (d : List ℕ) (p : ℕ) (old new : List ℕ) where
   pub fill-read : (t : List ℕ) → p < partsOf d → t ≡ filled 32768 (bitPuts d p old new 8192) → t ≡ filled 32768 (knownPuts d p old new)
