@@ -1,0 +1,116 @@
+-- The answer in the code's terms: the value over the table of state bits is that of the definition, and one law for each way out.
+-- Assumes nothing.
+use mathlib.Core.Path.{_≡_, refl, sym, ap, _∙_}
+use mathlib.Core.Bool.{true, false}
+use mathlib.Core.Option.{Option, none, some}
+use mathlib.Core.List.{List}
+use Prim.Native.Nat.{ℕ, _+_, _≤_, _<_}
+use native.Mathlib.Omega.{arith}
+use borrow.Author.Tests.{eq-eqb, ne-eqb, le-leb, lt-leb}
+use lib.ListN.{length, replicate, length-replicate}
+use Rattle.pinmap.specs.PinMap.{look}
+use Rattle.record.specs.Form.{empty, roomWords, planForm}
+use Rattle.gates.specs.declared.GateList.{GateList}
+use Rattle.gates.specs.declared.GateList.the-variants.{Good, Bad}
+use Rattle.gates.specs.Gates.{badGate, value}
+use Rattle.gates.specs.Values.{gateListOf, Given}
+use Rattle.gates.proofs.ValueLaws.{value-ext}
+use Rattle.slots.specs.Puts.{filled}
+use Rattle.slots.proofs.PutLaws.{filled-length}
+use Rattle.positions.specs.Input.{input}
+use Rattle.values.specs.declared.Answer.the-variants.{Bit, Refused}
+use Rattle.values.specs.Known.{knownPuts, Clear, Asked}
+use Rattle.values.specs.Values.{pinValue, valued, outcome, answerOf, roomAfter}
+use Rattle.values.proofs.KnownLaws.{known-bit, known-look}
+
+-- ---- the value over the table t of state bits
+
+module _ (d : List ℕ) (p : ℕ) (old new t : List ℕ) (is : t ≡ filled 32768 (knownPuts d p old new)) where
+  pub known-length : 32768 ≡ length t
+  known-length = sym (ap length is ∙ filled-length 32768 (knownPuts d p old new))
+
+  pub given : badGate d ≡ none → Given d t
+  given g = record { gates = g; bits = λ y v h. known-bit d p old new 32768 (omega arith) y v (sym (ap (λ (a : List ℕ). look a y) is) ∙ h) }
+
+  pin-value : (x : ℕ) → (x ≡ empty → ⊥) → pinValue d p old new x ≡ value d (input d p old new) x
+  unfolding pinValue
+  pin-value x h = rw (ne-eqb _ _ h, pinValue)
+
+  pub value-is : badGate d ≡ none → (x r : ℕ) → x < empty → r ≡ value d (look t) x → r ≡ pinValue d p old new x
+  value-is g x r l e =
+      e
+      ∙ (value-ext d g (look t) (input d p old new) x
+      (λ y m. ap (λ (a : List ℕ). look a y) is ∙ known-look d p old new 32768 (omega arith) y (λ (z : y ≡ empty). omega arith))
+      ∙ sym (pin-value x (λ (z : x ≡ empty). omega arith)))
+
+pub value-empty : (d : List ℕ) (p : ℕ) (old new : List ℕ) (x : ℕ) → x ≡ empty → 0 ≡ pinValue d p old new x
+unfolding pinValue
+value-empty d p old new x h = rw (eq-eqb _ _ h, pinValue)
+
+-- ---- what the check of the gates says
+
+pub list-good : (o : Option ℕ) (r : GateList) → r ≡ gateListOf o → r ≡ Good → o ≡ none
+list-good none r p q = refl
+list-good (some g) r p q = let z : _≡_ {A = ℕ} 0 1 = cc in absurd (omega arith)
+
+pub list-bad : (o : Option ℕ) (r : GateList) (g : ℕ) → r ≡ gateListOf o → r ≡ Bad g → o ≡ some g
+list-bad none r g p q = let z : _≡_ {A = ℕ} 0 1 = cc in absurd (omega arith)
+list-bad (some h) r g p q = cc
+
+-- ---- the ways out
+
+module _ (d : List ℕ) (p : ℕ) (old new : List ℕ) (r x : ℕ) where
+  pub value-short : r < roomWords d → Refused (record { number = 32; part = 0; item = 0 }) ≡ answerOf (outcome d p old new r x)
+  unfolding outcome
+  value-short h = rw (lt-leb _ _ h, outcome)
+
+  module _ (h : roomWords d ≤ r) where
+    pub value-form : planForm d ≡ false → Refused (record { number = 5; part = 0; item = 0 }) ≡ answerOf (outcome d p old new r x)
+    unfolding outcome
+    value-form f = rw (le-leb _ _ h, f, outcome)
+
+    pub value-gate : planForm d ≡ true → (g : ℕ) → badGate d ≡ some g → Refused (record { number = 6; part = 0; item = g }) ≡ answerOf (outcome d p old new r x)
+    unfolding outcome valued
+    value-gate f g e = rw (le-leb _ _ h, f, e, outcome)
+
+    pub value-bit : planForm d ≡ true → badGate d ≡ none → (v : ℕ) → v ≡ pinValue d p old new x → Bit v ≡ answerOf (outcome d p old new r x)
+    unfolding outcome valued
+    value-bit f e v q = ap Bit q ∙ rw (le-leb _ _ h, f, e, outcome)
+
+-- ---- the room
+
+pub cleared : (room u v : List ℕ) → v ≡ replicate (length u) 0 → length u ≡ length room → v ≡ replicate (length room) 0
+cleared room u v e l = e ∙ ap (λ (n : ℕ). replicate n 0) l
+
+zeros-size : (n : ℕ) (u : List ℕ) → u ≡ replicate n 0 → length u ≡ n
+zeros-size n u e = ap length e ∙ length-replicate n 0
+
+room-size : (d : List ℕ) → 65536 ≤ roomWords d
+unfolding roomWords
+room-size d = omega arith
+
+module _ (d room : List ℕ) where
+  pub room-short : length room < roomWords d → room ≡ roomAfter d room
+  unfolding roomAfter
+  room-short h = rw (lt-leb _ _ h, roomAfter)
+
+  zeros-after : roomWords d ≤ length room → replicate (length room) 0 ≡ roomAfter d room
+  unfolding roomAfter
+  zeros-after h = rw (le-leb _ _ h, roomAfter)
+
+  module _ (h : roomWords d ≤ length room) (u : List ℕ) (zeros : u ≡ replicate (length room) 0) where
+    pub room-zeros : u ≡ roomAfter d room
+    room-zeros = zeros ∙ zeros-after h
+
+    pub room-again : (v : List ℕ) → v ≡ replicate (length u) 0 → v ≡ roomAfter d room
+    room-again v e = cleared room u v e (zeros-size (length room) u zeros) ∙ zeros-after h
+
+    pub room-asked : planForm d ≡ true → badGate d ≡ none → Asked d u
+    room-asked f g = record {
+      form = f;
+      gates = g;
+      clear = record {
+        wide = omega (arith, room-size d, zeros-size (length room) u zeros);
+        is = zeros ∙ ap (λ (n : ℕ). replicate n 0) (sym (zeros-size (length room) u zeros));
+      };
+    }

@@ -1,0 +1,3 @@
+pub mod BitLaws
+pub mod KnownLaws
+pub mod AnswerLaws

@@ -1,0 +1,55 @@
+-- `values::known::part_body` meets its contract. The loop's invariant: `at` is where the body of part k begins.
+-- Assumes nothing.
+use mathlib.Core.Path.{_≡_, ap, _∙_}
+use Prim.Native.Nat.{_-_, _≤_}
+use native.Mathlib.Omega.{arith}
+use Rattle.record.specs.Record.{bodyAt}
+use Rattle.record.proofs.FormLaws.{formed, body-ready}
+use borrow.Author.Needs.{needs}
+use Rattle.values.proofs.known.part_body.Statement.{statement}
+use Rattle.values.proofs.known.part_body.Tie as tie
+
+abbrev Inv-loop : tie.InvT-loop
+Inv-loop d p at₀ k₀ at k = (k ≤ p) × (at ≡ bodyAt d k)
+
+abbrev μ-loop : tie.MeasureT-loop
+μ-loop d p at₀ k₀ at k = p - k
+
+first-body-requires : tie.Need-first-body-requires Inv-loop μ-loop
+first-body-requires c κs = formed _ (c .before .pre .0) .head .majors
+
+loop-holds : tie.Need-loop-holds Inv-loop μ-loop
+loop-holds c = search needs
+
+body-at-requires : tie.Need-body-at-requires Inv-loop μ-loop
+body-at-requires c κs = body-ready _ (formed _ (c .before .before .before .before .pre .0) .sizes) _ _ (omega (arith, c .before .before .before .before .pre .1, c .loop-test .taken)) (c .before .loop .inv .1)
+
+add-k : tie.Need-add-k Inv-loop μ-loop
+add-k c = search needs
+
+loop-less : tie.Need-loop-less Inv-loop μ-loop
+loop-less c = search needs
+
+loop-again : tie.Need-loop-again Inv-loop μ-loop
+loop-again c = search needs
+
+body-at-requires-2 : tie.Need-body-at-requires-2 Inv-loop μ-loop
+body-at-requires-2 c κs = body-ready _ (formed _ (c .before .before .before .before .pre .0) .sizes) _ _ (c .before .before .before .before .pre .1) (c .before .loop .inv .1 ∙ ap (bodyAt (c .before .before .before .before .args .d .now)) (omega arith))
+
+returns : tie.Need-returns Inv-loop μ-loop
+returns c = search needs
+
+pub part-body-spec : {M : Type 1} → statement M
+part-body-spec =
+    tie.close
+    (tie.spec
+    Inv-loop
+    μ-loop
+    first-body-requires
+    loop-holds
+    body-at-requires
+    add-k
+    loop-less
+    loop-again
+    body-at-requires-2
+    returns)

@@ -1,0 +1,19 @@
+-- `values::known::state_bit` meets its contract. Beyond the end of the state the definition reads 0.
+-- Assumes nothing.
+use native.Mathlib.Omega.{arith}
+use Rattle.values.proofs.BitLaws.{beyond}
+use borrow.Author.Needs.{needs}
+use Rattle.values.proofs.known.state_bit.Statement.{statement}
+use Rattle.values.proofs.known.state_bit.Tie as tie
+
+bit-at-requires : tie.Need-bit-at-requires
+bit-at-requires c κs = search needs
+
+returns : tie.Need-returns
+returns c = search needs
+
+returns-2 : tie.Need-returns-2
+returns-2 c = beyond (c .before .before .args .state .now) (c .before .before .args .at) (omega arith)
+
+pub state-bit-spec : {M : Type 1} → statement M
+state-bit-spec = tie.close (tie.spec bit-at-requires returns returns-2)

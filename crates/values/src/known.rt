@@ -1,0 +1,136 @@
+// The state bits of the pins that a part reads, as a table of pins in the first words of the room.
+ghost use mathlib.Core.Path.{_≡_};
+ghost use mathlib.Core.Bool.{true};
+ghost use mathlib.Core.Option.{some};
+ghost use mathlib.Core.List.{_++_};
+ghost use Prim.Native.Nat.{_+_, _-_, _^_, _≤_, _<_};
+ghost use lib.ListN.{length, take, drop};
+ghost use Rattle.words.specs.Bit.{bitAt};
+ghost use Rattle.pinmap.specs.PinMap.{afterPuts};
+ghost use Rattle.record.specs.Record.{partsOf, slotAt};
+ghost use Rattle.record.specs.Form.{planForm};
+ghost use Rattle.record.specs.Body.{BodyOf};
+ghost use Rattle.slots.specs.Puts.{filled};
+ghost use Rattle.positions.specs.Winners.{plannedBy, positionNumber};
+ghost use Rattle.positions.specs.Input.{plannedBit};
+ghost use Rattle.values.specs.Known.{heldBit, foundPut, bitPuts, knownPuts, Clear, Numbered};
+use pinmap::Found;
+use pinmap::clear;
+use pinmap::look_up;
+use positions::planned::fill_planned;
+use record::bodies::Body;
+use record::bodies::body_at;
+use record::bodies::first_body;
+use record::bodies::parts_of;
+use record::bodies::slot;
+use record::places::position_base;
+use record::places::word_at;
+use words::bits::bit_at;
+use words::units::EMPTY_PIN;
+use words::units::Pin;
+
+// The bit at a position of a state; 0 beyond its end.
+fn state_bit(state: &[u32], at: usize) -> u32
+    ensures { λ r. ⌜ r ≡ bitAt (now (state .entry)) at ⌝ }
+{
+    if at / 32 < state.len() {
+        bit_at(state, at)
+    } else {
+        0
+    }
+}
+
+// The bit that entry i of the positions gives: a staged one is in the new state.
+fn position_bit(d: &[u8], old: &[u32], new: &[u32], i: u32) -> u32
+    ensures { λ r. ⌜ some r ≡ plannedBit (now (old .entry)) (now (new .entry)) (plannedBy (now (d .entry)) (positionNumber (now (d .entry)) i)) ⌝ }
+{
+    let at = position_base(d) + 3 * (i as usize);
+    let place = word_at(d, at + 1) as usize;
+    if word_at(d, at + 2) == 0 {
+        return state_bit(old, place);
+    }
+    state_bit(new, place)
+}
+
+// The bit that entry w gives.
+fn planned_bit(d: &[u8], old: &[u32], new: &[u32], w: u32) -> u32
+    requires { ⌜ 0 < w ⌝ }
+    ensures { λ r. ⌜ some r ≡ plannedBit (now (old .entry)) (now (new .entry)) (plannedBy (now (d .entry)) w) ⌝ }
+{
+    let layout = word_at(d, 3);
+    if w <= layout {
+        return state_bit(old, (w - 1) as usize);
+    }
+    position_bit(d, old, new, w - 1 - layout)
+}
+
+// Puts the bit that entry w gives, if it is one.
+fn put_planned(d: &[u8], old: &[u32], new: &[u32], table: &mut [u32], pin: Pin, w: u32)
+    requires { ⌜ pin .0 < 2 ^ 32 - 1 ⌝ }
+    ensures { λ _. ⌜ now (table .exit) ≡ afterPuts (now (table .entry)) (foundPut (pin .0) (plannedBit (now (old .entry)) (now (new .entry)) (plannedBy (now (d .entry)) w))) ⌝ }
+{
+    if w == 0 {
+        return;
+    }
+    pinmap::put(table, pin, planned_bit(d, old, new, w));
+}
+
+// Puts the bit of the pin at slot j of level 0 of stage 0, if it has one.
+fn put_slot_bit(
+    d: &[u8],
+    p: usize,
+    body: Body,
+    old: &[u32],
+    new: &[u32],
+    room: &mut [u32],
+    j: usize,
+)
+    requires { ⌜ Numbered (now d) p body (now room) × (j < 8192) ⌝ }
+    ensures { λ _. ⌜ now (room .exit) ≡ afterPuts (take 32768 (now (room .entry))) (foundPut (slotAt (now (d .entry)) p 0 (8192 + j)) (heldBit (now (d .entry)) (now (old .entry)) (now (new .entry)) (slotAt (now (d .entry)) p 0 (8192 + j)))) ++ drop 32768 (now (room .entry)) ⌝ }
+{
+    let pin = slot(d, p, body, 0, 8192 + j);
+    if pin == EMPTY_PIN {
+        return;
+    }
+    match look_up(&room[32768..], Pin(pin)) {
+        Found::Value(w) => put_planned(d, old, new, &mut room[..32768], Pin(pin), w),
+        Found::Missing => {}
+    }
+}
+
+// The bits of all pins that part p reads. The words after the table are for the numbers of the entries that win.
+fn fill_part(d: &[u8], p: usize, body: Body, old: &[u32], new: &[u32], room: &mut [u32])
+    requires { ⌜ (planForm (now d) ≡ true) × BodyOf (now d) p body × (0 < body .stages) × Clear (now room) ⌝ }
+    ensures { λ _. ⌜ take 32768 (now (room .exit)) ≡ filled 32768 (bitPuts (now (d .entry)) p (now (old .entry)) (now (new .entry)) 8192) ⌝ }
+{
+    fill_planned(d, p, body, &mut room[32768..]);
+    let mut j = 0;
+    while j < 8192 {
+        put_slot_bit(d, p, body, old, new, room, j);
+        j += 1;
+    }
+}
+
+// The body of part p.
+fn part_body(d: &[u8], p: usize) -> Body
+    requires { ⌜ (planForm (now d) ≡ true) × (p < partsOf (now d)) ⌝ }
+    ensures { λ r. ⌜ BodyOf (now (d .entry)) p r ⌝ }
+{
+    let mut at = first_body(d);
+    let mut k = 0;
+    while k < p {
+        at = body_at(d, k, at).end;
+        k += 1;
+    }
+    body_at(d, p, at)
+}
+
+// The same of any part: one past the plan reads nothing.
+pub fn fill_known(d: &[u8], p: usize, old: &[u32], new: &[u32], room: &mut [u32])
+    requires { ⌜ (planForm (now d) ≡ true) × Clear (now room) ⌝ }
+    ensures { λ _. ⌜ take 32768 (now (room .exit)) ≡ filled 32768 (knownPuts (now (d .entry)) p (now (old .entry)) (now (new .entry))) ⌝ }
+{
+    if p < parts_of(d) {
+        fill_part(d, p, part_body(d, p), old, new, room);
+    }
+}
