@@ -1,0 +1,5 @@
+pub mod FillLaws
+pub mod HalfLaws
+pub mod GatherLaws
+pub mod LowLaws
+pub mod LevelLaws

@@ -1,0 +1,6 @@
+pub mod Well
+pub mod Window
+pub mod Fill
+pub mod Gather
+pub mod Level
+pub mod Block
