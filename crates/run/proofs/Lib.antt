@@ -3,3 +3,4 @@ pub mod HalfLaws
 pub mod GatherLaws
 pub mod LowLaws
 pub mod LevelLaws
+pub mod StageEndLaws
