@@ -4,3 +4,4 @@ pub mod GatherLaws
 pub mod LowLaws
 pub mod LevelLaws
 pub mod StageEndLaws
+pub mod AppendLaws

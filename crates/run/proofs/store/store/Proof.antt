@@ -1,0 +1,85 @@
+use borrow.Author.Needs.{needs}
+use Rattle.run.proofs.store.store.Statement.{statement}
+use Rattle.run.proofs.store.store.Tie as tie
+use Rattle.run.proofs.store.store.Reads as reads
+use Rattle.run.proofs.store.store.Lts as lts
+use Rattle.run.proofs.part.normal.Reads as normal-reads
+use Rattle.run.proofs.part.start.Reads as start-reads
+
+abbrev Inv-loop : tie.InvT-loop
+Inv-loop words at caps new₀ start l₀ l-end new l = ?
+
+abbrev μ-loop : tie.MeasureT-loop
+μ-loop words at caps new₀ start l₀ l-end new l = ?
+
+-- src/store.rt:52:9
+start-requires : tie.Need-start-requires Inv-loop μ-loop
+start-requires c κs = search needs
+
+-- src/store.rt:53:17
+normal-requires : tie.Need-normal-requires Inv-loop μ-loop
+normal-requires c κs = search needs
+
+-- src/store.rt:53:5
+loop-holds : tie.Need-loop-holds Inv-loop μ-loop
+loop-holds c = search needs
+
+-- src/store.rt:54:26
+mul-new : tie.Need-mul-new Inv-loop μ-loop
+mul-new c = search needs
+
+-- src/store.rt:54:26
+shared-slice-read-new : tie.Need-shared-slice-read-new Inv-loop μ-loop
+shared-slice-read-new c = search needs
+
+-- src/store.rt:54:13
+add-new : tie.Need-add-new Inv-loop μ-loop
+add-new c = search needs
+
+-- src/store.rt:54:9
+mul-new-2 : tie.Need-mul-new-2 Inv-loop μ-loop
+mul-new-2 c = search needs
+
+-- src/store.rt:54:9
+slice-write-new : tie.Need-slice-write-new Inv-loop μ-loop
+slice-write-new c = search needs
+
+-- src/store.rt:53:9
+add-l : tie.Need-add-l Inv-loop μ-loop
+add-l c = search needs
+
+-- src/store.rt:53:5
+loop-less : tie.Need-loop-less Inv-loop μ-loop
+loop-less c = search needs
+
+-- src/store.rt:53:5
+loop-again : tie.Need-loop-again Inv-loop μ-loop
+loop-again c = search needs
+
+-- src/store.rt:48:1
+same-length : tie.Need-same-length Inv-loop μ-loop
+same-length c = search needs
+
+-- src/store.rt:48:1
+returns : tie.Need-returns Inv-loop μ-loop
+returns c = search needs
+
+pub store-spec : {M : Type 1} → statement M
+store-spec =
+    tie.close
+    (tie.spec
+    Inv-loop
+    μ-loop
+    start-requires
+    normal-requires
+    loop-holds
+    mul-new
+    shared-slice-read-new
+    add-new
+    mul-new-2
+    slice-write-new
+    add-l
+    loop-less
+    loop-again
+    same-length
+    returns)
