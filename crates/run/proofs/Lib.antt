@@ -5,3 +5,5 @@ pub mod LowLaws
 pub mod LevelLaws
 pub mod StageEndLaws
 pub mod AppendLaws
+pub mod CaptureLaws
+pub mod BlockLaws

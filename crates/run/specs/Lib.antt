@@ -3,4 +3,5 @@ pub mod Window
 pub mod Fill
 pub mod Gather
 pub mod Level
+pub mod Capture
 pub mod Block

@@ -3,13 +3,12 @@
 use crate::part;
 
 ghost use mathlib.Core.Path.{_≡_};
-ghost use Prim.Native.Nat.{_+_, _/_, _%_, _<_, _≤_};
-ghost use mathlib.Core.Bool.{true, false};
-ghost use lib.Dec.{eqb};
-ghost use lib.ListN.{length, getD, take, drop, replicate};
+ghost use Prim.Native.Nat.{_+_, _<_, _≤_};
+ghost use lib.ListN.{length, take, drop, replicate};
 ghost use lib.Seq.{sets};
-ghost use Rattle.machine.specs.Part.{startAt, normalAt, locationIn};
+ghost use Rattle.machine.specs.Part.{startAt, normalAt};
 ghost use Rattle.machine.specs.Turn.{captured};
+ghost use Rattle.run.specs.Capture.{capturedWord};
 ghost use Rattle.run.specs.Well.{PartIn, Captures};
 
 // Zeros in every word.
@@ -26,7 +25,7 @@ pub fn clear(s: &mut [u32])
 // Captured word l after stage k.
 fn capture_word(words: &[u32], at: usize, k: usize, room: &[u32], l: usize) -> u32
     requires { ⌜ PartIn 256 (now words) at × Captures 256 (now words) at × (length (now room) ≡ 1024) × (l < normalAt (now words) at) ⌝ }
-    ensures { λ r. ⌜ r ≡ elim (eqb (locationIn 256 (now (words .entry)) at l / 256) k) [ true ↦ getD (now (room .entry)) (locationIn 256 (now (words .entry)) at l % 256) 0 | false ↦ getD (now (room .entry)) (512 + l) 0 ] ⌝ }
+    ensures { λ r. ⌜ r ≡ capturedWord 256 (now (words .entry)) at k (now (room .entry)) (drop 512 (now (room .entry))) l ⌝ }
 {
     let place = part::location(words, at, l) as usize;
     if place / 256 == k {

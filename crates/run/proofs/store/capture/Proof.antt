@@ -1,4 +1,13 @@
+use mathlib.Core.Path.{_≡_, refl, ap, _∙_}
+use Prim.Native.Nat.{ℕ, _+_, _-_, _≤_}
 use borrow.Author.Needs.{needs}
+use native.Mathlib.Omega.{arith}
+use lib.ListN.{length, drop, length-set}
+use lib.Seq.{sets}
+use Rattle.words.specs.Section.{listOf}
+use Rattle.machine.specs.Part.{normalAt}
+use Rattle.run.specs.Capture.{capturedWord}
+use Rattle.run.proofs.CaptureLaws.{capture-more, capture-end}
 use Rattle.run.proofs.store.capture.Statement.{statement}
 use Rattle.run.proofs.store.capture.Tie as tie
 use Rattle.run.proofs.store.capture.Reads as reads
@@ -7,10 +16,11 @@ use Rattle.run.proofs.part.normal.Reads as normal-reads
 use Rattle.run.proofs.store.capture_word.Reads as capture-word-reads
 
 abbrev Inv-loop : tie.InvT-loop
-Inv-loop words at k room₀ l₀ l-end room l = ?
+Inv-loop words at k room₀ l₀ l-end room l =
+    (l ≤ l-end) × (l-end ≡ normalAt words at) × (length room ≡ 1024) × (room ≡ sets room₀ 512 (listOf (capturedWord 256 words at k room₀ (drop 512 room₀)) l))
 
 abbrev μ-loop : tie.MeasureT-loop
-μ-loop words at k room₀ l₀ l-end room l = ?
+μ-loop words at k room₀ l₀ l-end room l = l-end - l
 
 -- src/store.rt:44:17
 normal-requires : tie.Need-normal-requires Inv-loop μ-loop
@@ -18,7 +28,8 @@ normal-requires c κs = search needs
 
 -- src/store.rt:44:5
 loop-holds : tie.Need-loop-holds Inv-loop μ-loop
-loop-holds c = search needs
+unfolding listOf
+loop-holds c = (omega arith, c .normal .ensures, search needs, refl)
 
 -- src/store.rt:45:25
 capture-word-requires : tie.Need-capture-word-requires Inv-loop μ-loop
@@ -46,7 +57,10 @@ loop-less c = search needs
 
 -- src/store.rt:44:5
 loop-again : tie.Need-loop-again Inv-loop μ-loop
-loop-again c = search needs
+loop-again c =
+    let l = c .before .before .before .loop in
+    let start = c .before .before .before .before .before .before .before in
+    (omega arith, l .inv .1, simp length-set (l .inv .2), capture-more 256 _ _ _ (start .args .room .now) _ _ _ (l .inv .3) (omega arith) (c .capture-word .ensures))
 
 -- src/store.rt:40:1
 same-length : tie.Need-same-length Inv-loop μ-loop
@@ -54,7 +68,11 @@ same-length c = search needs
 
 -- src/store.rt:40:1
 returns : tie.Need-returns Inv-loop μ-loop
-returns c = search needs
+returns c =
+    let l = c .before .loop in
+    let start = c .before .before .before .before .before in
+    let e : l .l ≡ normalAt (start .args .words .now) (start .args .at) = omega arith in
+    l .inv .3 ∙ ap (sets (start .args .room .now) 512) (capture-end 256 _ _ _ _ _ _ e)
 
 pub capture-spec : {M : Type 1} → statement M
 capture-spec =

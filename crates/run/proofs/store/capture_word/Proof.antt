@@ -1,4 +1,5 @@
 use borrow.Author.Needs.{needs}
+use Rattle.run.proofs.CaptureLaws.{word-here, word-kept}
 use Rattle.run.proofs.store.capture_word.Statement.{statement}
 use Rattle.run.proofs.store.capture_word.Tie as tie
 use Rattle.run.proofs.store.capture_word.Reads as reads
@@ -35,11 +36,11 @@ shared-slice-read-result-2 c = search needs
 
 -- src/store.rt:27:1
 returns : tie.Need-returns
-returns c = search needs
+returns c = word-here 256 _ _ _ _ _ _ _ (c .before .before .location .ensures) (c .before .if1 .taken)
 
 -- src/store.rt:27:1
 returns-2 : tie.Need-returns-2
-returns-2 c = search needs
+returns-2 c = word-kept 256 _ _ _ _ _ _ (c .before .before .location .ensures) (c .before .if1 .left)
 
 pub capture-word-spec : {M : Type 1} → statement M
 capture-word-spec =
