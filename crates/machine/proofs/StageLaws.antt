@@ -2,23 +2,20 @@
 -- that whatever keeps the levels' rule holds the stage's words. Argued once over the lanes n and the levels L, with 2^L = 32n.
 -- Assumes nothing.
 use mathlib.Core.Path.{_≡_, refl, sym, ap, ap₂, _∙_}
-use mathlib.Core.Bool.{true, false}
 use mathlib.Core.List.{List}
 use mathlib.Core.Logic.{inl, inr, ⊎-elim}
-use Prim.Native.Nat.{ℕ, zero, suc, _+_, _-_, _*_, _/_, _%_, _^_, _≤_, _<_, min, max}
-use native.Mathlib.Nat.{not-suc-le-zero, eq-or-lt-of-le, le-of-suc-le-suc, sub-self}
+use Prim.Native.Nat.{ℕ, zero, suc, _+_, _-_, _*_, _/_, _%_, _^_, _≤_, _<_}
+use native.Mathlib.Nat.{not-suc-le-zero, eq-or-lt-of-le, le-of-suc-le-suc}
 use native.Mathlib.Omega.{arith}
 use borrow.Author.Tests.{le-leb, lt-leb}
 use lib.Arith.{bin-ind}
-use lib.Bits.{differ}
-use lib.Dec.{leb}
 use lib.ListN.{length, getD}
 use lib.Pow.{pow-pos, pow-mono}
 use Rattle.words.specs.Bit.{bit, bitAt, wordOf}
 use Rattle.words.specs.Section.{listOf}
 use Rattle.words.proofs.BitLaws.{lt-or-ge, bit-lt, bit-ext, differ-lt, wordOf-lt, bit-wordOf}
 use Rattle.words.proofs.SectionLaws.{length-listOf, getD-listOf, listOf-is}
-use Rattle.machine.specs.Part.{entryAt, laneWordAt}
+use Rattle.machine.specs.Part.{entryAt}
 use Rattle.machine.specs.Turn.{gate, gateAt, levelBit, positionBit, stageRow}
 
 -- ---- words of a list, bit by bit

@@ -1,11 +1,11 @@
 -- The read turn's loops. A mask's zeros below its lowest bit append nothing and are skipped at once; the bit above them is appended, and what is
 -- left has one bit less. A lane has room for the bits of all its rounds.
 -- Assumes nothing.
-use mathlib.Core.Path.{_≡_, refl, sym, ap, ap₂, _∙_, subst}
+use mathlib.Core.Path.{_≡_, refl, sym, ap, _∙_}
 use mathlib.Core.Bool.{Bool, true, false}
 use mathlib.Core.List.{List}
 use Prim.Native.Nat.{ℕ, zero, suc, _+_, _-_, _*_, _/_, _%_, _^_, _≤_, _<_}
-use native.Mathlib.Nat.{add-zero, zero-add, mod-lt, mul-le-mul-right, mul-le-mul-left, le-trans, le-of-eq, not-suc-le-zero}
+use native.Mathlib.Nat.{add-zero, zero-add, mod-lt, mul-le-mul-right, mul-le-mul-left, le-trans, le-of-eq}
 use native.Mathlib.Numerals.{add-one, one-add}
 use native.Mathlib.Omega.{arith}
 use borrow.Author.Tests.{lt-ltb, le-ltb}
@@ -20,7 +20,7 @@ use Rattle.words.proofs.SumLaws.{sum-le, sum-more}
 use Rattle.reads.specs.ReadTurn.{appendBit, appended, laneWord}
 use Rattle.reads.proofs.ReadTurnLaws.{append-set, append-clear, appended-none, lane-lt}
 use Rattle.machine.specs.Turn.{stateWord}
-use Rattle.run.specs.Window.{windowOf, Readable}
+use Rattle.run.specs.Window.{windowOf}
 
 -- ---- the zeros below a mask's lowest bit
 

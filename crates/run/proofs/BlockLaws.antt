@@ -7,7 +7,7 @@ use Prim.Native.Nat.{ℕ, zero, suc, _+_, _≤_, _<_}
 use native.Mathlib.Omega.{arith}
 use borrow.Author.Tests.{eq-eqb, ne-eqb}
 use lib.Dec.{eqb}
-use lib.ListN.{length, getD, take, drop, replicate, length-take, length-drop, length-append, length-replicate, List·getD-append}
+use lib.ListN.{length, getD, take, drop, replicate, length-drop, length-append, length-replicate, List·getD-append}
 use lib.Seq.{sets, length-sets, length-take-le, take-take, take-at, drop-at, getD-take}
 use Rattle.machine.specs.Part.{stagesAt, lastAt, startAt, normalAt, endAt}
 use Rattle.machine.specs.Turn.{Block, readRow, stageRow, captured, begins, ended, afterRead, afterStage, afterStore, stored, turned, written}

@@ -1,13 +1,13 @@
 -- Capturing in place: what is read lies below the captured words or is the word that is written, so it is still that of before.
 -- Assumes nothing.
-use mathlib.Core.Path.{_≡_, refl, sym, ap, ap₂, _∙_}
+use mathlib.Core.Path.{_≡_, sym, ap, ap₂, _∙_}
 use mathlib.Core.Bool.{Bool, true, false}
 use mathlib.Core.List.{List}
 use Prim.Native.Nat.{ℕ, _+_, _/_, _%_, _<_}
 use native.Mathlib.Omega.{arith}
 use borrow.Author.Tests.{eq-eqb, ne-eqb}
 use lib.Dec.{eqb}
-use lib.ListN.{length, getD, drop, set}
+use lib.ListN.{getD, drop, set}
 use lib.Seq.{sets, getD-drop}
 use Rattle.words.specs.Section.{listOf}
 use Rattle.words.proofs.SectionLaws.{length-listOf, listOf-ext}

@@ -1,18 +1,15 @@
 -- Two bits more of a gathered word, and one word more.
 -- Assumes nothing.
-use mathlib.Core.Path.{_≡_, refl, sym, ap, ap₂, _∙_, subst}
+use mathlib.Core.Path.{_≡_, sym, ap, _∙_, subst}
 use mathlib.Core.List.{List}
 use mathlib.Core.Logic.{⊎-elim}
 use Prim.Native.Nat.{ℕ, zero, suc, _+_, _-_, _*_, _/_, _%_, _^_, _≤_, _<_}
 use native.Mathlib.Nat.{add-zero}
-use native.Mathlib.Numerals.{add-one}
 use native.Mathlib.Omega.{arith}
-use borrow.Author.Count.{below-more}
 use lib.Bits.{bitOr, or-shifted-r}
 use lib.Pow.{shl-exact, pow-add}
 use lib.Arith.{digits-lt}
-use lib.ListN.{length, getD, set, length-set}
-use lib.Seq.{getD-set-same, getD-set-other}
+use lib.ListN.{length, getD, set}
 use Rattle.words.specs.Bit.{bit, bitAt}
 use Rattle.words.specs.Section.{placeOf, halfOf, halfAt}
 use Rattle.words.proofs.BitLaws.{lt-or-ge, bit-lt, bit-low, bit-high, bit-first, bit-suc}

@@ -1,6 +1,6 @@
 -- A half of a word as the code takes it.
 -- Assumes nothing.
-use mathlib.Core.Path.{_≡_, refl}
+use mathlib.Core.Path.{_≡_}
 use Prim.Native.Nat.{ℕ, _/_, _^_}
 use lib.Bits.{bitAnd, and-mask}
 use Rattle.words.specs.Section.{halfOf}

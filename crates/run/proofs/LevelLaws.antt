@@ -11,9 +11,7 @@ use lib.ListN.{length, getD, set, length-set}
 use lib.Seq.{getD-set-same, getD-set-other}
 use Rattle.words.specs.Bit.{bit, bitAt}
 use Rattle.words.proofs.BitLaws.{lt-or-ge, bit-low, bit-high}
-use Rattle.machine.specs.Turn.{gate}
-use Rattle.run.specs.Fill.{Filled}
-use Rattle.run.specs.Level.{gateWord, gateOf, laneGate, LevelIn, WordLevel, BitLevel, Low, Staged}
+use Rattle.run.specs.Level.{gateOf, laneGate, LevelIn, WordLevel, BitLevel, Low, Staged}
 use Rattle.run.proofs.FillLaws.{filled-more}
 use Rattle.run.proofs.LowLaws.{bit-gate}
 

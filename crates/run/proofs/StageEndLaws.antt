@@ -1,23 +1,22 @@
 -- What gathering and the levels leave is the stage of the definition: the section's two parts are cut out of the script's words, and the bits keep
 -- the levels' rule. Argued over n = 2^j lanes.
 -- Assumes nothing.
-use mathlib.Core.Path.{_≡_, refl, sym, ap, ap₂, _∙_, subst}
+use mathlib.Core.Path.{_≡_, sym, ap, ap₂, _∙_}
 use mathlib.Core.List.{List, _++_}
 use Prim.Native.Nat.{ℕ, suc, _+_, _-_, _*_, _/_, _%_, _^_, _≤_, _<_}
 use native.Mathlib.Nat.{add-zero, mul-comm}
 use native.Mathlib.Omega.{arith}
-use lib.ListN.{length, getD, take, drop, length-take, length-drop, take-append-drop}
+use lib.ListN.{length, getD, take, drop, length-drop, take-append-drop}
 use lib.Pow.{pow-add, pow-mono}
 use lib.Seq.{getD-take, getD-drop, length-take-le}
 use Rattle.words.specs.Bit.{bit, bitAt}
 use Rattle.words.specs.Section.{placeOf, halfOf, halfAt}
 use Rattle.words.proofs.SectionLaws.{place-lt}
 use Rattle.machine.specs.Part.{stagesAt, sectionAt, entryAt, laneWordAt}
-use Rattle.machine.specs.Turn.{gate, gateAt, stageRow}
+use Rattle.machine.specs.Turn.{gateAt, stageRow}
 use Rattle.machine.proofs.StageLaws.{at-word, words-of, StageBits, stage-is}
 use Rattle.run.specs.Well.{EntriesIn, Entries}
-use Rattle.run.specs.Fill.{Filled}
-use Rattle.run.specs.Gather.{GatherBits, Gathered, gatheredRow}
+use Rattle.run.specs.Gather.{Gathered, gatheredRow}
 use Rattle.run.specs.Level.{laneGate, Staged}
 
 -- ---- a part of the words

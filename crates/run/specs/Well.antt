@@ -2,13 +2,13 @@
 -- n is the number of lanes, W the words, o the word at which the part begins.
 -- Assumes nothing.
 use mathlib.Core.List.{List}
-use Prim.Native.Nat.{ℕ, _+_, _*_, _/_, _%_, _^_, _<_, _≤_}
+use Prim.Native.Nat.{ℕ, _+_, _*_, _%_, _^_, _<_, _≤_}
 use lib.ListN.{length}
 use Rattle.words.specs.Sum.{sumTo}
 use Rattle.words.specs.Bit.{pop}
 use Rattle.words.specs.Section.{halfAt}
 use Rattle.words.specs.Edition.{partWords}
-use Rattle.machine.specs.Part.{stagesAt, writeOutsAt, startAt, sramsAt, roundsAt, duplicatesAt, normalAt, locationIn, readWordAt, readMaskAt, entryAt}
+use Rattle.machine.specs.Part.{stagesAt, writeOutsAt, sramsAt, roundsAt, duplicatesAt, normalAt, locationIn, readWordAt, readMaskAt, entryAt}
 
 -- the part's words lie inside W
 pub record PartIn (n : ℕ) (W : List ℕ) (o : ℕ) : Type 0 where

@@ -3,14 +3,13 @@ use crate::part;
 use crate::read;
 use crate::stage;
 use crate::store;
-
 ghost use mathlib.Core.Path.{_≡_};
 ghost use Prim.Native.Nat.{_<_};
 ghost use lib.ListN.{length};
-ghost use Rattle.machine.specs.Part.{stagesAt, lastAt};
-ghost use Rattle.machine.specs.Turn.{begins, afterStore, turned, written};
+ghost use Rattle.machine.specs.Part.{stagesAt};
+ghost use Rattle.machine.specs.Turn.{begins, turned, written};
 ghost use Rattle.run.specs.Well.{PartIn, Reads, EntriesIn, Captures};
-ghost use Rattle.run.specs.Block.{blockIn, roomRead, roomStaged, roomTurned, PartWell, BlockWell};
+ghost use Rattle.run.specs.Block.{blockIn, roomRead, roomStaged, roomTurned, BlockWell};
 
 // Where the block's part begins; what its next turn does: 0 read, 1 a stage, 2 store, 3 nothing; which stage.
 pub struct BlockState {
@@ -58,7 +57,13 @@ impl BlockState {
     }
 
     // One turn. A turn of a finished block does nothing.
-    pub fn turn(mut self, words: &[u32], old: &[u32], new: &mut [u32], room: &mut [u32]) -> BlockState
+    pub fn turn(
+        mut self,
+        words: &[u32],
+        old: &[u32],
+        new: &mut [u32],
+        room: &mut [u32],
+    ) -> BlockState
         requires { ⌜ BlockWell 256 (now words) (length (now old)) (length (now new)) (self .part) (self .phase) (self .stage) × (length (now room) ≡ 1024) ⌝ }
         ensures block { λ r. ⌜ blockIn 256 (now (words .entry)) (r .part) (r .phase) (r .stage) (now (room .exit))
             ≡ turned 256 13 (now (words .entry)) (now (old .entry)) (self .phase) (blockIn 256 (now (words .entry)) (self .part) (self .phase) (self .stage) (now (room .entry))) (now (new .entry)) ⌝ }

@@ -1,6 +1,5 @@
 // The read turn: document 01, "In the read turn the one-word window comes from the old state or the new, by bit 31. Unused lane bits are 0."
 use crate::part;
-
 ghost use mathlib.Core.Path.{_≡_};
 ghost use Prim.Native.Nat.{_+_, _*_, _^_, _<_, _≤_};
 ghost use lib.ListN.{length, getD};

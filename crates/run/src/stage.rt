@@ -2,11 +2,10 @@
 // The bits of n lanes stand in 2n words: words 0 .. n - 1 hold the positions before and after, words n .. 2n - 1 take the gathered bits.
 use crate::part;
 use words::bits;
-
 ghost use mathlib.Core.Path.{_≡_};
 ghost use mathlib.Core.List.{_++_};
 ghost use Prim.Native.Nat.{ℕ, _+_, _*_, _-_, _/_, _%_, _^_, _<_, _≤_};
-ghost use lib.ListN.{length, getD, take};
+ghost use lib.ListN.{length, take};
 ghost use Rattle.words.specs.Bit.{bit, bitAt};
 ghost use Rattle.words.specs.Section.{halfAt};
 ghost use Rattle.machine.specs.Part.{stagesAt};

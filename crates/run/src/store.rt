@@ -1,7 +1,6 @@
 // Captured words: document 01, "A write-out location w captures positions 32w..32w+31" and "The store turn puts normal captured words, as they
 // are, at state start onward." A block's room has its positions in words 0..255 and its captured words from word 512 on.
 use crate::part;
-
 ghost use mathlib.Core.Path.{_≡_};
 ghost use Prim.Native.Nat.{_+_, _<_, _≤_};
 ghost use lib.ListN.{length, take, drop, replicate};

@@ -1,49 +1,37 @@
+-- `run::block::read_room` meets its contract: a part that is lent comes back in its place.
+-- Assumes nothing.
 use borrow.Author.Needs.{needs}
 use Rattle.run.proofs.BlockLaws.{read-room-is}
 use Rattle.run.proofs.block.read_room.Statement.{statement}
 use Rattle.run.proofs.block.read_room.Tie as tie
-use Rattle.run.proofs.block.read_room.Reads as reads
-use Rattle.run.proofs.block.read_room.Lts as lts
-use Rattle.run.proofs.read.read_turn.Reads as read-turn-reads
-use Rattle.run.proofs.store.clear.Reads as clear-reads
 
--- src/block.rt:27:42
 sub-read-turn : tie.Need-sub-read-turn
 sub-read-turn c = search needs
 
--- src/block.rt:27:42
 part-read-turn-start : tie.Need-part-read-turn-start
 part-read-turn-start c = search needs
 
--- src/block.rt:27:42
 part-read-turn-end : tie.Need-part-read-turn-end
 part-read-turn-end c = search needs
 
--- src/block.rt:27:5
 read-turn-requires : tie.Need-read-turn-requires
 read-turn-requires c κs = search needs
 
--- src/block.rt:28:18
 sub-clear : tie.Need-sub-clear
 sub-clear c = search needs
 
--- src/block.rt:28:18
 part-clear-start : tie.Need-part-clear-start
 part-clear-start c = search needs
 
--- src/block.rt:28:18
 part-clear-end : tie.Need-part-clear-end
 part-clear-end c = search needs
 
--- src/block.rt:28:5
 clear-requires : tie.Need-clear-requires
 clear-requires c κs = search needs
 
--- src/block.rt:23:1
 same-length : tie.Need-same-length
 same-length c = search needs
 
--- src/block.rt:23:1
 returns : tie.Need-returns
 returns c =
     let start = c .before .before .before .before .before .before .before .before .before .before .before .before in

@@ -1,37 +1,28 @@
+-- `run::block::stage_room` meets its contract: the positions come back in their place, and the captured words are those of the new positions.
+-- Assumes nothing.
 use borrow.Author.Needs.{needs}
 use Rattle.run.proofs.BlockLaws.{stage-room-is}
 use Rattle.run.proofs.block.stage_room.Statement.{statement}
 use Rattle.run.proofs.block.stage_room.Tie as tie
-use Rattle.run.proofs.block.stage_room.Reads as reads
-use Rattle.run.proofs.block.stage_room.Lts as lts
-use Rattle.run.proofs.stage.stage_turn.Reads as stage-turn-reads
-use Rattle.run.proofs.store.capture.Reads as capture-reads
 
--- src/block.rt:36:37
 sub-stage-turn : tie.Need-sub-stage-turn
 sub-stage-turn c = search needs
 
--- src/block.rt:36:37
 part-stage-turn-start : tie.Need-part-stage-turn-start
 part-stage-turn-start c = search needs
 
--- src/block.rt:36:37
 part-stage-turn-end : tie.Need-part-stage-turn-end
 part-stage-turn-end c = search needs
 
--- src/block.rt:36:5
 stage-turn-requires : tie.Need-stage-turn-requires
 stage-turn-requires c κs = search needs
 
--- src/block.rt:37:5
 capture-requires : tie.Need-capture-requires
 capture-requires c κs = search needs
 
--- src/block.rt:32:1
 same-length : tie.Need-same-length
 same-length c = search needs
 
--- src/block.rt:32:1
 returns : tie.Need-returns
 returns c =
     let start = c .before .before .before .before .before .before .before .before .before .before in

@@ -1,3 +1,5 @@
+-- `run::read::read_lane` meets its contract. The invariant: the lane's word after r rounds.
+-- Assumes nothing.
 use mathlib.Core.Path.{_≡_, refl}
 use Prim.Native.Nat.{ℕ, _-_, _≤_, _<_}
 use borrow.Author.Needs.{needs}
@@ -8,10 +10,6 @@ use Rattle.machine.specs.Turn.{stateWord}
 use Rattle.run.proofs.AppendLaws.{lane-room, lane-more}
 use Rattle.run.proofs.read.read_lane.Statement.{statement}
 use Rattle.run.proofs.read.read_lane.Tie as tie
-use Rattle.run.proofs.read.read_lane.Reads as reads
-use Rattle.run.proofs.read.read_lane.Lts as lts
-use Rattle.run.proofs.part.rounds.Reads as rounds-reads
-use Rattle.run.proofs.read.read_round.Reads as read-round-reads
 
 abbrev Inv-loop : tie.InvT-loop
 Inv-loop words at old new i acc₀ r₀ r-end acc r =
@@ -20,36 +18,28 @@ Inv-loop words at old new i acc₀ r₀ r-end acc r =
 abbrev μ-loop : tie.MeasureT-loop
 μ-loop words at old new i acc₀ r₀ r-end acc r = r-end - r
 
--- src/read.rt:71:17
 rounds-requires : tie.Need-rounds-requires Inv-loop μ-loop
 rounds-requires c κs = search needs
 
--- src/read.rt:71:5
 loop-holds : tie.Need-loop-holds Inv-loop μ-loop
 unfolding laneWord
 loop-holds c = (omega arith, c .rounds .ensures, refl)
 
--- src/read.rt:72:38
 add-read-round : tie.Need-add-read-round Inv-loop μ-loop
 add-read-round c = search needs
 
--- src/read.rt:72:49
 mul-read-round : tie.Need-mul-read-round Inv-loop μ-loop
 mul-read-round c = search needs
 
--- src/read.rt:72:38
 add-read-round-2 : tie.Need-add-read-round-2 Inv-loop μ-loop
 add-read-round-2 c = search needs
 
--- src/read.rt:72:59
 mul-read-round-2 : tie.Need-mul-read-round-2 Inv-loop μ-loop
 mul-read-round-2 c = search needs
 
--- src/read.rt:72:38
 add-read-round-3 : tie.Need-add-read-round-3 Inv-loop μ-loop
 add-read-round-3 c = search needs
 
--- src/read.rt:72:9
 read-round-requires : tie.Need-read-round-requires Inv-loop μ-loop
 unfolding readWordAt readMaskAt
 read-round-requires c κs =
@@ -63,22 +53,18 @@ read-round-requires c κs =
     let room = lane-room W M (l .r) (roundsAt (start .args .words .now) (start .args .at)) within (form .lanes i (start .pre .2)) in
     (omega arith, form .words (l .r) i within (start .pre .2), rw (l .inv .2) room)
 
--- src/read.rt:71:9
 add-r : tie.Need-add-r Inv-loop μ-loop
 add-r c = search needs
 
--- src/read.rt:71:5
 loop-less : tie.Need-loop-less Inv-loop μ-loop
 loop-less c = search needs
 
--- src/read.rt:71:5
 loop-again : tie.Need-loop-again Inv-loop μ-loop
 unfolding readWordAt readMaskAt
 loop-again c =
     let l = c .before .before .loop in
     (omega arith, l .inv .1, lane-more _ _ _ _ _ (l .inv .2) (c .read-round .ensures))
 
--- src/read.rt:66:1
 returns : tie.Need-returns Inv-loop μ-loop
 returns c =
     let l = c .before .loop in

@@ -1,3 +1,5 @@
+-- `run::read::read_round` meets its contract: an empty mask reads nothing, and the window's word is the state word.
+-- Assumes nothing.
 use mathlib.Core.Path.{_≡_, sym, ap, _∙_}
 use mathlib.Core.List.{List}
 use Prim.Native.Nat.{ℕ, _+_}
@@ -9,51 +11,37 @@ use Rattle.reads.proofs.ReadTurnLaws.{appended-none}
 use Rattle.run.proofs.AppendLaws.{window-word}
 use Rattle.run.proofs.read.read_round.Statement.{statement}
 use Rattle.run.proofs.read.read_round.Tie as tie
-use Rattle.run.proofs.read.read_round.Reads as reads
-use Rattle.run.proofs.read.read_round.Lts as lts
-use Rattle.run.proofs.read.append.Reads as append-reads
-use Rattle.run.proofs.read.window.Reads as window-reads
 
--- src/read.rt:56:22
 add-mask : tie.Need-add-mask
 add-mask c = search needs
 
--- src/read.rt:56:16
 mul-mask : tie.Need-mul-mask
 mul-mask c = search needs
 
--- src/read.rt:56:16
 shared-slice-read-mask : tie.Need-shared-slice-read-mask
 shared-slice-read-mask c = search needs
 
--- src/read.rt:58:37
 mul-window : tie.Need-mul-window
 mul-window c = search needs
 
--- src/read.rt:58:37
 shared-slice-read-window : tie.Need-shared-slice-read-window
 shared-slice-read-window c = search needs
 
--- src/read.rt:58:13
 window-requires : tie.Need-window-requires
 window-requires c κs = c .before .before .before .before .before .before .pre .1 (c .before .if1 .taken)
 
--- src/read.rt:59:21
 shared-slice-read-append : tie.Need-shared-slice-read-append
 shared-slice-read-append c = search needs
 
--- src/read.rt:59:9
 append-requires : tie.Need-append-requires
 append-requires c κs = search needs
 
--- src/read.rt:50:1
 returns : tie.Need-returns
 returns c =
     let start = c .before .before .before .before .before .before .before .before .before in
     let word = ap (λ (l : List ℕ). getD l 0 0) (c .before .before .window .ensures .0) ∙ window-word _ _ _ in
     c .append .ensures ∙ ap (λ (x : ℕ). appended 32 x (getD (start .args .words .now) (start .args .pair + 1) 0) (start .args .acc)) word
 
--- src/read.rt:50:1
 returns-2 : tie.Need-returns-2
 returns-2 c =
     let start = c .before .before .before .before .before in

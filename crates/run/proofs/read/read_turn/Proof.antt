@@ -1,5 +1,7 @@
-use mathlib.Core.Path.{_≡_, refl}
-use Prim.Native.Nat.{ℕ, _-_, _≤_}
+-- `run::read::read_turn` meets its contract. The invariant: lanes 0 .. i - 1 are read.
+-- Assumes nothing.
+use mathlib.Core.Path.{_≡_}
+use Prim.Native.Nat.{_-_, _≤_}
 use borrow.Author.Needs.{needs}
 use native.Mathlib.Omega.{arith}
 use Rattle.reads.specs.ReadTurn.{laneWord}
@@ -10,9 +12,6 @@ use Rattle.run.specs.Fill.{Filled}
 use Rattle.run.proofs.FillLaws.{filled-none, filled-more}
 use Rattle.run.proofs.read.read_turn.Statement.{statement}
 use Rattle.run.proofs.read.read_turn.Tie as tie
-use Rattle.run.proofs.read.read_turn.Reads as reads
-use Rattle.run.proofs.read.read_turn.Lts as lts
-use Rattle.run.proofs.read.read_lane.Reads as read-lane-reads
 
 abbrev Inv-loop : tie.InvT-loop
 Inv-loop words at old new row₀ i₀ row i =
@@ -21,42 +20,33 @@ Inv-loop words at old new row₀ i₀ row i =
 abbrev μ-loop : tie.MeasureT-loop
 μ-loop words at old new row₀ i₀ row i = 256 - i
 
--- src/read.rt:82:5
 loop-holds : tie.Need-loop-holds Inv-loop μ-loop
 loop-holds c = (omega arith, filled-none _ _ _)
 
--- src/read.rt:83:18
 read-lane-requires : tie.Need-read-lane-requires Inv-loop μ-loop
 read-lane-requires c κs = search needs
 
--- src/read.rt:83:9
 mul-row : tie.Need-mul-row Inv-loop μ-loop
 mul-row c = search needs
 
--- src/read.rt:83:9
 slice-write-row : tie.Need-slice-write-row Inv-loop μ-loop
 slice-write-row c = search needs
 
--- src/read.rt:82:9
 add-i : tie.Need-add-i Inv-loop μ-loop
 add-i c = search needs
 
--- src/read.rt:82:5
 loop-less : tie.Need-loop-less Inv-loop μ-loop
 loop-less c = search needs
 
--- src/read.rt:82:5
 loop-again : tie.Need-loop-again Inv-loop μ-loop
 loop-again c =
     let l = c .before .before .loop in
     let start = c .before .before .before .before .before .before .before in
     (omega arith, filled-more _ 0 _ (start .args .row .now) _ _ (l .inv .1) (omega arith) (omega arith) (c .read-lane .ensures))
 
--- src/read.rt:78:1
 same-length : tie.Need-same-length Inv-loop μ-loop
 same-length c = search needs
 
--- src/read.rt:78:1
 returns : tie.Need-returns Inv-loop μ-loop
 unfolding readRow
 returns c =

@@ -1,64 +1,51 @@
+-- `run::read::window` meets its contract: the word is in both states, so a part of one word can be lent of either.
+-- Assumes nothing.
 use Prim.Native.Nat.{_-_, _^_}
 use borrow.Author.Needs.{needs}
 use native.Mathlib.Omega.{arith}
 use Rattle.run.proofs.AppendLaws.{window-long, window-old, window-new}
 use Rattle.run.proofs.read.window.Statement.{statement}
 use Rattle.run.proofs.read.window.Tie as tie
-use Rattle.run.proofs.read.window.Reads as reads
-use Rattle.run.proofs.read.window.Lts as lts
 
--- src/read.rt:21:18
 add-to : tie.Need-add-to
 add-to c = search needs
 
--- src/read.rt:22:9
 mul-result : tie.Need-mul-result
 mul-result c = search needs
 
--- src/read.rt:22:9
 sub-result : tie.Need-sub-result
 sub-result c = search needs
 
--- src/read.rt:22:9
 part-result-start : tie.Need-part-result-start
 part-result-start c = search needs
 
--- src/read.rt:22:9
 part-result-end : tie.Need-part-result-end
 part-result-end c = search needs
 
--- src/read.rt:24:20
 cast-from : tie.Need-cast-from
 cast-from c = search needs
 
--- src/read.rt:25:18
 add-to-2 : tie.Need-add-to-2
 add-to-2 c = search needs
 
--- src/read.rt:26:9
 mul-result-2 : tie.Need-mul-result-2
 mul-result-2 c = search needs
 
--- src/read.rt:26:9
 sub-result-2 : tie.Need-sub-result-2
 sub-result-2 c = search needs
 
--- src/read.rt:26:9
 part-result-start-2 : tie.Need-part-result-start-2
 part-result-start-2 c = search needs
 
--- src/read.rt:26:9
 part-result-end-2 : tie.Need-part-result-end-2
 part-result-end-2 c = search needs
 
--- src/read.rt:15:1
 returns : tie.Need-returns
 returns c =
     let start = c .before .before .args in
     let below = c .before .if1 .taken in
     (window-old _ _ _ below, window-long (start .old .now) (start .w) (omega arith))
 
--- src/read.rt
 returns-2 : tie.Need-returns-2
 returns-2 c =
     let start = c .before .before .args in

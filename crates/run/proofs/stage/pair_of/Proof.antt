@@ -1,49 +1,41 @@
+-- `run::stage::pair_of` meets its contract: entries 32j + 2h and 32j + 2h + 1 are the halves of that word.
+-- Assumes nothing.
 use borrow.Author.Needs.{needs}
 use native.Mathlib.Omega.{arith}
 use Rattle.run.proofs.GatherLaws.{pair-low, pair-high, pair-in}
 use Rattle.run.proofs.stage.pair_of.Statement.{statement}
 use Rattle.run.proofs.stage.pair_of.Tie as tie
-use Rattle.run.proofs.stage.pair_of.Reads as reads
-use Rattle.run.proofs.stage.pair_of.Lts as lts
 
--- src/stage.rt:33:16
 mul-result : tie.Need-mul-result
 mul-result c = search needs
 
--- src/stage.rt:33:7
 mul-result-2 : tie.Need-mul-result-2
 mul-result-2 c =
     let lt = pair-in (c .args .n) (c .args .j) (c .args .h) (c .pre .1) (c .pre .0) in
     omega arith
 
--- src/stage.rt:33:26
 mul-result-3 : tie.Need-mul-result-3
 mul-result-3 c = search needs
 
--- src/stage.rt:33:26
 add-result : tie.Need-add-result
 add-result c = search needs
 
--- src/stage.rt:33:7
 add-result-2 : tie.Need-add-result-2
 add-result-2 c =
     let lt = pair-in (c .args .n) (c .args .j) (c .args .h) (c .pre .1) (c .pre .0) in
     omega arith
 
--- src/stage.rt:33:5
 mul-result-4 : tie.Need-mul-result-4
 mul-result-4 c =
     let lt = pair-in (c .args .n) (c .args .j) (c .args .h) (c .pre .1) (c .pre .0) in
     omega arith
 
--- src/stage.rt:33:5
 shared-slice-read-result : tie.Need-shared-slice-read-result
 shared-slice-read-result c =
     let start = c .before in
     let lt = pair-in (start .args .n) (start .args .j) (start .args .h) (start .pre .1) (start .pre .0) in
     omega arith
 
--- src/stage.rt:29:1
 returns : tie.Need-returns
 returns c = (pair-low _ _ _ _ (c .before .pre .1), pair-high _ _ _ _ (c .before .pre .1))
 

@@ -1,37 +1,29 @@
+-- `run::stage::picked` meets its contract: two bits make a number below 4.
+-- Assumes nothing.
 use borrow.Author.Needs.{needs}
 use native.Mathlib.Omega.{arith}
 use Rattle.run.proofs.GatherLaws.{at-small}
 use Rattle.run.proofs.stage.picked.Statement.{statement}
 use Rattle.run.proofs.stage.picked.Tie as tie
-use Rattle.run.proofs.stage.picked.Reads as reads
-use Rattle.run.proofs.stage.picked.Lts as lts
-use Rattle.words.proofs.bits.bit_at.Reads as bit-at-reads
 
--- src/stage.rt:23:15
 cast-low : tie.Need-cast-low
 cast-low c = search needs
 
--- src/stage.rt:24:16
 cast-high : tie.Need-cast-high
 cast-high c = search needs
 
--- src/stage.rt:25:5
 bit-at-requires : tie.Need-bit-at-requires
 bit-at-requires c κs = search needs
 
--- src/stage.rt:25:5
 mul-result : tie.Need-mul-result
 mul-result c = omega (arith, at-small _ _ _ (c .bit-at .ensures))
 
--- src/stage.rt:25:33
 bit-at-requires-2 : tie.Need-bit-at-requires-2
 bit-at-requires-2 c κs = search needs
 
--- src/stage.rt:25:5
 add-result : tie.Need-add-result
 add-result c = omega (arith, at-small _ _ _ (c .before .bit-at .ensures), at-small _ _ _ (c .bit-at2 .ensures))
 
--- src/stage.rt:19:1
 returns : tie.Need-returns
 returns c = search needs
 

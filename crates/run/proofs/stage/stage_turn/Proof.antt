@@ -1,3 +1,5 @@
+-- `run::stage::stage_turn` meets its contract: the two parts of the section are cut out of the words, and what gathering and the levels leave is the stage.
+-- Assumes nothing.
 use mathlib.Core.Path.{_≡_, refl, ap}
 use Prim.Native.Nat.{ℕ, _+_}
 use borrow.Author.Needs.{needs}
@@ -6,41 +8,28 @@ use Rattle.machine.specs.Part.{sectionAt}
 use Rattle.run.proofs.StageEndLaws.{cut, entries-cut, stage-end}
 use Rattle.run.proofs.stage.stage_turn.Statement.{statement}
 use Rattle.run.proofs.stage.stage_turn.Tie as tie
-use Rattle.run.proofs.stage.stage_turn.Reads as reads
-use Rattle.run.proofs.stage.stage_turn.Lts as lts
-use Rattle.run.proofs.part.section.Reads as section-reads
-use Rattle.run.proofs.stage.gather.Reads as gather-reads
-use Rattle.run.proofs.stage.levels.Reads as levels-reads
 
--- src/stage.rt:127:9
 section-requires : tie.Need-section-requires
 section-requires c κs = search needs
 
--- src/stage.rt:128:17
 add-lanes : tie.Need-add-lanes
 add-lanes c = search needs
 
--- src/stage.rt:129:14
 add-to : tie.Need-add-to
 add-to c = search needs
 
--- src/stage.rt:130:15
 mul-gather : tie.Need-mul-gather
 mul-gather c = search needs
 
--- src/stage.rt:130:15
 sub-gather : tie.Need-sub-gather
 sub-gather c = search needs
 
--- src/stage.rt:130:15
 part-gather-start : tie.Need-part-gather-start
 part-gather-start c = search needs
 
--- src/stage.rt:130:15
 part-gather-end : tie.Need-part-gather-end
 part-gather-end c = search needs
 
--- src/stage.rt:130:5
 gather-requires : tie.Need-gather-requires
 gather-requires c κs =
     let known = c .before .before in
@@ -50,23 +39,18 @@ gather-requires c κs =
     let p = cut W from (from + 4096) _ 4096 (known .section .ensures .0) refl (omega arith) in
     (omega arith, omega (arith, p .long), omega arith, entries-cut 256 W _ _ _ p (start .pre .1) (start .pre .2))
 
--- src/stage.rt:131:15
 mul-levels : tie.Need-mul-levels
 mul-levels c = search needs
 
--- src/stage.rt:131:15
 sub-levels : tie.Need-sub-levels
 sub-levels c = search needs
 
--- src/stage.rt:131:15
 part-levels-start : tie.Need-part-levels-start
 part-levels-start c = search needs
 
--- src/stage.rt:131:15
 part-levels-end : tie.Need-part-levels-end
 part-levels-end c = search needs
 
--- src/stage.rt:131:5
 levels-requires : tie.Need-levels-requires
 levels-requires c κs =
     let gathered = c .before .before .before .before in
@@ -76,11 +60,9 @@ levels-requires c κs =
     let t = cut (start .args .words .now) (from + 4096) (from + 5120) _ 1024 refl (omega arith) (omega arith) in
     ((8, refl), omega (arith, gathered .gather .ensures .long), omega (arith, t .long))
 
--- src/stage.rt:123:1
 same-length : tie.Need-same-length
 same-length c = search needs
 
--- src/stage.rt:123:1
 returns : tie.Need-returns
 returns c =
     let staged = c .before .before in

@@ -1,19 +1,16 @@
-use mathlib.Core.Path.{_≡_, refl, ap, _∙_}
-use mathlib.Core.List.{List}
-use Prim.Native.Nat.{ℕ, _+_, _-_, _≤_}
+-- `run::store::store` meets its contract. The invariant: l words are stored.
+-- Assumes nothing.
+use mathlib.Core.Path.{_≡_, refl}
+use Prim.Native.Nat.{_-_, _≤_}
 use borrow.Author.Needs.{needs}
 use native.Mathlib.Omega.{arith}
-use lib.ListN.{length, getD, set, length-set}
+use lib.ListN.{length, getD, length-set}
 use lib.Seq.{sets}
 use Rattle.words.specs.Section.{listOf}
 use Rattle.machine.specs.Part.{startAt, normalAt}
 use Rattle.run.proofs.FillLaws.{stored-more, take-is}
 use Rattle.run.proofs.store.store.Statement.{statement}
 use Rattle.run.proofs.store.store.Tie as tie
-use Rattle.run.proofs.store.store.Reads as reads
-use Rattle.run.proofs.store.store.Lts as lts
-use Rattle.run.proofs.part.normal.Reads as normal-reads
-use Rattle.run.proofs.part.start.Reads as start-reads
 
 abbrev Inv-loop : tie.InvT-loop
 Inv-loop words at caps new₀ start l₀ l-end new l =
@@ -22,67 +19,54 @@ Inv-loop words at caps new₀ start l₀ l-end new l =
 abbrev μ-loop : tie.MeasureT-loop
 μ-loop words at caps new₀ start l₀ l-end new l = l-end - l
 
--- src/store.rt:52:9
 start-requires : tie.Need-start-requires Inv-loop μ-loop
 start-requires c κs = search needs
 
--- src/store.rt:53:17
 normal-requires : tie.Need-normal-requires Inv-loop μ-loop
 normal-requires c κs = search needs
 
--- src/store.rt:53:5
 loop-holds : tie.Need-loop-holds Inv-loop μ-loop
 unfolding listOf
 loop-holds c = (omega arith, c .normal .ensures, c .before .start .ensures, refl, refl)
 
--- src/store.rt:54:26
 mul-new : tie.Need-mul-new Inv-loop μ-loop
 mul-new c = search needs
 
--- src/store.rt:54:26
 shared-slice-read-new : tie.Need-shared-slice-read-new Inv-loop μ-loop
 shared-slice-read-new c = search needs
 
--- src/store.rt:54:13
 add-new : tie.Need-add-new Inv-loop μ-loop
 add-new c =
     let start = c .before .before .before .before .before .before .before .before in
     let inside = start .pre .3 (omega arith) in
     omega arith
 
--- src/store.rt:54:9
 mul-new-2 : tie.Need-mul-new-2 Inv-loop μ-loop
 mul-new-2 c =
     let start = c .before .before .before .before .before .before .before .before in
     let inside = start .pre .3 (omega arith) in
     omega arith
 
--- src/store.rt:54:9
 slice-write-new : tie.Need-slice-write-new Inv-loop μ-loop
 slice-write-new c =
     let start = c .before .before .before .before .before .before .before .before in
     let inside = start .pre .3 (omega arith) in
     omega arith
 
--- src/store.rt:53:9
 add-l : tie.Need-add-l Inv-loop μ-loop
 add-l c = search needs
 
--- src/store.rt:53:5
 loop-less : tie.Need-loop-less Inv-loop μ-loop
 loop-less c = search needs
 
--- src/store.rt:53:5
 loop-again : tie.Need-loop-again Inv-loop μ-loop
 loop-again c =
     let l = c .before .before .loop in
     (omega arith, l .inv .1, l .inv .2, simp length-set (l .inv .3), stored-more _ _ _ _ _ (l .inv .4))
 
--- src/store.rt:48:1
 same-length : tie.Need-same-length Inv-loop μ-loop
 same-length c = c .before .loop .inv .3
 
--- src/store.rt:48:1
 returns : tie.Need-returns Inv-loop μ-loop
 returns c =
     let l = c .before .loop in

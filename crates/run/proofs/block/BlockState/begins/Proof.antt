@@ -1,21 +1,17 @@
+-- `run::block::BlockState::begins` meets its contract: by the test on the stages.
+-- Assumes nothing.
 use mathlib.Core.Path.{refl}
 use borrow.Author.Needs.{needs}
 use Rattle.run.proofs.BlockLaws.{begins-empty, begins-part}
 use Rattle.run.proofs.block.BlockState.begins.Statement.{statement}
 use Rattle.run.proofs.block.BlockState.begins.Tie as tie
-use Rattle.run.proofs.block.BlockState.begins.Reads as reads
-use Rattle.run.proofs.block.BlockState.begins.Lts as lts
-use Rattle.run.proofs.part.stages.Reads as stages-reads
 
--- src/block.rt:46:12
 stages-requires : tie.Need-stages-requires
 stages-requires c κs = search needs
 
--- src/block.rt:47:13
 returns : tie.Need-returns
 returns c = (refl, begins-empty _ _ _ (c .before .stages .ensures) (c .if1 .taken), refl)
 
--- src/block.rt:42:5
 returns-2 : tie.Need-returns-2
 returns-2 c = (refl, begins-part _ _ _ (c .before .stages .ensures) (c .if1 .left), refl)
 

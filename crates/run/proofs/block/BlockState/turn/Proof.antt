@@ -1,4 +1,6 @@
-use mathlib.Core.Path.{_≡_, sym, ap, _∙_}
+-- `run::block::BlockState::turn` meets its contract: one law for each way through.
+-- Assumes nothing.
+use mathlib.Core.Path.{sym, ap, _∙_}
 use Prim.Native.Nat.{ℕ}
 use borrow.Author.Needs.{needs}
 use native.Mathlib.Omega.{arith}
@@ -8,101 +10,76 @@ use Rattle.machine.specs.Turn.{begins}
 use Rattle.run.proofs.BlockLaws.{read-done, stage-done-last, stage-done-more, store-done-last, store-done-next, idle-done}
 use Rattle.run.proofs.block.BlockState.turn.Statement.{statement}
 use Rattle.run.proofs.block.BlockState.turn.Tie as tie
-use Rattle.run.proofs.block.BlockState.turn.Reads as reads
-use Rattle.run.proofs.block.BlockState.turn.Lts as lts
-use Rattle.run.proofs.block.BlockState.begins.Reads as begins-reads
-use Rattle.run.proofs.block.read_room.Reads as read-room-reads
-use Rattle.run.proofs.block.stage_room.Reads as stage-room-reads
-use Rattle.run.proofs.part.last.Reads as last-reads
-use Rattle.run.proofs.part.part_end.Reads as part-end-reads
-use Rattle.run.proofs.part.stages.Reads as stages-reads
-use Rattle.run.proofs.store.store.Reads as store-reads
 
--- src/block.rt:72:13
 read-room-requires : tie.Need-read-room-requires
 read-room-requires c κs =
     let start = c .before .before .before .before .before .before .before in
     let well = start .pre .0 .well (omega arith) in
     (well .part, well .reads, search needs)
 
--- src/block.rt:75:13
 same-length : tie.Need-same-length
 same-length c = search needs
 
--- src/block.rt:75:13
 same-length-2 : tie.Need-same-length-2
 same-length-2 c = search needs
 
--- src/block.rt:75:13
 returns : tie.Need-returns
 returns c =
     let start = c .before .before .before .before .before .before .before .before .before .before in
     let well = start .pre .0 .well (omega arith) in
     read-done _ _ _ _ _ _ _ (start .pre .1) (well .captures .few) _ (c .before .before .before .before .before .if1 .taken) (c .before .before .read-room .ensures)
 
--- src/block.rt:78:13
 stage-room-requires : tie.Need-stage-room-requires
 stage-room-requires c κs =
     let start = c .before .before .before .before .before .before .before in
     let well = start .pre .0 .well (omega arith) in
     (well .part, well .entries, well .captures, start .pre .0 .within (c .before .if2 .taken), search needs)
 
--- src/block.rt:79:26
 add-self : tie.Need-add-self
 add-self c =
     let start = c .before .before .before .before .before .before .before .before .before .before in
     let within = start .pre .0 .within (c .before .before .before .before .if2 .taken) in
     omega (arith, c .before .before .before .before .before .before .before .before .before .shared-slice-known .given (start .args .self .part))
 
--- src/block.rt:80:16
 add-if3 : tie.Need-add-if3
 add-if3 c =
     let start = c .before .before .before .before .before .before .before .before .before .before in
     let within = start .pre .0 .within (c .before .before .before .before .if2 .taken) in
     omega (arith, c .before .before .before .before .before .before .before .before .before .shared-slice-known .given (start .args .self .part))
 
--- src/block.rt:80:25
 stages-requires : tie.Need-stages-requires
 stages-requires c κs =
     let start = c .before .before .before .before .before .before .before .before .before .before in
     let part = start .pre .0 .well (omega (arith, c .before .before .before .before .if2 .taken)) .part in
     omega arith
 
--- src/block.rt:83:13
 same-length-3 : tie.Need-same-length-3
 same-length-3 c = search needs
 
--- src/block.rt:83:13
 returns-2 : tie.Need-returns-2
 returns-2 c =
     let start = c .before .before .before .before .before .before .before .before .before .before .before .before in
     let well = start .pre .0 .well (omega (arith, c .before .before .before .before .before .before .if2 .taken)) in
     stage-done-last _ _ _ _ _ _ _ (start .pre .1) (well .captures .few) _ (c .before .before .before .before .before .before .if2 .taken) (c .before .before .before .before .stage-room .ensures) (c .if3 .taken ∙ c .before .stages .ensures)
 
--- src/block.rt:83:13
 same-length-4 : tie.Need-same-length-4
 same-length-4 c = search needs
 
--- src/block.rt:83:13
 returns-3 : tie.Need-returns-3
 returns-3 c =
     let start = c .before .before .before .before .before .before .before .before .before .before .before .before in
     let well = start .pre .0 .well (omega (arith, c .before .before .before .before .before .before .if2 .taken)) in
     stage-done-more _ _ _ _ _ _ _ (start .pre .1) (well .captures .few) _ (c .before .before .before .before .before .before .if2 .taken) (c .before .before .before .before .stage-room .ensures) (λ q. c .if3 .left (q ∙ sym (c .before .stages .ensures)))
 
--- src/block.rt:86:37
 sub-store : tie.Need-sub-store
 sub-store c = search needs
 
--- src/block.rt:86:37
 part-store-start : tie.Need-part-store-start
 part-store-start c = search needs
 
--- src/block.rt:86:37
 part-store-end : tie.Need-part-store-end
 part-store-end c = search needs
 
--- src/block.rt:86:13
 store-requires : tie.Need-store-requires
 store-requires c κs =
     let start = c .before .before .before .before .before .before .before .before .before .before in
@@ -110,34 +87,28 @@ store-requires c κs =
     let room = start .args .room .now in
     (well .part, well .captures, length-take-le 256 (drop 512 room) (rw (length-drop 512 room) (omega arith)), well .stores)
 
--- src/block.rt:87:16
 last-requires : tie.Need-last-requires
 last-requires c κs =
     let start = c .before .before .before .before .before .before .before .before .before .before .before .before .before in
     start .pre .0 .well (omega (arith, c .before .before .before .before .before .before .if4 .taken)) .part
 
--- src/block.rt:90:17
 same-length-5 : tie.Need-same-length-5
 same-length-5 c = search needs
 
--- src/block.rt:90:17
 same-length-6 : tie.Need-same-length-6
 same-length-6 c = search needs
 
--- src/block.rt:90:17
 returns-4 : tie.Need-returns-4
 returns-4 c =
     let start = c .before .before .before .before .before .before .before .before .before .before .before .before .before .before .before in
     let well = start .pre .0 .well (omega (arith, c .before .before .before .before .before .before .before .before .if4 .taken)) in
     store-done-last _ _ _ _ _ _ _ (start .pre .1) (well .captures .few) _ (c .before .before .before .before .before .before .before .before .if4 .taken) (c .before .before .before .before .store .ensures) (sym (c .before .last .ensures) ∙ c .if5 .taken)
 
--- src/block.rt:92:46
 part-end-requires : tie.Need-part-end-requires
 part-end-requires c κs =
     let start = c .before .before .before .before .before .before .before .before .before .before .before .before .before .before .before in
     start .pre .0 .well (omega (arith, c .before .before .before .before .before .before .before .before .if4 .taken)) .part
 
--- src/block.rt:92:13
 begins-requires : tie.Need-begins-requires
 begins-requires c κs =
     let start = c .before .before .before .before .before .before .before .before .before .before .before .before .before .before .before .before in
@@ -145,15 +116,12 @@ begins-requires c κs =
     let next = well .next (λ q. c .before .if5 .left (c .before .before .last .ensures ∙ q)) in
     omega (arith, c .part-end .ensures)
 
--- src/block.rt:92:13
 same-length-7 : tie.Need-same-length-7
 same-length-7 c = search needs
 
--- src/block.rt:92:13
 same-length-8 : tie.Need-same-length-8
 same-length-8 c = search needs
 
--- src/block.rt:92:13
 returns-5 : tie.Need-returns-5
 returns-5 c =
     let start = c .before .before .before .before .before .before .before .before .before .before .before .before .before .before .before .before .before in
@@ -161,7 +129,6 @@ returns-5 c =
     store-done-next _ _ _ _ _ _ _ (start .pre .1) (well .captures .few) _ _ _ _ (c .before .before .before .before .before .before .before .before .before .before .if4 .taken) (c .before .before .before .before .before .before .store .ensures) (λ q. c .before .before .if5 .left (c .before .before .before .last .ensures ∙ q))
     (c .begins .ensures .0 ∙ c .before .part-end .ensures) (c .begins .ensures .1 ∙ ap (λ (o : ℕ). begins (start .args .words .now) o .phase) (sym (c .begins .ensures .0))) (c .begins .ensures .2)
 
--- src/block.rt:61:5
 returns-6 : tie.Need-returns-6
 returns-6 c =
     idle-done _ _ _ _ _ _ _ (c .before .before .if1 .left) (c .before .if2 .left) (c .if4 .left)
