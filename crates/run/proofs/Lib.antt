@@ -7,3 +7,4 @@ pub mod StageEndLaws
 pub mod AppendLaws
 pub mod CaptureLaws
 pub mod BlockLaws
+pub mod FormLaws
