@@ -8,3 +8,5 @@ pub mod AppendLaws
 pub mod CaptureLaws
 pub mod BlockLaws
 pub mod FormLaws
+pub mod EntryLaws
+pub mod TestCodeLaws

@@ -4,4 +4,5 @@ pub mod Fill
 pub mod Gather
 pub mod Level
 pub mod Capture
+pub mod Form
 pub mod Block

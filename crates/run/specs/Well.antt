@@ -14,7 +14,12 @@ use Rattle.machine.specs.Part.{stagesAt, writeOutsAt, sramsAt, roundsAt, duplic
 pub record PartIn (n : ℕ) (W : List ℕ) (o : ℕ) : Type 0 where
   pub inside : o + partWords n (roundsAt W o) (stagesAt W o) ≤ length W
 
--- "normal words (word 2 less words 4 and 7) 0..=256"; "locations of an existing stage"
+-- "normal words (word 2 less words 4 and 7) 0..=256"
+pub record Countable (n : ℕ) (W : List ℕ) (o : ℕ) : Type 0 where
+  pub exact : sramsAt W o + duplicatesAt W o ≤ writeOutsAt W o
+  pub few : normalAt W o ≤ n
+
+-- the same; "locations of an existing stage"
 pub record Captures (n : ℕ) (W : List ℕ) (o : ℕ) : Type 0 where
   pub exact : sramsAt W o + duplicatesAt W o ≤ writeOutsAt W o
   pub few : normalAt W o ≤ n

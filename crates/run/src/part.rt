@@ -5,7 +5,8 @@ ghost use lib.ListN.{length};
 ghost use Rattle.machine.specs.Part.{stagesAt, lastAt, writeOutsAt, startAt, sramsAt, roundsAt, duplicatesAt, normalAt, endAt, locationIn, sectionAt};
 ghost use Rattle.run.specs.Well.{PartIn};
 
-fn wide(x: u32) -> usize
+// A word as an index.
+pub fn wide(x: u32) -> usize
     ensures { λ r. ⌜ r ≡ x ⌝ }
 {
     x as usize
