@@ -57,7 +57,7 @@ module _ (n : ℕ) (W : List ℕ) (s t o : ℕ) where
     pub few : normalAt W o ≤ n
     pub inside : 0 < normalAt W o → (startAt W o + normalAt W o ≤ s) × (startAt W o + normalAt W o ≤ t)
 
-  stores-in : storesForm n W s t o ≡ true → StoresIn
+  pub stores-in : storesForm n W s t o ≡ true → StoresIn
   unfolding storesForm
   stores-in h =
       let x = startAt W o + normalAt W o in

@@ -10,3 +10,4 @@ pub mod BlockLaws
 pub mod FormLaws
 pub mod EntryLaws
 pub mod TestCodeLaws
+pub mod BlockFormLaws

@@ -3,7 +3,7 @@ use crate::part;
 use words::bits;
 
 ghost use mathlib.Core.Path.{_≡_};
-ghost use mathlib.Core.Bool.{_&&_, _||_};
+ghost use mathlib.Core.Bool.{true, false, _&&_};
 ghost use Prim.Native.Nat.{_+_, _*_, _%_, _/_, _^_, _<_, _≤_};
 ghost use lib.Dec.{leb, ltb, eqb};
 ghost use lib.ListN.{length, getD};
@@ -12,9 +12,9 @@ ghost use Rattle.words.specs.Bit.{pop};
 ghost use Rattle.words.specs.Section.{halfOf};
 ghost use Rattle.record.specs.Tests.{allBelow};
 ghost use Rattle.machine.specs.Part.{stagesAt, roundsAt, normalAt, locationIn, readWordAt, readMaskAt, entryAt};
-ghost use Rattle.machine.specs.Run.{entriesForm, locationsForm, lanesForm, readsForm, storesForm};
+ghost use Rattle.machine.specs.Run.{entriesForm, locationsForm, lanesForm, readsForm, storesForm, partForm, partsForm, emptyBlock, blockForm};
 ghost use Rattle.run.specs.Well.{PartIn, Countable};
-ghost use Rattle.run.specs.Form.{readForm};
+ghost use Rattle.run.specs.Form.{readForm, headForm, bodyForm};
 
 // Both halves of a word of a permutation are positions.
 fn halves_form(x: u32) -> bool
@@ -160,4 +160,110 @@ pub fn stores_form(words: &[u32], at: usize, s: usize, t: usize) -> bool
     let normal = all - other;
     let end = part::start(words, at) + normal;
     normal <= 256 && (normal == 0 || (end <= s && end <= t))
+}
+
+// Word 1 of a part that ends at word `end` of a block that ends at word e.
+fn last_mark(end: usize, e: usize) -> u32
+    ensures { λ r. ⌜ r ≡ elim (eqb end e) [ true ↦ 1 | false ↦ 0 ] ⌝ }
+{
+    if end == e { 1 } else { 0 }
+}
+
+// The numbers of the part at word `at`, which ends by word e.
+fn head_form(words: &[u32], at: usize, e: usize) -> bool
+    requires { ⌜ (at ≤ e) × (e ≤ length (now words)) ⌝ }
+    ensures { λ r. ⌜ r ≡ headForm 256 (now (words .entry)) e at ⌝ }
+{
+    if e - at < 256 {
+        return false;
+    }
+    let stages = part::stages(words, at);
+    let end = part::part_end(words, at);
+    if stages < 1 {
+        return false;
+    }
+    if 255 < stages {
+        return false;
+    }
+    end <= e && words[at + 1] == last_mark(end, e)
+}
+
+// What follows from the numbers; the states have s and t words.
+fn body_form(words: &[u32], at: usize, s: usize, t: usize) -> bool
+    requires { ⌜ PartIn 256 (now words) at ⌝ }
+    ensures { λ r. ⌜ r ≡ bodyForm 256 (now (words .entry)) s t at ⌝ }
+{
+    if !stores_form(words, at, s, t) {
+        return false;
+    }
+    if !locations_form(words, at) {
+        return false;
+    }
+    if !lanes_form(words, at) {
+        return false;
+    }
+    if !reads_form(words, at, s, t) {
+        return false;
+    }
+    entries_form(words, at)
+}
+
+// A part that ends by word e.
+fn part_form(words: &[u32], at: usize, e: usize, s: usize, t: usize) -> bool
+    requires { ⌜ (at ≤ e) × (e ≤ length (now words)) ⌝ }
+    ensures { λ r. ⌜ r ≡ partForm 256 (now (words .entry)) s t e at ⌝ }
+{
+    if !head_form(words, at, e) {
+        return false;
+    }
+    body_form(words, at, s, t)
+}
+
+// Parts end to end, from word `at` to word e.
+fn parts_form(words: &[u32], at: usize, e: usize, s: usize, t: usize) -> bool
+    requires { ⌜ (at ≤ e) × (e ≤ length (now words)) ⌝ }
+    ensures { λ r. ⌜ r ≡ partsForm 256 (now (words .entry)) s t e (length (now (words .entry))) at ⌝ }
+{
+    let mut o = at;
+    while part_form(words, o, e, s, t) {
+        o = part::part_end(words, o);
+        if o == e {
+            return true;
+        }
+    }
+    false
+}
+
+// An empty block: 256 words, zero but word 1.
+fn empty_form(words: &[u32], at: usize, e: usize) -> bool
+    requires { ⌜ (at ≤ e) × (e ≤ length (now words)) ⌝ }
+    ensures { λ r. ⌜ r ≡ emptyBlock 256 (now (words .entry)) at e ⌝ }
+{
+    if e - at != 256 {
+        return false;
+    }
+    let mut i = 0;
+    while i < 256 {
+        if words[at + i] != last_mark(i, 1) {
+            return false;
+        }
+        i += 1;
+    }
+    true
+}
+
+// A block from word `at` to word e; the states have s and t words.
+pub fn block_form(words: &[u32], at: usize, e: usize, s: usize, t: usize) -> bool
+    ensures { λ r. ⌜ r ≡ blockForm 256 (now (words .entry)) s t at e ⌝ }
+{
+    if e <= at {
+        return false;
+    }
+    if words.len() < e {
+        return false;
+    }
+    if empty_form(words, at, e) {
+        return true;
+    }
+    parts_form(words, at, e, s, t)
 }

@@ -34,7 +34,7 @@ pub fn start(words: &[u32], at: usize) -> usize
 }
 
 pub fn rounds(words: &[u32], at: usize) -> usize
-    requires { ⌜ PartIn 256 (now words) at ⌝ }
+    requires { ⌜ at + 256 ≤ length (now words) ⌝ }
     ensures { λ r. ⌜ r ≡ roundsAt (now (words .entry)) at ⌝ }
 {
     wide(words[at + 6])
@@ -50,7 +50,7 @@ pub fn normal(words: &[u32], at: usize) -> usize
 
 // Where the part ends.
 pub fn part_end(words: &[u32], at: usize) -> usize
-    requires { ⌜ PartIn 256 (now words) at ⌝ }
+    requires { ⌜ at + 256 ≤ length (now words) ⌝ }
     ensures { λ r. ⌜ r ≡ endAt 256 (now (words .entry)) at ⌝ }
 {
     at + 256 + 512 * rounds(words, at) + 5120 * stages(words, at) + 10240

@@ -107,7 +107,8 @@ returns-4 c =
 part-end-requires : tie.Need-part-end-requires
 part-end-requires c κs =
     let start = c .before .before .before .before .before .before .before .before .before .before .before .before .before .before .before in
-    start .pre .0 .well (omega (arith, c .before .before .before .before .before .before .before .before .if4 .taken)) .part
+    let part = start .pre .0 .well (omega (arith, c .before .before .before .before .before .before .before .before .if4 .taken)) .part in
+    omega arith
 
 begins-requires : tie.Need-begins-requires
 begins-requires c κs =
