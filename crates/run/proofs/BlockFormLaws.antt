@@ -1,15 +1,15 @@
 -- The form of a part and of a block as the code tests it: one law for each way through, and the parts one after the other.
 -- Assumes nothing.
-use mathlib.Core.Path.{_≡_, refl, sym, ap, ap₂, _∙_}
-use mathlib.Core.Bool.{Bool, true, false, _&&_, _||_}
+use mathlib.Core.Path.{_≡_, refl, sym, ap, _∙_}
+use mathlib.Core.Bool.{Bool, true, false, _&&_}
 use mathlib.Core.List.{List}
 use Prim.Native.Nat.{ℕ, zero, suc, _+_, _-_, _≤_, _<_}
 use native.Mathlib.Omega.{arith}
 use borrow.Author.Tests.{leb-true, le-leb, lt-leb, lt-ltb, le-ltb, eq-eqb, ne-eqb}
-use lib.Dec.{leb, ltb, eqb}
+use lib.Dec.{leb, eqb}
 use lib.ListN.{length, getD}
 use Rattle.record.specs.Tests.{allBelow}
-use Rattle.record.proofs.TestLaws.{and-true, not-both}
+use Rattle.record.proofs.TestLaws.{and-true}
 use Rattle.machine.specs.Part.{stagesAt, lastAt, endAt}
 use Rattle.machine.specs.Run.{entriesForm, locationsForm, lanesForm, readsForm, storesForm, partForm, partsForm, emptyBlock, blockForm}
 use Rattle.run.specs.Form.{headForm, bodyForm}

@@ -11,3 +11,4 @@ pub mod FormLaws
 pub mod EntryLaws
 pub mod TestCodeLaws
 pub mod BlockFormLaws
+pub mod RefuseLaws

@@ -6,3 +6,4 @@ pub mod Level
 pub mod Capture
 pub mod Form
 pub mod Block
+pub mod Found

@@ -1,17 +1,15 @@
 // The form of a part: document 01, "Form for 15".
 use crate::part;
 use words::bits;
-
 ghost use mathlib.Core.Path.{_≡_};
 ghost use mathlib.Core.Bool.{true, false, _&&_};
 ghost use Prim.Native.Nat.{_+_, _*_, _%_, _/_, _^_, _<_, _≤_};
-ghost use lib.Dec.{leb, ltb, eqb};
+ghost use lib.Dec.{ltb, eqb};
 ghost use lib.ListN.{length, getD};
 ghost use Rattle.words.specs.Sum.{sumTo};
 ghost use Rattle.words.specs.Bit.{pop};
-ghost use Rattle.words.specs.Section.{halfOf};
 ghost use Rattle.record.specs.Tests.{allBelow};
-ghost use Rattle.machine.specs.Part.{stagesAt, roundsAt, normalAt, locationIn, readWordAt, readMaskAt, entryAt};
+ghost use Rattle.machine.specs.Part.{stagesAt, roundsAt, locationIn, readWordAt, readMaskAt, entryAt};
 ghost use Rattle.machine.specs.Run.{entriesForm, locationsForm, lanesForm, readsForm, storesForm, partForm, partsForm, emptyBlock, blockForm};
 ghost use Rattle.run.specs.Well.{PartIn, Countable};
 ghost use Rattle.run.specs.Form.{readForm, headForm, bodyForm};

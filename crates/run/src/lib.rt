@@ -3,5 +3,6 @@ pub mod block;
 pub mod form;
 pub mod part;
 pub mod read;
+pub mod refuse;
 pub mod stage;
 pub mod store;

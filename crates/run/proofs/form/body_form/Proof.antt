@@ -1,3 +1,5 @@
+-- `run::form::body_form` meets its contract: one law for each way through.
+-- Assumes nothing.
 use mathlib.Core.Path.{sym, _∙_}
 use borrow.Author.Tests.{not-true, not-false}
 use Rattle.run.proofs.FormLaws.{stores-in}
@@ -5,50 +7,35 @@ use Rattle.run.proofs.BlockFormLaws.{body-stores, body-locations, body-
 use borrow.Author.Needs.{needs}
 use Rattle.run.proofs.form.body_form.Statement.{statement}
 use Rattle.run.proofs.form.body_form.Tie as tie
-use Rattle.run.proofs.form.body_form.Reads as reads
-use Rattle.run.proofs.form.body_form.Lts as lts
-use Rattle.run.proofs.form.entries_form.Reads as entries-form-reads
-use Rattle.run.proofs.form.lanes_form.Reads as lanes-form-reads
-use Rattle.run.proofs.form.locations_form.Reads as locations-form-reads
-use Rattle.run.proofs.form.reads_form.Reads as reads-form-reads
-use Rattle.run.proofs.form.stores_form.Reads as stores-form-reads
 
--- src/form.rt:196:9
 stores-form-requires : tie.Need-stores-form-requires
 stores-form-requires c κs = search needs
 
--- src/form.rt:197:9
 returns : tie.Need-returns
 returns c = body-stores 256 _ _ _ _ (sym (c .before .stores-form .ensures) ∙ not-true _ (c .if1 .taken))
 
--- src/form.rt:199:9
 locations-form-requires : tie.Need-locations-form-requires
 locations-form-requires c κs =
     let in-range = stores-in 256 _ _ _ _ (sym (c .before .stores-form .ensures) ∙ not-false _ (c .if1 .left)) in
     (c .before .before .before .pre, record { exact = in-range .exact; few = in-range .few })
 
--- src/form.rt:200:9
 returns-2 : tie.Need-returns-2
 returns-2 c =
     let stores = sym (c .before .before .before .stores-form .ensures) ∙ not-false _ (c .before .before .if1 .left) in
     body-locations 256 _ _ _ _ stores (sym (c .before .locations-form .ensures) ∙ not-true _ (c .if2 .taken))
 
--- src/form.rt:202:9
 lanes-form-requires : tie.Need-lanes-form-requires
 lanes-form-requires c κs = search needs
 
--- src/form.rt:203:9
 returns-3 : tie.Need-returns-3
 returns-3 c =
     let stores = sym (c .before .before .before .before .before .stores-form .ensures) ∙ not-false _ (c .before .before .before .before .if1 .left) in
     let locations = sym (c .before .before .before .locations-form .ensures) ∙ not-false _ (c .before .before .if2 .left) in
     body-lanes 256 _ _ _ _ stores locations (sym (c .before .lanes-form .ensures) ∙ not-true _ (c .if3 .taken))
 
--- src/form.rt:205:9
 reads-form-requires : tie.Need-reads-form-requires
 reads-form-requires c κs = search needs
 
--- src/form.rt:206:9
 returns-4 : tie.Need-returns-4
 returns-4 c =
     let stores = sym (c .before .before .before .before .before .before .before .stores-form .ensures) ∙ not-false _ (c .before .before .before .before .before .before .if1 .left) in
@@ -56,11 +43,9 @@ returns-4 c =
     let lanes = sym (c .before .before .before .lanes-form .ensures) ∙ not-false _ (c .before .before .if3 .left) in
     body-reads 256 _ _ _ _ stores locations lanes (sym (c .before .reads-form .ensures) ∙ not-true _ (c .if4 .taken))
 
--- src/form.rt:208:5
 entries-form-requires : tie.Need-entries-form-requires
 entries-form-requires c κs = search needs
 
--- src/form.rt:192:1
 returns-5 : tie.Need-returns-5
 returns-5 c =
     let stores = sym (c .before .before .before .before .before .before .before .before .stores-form .ensures) ∙ not-false _ (c .before .before .before .before .before .before .before .if1 .left) in

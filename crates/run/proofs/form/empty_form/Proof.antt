@@ -1,3 +1,5 @@
+-- `run::form::empty_form` meets its contract. The invariant: the words passed are those of an empty block.
+-- Assumes nothing.
 use mathlib.Core.Path.{_≡_, refl, sym, _∙_}
 use mathlib.Core.Bool.{true, false}
 use Prim.Native.Nat.{_+_, _-_, _≤_}
@@ -11,9 +13,6 @@ use Rattle.run.proofs.BlockFormLaws.{empty-other, empty-as}
 use borrow.Author.Needs.{needs}
 use Rattle.run.proofs.form.empty_form.Statement.{statement}
 use Rattle.run.proofs.form.empty_form.Tie as tie
-use Rattle.run.proofs.form.empty_form.Reads as reads
-use Rattle.run.proofs.form.empty_form.Lts as lts
-use Rattle.run.proofs.form.last_mark.Reads as last-mark-reads
 
 abbrev Inv-loop : tie.InvT-loop
 Inv-loop words at e i₀ i = (i ≤ 256) × (allBelow (λ q. eqb (getD words (at + q) 0) (elim (eqb q 1) [ true ↦ 1 | false ↦ 0 ])) i ≡ true)
@@ -21,55 +20,43 @@ Inv-loop words at e i₀ i = (i ≤ 256) × (allBelow (λ q. eqb (getD words (at
 abbrev μ-loop : tie.MeasureT-loop
 μ-loop words at e i₀ i = 256 - i
 
--- src/form.rt:242:8
 sub-if1 : tie.Need-sub-if1 Inv-loop μ-loop
 sub-if1 c = search needs
 
--- src/form.rt:243:9
 returns : tie.Need-returns Inv-loop μ-loop
 returns c = empty-other 256 _ 0 0 _ _ (λ q. c .if1 .taken (omega arith))
 
--- src/form.rt:246:5
 loop-holds : tie.Need-loop-holds Inv-loop μ-loop
 unfolding allBelow
 loop-holds c = (omega arith, refl)
 
--- src/form.rt:247:18
 add-if2 : tie.Need-add-if2 Inv-loop μ-loop
 add-if2 c = search needs
 
--- src/form.rt:247:12
 mul-if2 : tie.Need-mul-if2 Inv-loop μ-loop
 mul-if2 c = search needs
 
--- src/form.rt:247:12
 shared-slice-read-if2 : tie.Need-shared-slice-read-if2 Inv-loop μ-loop
 shared-slice-read-if2 c = search needs
 
--- src/form.rt:247:29
 last-mark-requires : tie.Need-last-mark-requires Inv-loop μ-loop
 last-mark-requires c κs = search needs
 
--- src/form.rt:248:13
 returns-2 : tie.Need-returns-2 Inv-loop μ-loop
 returns-2 c =
     let start = c .before .before .before .before .before .before .before in
     let long : start .args .e ≡ start .args .at + 256 = omega arith in
     empty-as 256 _ 0 0 _ _ false long (all-fault _ 256 (c .before .before .before .before .loop .i) (omega arith) (ne-eqb _ _ (λ q. c .if2 .taken (q ∙ sym (c .before .last-mark .ensures)))))
 
--- src/form.rt:250:9
 add-i : tie.Need-add-i Inv-loop μ-loop
 add-i c = search needs
 
--- src/form.rt:246:5
 loop-less : tie.Need-loop-less Inv-loop μ-loop
 loop-less c = omega arith
 
--- src/form.rt:246:5
 loop-again : tie.Need-loop-again Inv-loop μ-loop
 loop-again c = (omega arith, all-on _ _ (c .before .before .before .before .loop .inv .1) (eq-eqb _ _ (c .if2 .left ∙ c .before .last-mark .ensures)))
 
--- src/form.rt:238:1
 returns-3 : tie.Need-returns-3 Inv-loop μ-loop
 returns-3 c =
     let start = c .before .before .before .before in

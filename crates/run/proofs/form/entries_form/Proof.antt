@@ -1,6 +1,8 @@
+-- `run::form::entries_form` meets its contract. The invariant: the sections passed are in form.
+-- Assumes nothing.
 use mathlib.Core.Path.{_≡_, refl, sym, _∙_}
 use mathlib.Core.Bool.{true}
-use Prim.Native.Nat.{_+_, _*_, _-_, _≤_, _<_}
+use Prim.Native.Nat.{_+_, _-_, _≤_, _<_}
 use native.Mathlib.Omega.{arith}
 use Rattle.record.specs.Tests.{allBelow}
 use Rattle.record.proofs.TestLaws.{all-on, all-fault}
@@ -11,10 +13,6 @@ use Rattle.machine.specs.Run.{entriesForm}
 use borrow.Author.Needs.{needs}
 use Rattle.run.proofs.form.entries_form.Statement.{statement}
 use Rattle.run.proofs.form.entries_form.Tie as tie
-use Rattle.run.proofs.form.entries_form.Reads as reads
-use Rattle.run.proofs.form.entries_form.Lts as lts
-use Rattle.run.proofs.form.section_form.Reads as section-form-reads
-use Rattle.run.proofs.part.stages.Reads as stages-reads
 
 abbrev Inv-loop : tie.InvT-loop
 Inv-loop words at sections k₀ k =
@@ -23,45 +21,36 @@ Inv-loop words at sections k₀ k =
 abbrev μ-loop : tie.MeasureT-loop
 μ-loop words at sections k₀ k = sections - k
 
--- src/form.rt:47:20
 stages-requires : tie.Need-stages-requires Inv-loop μ-loop
 stages-requires c κs = search needs
 
--- src/form.rt:47:20
 add-sections : tie.Need-add-sections Inv-loop μ-loop
 add-sections c = search needs
 
--- src/form.rt:49:5
 loop-holds : tie.Need-loop-holds Inv-loop μ-loop
 unfolding allBelow
 loop-holds c = (omega arith, omega arith, refl)
 
--- src/form.rt:50:13
 section-form-requires : tie.Need-section-form-requires Inv-loop μ-loop
 section-form-requires c κs = search needs
 
--- src/form.rt:51:13
 returns : tie.Need-returns Inv-loop μ-loop
 unfolding entriesForm
 returns c =
     let within : c .before .before .before .loop .k < stagesAt (c .before .before .before .before .before .before .args .words .now) (c .before .before .before .before .before .before .args .at) + 2 = omega arith in
     sym (all-fault _ _ _ within (sym (c .before .section-form .ensures) ∙ not-true _ (c .if1 .taken)))
 
--- src/form.rt:53:9
 add-k : tie.Need-add-k Inv-loop μ-loop
 add-k c = search needs
 
--- src/form.rt:49:5
 loop-less : tie.Need-loop-less Inv-loop μ-loop
 loop-less c = search needs
 
--- src/form.rt:49:5
 loop-again : tie.Need-loop-again Inv-loop μ-loop
 loop-again c =
     let l = c .before .before .before .loop in
     (omega arith, l .inv .1, all-on _ _ (l .inv .2) (sym (c .before .section-form .ensures) ∙ not-false _ (c .if1 .left)))
 
--- src/form.rt:43:1
 returns-2 : tie.Need-returns-2 Inv-loop μ-loop
 unfolding entriesForm
 returns-2 c =

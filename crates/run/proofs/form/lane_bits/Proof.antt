@@ -1,21 +1,17 @@
+-- `run::form::lane_bits` meets its contract. The invariant: the bits of the rounds passed, at most 32 each.
+-- Assumes nothing.
 use mathlib.Core.Path.{_≡_, refl}
-use Prim.Native.Nat.{ℕ, _+_, _*_, _-_, _≤_}
+use Prim.Native.Nat.{_+_, _*_, _-_, _≤_}
 use native.Mathlib.Omega.{arith}
 use Rattle.words.specs.Sum.{sumTo}
 use Rattle.words.specs.Bit.{pop}
 use Rattle.words.proofs.SumLaws.{sum-more}
-use Rattle.words.proofs.PopLaws.{pop-le}
 use Rattle.machine.specs.Part.{roundsAt, readMaskAt}
 use mathlib.Core.Path.{ap₂, _∙_}
 use Rattle.run.proofs.TestCodeLaws.{count-small}
 use borrow.Author.Needs.{needs}
 use Rattle.run.proofs.form.lane_bits.Statement.{statement}
 use Rattle.run.proofs.form.lane_bits.Tie as tie
-use Rattle.run.proofs.form.lane_bits.Reads as reads
-use Rattle.run.proofs.form.lane_bits.Lts as lts
-use Rattle.run.proofs.part.rounds.Reads as rounds-reads
-use Rattle.run.proofs.part.wide.Reads as wide-reads
-use Rattle.words.proofs.bits.count.Reads as count-reads
 
 abbrev Inv-loop : tie.InvT-loop
 Inv-loop words at i sum₀ r₀ r-end sum r =
@@ -24,68 +20,52 @@ Inv-loop words at i sum₀ r₀ r-end sum r =
 abbrev μ-loop : tie.MeasureT-loop
 μ-loop words at i sum₀ r₀ r-end sum r = r-end - r
 
--- src/form.rt:89:17
 rounds-requires : tie.Need-rounds-requires Inv-loop μ-loop
 rounds-requires c κs = search needs
 
--- src/form.rt:89:5
 loop-holds : tie.Need-loop-holds Inv-loop μ-loop
 unfolding sumTo
 loop-holds c = (omega arith, c .rounds .ensures, omega arith, refl)
 
--- src/form.rt:90:45
 add-count : tie.Need-add-count Inv-loop μ-loop
 add-count c = search needs
 
--- src/form.rt:90:56
 mul-count : tie.Need-mul-count Inv-loop μ-loop
 mul-count c = search needs
 
--- src/form.rt:90:45
 add-count-2 : tie.Need-add-count-2 Inv-loop μ-loop
 add-count-2 c = search needs
 
--- src/form.rt:90:66
 mul-count-2 : tie.Need-mul-count-2 Inv-loop μ-loop
 mul-count-2 c = search needs
 
--- src/form.rt:90:45
 add-count-3 : tie.Need-add-count-3 Inv-loop μ-loop
 add-count-3 c = search needs
 
--- src/form.rt:90:45
 add-count-4 : tie.Need-add-count-4 Inv-loop μ-loop
 add-count-4 c = search needs
 
--- src/form.rt:90:39
 mul-count-3 : tie.Need-mul-count-3 Inv-loop μ-loop
 mul-count-3 c = search needs
 
--- src/form.rt:90:39
 shared-slice-read-count : tie.Need-shared-slice-read-count Inv-loop μ-loop
 shared-slice-read-count c = search needs
 
--- src/form.rt:90:27
 count-requires : tie.Need-count-requires Inv-loop μ-loop
 count-requires c κs = search needs
 
--- src/form.rt:90:16
 wide-requires : tie.Need-wide-requires Inv-loop μ-loop
 wide-requires c κs = search needs
 
--- src/form.rt:90:9
 add-sum : tie.Need-add-sum Inv-loop μ-loop
 add-sum c = omega (arith, count-small _ _ _ (c .wide .ensures) (c .before .count .ensures))
 
--- src/form.rt:89:9
 add-r : tie.Need-add-r Inv-loop μ-loop
 add-r c = search needs
 
--- src/form.rt:89:5
 loop-less : tie.Need-loop-less Inv-loop μ-loop
 loop-less c = search needs
 
--- src/form.rt:89:5
 loop-again : tie.Need-loop-again Inv-loop μ-loop
 unfolding readMaskAt
 loop-again c =
@@ -93,7 +73,6 @@ loop-again c =
     let small = count-small _ _ _ (c .wide .ensures) (c .before .count .ensures) in
     (omega arith, l .inv .1, omega arith, rw sum-more (ap₂ _+_ (l .inv .3) (c .wide .ensures ∙ c .before .count .ensures)))
 
--- src/form.rt:84:1
 returns : tie.Need-returns Inv-loop μ-loop
 returns c =
     let start = c .before .before .before .before in

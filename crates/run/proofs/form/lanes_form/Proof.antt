@@ -1,6 +1,8 @@
-use mathlib.Core.Path.{_≡_, refl, sym, _∙_}
+-- `run::form::lanes_form` meets its contract. The invariant: the lanes passed have at most 32 bits.
+-- Assumes nothing.
+use mathlib.Core.Path.{_≡_, refl, sym}
 use mathlib.Core.Bool.{true}
-use Prim.Native.Nat.{_+_, _*_, _-_, _≤_, _<_}
+use Prim.Native.Nat.{_-_, _≤_}
 use native.Mathlib.Omega.{arith}
 use Rattle.record.specs.Tests.{allBelow}
 use Rattle.record.proofs.TestLaws.{all-on, all-fault}
@@ -13,9 +15,6 @@ use Rattle.machine.specs.Run.{lanesForm}
 use borrow.Author.Needs.{needs}
 use Rattle.run.proofs.form.lanes_form.Statement.{statement}
 use Rattle.run.proofs.form.lanes_form.Tie as tie
-use Rattle.run.proofs.form.lanes_form.Reads as reads
-use Rattle.run.proofs.form.lanes_form.Lts as lts
-use Rattle.run.proofs.form.lane_bits.Reads as lane-bits-reads
 
 abbrev Inv-loop : tie.InvT-loop
 Inv-loop words at i₀ i = (i ≤ 256) × (allBelow (λ q. leb (sumTo (λ r. pop (readMaskAt 256 words at r q)) (roundsAt words at)) 32) i ≡ true)
@@ -23,33 +22,26 @@ Inv-loop words at i₀ i = (i ≤ 256) × (allBelow (λ q. leb (sumTo (λ r. pop
 abbrev μ-loop : tie.MeasureT-loop
 μ-loop words at i₀ i = 256 - i
 
--- src/form.rt:101:5
 loop-holds : tie.Need-loop-holds Inv-loop μ-loop
 unfolding allBelow
 loop-holds c = (omega arith, refl)
 
--- src/form.rt:102:17
 lane-bits-requires : tie.Need-lane-bits-requires Inv-loop μ-loop
 lane-bits-requires c κs = search needs
 
--- src/form.rt:103:13
 returns : tie.Need-returns Inv-loop μ-loop
 unfolding lanesForm
 returns c = sym (all-fault _ 256 _ (c .before .before .loop-test .taken) (rw (← c .before .lane-bits .ensures) (lt-leb _ _ (c .if1 .taken))))
 
--- src/form.rt:105:9
 add-i : tie.Need-add-i Inv-loop μ-loop
 add-i c = search needs
 
--- src/form.rt:101:5
 loop-less : tie.Need-loop-less Inv-loop μ-loop
 loop-less c = search needs
 
--- src/form.rt:101:5
 loop-again : tie.Need-loop-again Inv-loop μ-loop
 loop-again c = (omega arith, all-on _ _ (c .before .before .before .loop .inv .1) (rw (← c .before .lane-bits .ensures) (le-leb _ _ (c .if1 .left))))
 
--- src/form.rt:96:1
 returns-2 : tie.Need-returns-2 Inv-loop μ-loop
 unfolding lanesForm
 returns-2 c =

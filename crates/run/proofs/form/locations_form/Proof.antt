@@ -1,3 +1,5 @@
+-- `run::form::locations_form` meets its contract. The invariant: the locations passed are in form.
+-- Assumes nothing.
 use mathlib.Core.Path.{_≡_}
 use mathlib.Core.Bool.{true, _&&_}
 use Prim.Native.Nat.{_-_, _/_, _%_, _≤_, _<_}
@@ -12,10 +14,6 @@ use borrow.Author.Tests.{not-true, not-false}
 use borrow.Author.Needs.{needs}
 use Rattle.run.proofs.form.locations_form.Statement.{statement}
 use Rattle.run.proofs.form.locations_form.Tie as tie
-use Rattle.run.proofs.form.locations_form.Reads as reads
-use Rattle.run.proofs.form.locations_form.Lts as lts
-use Rattle.run.proofs.form.location_form.Reads as location-form-reads
-use Rattle.run.proofs.part.normal.Reads as normal-reads
 
 abbrev Inv-loop : tie.InvT-loop
 Inv-loop words at normal l₀ l =
@@ -24,41 +22,33 @@ Inv-loop words at normal l₀ l =
 abbrev μ-loop : tie.MeasureT-loop
 μ-loop words at normal l₀ l = normal - l
 
--- src/form.rt:72:9
 normal-requires : tie.Need-normal-requires Inv-loop μ-loop
 normal-requires c κs = search needs
 
--- src/form.rt:74:5
 loop-holds : tie.Need-loop-holds Inv-loop μ-loop
 unfolding allBelow
 loop-holds c = (omega arith, c .normal .ensures, refl)
 
--- src/form.rt:75:13
 location-form-requires : tie.Need-location-form-requires Inv-loop μ-loop
 location-form-requires c κs = search needs
 
--- src/form.rt:76:13
 returns : tie.Need-returns Inv-loop μ-loop
 unfolding locationsForm
 returns c =
     let within : c .before .before .before .loop .l < normalAt (c .before .before .before .before .before .before .args .words .now) (c .before .before .before .before .before .before .args .at) = omega arith in
     sym (all-fault _ _ _ within (sym (c .before .location-form .ensures) ∙ not-true _ (c .if1 .taken)))
 
--- src/form.rt:78:9
 add-l : tie.Need-add-l Inv-loop μ-loop
 add-l c = search needs
 
--- src/form.rt:74:5
 loop-less : tie.Need-loop-less Inv-loop μ-loop
 loop-less c = search needs
 
--- src/form.rt:74:5
 loop-again : tie.Need-loop-again Inv-loop μ-loop
 loop-again c =
     let l = c .before .before .before .loop in
     (omega arith, l .inv .1, all-on _ _ (l .inv .2) (sym (c .before .location-form .ensures) ∙ not-false _ (c .if1 .left)))
 
--- src/form.rt:68:1
 returns-2 : tie.Need-returns-2 Inv-loop μ-loop
 unfolding locationsForm
 returns-2 c =

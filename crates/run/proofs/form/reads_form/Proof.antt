@@ -1,6 +1,8 @@
+-- `run::form::reads_form` meets its contract. The invariant: the rounds passed are in form.
+-- Assumes nothing.
 use mathlib.Core.Path.{_≡_, refl, sym, _∙_}
 use mathlib.Core.Bool.{true}
-use Prim.Native.Nat.{_+_, _*_, _-_, _≤_, _<_}
+use Prim.Native.Nat.{_-_, _≤_, _<_}
 use native.Mathlib.Omega.{arith}
 use Rattle.record.specs.Tests.{allBelow}
 use Rattle.record.proofs.TestLaws.{all-on, all-fault}
@@ -11,10 +13,6 @@ use Rattle.run.specs.Form.{readForm}
 use borrow.Author.Needs.{needs}
 use Rattle.run.proofs.form.reads_form.Statement.{statement}
 use Rattle.run.proofs.form.reads_form.Tie as tie
-use Rattle.run.proofs.form.reads_form.Reads as reads
-use Rattle.run.proofs.form.reads_form.Lts as lts
-use Rattle.run.proofs.form.round_form.Reads as round-form-reads
-use Rattle.run.proofs.part.rounds.Reads as rounds-reads
 
 abbrev Inv-loop : tie.InvT-loop
 Inv-loop words at s t rounds r₀ r =
@@ -23,41 +21,33 @@ Inv-loop words at s t rounds r₀ r =
 abbrev μ-loop : tie.MeasureT-loop
 μ-loop words at s t rounds r₀ r = rounds - r
 
--- src/form.rt:139:9
 rounds-requires : tie.Need-rounds-requires Inv-loop μ-loop
 rounds-requires c κs = search needs
 
--- src/form.rt:141:5
 loop-holds : tie.Need-loop-holds Inv-loop μ-loop
 unfolding allBelow
 loop-holds c = (omega arith, c .rounds .ensures, refl)
 
--- src/form.rt:142:13
 round-form-requires : tie.Need-round-form-requires Inv-loop μ-loop
 round-form-requires c κs = search needs
 
--- src/form.rt:143:13
 returns : tie.Need-returns Inv-loop μ-loop
 unfolding readsForm
 returns c =
     let within : c .before .before .before .loop .r < roundsAt (c .before .before .before .before .before .before .args .words .now) (c .before .before .before .before .before .before .args .at) = omega arith in
     sym (all-fault _ _ _ within (sym (c .before .round-form .ensures) ∙ not-true _ (c .if1 .taken)))
 
--- src/form.rt:145:9
 add-r : tie.Need-add-r Inv-loop μ-loop
 add-r c = search needs
 
--- src/form.rt:141:5
 loop-less : tie.Need-loop-less Inv-loop μ-loop
 loop-less c = search needs
 
--- src/form.rt:141:5
 loop-again : tie.Need-loop-again Inv-loop μ-loop
 loop-again c =
     let l = c .before .before .before .loop in
     (omega arith, l .inv .1, all-on _ _ (l .inv .2) (sym (c .before .round-form .ensures) ∙ not-false _ (c .if1 .left)))
 
--- src/form.rt:135:1
 returns-2 : tie.Need-returns-2 Inv-loop μ-loop
 unfolding readsForm
 returns-2 c =

@@ -1,3 +1,5 @@
+-- `run::form::section_form` meets its contract. The invariant: both halves of the words passed are positions.
+-- Assumes nothing.
 use mathlib.Core.Path.{_≡_}
 use mathlib.Core.Bool.{true, _&&_}
 use Prim.Native.Nat.{ℕ, _+_, _-_, _/_, _%_, _^_, _≤_, _<_}
@@ -12,10 +14,6 @@ use borrow.Author.Tests.{not-true, not-false}
 use borrow.Author.Needs.{needs}
 use Rattle.run.proofs.form.section_form.Statement.{statement}
 use Rattle.run.proofs.form.section_form.Tie as tie
-use Rattle.run.proofs.form.section_form.Reads as reads
-use Rattle.run.proofs.form.section_form.Lts as lts
-use Rattle.run.proofs.form.halves_form.Reads as halves-form-reads
-use Rattle.run.proofs.part.section.Reads as section-reads
 
 abbrev Inv-loop : tie.InvT-loop
 Inv-loop words at k from w₀ w =
@@ -25,49 +23,38 @@ Inv-loop words at k from w₀ w =
 abbrev μ-loop : tie.MeasureT-loop
 μ-loop words at k from w₀ w = 4096 - w
 
--- src/form.rt:31:9
 section-requires : tie.Need-section-requires Inv-loop μ-loop
 section-requires c κs = search needs
 
--- src/form.rt:33:5
 loop-holds : tie.Need-loop-holds Inv-loop μ-loop
 loop-holds c = (omega arith, c .section .ensures .0, λ v h. absurd (omega arith))
 
--- src/form.rt:34:31
 add-halves-form : tie.Need-add-halves-form Inv-loop μ-loop
 add-halves-form c = search needs
 
--- src/form.rt:34:25
 mul-halves-form : tie.Need-mul-halves-form Inv-loop μ-loop
 mul-halves-form c = search needs
 
--- src/form.rt:34:25
 shared-slice-read-halves-form : tie.Need-shared-slice-read-halves-form Inv-loop μ-loop
 shared-slice-read-halves-form c = search needs
 
--- src/form.rt:34:13
 halves-form-requires : tie.Need-halves-form-requires Inv-loop μ-loop
 halves-form-requires c κs = search needs
 
--- src/form.rt:35:13
 returns : tie.Need-returns Inv-loop μ-loop
 returns c = sym (entries-bad 256 _ _ _ _ (c .before .before .before .before .loop .inv .1) _ (c .before .before .before .loop-test .taken) (sym (c .before .halves-form .ensures) ∙ not-true _ (c .if1 .taken)))
 
--- src/form.rt:37:9
 add-w : tie.Need-add-w Inv-loop μ-loop
 add-w c = search needs
 
--- src/form.rt:33:5
 loop-less : tie.Need-loop-less Inv-loop μ-loop
 loop-less c = search needs
 
--- src/form.rt:33:5
 loop-again : tie.Need-loop-again Inv-loop μ-loop
 loop-again c =
     let l = c .before .before .before .before .loop in
     (omega arith, l .inv .1, below-more _ _ (l .inv .2) (sym (c .before .halves-form .ensures) ∙ not-false _ (c .if1 .left)))
 
--- src/form.rt:27:1
 returns-2 : tie.Need-returns-2 Inv-loop μ-loop
 returns-2 c = sym (entries-good 256 _ _ _ _ (c .before .loop .inv .1) (λ w h. c .before .loop .inv .2 w (omega arith)))
 

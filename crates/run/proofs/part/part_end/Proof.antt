@@ -1,47 +1,36 @@
+-- `run::part::part_end` meets its contract: the part lies inside the words, so its end is one of their indices.
+-- Assumes nothing.
 use Prim.Native.Nat.{_+_}
 use native.Mathlib.Omega.{arith}
 use Rattle.machine.specs.Part.{endAt}
 use borrow.Author.Needs.{needs}
 use Rattle.run.proofs.part.part_end.Statement.{statement}
 use Rattle.run.proofs.part.part_end.Tie as tie
-use Rattle.run.proofs.part.part_end.Reads as reads
-use Rattle.run.proofs.part.part_end.Lts as lts
-use Rattle.run.proofs.part.rounds.Reads as rounds-reads
-use Rattle.run.proofs.part.stages.Reads as stages-reads
 
--- src/part.rt:56:5
 add-result : tie.Need-add-result
 add-result c = search needs
 
--- src/part.rt:56:22
 rounds-requires : tie.Need-rounds-requires
 rounds-requires c κs = search needs
 
--- src/part.rt:56:16
 mul-result : tie.Need-mul-result
 mul-result c = omega (arith, c .before .shared-slice-known .given (c .before .before .args .at + 6))
 
--- src/part.rt:56:5
 add-result-2 : tie.Need-add-result-2
 add-result-2 c = omega (arith, c .before .shared-slice-known .given (c .before .before .args .at + 6))
 
--- src/part.rt:56:49
 stages-requires : tie.Need-stages-requires
 stages-requires c κs = search needs
 
--- src/part.rt:56:42
 mul-result-2 : tie.Need-mul-result-2
 mul-result-2 c = omega (arith, c .before .before .shared-slice-known .given (c .before .before .before .args .at), c .before .before .shared-slice-known .given (c .before .before .before .args .at + 6))
 
--- src/part.rt:56:5
 add-result-3 : tie.Need-add-result-3
 add-result-3 c = omega (arith, c .before .before .shared-slice-known .given (c .before .before .before .args .at), c .before .before .shared-slice-known .given (c .before .before .before .args .at + 6))
 
--- src/part.rt:56:5
 add-result-4 : tie.Need-add-result-4
 add-result-4 c = omega (arith, c .before .before .shared-slice-known .given (c .before .before .before .args .at), c .before .before .shared-slice-known .given (c .before .before .before .args .at + 6))
 
--- src/part.rt:52:1
 returns : tie.Need-returns
 unfolding endAt
 returns c = omega arith
