@@ -1,0 +1,14 @@
+pub mod FillLaws
+pub mod HalfLaws
+pub mod GatherLaws
+pub mod LowLaws
+pub mod LevelLaws
+pub mod StageEndLaws
+pub mod AppendLaws
+pub mod CaptureLaws
+pub mod BlockLaws
+pub mod FormLaws
+pub mod EntryLaws
+pub mod TestCodeLaws
+pub mod BlockFormLaws
+pub mod RefuseLaws
