@@ -1,2 +1,4 @@
 pub mod Blocks
+pub mod Fill
+pub mod Sums
 pub mod Table

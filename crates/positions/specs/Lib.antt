@@ -1,1 +1,3 @@
 pub mod Positions
+pub mod Winners
+pub mod Places

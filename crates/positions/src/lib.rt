@@ -1,1 +1,4 @@
 // Planned positions and tables: refusals 12 and 13.
+pub mod ranks;
+pub mod tables;
+pub mod winners;

@@ -1,0 +1,9 @@
+pub mod TotalLaws
+pub mod OrderLaws
+pub mod BlockLaws
+pub mod FillLaws
+pub mod StepLaws
+pub mod StartLaws
+pub mod TableLaws
+pub mod StageLaws
+pub mod WholeLaws

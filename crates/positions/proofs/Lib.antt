@@ -1,0 +1,4 @@
+pub mod WinnerLaws
+pub mod MajorLaws
+pub mod RankLaws
+pub mod EntryLaws

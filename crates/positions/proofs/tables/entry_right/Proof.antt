@@ -1,0 +1,38 @@
+use mathlib.Core.Path.{ap, _∙_}
+use Prim.Native.Nat.{ℕ}
+use lib.Dec.{leb}
+use Rattle.positions.proofs.EntryLaws.{entry-low, entry-high}
+use borrow.Author.Needs.{needs}
+use Rattle.positions.proofs.tables.entry_right.Statement.{statement}
+use Rattle.positions.proofs.tables.entry_right.Tie as tie
+use Rattle.positions.proofs.tables.entry_right.Reads as reads
+use Rattle.positions.proofs.tables.entry_right.Lts as lts
+use Rattle.record.proofs.bodies.table_word.Reads as table-word-reads
+
+-- src/tables.rt:24:16
+table-word-requires : tie.Need-table-word-requires
+table-word-requires c κs = search needs
+
+-- src/tables.rt:24:9
+returns : tie.Need-returns
+returns c =
+    let s = c .before .before .before .args in
+    ap (λ (x : ℕ). leb x 8191) (c .table-word .ensures) ∙ entry-low (s .d .now) (s .p) (s .i) (c .before .if1 .taken)
+
+-- src/tables.rt:26:28
+add-table-word : tie.Need-add-table-word
+add-table-word c = search needs
+
+-- src/tables.rt:26:5
+table-word-requires-2 : tie.Need-table-word-requires-2
+table-word-requires-2 c κs = search needs
+
+-- src/tables.rt:19:1
+returns-2 : tie.Need-returns-2
+returns-2 c =
+    let s = c .before .before .before .args in
+    ap (λ (x : ℕ). leb x 8191) (c .table-word2 .ensures) ∙ entry-high (s .d .now) (s .p) (s .i) (c .before .if1 .left)
+
+pub entry-right-spec : {M : Type 1} → statement M
+entry-right-spec =
+    tie.close (tie.spec table-word-requires returns add-table-word table-word-requires-2 returns-2)

@@ -1,0 +1,71 @@
+use native.Mathlib.Omega.{arith}
+use Rattle.positions.proofs.WinnerLaws.{position-is, position-put, position-other}
+use borrow.Author.Needs.{needs}
+use Rattle.positions.proofs.winners.renew_position.Statement.{statement}
+use Rattle.positions.proofs.winners.renew_position.Tie as tie
+use Rattle.positions.proofs.winners.renew_position.Reads as reads
+use Rattle.positions.proofs.winners.renew_position.Lts as lts
+use Rattle.pinmap.proofs.put_where_there.Reads as put-where-there-reads
+use Rattle.record.proofs.places.word_at.Reads as word-at-reads
+
+-- src/winners.rt:32:21
+mul-at : tie.Need-mul-at
+mul-at c = search needs
+
+-- src/winners.rt:32:14
+add-at : tie.Need-add-at
+add-at c = search needs
+
+-- src/winners.rt:33:19
+add-word-at : tie.Need-add-word-at
+add-word-at c = search needs
+
+-- src/winners.rt:33:8
+word-at-requires : tie.Need-word-at-requires
+word-at-requires c κs = search needs
+
+-- src/winners.rt:34:36
+word-at-requires-2 : tie.Need-word-at-requires-2
+word-at-requires-2 c κs = search needs
+
+-- src/winners.rt:34:53
+add-put-where-there : tie.Need-add-put-where-there
+add-put-where-there c = search needs
+
+-- src/winners.rt:34:9
+put-where-there-requires : tie.Need-put-where-there-requires
+put-where-there-requires c κs =
+    let s = c .before .before .before .before .before .before in
+    omega (arith, s .pre .pin, position-is (s .args .d .now) (s .args .table .now) (s .args .base) (s .args .i) (s .args .mark) _ (s .pre .begins) (c .before .before .before .word-at .ensures) _ (c .word-at2 .ensures))
+
+-- src/winners.rt:28:1
+same-length : tie.Need-same-length
+same-length c = search needs
+
+-- src/winners.rt:28:1
+returns : tie.Need-returns
+returns c =
+    let s = c .before .before .before .before .before .before .before .before .before in
+    position-put (s .args .d .now) (s .args .table .now) (s .args .base) (s .args .i) (s .args .mark) _ (s .pre .begins) (c .before .before .before .before .before .before .word-at .ensures) _ _ _
+    (c .before .before .before .before .before .if1 .taken) (c .before .before .before .word-at2 .ensures) (s .pre .after) (c .before .before .put-where-there .ensures)
+
+-- src/winners.rt:28:1
+returns-2 : tie.Need-returns-2
+returns-2 c =
+    let s = c .before .before .before .before in
+    position-other (s .args .d .now) (s .args .table .now) (s .args .base) (s .args .i) (s .args .mark) _ (s .pre .begins) (c .before .word-at .ensures) (c .if1 .left)
+
+pub renew-position-spec : {M : Type 1} → statement M
+renew-position-spec =
+    tie.close
+    (tie.spec
+    mul-at
+    add-at
+    add-word-at
+    word-at-requires
+    word-at-requires-2
+    add-put-where-there
+    put-where-there-requires
+    same-length
+    returns
+    returns-2)

@@ -1,0 +1,159 @@
+-- The items of a part in the code's terms: a sweep asks for the answer from item i on, and a stage's items are a run of them.
+-- Assumes nothing.
+use mathlib.Core.Path.{_≡_, refl, sym, ap, ap₂, _∙_}
+use mathlib.Core.Bool.{Bool, true, false}
+use mathlib.Core.List.{List}
+use mathlib.Core.Option.{Option, none, some}
+use Prim.Native.Nat.{ℕ, zero, suc, _+_, _*_, _-_, _/_, _%_, _≤_, _<_}
+use native.Mathlib.Omega.{arith}
+use Rattle.record.specs.Record.{majorsOf, partsOf, stagesOf, bodyAt}
+use Rattle.record.specs.Form.{planForm}
+use Rattle.record.specs.Body.{BodyReady, BodyOf}
+use Rattle.record.specs.declared.bodies.Body.{Body}
+use Rattle.record.specs.Tests.{firstFrom, firstNot, lowestFrom, lowest, Place}
+use Rattle.record.proofs.TestLaws.{first-here, first-on, first-none, not-none, none-not, lowest-fault, lowest-next, lowest-end, lowest-none}
+use Rattle.record.proofs.FormLaws.{formed, body-ready}
+use Rattle.slots.specs.Slots.{badItem}
+use Rattle.slots.specs.Puts.{overItems, partFaultOf, planFaultOf}
+use Rattle.slots.specs.declared.PartFault.{PartFault}
+use Rattle.slots.specs.declared.PartFault.the-variants as part-fault
+use Rattle.slots.specs.declared.PlanFault.the-variants as plan-fault
+
+-- the answer from the first item on is the part's
+pub items-all : (d : List ℕ) (right : ℕ → ℕ → Bool) (p n : ℕ) → n ≡ stagesOf d p → firstFrom (overItems right) (8192 * n - 0) 0 ≡ badItem d right p
+unfolding badItem
+items-all d right p n h =
+    let e : 8192 * n - 0 ≡ 8192 * stagesOf d p = omega arith in
+    ap (λ (m : ℕ). firstFrom (overItems right) m 0) e
+
+-- ---- a run of items, then the others
+
+some-not-none : {k : ℕ} → some k ≡ none → ⊥
+some-not-none {k} h = let z : _≡_ {A = ℕ} 0 1 = cc in omega arith
+
+passed : (f : ℕ → Bool) (m k i : ℕ) → m ≡ k + 1 → f i ≡ true → firstFrom f m i ≡ firstFrom f k (i + 1)
+passed f m k i h e = let q : m - 1 ≡ k = omega arith in first-on f m i (omega arith) e ∙ ap (λ (x : ℕ). firstFrom f x (i + 1)) q
+
+pub run-some : (f : ℕ → Bool) (m n i k : ℕ) → firstFrom f m i ≡ some k → firstFrom f (m + n) i ≡ some k
+run-some f zero n i k h = absurd (some-not-none (sym h ∙ first-none f i))
+run-some f (suc m) n i k h = go (f i) refl (run-some f m n (i + 1) k)
+  where
+    go : (b : Bool) → f i ≡ b → (firstFrom f m (i + 1) ≡ some k → firstFrom f (m + n) (i + 1) ≡ some k) → firstFrom f (suc m + n) i ≡ some k
+    go true e r = passed f (suc m + n) (m + n) i (omega arith) e ∙ r (sym (passed f (suc m) m i (omega arith) e) ∙ h)
+    go false e r = first-here f (suc m + n) i (omega arith) e ∙ (sym (first-here f (suc m) i (omega arith) e) ∙ h)
+
+pub run-none : (f : ℕ → Bool) (m n i : ℕ) → firstFrom f m i ≡ none → firstFrom f (m + n) i ≡ firstFrom f n (i + m)
+run-none f zero n i h =
+    let a : 0 + n ≡ n = omega arith in
+    let b : i ≡ i + 0 = omega arith in
+    ap (λ (x : ℕ). firstFrom f x i) a ∙ ap (firstFrom f n) b
+run-none f (suc m) n i h = go (f i) refl (run-none f m n (i + 1))
+  where
+    go : (b : Bool) → f i ≡ b → (firstFrom f m (i + 1) ≡ none → firstFrom f (m + n) (i + 1) ≡ firstFrom f n (i + 1 + m))
+        → firstFrom f (suc m + n) i ≡ firstFrom f n (i + suc m)
+    go true e r =
+        let q : i + 1 + m ≡ i + suc m = omega arith in
+        passed f (suc m + n) (m + n) i (omega arith) e ∙ (r (sym (passed f (suc m) m i (omega arith) e) ∙ h) ∙ ap (firstFrom f n) q)
+    go false e r = absurd (some-not-none (sym (first-here f (suc m) i (omega arith) e) ∙ h))
+
+-- ---- the items of stage t, from slot j on
+
+pub over-item : (right : ℕ → ℕ → Bool) (t j : ℕ) → j < 8192 → overItems right (8192 * t + j) ≡ right t j
+over-item right t j h =
+    let a : (8192 * t + j) / 8192 ≡ t = omega arith in
+    let b : (8192 * t + j) % 8192 ≡ j = omega arith in
+    ap₂ right a b
+
+pub stage-start : (f : ℕ → Bool) (b : ℕ) → firstFrom f 8192 (b + 0) ≡ firstFrom f 8192 b
+stage-start f b = let e : b + 0 ≡ b = omega arith in ap (firstFrom f 8192) e
+
+module _ (right : ℕ → ℕ → Bool) (t j : ℕ) (answer : Option ℕ) (so-far : firstFrom (overItems right) (8192 - j) (8192 * t + j) ≡ answer) where
+  pub stage-next : j < 8192 → right t j ≡ true → firstFrom (overItems right) (8192 - (j + 1)) (8192 * t + (j + 1)) ≡ answer
+  stage-next l e =
+      let a : 8192 * t + j + 1 ≡ 8192 * t + (j + 1) = omega arith in
+      ap (firstFrom (overItems right) (8192 - (j + 1))) (sym a)
+      ∙ (sym (passed (overItems right) (8192 - j) (8192 - (j + 1)) (8192 * t + j) (omega arith) (over-item right t j l ∙ e)) ∙ so-far)
+
+  pub stage-fault : j < 8192 → right t j ≡ false → some (8192 * t + j) ≡ answer
+  stage-fault l e = sym (first-here (overItems right) (8192 - j) (8192 * t + j) (omega arith) (over-item right t j l ∙ e)) ∙ so-far
+
+  pub stage-end : 8192 ≤ j → none ≡ answer
+  stage-end l =
+      let z : 8192 - j ≡ 0 = omega arith in
+      sym (ap (λ (m : ℕ). firstFrom (overItems right) m (8192 * t + j)) z ∙ first-none (overItems right) (8192 * t + j)) ∙ so-far
+
+-- ---- the stages of a part, one run after the other: the answer from stage s + 1 on
+
+pub stages-first : (d : List ℕ) (right : ℕ → ℕ → Bool) (p n : ℕ) → n ≡ stagesOf d p → 0 < n → ((j : ℕ) → right 0 j ≡ true)
+    → firstFrom (overItems right) (8192 * n - 8192 * (0 + 1)) (8192 * (0 + 1)) ≡ badItem d right p
+unfolding badItem
+stages-first d right p n h l k =
+    let e : 8192 + (8192 * n - 8192 * (0 + 1)) ≡ 8192 * stagesOf d p = omega arith in
+    let first : firstNot (overItems right) 8192 ≡ none = none-not (overItems right) 8192 (λ j u. let z : j / 8192 ≡ 0 = omega arith in ap (λ (t : ℕ). right t (j % 8192)) z ∙ k (j % 8192)) in
+    sym (sym (ap (λ (m : ℕ). firstFrom (overItems right) m 0) e) ∙ run-none (overItems right) 8192 (8192 * n - 8192 * (0 + 1)) 0 first)
+
+module _ (f : ℕ → Bool) (n t : ℕ) (answer : Option ℕ) (left : t < n) (so-far : firstFrom f (8192 * n - 8192 * t) (8192 * t) ≡ answer) where
+  split : 8192 * n - 8192 * t ≡ 8192 + (8192 * n - 8192 * (t + 1))
+  split = omega arith
+
+  pub stages-next : firstFrom f 8192 (8192 * t) ≡ none → firstFrom f (8192 * n - 8192 * (t + 1)) (8192 * (t + 1)) ≡ answer
+  stages-next h =
+      let e : 8192 * (t + 1) ≡ 8192 * t + 8192 = omega arith in
+      ap (firstFrom f (8192 * n - 8192 * (t + 1))) e
+      ∙ (sym (run-none f 8192 (8192 * n - 8192 * (t + 1)) (8192 * t) h) ∙ (sym (ap (λ (m : ℕ). firstFrom f m (8192 * t)) split) ∙ so-far))
+
+  pub stages-fault : (k : ℕ) → firstFrom f 8192 (8192 * t) ≡ some k → some k ≡ answer
+  stages-fault k h =
+      sym (run-some f 8192 (8192 * n - 8192 * (t + 1)) (8192 * t) k h) ∙ (sym (ap (λ (m : ℕ). firstFrom f m (8192 * t)) split) ∙ so-far)
+
+pub stages-end : (f : ℕ → Bool) (n t : ℕ) (answer : Option ℕ) → n ≤ t → firstFrom f (8192 * n - 8192 * t) (8192 * t) ≡ answer → none ≡ answer
+stages-end f n t answer l h =
+    let z : 8192 * n - 8192 * t ≡ 0 = omega arith in
+    sym (ap (λ (m : ℕ). firstFrom f m (8192 * t)) z ∙ first-none f (8192 * t)) ∙ h
+
+-- ---- the parts of a plan
+
+pub fault-some : (o : Option ℕ) (r : PartFault) (i : ℕ) → r ≡ partFaultOf o → r ≡ part-fault.Item i → o ≡ some i
+fault-some none r i p q = let z : _≡_ {A = ℕ} 0 1 = cc in absurd (omega arith)
+fault-some (some k) r i p q = cc
+
+pub fault-none : (o : Option ℕ) (r : PartFault) → r ≡ partFaultOf o → r ≡ part-fault.Absent → o ≡ none
+fault-none none r p q = refl
+fault-none (some k) r p q = let z : _≡_ {A = ℕ} 0 1 = cc in absurd (omega arith)
+
+pub parts-start : (bad : ℕ → Option ℕ) (n m : ℕ) → n ≡ m → lowestFrom bad (n - 0) 0 ≡ lowest bad m
+parts-start bad n m h = let e : n - 0 ≡ m = omega arith in ap (λ (k : ℕ). lowestFrom bad k 0) e
+
+module _ (bad : ℕ → Option ℕ) (n p : ℕ) (answer : Option Place) (so-far : lowestFrom bad (n - p) p ≡ answer) where
+  pub parts-fault : (r : PartFault) (i : ℕ) → p < n → r ≡ partFaultOf (bad p) → r ≡ part-fault.Item i → plan-fault.At p i ≡ planFaultOf answer
+  parts-fault r i l e h = ap planFaultOf (sym (lowest-fault bad n p i l (fault-some (bad p) r i e h)) ∙ so-far)
+
+  pub parts-next : (r : PartFault) → p < n → r ≡ partFaultOf (bad p) → r ≡ part-fault.Absent → lowestFrom bad (n - (p + 1)) (p + 1) ≡ answer
+  parts-next r l e h = sym (lowest-next bad n p l (fault-none (bad p) r e h)) ∙ so-far
+
+  pub parts-end : n ≤ p → plan-fault.Absent ≡ planFaultOf answer
+  parts-end l = ap planFaultOf (sym (lowest-end bad n p l) ∙ so-far)
+
+-- a body may be asked for, and has a stage
+module _ (d : List ℕ) (form : planForm d ≡ true) where
+  pub form-majors : majorsOf d ≤ 64
+  form-majors = formed d form .head .majors
+
+  pub form-ready : (n p at : ℕ) → n ≡ partsOf d → p < n → at ≡ bodyAt d p → BodyReady d p at
+  form-ready n p at h l e = body-ready d (formed d form .sizes) p at (omega arith) e
+
+  pub form-stages : (n p : ℕ) (b : Body) → n ≡ partsOf d → p < n → BodyOf d p b → 0 < b .stages
+  form-stages n p b h l e = omega (arith, formed d form .part p (omega arith) .some-stages, e .stages)
+
+-- ---- what a test that refuses nothing says
+
+pub item-right : (d : List ℕ) (right : ℕ → ℕ → ℕ → Bool) → lowest (λ p. badItem d (right p) p) (partsOf d) ≡ none
+    → (p s x : ℕ) → p < partsOf d → s < stagesOf d p → x < 8192 → right p s x ≡ true
+unfolding badItem
+item-right d right h p s x lp ls lx =
+    let i : ℕ = 8192 * s + x in
+    let a : firstNot (overItems (right p)) (8192 * stagesOf d p) ≡ none = lowest-none (λ q. badItem d (right q) q) (partsOf d) h p lp in
+    let b : overItems (right p) (8192 * s + x) ≡ true = not-none (overItems (right p)) (8192 * stagesOf d p) a (8192 * s + x) (omega arith) in
+    let q : (8192 * s + x) / 8192 ≡ s = omega arith in
+    let r : (8192 * s + x) % 8192 ≡ x = omega arith in
+    rw (q, r) at b

@@ -1,0 +1,5 @@
+pub mod TopLaws
+pub mod ItemLaws
+pub mod PutLaws
+pub mod SlotLaws
+pub mod RightLaws

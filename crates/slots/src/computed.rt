@@ -1,0 +1,94 @@
+// Refusal 11: a part computes by gate a pin that it reads in stage 0.
+ghost use mathlib.Core.Path.{_≡_};
+ghost use mathlib.Core.Bool.{true};
+ghost use Prim.Native.Nat.{_+_, _*_, _-_, _≤_, _<_};
+ghost use lib.ListN.{length, replicate};
+ghost use Rattle.record.specs.Body.{BodyOf};
+ghost use Rattle.record.specs.Form.{planForm};
+ghost use Rattle.slots.specs.Slots.{elevenRight, badItem};
+ghost use Rattle.slots.specs.Puts.{readPuts, FilledWith, partFaultOf, planFaultOf};
+use crate::PartFault;
+use crate::PlanFault;
+use crate::tables::fill_reads;
+use crate::tables::top_power;
+use pinmap::Found;
+use record::bodies::Body;
+use record::bodies::body_at;
+use record::bodies::first_body;
+use record::bodies::parts_of;
+use record::bodies::slot;
+use words::units::EMPTY_PIN;
+use words::units::Pin;
+
+// Whether position q of stage s is empty or carried, or its pin is not read: the table holds the pins that the part reads.
+fn eleven_right(d: &[u8], p: usize, body: Body, s: usize, q: usize, table: &[u32]) -> bool
+    requires { ⌜ BodyOf (now d) p body × (s < body .stages) × (q < 8192) × FilledWith (readPuts (now d) p) (now table) ⌝ }
+    ensures { λ r. ⌜ r ≡ elevenRight (now (d .entry)) p s q ⌝ }
+{
+    if q == 0 {
+        return true;
+    }
+    let pin = slot(d, p, body, s, q);
+    if pin == EMPTY_PIN {
+        return true;
+    }
+    if pin == slot(d, p, body, s, q + top_power(q)) {
+        return true;
+    }
+    match pinmap::look_up(table, Pin(pin)) {
+        Found::Value(_) => false,
+        Found::Missing => true,
+    }
+}
+
+// The lowest item of part p that is refused.
+fn eleven_items(d: &[u8], p: usize, body: Body, table: &[u32]) -> PartFault
+    requires { ⌜ BodyOf (now d) p body × FilledWith (readPuts (now d) p) (now table) ⌝ }
+    ensures { λ r. ⌜ r ≡ partFaultOf (badItem (now (d .entry)) (elevenRight (now (d .entry)) p) p) ⌝ }
+{
+    let items = 8192 * body.stages;
+    let mut i = 0;
+    while i < items {
+        if eleven_right(d, p, body, i / 8192, i % 8192, table) {
+            i += 1;
+        } else {
+            return PartFault::Item(i);
+        }
+    }
+    PartFault::Absent
+}
+
+// The same with a lent table, which is cleared.
+fn eleven_part(d: &[u8], p: usize, body: Body, table: &mut [u32]) -> PartFault
+    requires { ⌜ BodyOf (now d) p body × (0 < body .stages) × (32768 ≤ length (now table)) ⌝ }
+    ensures { λ r. ⌜ r ≡ partFaultOf (badItem (now (d .entry)) (elevenRight (now (d .entry)) p) p) ⌝ }
+    ensures { λ r. ⌜ now (table .exit) ≡ replicate (length (now (table .entry))) 0 ⌝ }
+{
+    fill_reads(d, p, body, table);
+    let fault = eleven_items(d, p, body, table);
+    pinmap::clear(table);
+    fault
+}
+
+// Refusal 11 over the whole plan.
+pub fn refusal11(d: &[u8], room: &mut [u32]) -> PlanFault
+    requires { ⌜ (planForm (now d) ≡ true) × (32768 ≤ length (now room)) ⌝ }
+    ensures { λ r. ⌜ r ≡ planFaultOf (Rattle.slots.specs.Slots.refusal11 (now (d .entry))) ⌝ }
+    ensures { λ r. ⌜ now (room .exit) ≡ replicate (length (now (room .entry))) 0 ⌝ }
+{
+    pinmap::clear(room);
+    let parts = parts_of(d);
+    let mut at = first_body(d);
+    let mut p = 0;
+    while p < parts {
+        let body = body_at(d, p, at);
+        match eleven_part(d, p, body, room) {
+            PartFault::Absent => {
+                at = body.end;
+                p += 1;
+            }
+            PartFault::Item(i) => return PlanFault::At(p, i),
+        }
+    }
+    PlanFault::Absent
+}

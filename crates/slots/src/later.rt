@@ -1,0 +1,103 @@
+// Refusal 10: a pin of a later stage that is absent from the stage before.
+ghost use mathlib.Core.Path.{_≡_};
+ghost use mathlib.Core.Bool.{true};
+ghost use Prim.Native.Nat.{_+_, _*_, _-_, _≤_, _<_};
+ghost use lib.ListN.{length, replicate};
+ghost use Rattle.record.specs.Body.{BodyOf};
+ghost use Rattle.record.specs.Form.{planForm};
+ghost use Rattle.record.specs.Tests.{firstFrom};
+ghost use Rattle.slots.specs.Slots.{tenRight, badItem};
+ghost use Rattle.slots.specs.Puts.{positionPuts, FilledWith, overItems, Zeros, partFaultOf, planFaultOf};
+use crate::PartFault;
+use crate::PlanFault;
+use crate::tables::fill_positions;
+use pinmap::Found;
+use record::bodies::Body;
+use record::bodies::body_at;
+use record::bodies::first_body;
+use record::bodies::parts_of;
+use record::bodies::slot;
+use words::units::EMPTY_PIN;
+use words::units::Pin;
+
+// Whether slot j of level 0 of stage s is empty or its pin stands in the stage before, whose positions the table holds.
+fn ten_right(d: &[u8], p: usize, body: Body, s: usize, j: usize, table: &[u32]) -> bool
+    requires { ⌜ BodyOf (now d) p body × (s + 1 < body .stages) × (j < 8192) × FilledWith (positionPuts (now d) p s) (now table) ⌝ }
+    ensures { λ r. ⌜ r ≡ tenRight (now (d .entry)) p (s + 1) j ⌝ }
+{
+    let pin = slot(d, p, body, s + 1, 8192 + j);
+    if pin == EMPTY_PIN {
+        return true;
+    }
+    match pinmap::look_up(table, Pin(pin)) {
+        Found::Value(_) => true,
+        Found::Missing => false,
+    }
+}
+
+// The lowest item of stage s + 1 that is refused.
+fn ten_items(d: &[u8], p: usize, body: Body, s: usize, table: &[u32]) -> PartFault
+    requires { ⌜ BodyOf (now d) p body × (s + 1 < body .stages) × FilledWith (positionPuts (now d) p s) (now table) ⌝ }
+    ensures { λ r. ⌜ r ≡ partFaultOf (firstFrom (overItems (tenRight (now (d .entry)) p)) 8192 (8192 * (s + 1))) ⌝ }
+{
+    let mut j = 0;
+    while j < 8192 {
+        if ten_right(d, p, body, s, j, table) {
+            j += 1;
+        } else {
+            return PartFault::Item(8192 * (s + 1) + j);
+        }
+    }
+    PartFault::Absent
+}
+
+// The same with a lent table, which is cleared.
+fn ten_stage(d: &[u8], p: usize, body: Body, s: usize, table: &mut [u32]) -> PartFault
+    requires { ⌜ BodyOf (now d) p body × (s + 1 < body .stages) × (32768 ≤ length (now table)) ⌝ }
+    ensures { λ r. ⌜ r ≡ partFaultOf (firstFrom (overItems (tenRight (now (d .entry)) p)) 8192 (8192 * (s + 1))) ⌝ }
+    ensures { λ r. ⌜ now (table .exit) ≡ replicate (length (now (table .entry))) 0 ⌝ }
+{
+    fill_positions(d, p, body, s, table);
+    let fault = ten_items(d, p, body, s, table);
+    pinmap::clear(table);
+    fault
+}
+
+// The lowest item of part p that is refused: stage 0 has none.
+fn ten_part(d: &[u8], p: usize, body: Body, table: &mut [u32]) -> PartFault
+    requires { ⌜ BodyOf (now d) p body × (0 < body .stages) × Zeros (now table) ⌝ }
+    ensures { λ r. ⌜ r ≡ partFaultOf (badItem (now (d .entry)) (tenRight (now (d .entry)) p) p) ⌝ }
+    ensures { λ r. ⌜ now (table .exit) ≡ now (table .entry) ⌝ }
+{
+    let mut s = 0;
+    while s + 1 < body.stages {
+        match ten_stage(d, p, body, s, table) {
+            PartFault::Absent => s += 1,
+            PartFault::Item(i) => return PartFault::Item(i),
+        }
+    }
+    PartFault::Absent
+}
+
+// Refusal 10 over the whole plan.
+pub fn refusal10(d: &[u8], room: &mut [u32]) -> PlanFault
+    requires { ⌜ (planForm (now d) ≡ true) × (32768 ≤ length (now room)) ⌝ }
+    ensures { λ r. ⌜ r ≡ planFaultOf (Rattle.slots.specs.Slots.refusal10 (now (d .entry))) ⌝ }
+    ensures { λ r. ⌜ now (room .exit) ≡ replicate (length (now (room .entry))) 0 ⌝ }
+{
+    pinmap::clear(room);
+    let parts = parts_of(d);
+    let mut at = first_body(d);
+    let mut p = 0;
+    while p < parts {
+        let body = body_at(d, p, at);
+        match ten_part(d, p, body, room) {
+            PartFault::Absent => {
+                at = body.end;
+                p += 1;
+            }
+            PartFault::Item(i) => return PlanFault::At(p, i),
+        }
+    }
+    PlanFault::Absent
+}

@@ -1,0 +1,124 @@
+// Refusal 9: a slot pin out of range, or at a position neither empty, slot a's pin, nor the right gate.
+ghost use mathlib.Core.Path.{_≡_};
+ghost use mathlib.Core.Bool.{true};
+ghost use mathlib.Core.Option.{none};
+ghost use Prim.Native.Nat.{_<_};
+ghost use Rattle.record.specs.Body.{BodyOf};
+ghost use Rattle.record.specs.Form.{planForm};
+ghost use Rattle.gates.specs.Gates.{badGate, gateOf};
+ghost use Rattle.slots.specs.Slots.{feeds, pinRight, slotRight, nineRight, badItem};
+ghost use Rattle.slots.specs.Puts.{partFaultOf, planFaultOf};
+use crate::PartFault;
+use crate::PlanFault;
+use crate::tables::top_power;
+use gates::GateFound;
+use gates::find_gate;
+use gates::gate_first;
+use gates::gate_second;
+use record::bodies::Body;
+use record::bodies::body_at;
+use record::bodies::first_body;
+use record::bodies::parts_of;
+use record::bodies::slot;
+use words::units::EMPTY_PIN;
+use words::units::Pin;
+
+// Whether a pin is empty or in range.
+fn pin_right(pin: u32) -> bool
+    ensures { λ r. ⌜ r ≡ pinRight pin ⌝ }
+{
+    if pin == EMPTY_PIN {
+        return true;
+    }
+    pin <= 1073741824
+}
+
+// Whether a pin has a gate whose fan-in pins are a and b, in that order.
+fn fed_by(d: &[u8], pin: u32, a: u32, b: u32) -> bool
+    requires { ⌜ badGate (now d) ≡ none ⌝ }
+    ensures { λ r. ⌜ r ≡ feeds (now (d .entry)) (gateOf (now (d .entry)) pin) a b ⌝ }
+{
+    match find_gate(d, Pin(pin)) {
+        GateFound::Gate(g) => {
+            let first = gate_first(d, g).pin().0;
+            let second = gate_second(d, g).pin().0;
+            if first == a {
+                return second == b;
+            }
+            false
+        }
+        GateFound::Missing => false,
+    }
+}
+
+// Whether position q of stage s holds what may stand there.
+fn slot_right(d: &[u8], p: usize, body: Body, s: usize, q: usize) -> bool
+    requires { ⌜ BodyOf (now d) p body × (s < body .stages) × (0 < q) × (q < 8192) × (badGate (now d) ≡ none) ⌝ }
+    ensures { λ r. ⌜ r ≡ slotRight (now (d .entry)) p s q ⌝ }
+{
+    let pin = slot(d, p, body, s, q);
+    if pin == EMPTY_PIN {
+        return true;
+    }
+    if 1073741824 < pin {
+        return false;
+    }
+    let m = top_power(q);
+    let a = slot(d, p, body, s, q + m);
+    if pin == a {
+        return true;
+    }
+    fed_by(d, pin, a, slot(d, p, body, s, q + 2 * m))
+}
+
+// Whether slot x of level 0 and position x are right.
+fn nine_right(d: &[u8], p: usize, body: Body, s: usize, x: usize) -> bool
+    requires { ⌜ BodyOf (now d) p body × (s < body .stages) × (x < 8192) × (badGate (now d) ≡ none) ⌝ }
+    ensures { λ r. ⌜ r ≡ nineRight (now (d .entry)) p s x ⌝ }
+{
+    if pin_right(slot(d, p, body, s, 8192 + x)) {
+        if x == 0 {
+            return true;
+        }
+        return slot_right(d, p, body, s, x);
+    }
+    false
+}
+
+// The lowest item of part p that is refused.
+fn nine_part(d: &[u8], p: usize, body: Body) -> PartFault
+    requires { ⌜ BodyOf (now d) p body × (badGate (now d) ≡ none) ⌝ }
+    ensures { λ r. ⌜ r ≡ partFaultOf (badItem (now (d .entry)) (nineRight (now (d .entry)) p) p) ⌝ }
+{
+    let items = 8192 * body.stages;
+    let mut i = 0;
+    while i < items {
+        if nine_right(d, p, body, i / 8192, i % 8192) {
+            i += 1;
+        } else {
+            return PartFault::Item(i);
+        }
+    }
+    PartFault::Absent
+}
+
+// Refusal 9 over the whole plan.
+pub fn refusal9(d: &[u8]) -> PlanFault
+    requires { ⌜ (planForm (now d) ≡ true) × (badGate (now d) ≡ none) ⌝ }
+    ensures { λ r. ⌜ r ≡ planFaultOf (Rattle.slots.specs.Slots.refusal9 (now (d .entry))) ⌝ }
+{
+    let parts = parts_of(d);
+    let mut at = first_body(d);
+    let mut p = 0;
+    while p < parts {
+        let body = body_at(d, p, at);
+        match nine_part(d, p, body) {
+            PartFault::Absent => {
+                at = body.end;
+                p += 1;
+            }
+            PartFault::Item(i) => return PlanFault::At(p, i),
+        }
+    }
+    PlanFault::Absent
+}
