@@ -1,1 +1,2 @@
 pub mod PartReads
+pub mod Ready

@@ -1,1 +1,2 @@
 // The reads of a part: its read set, its lanes, its pins' local positions.
+pub mod asked;
