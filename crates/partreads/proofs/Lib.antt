@@ -1,1 +1,4 @@
 pub mod AskedLaws
+pub mod BaseLaws
+pub mod SearchedLaws
+pub mod PlaceLaws

@@ -1,2 +1,4 @@
 pub mod PartReads
 pub mod Ready
+pub mod Answers
+pub mod Bases

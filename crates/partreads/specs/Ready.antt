@@ -5,11 +5,13 @@ use mathlib.Core.Option.{Option, none, some}
 use mathlib.Core.List.{List}
 use Prim.Native.Nat.{ℕ, _+_, _%_, _^_, _≤_, _<_}
 use lib.ListN.{length, getD}
-use Rattle.pinmap.specs.PinMap.{look}
+use Rattle.reads.specs.ReadSet.{pairsOf, broken}
+use Rattle.pinmap.specs.PinMap.{look, afterRenewals}
 use Rattle.record.specs.Record.{slotAt}
 use Rattle.record.specs.Form.{empty}
 use Rattle.positions.specs.Positions.{Planned, planned}
-use Rattle.positions.specs.Winners.{winner, plannedBy}
+use Rattle.positions.specs.Winners.{winner, plannedBy, winnerPuts}
+use Rattle.slots.specs.Puts.{readPuts, filled}
 use Rattle.partreads.specs.PartReads.{bitNumber}
 
 -- the bit of a position that may be missing
@@ -44,3 +46,16 @@ pub record SetRoom (keys scratch set : ℕ) : Type 0 where
   pub keys-room : 8192 ≤ keys
   pub scratch-room : 8192 ≤ scratch
   pub set-room : 16384 ≤ set
+
+-- every pin that part p reads has a planned position
+abbrev pub AllPlanned : List ℕ → ℕ → Type 0
+AllPlanned d p = (j : ℕ) → j < 8192 → (slotAt d p 0 (8192 + j) ≡ empty → ⊥) → planned d (slotAt d p 0 (8192 + j)) ≡ none → ⊥
+
+-- the table, of n words, of the pins that part p reads, with their winners
+unfoldable pub wonPins : ℕ → List ℕ → ℕ → List ℕ
+wonPins n d p = afterRenewals (filled n (readPuts d p)) (winnerPuts d)
+
+-- a read set as the search takes it: 8192 pairs at most, in form
+pub record InForm (ws : List ℕ) : Type 0 where
+  pub few : length ws ≤ 16384
+  pub form : broken (pairsOf ws) ≡ none

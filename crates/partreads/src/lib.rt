@@ -1,2 +1,4 @@
 // The reads of a part: its read set, its lanes, its pins' local positions.
 pub mod asked;
+pub mod local;
+pub mod searched;
