@@ -164,6 +164,11 @@ asked-most d p j = go (eqb (slotAt d p 0 (8192 + j)) empty) (planned d (slotAt d
     go false none = omega arith
     go false (some x) = omega arith
 
+pub asked-to-few : (d : List ℕ) (p n : ℕ) → length (askedTo d p n) ≤ n
+unfolding askedTo
+asked-to-few d p zero = omega arith
+asked-to-few d p (suc n) = rw length-append (omega (arith, asked-to-few d p n, asked-most d p n))
+
 module _ (d : List ℕ) (p : ℕ) (keys₀ keys : List ℕ) (n j : ℕ) (a : Asking d p keys₀ keys n j) where
   pub asking-length : length keys ≡ length keys₀
   asking-length = ap length (a .holds) ∙ length-sets keys₀ 0 (askedTo d p j)

@@ -2,3 +2,4 @@ pub mod AskedLaws
 pub mod BaseLaws
 pub mod SearchedLaws
 pub mod PlaceLaws
+pub mod EntryLaws
