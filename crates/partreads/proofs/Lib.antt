@@ -3,3 +3,4 @@ pub mod BaseLaws
 pub mod SearchedLaws
 pub mod PlaceLaws
 pub mod EntryLaws
+pub mod CheckLaws

@@ -25,10 +25,10 @@ use Rattle.record.specs.Tests.{someBelow}
 use Rattle.record.proofs.TestLaws.{some-at}
 use Rattle.slots.specs.Slots.{readsPin}
 use Rattle.slots.specs.Puts.{readPuts, filled, foundIf}
-use Rattle.slots.proofs.PutLaws.{reads-hold, reads-look}
+use Rattle.slots.proofs.PutLaws.{reads-hold, reads-look, filled-length}
 use Rattle.positions.specs.Positions.{planned}
-use Rattle.positions.specs.Winners.{winner, plannedBy}
-use Rattle.positions.proofs.WinnerLaws.{winners-look, planned-winner, by-none}
+use Rattle.positions.specs.Winners.{winner, plannedBy, winnerPuts}
+use Rattle.positions.proofs.WinnerLaws.{winners-look, planned-winner, by-none, renewals-length}
 use Rattle.partreads.specs.declared.searched.Reads.the-variants.{Nothing, NoRoom, Rounds}
 use Rattle.partreads.specs.Ready.{AllPlanned, Won, AllWon, wonPins, InForm}
 use Rattle.partreads.specs.Answers.{readsOf}
@@ -95,3 +95,11 @@ pins-won d p n h all j l full =
       found = winners-look d (filled n (readPuts d p)) (readPuts d p) x (reads-hold d p n h) there full;
       some-entry = planned-winning d x (all j l full);
     }
+
+pub pins-are : (d : List ℕ) (p : ℕ) (room pins : List ℕ) → pins ≡ wonPins (length room) d p → length room ≡ 32768 → AllPlanned d p → AllWon d p pins
+pins-are d p room pins e n all = rw e (pins-won d p (length room) (omega arith) all)
+
+pub pins-length : (d : List ℕ) (p : ℕ) (room pins : List ℕ) → pins ≡ wonPins (length room) d p → length pins ≡ length room
+unfolding wonPins
+pins-length d p room pins e =
+    ap length e ∙ (renewals-length (filled (length room) (readPuts d p)) (winnerPuts d) ∙ filled-length (length room) (readPuts d p))
