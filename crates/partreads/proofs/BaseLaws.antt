@@ -21,7 +21,7 @@ use Rattle.partreads.specs.Bases.{storeLane, storeLanes}
 pub lane-length : (b : ℕ) (l : Lane) (bases : List ℕ) → length (storeLane b l bases) ≡ length bases
 unfolding storeLane
 lane-length b [] bases = refl
-lane-length b (p ∷ l) bases = length-set (storeLane b l bases) _ _ ∙ lane-length b l bases
+lane-length b (p ∷ l) bases = rw length-set (lane-length _ l bases)
 
 pub lanes-length : (i : ℕ) (ls : List Lane) (bases : List ℕ) → length (storeLanes i ls bases) ≡ length bases
 unfolding storeLanes

@@ -11,7 +11,7 @@ ghost use Rattle.positions.specs.Positions.{refusal12};
 ghost use Rattle.positions.specs.Winners.{Listed};
 ghost use Rattle.partreads.specs.PartReads.{partReads, refusedReads};
 ghost use Rattle.partreads.specs.Ready.{AllPlanned, SetRoom};
-ghost use Rattle.partreads.specs.Answers.{readsOf, isNothing, earlierOf, fullAfter};
+ghost use Rattle.partreads.specs.Answers.{readsOf, isNothing, earlierOf, fullAfter, checkedOf};
 use crate::asked::part_set;
 use crate::searched::Reads;
 use crate::searched::fill_pins;
@@ -76,4 +76,40 @@ fn full_after(full: usize, parts: usize, p: usize, reads: Reads) -> usize
         Reads::NoRoom => earlier(full, parts, p),
         Reads::Rounds(_) => full,
     }
+}
+
+// All parts. What the lent slices hold afterwards is left open.
+fn check_parts(d: &[u8], room: &mut [u32], keys: &mut [u64], scratch: &mut [u64], set: &mut [u32]) -> Checked
+    requires { ⌜ (planForm (now d) ≡ true) × (refusal12 (now d) ≡ none) × SetRoom (length (now keys)) (length (now scratch)) (length (now set)) × (length (now room) ≡ 32768) ⌝ }
+    ensures { λ r. ⌜ r ≡ checkedOf (refusedReads 256 3 (now (d .entry))) (refusedReads 256 4 (now (d .entry))) ⌝ }
+{
+    let parts = parts_of(d);
+    let mut at = first_body(d);
+    let mut full = parts;
+    let mut p = 0;
+    while p < parts {
+        let body = body_at(d, p, at);
+        let reads = check_part(d, p, body, room, keys, scratch, set);
+        if is_nothing(reads) {
+            return Checked::Nothing(p);
+        }
+        full = full_after(full, parts, p, reads);
+        at = body.end;
+        p += 1;
+    }
+    if full == parts {
+        return Checked::Fine;
+    }
+    Checked::NoRoom(full)
+}
+
+// Refusals 3 and 4. The first 32768 words of the room are zero afterwards, the others as they were.
+pub fn check_reads(d: &[u8], room: &mut [u32], keys: &mut [u64], scratch: &mut [u64], set: &mut [u32]) -> Checked
+    requires { ⌜ (planForm (now d) ≡ true) × (refusal12 (now d) ≡ none) × SetRoom (length (now keys)) (length (now scratch)) (length (now set)) × (65536 ≤ length (now room)) ⌝ }
+    ensures { λ r. ⌜ r ≡ checkedOf (refusedReads 256 3 (now (d .entry))) (refusedReads 256 4 (now (d .entry))) ⌝ }
+    ensures { λ _. ⌜ now (room .exit) ≡ replicate 32768 0 ++ drop 32768 (now (room .entry)) ⌝ }
+{
+    let answer = check_parts(d, &mut room[..32768], keys, scratch, set);
+    pinmap::clear(&mut room[..32768]);
+    answer
 }
