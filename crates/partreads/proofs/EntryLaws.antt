@@ -106,6 +106,14 @@ module _ (d : List ℕ) (p : ℕ) (narrow : AllNarrow (askedTo d p 8192)) {K S L
   pub part-win : (table : List ℕ) → table ≡ tableAfter L (lanesOf L (pairsOf (readWords d p))) → length table ≡ 32 * L → Win (readWords d p) table L
   part-win table e n = won (in-search (words-form d p narrow) s (words-small d p narrow)) true table (rw part-found) refl e n
 
+  -- the table says the part's lanes
+  pub part-lanes : (table : List ℕ) → table ≡ tableAfter L (lanesOf L (pairsOf (readWords d p))) → length table ≡ 32 * L → lanesAt (readWords d p) table L ≡ partLanes L d p
+  part-lanes table e n =
+      let w = part-win table e n in
+      let twice : some (w .lanes) ≡ some lanes = sym (w .found) ∙ part-found in
+      let one : w .lanes ≡ lanes = cc in
+      w .same ∙ (one ∙ ap lanesIn (sym found))
+
   -- the pins of the slots are found at their local positions
   pub part-numbered : (table bases : List ℕ) → table ≡ tableAfter L (lanesOf L (pairsOf (readWords d p))) → length table ≡ 32 * L → length (readWords d p) / 2 ≤ length bases
       → AllPlanned d p → Numbered L d p (readWords d p) (storeLanes 0 (lanesAt (readWords d p) table L) bases)
@@ -119,9 +127,7 @@ module _ (d : List ℕ) (p : ℕ) (narrow : AllNarrow (askedTo d p 8192)) {K S L
       let (i, k, g) = asked-in d p 8192 j y l full is in
       let asked : Requested (pairsOf ws) (bitNumber y / 32) (bitNumber y % 32) = rw g at (set-requests (askedTo d p 8192) i k) in
       let here = local-is L ws at (s .few-lanes) (set-rising (askedTo d p 8192)) sound (w .readable .filled .kept) bases room (bitNumber y) asked in
-      let twice : some (w .lanes) ≡ some lanes = sym (w .found) ∙ part-found in
-      let one : w .lanes ≡ lanes = cc in
-      let same : at ≡ partLanes L d p = w .same ∙ (one ∙ ap lanesIn (sym found)) in
+      let same : at ≡ partLanes L d p = part-lanes table e n in
       record {
         placeable = rw is (here .placeable);
         is = rw is (here .is ∙ ap (λ (ls : List Lane). orZero (localOf ls (bitNumber y / 32) (bitNumber y % 32))) same);

@@ -79,7 +79,13 @@ fn full_after(full: usize, parts: usize, p: usize, reads: Reads) -> usize
 }
 
 // All parts. What the lent slices hold afterwards is left open.
-fn check_parts(d: &[u8], room: &mut [u32], keys: &mut [u64], scratch: &mut [u64], set: &mut [u32]) -> Checked
+fn check_parts(
+    d: &[u8],
+    room: &mut [u32],
+    keys: &mut [u64],
+    scratch: &mut [u64],
+    set: &mut [u32],
+) -> Checked
     requires { ⌜ (planForm (now d) ≡ true) × (refusal12 (now d) ≡ none) × SetRoom (length (now keys)) (length (now scratch)) (length (now set)) × (length (now room) ≡ 32768) ⌝ }
     ensures { λ r. ⌜ r ≡ checkedOf (refusedReads 256 3 (now (d .entry))) (refusedReads 256 4 (now (d .entry))) ⌝ }
 {
@@ -104,7 +110,13 @@ fn check_parts(d: &[u8], room: &mut [u32], keys: &mut [u64], scratch: &mut [u64]
 }
 
 // Refusals 3 and 4. The first 32768 words of the room are zero afterwards, the others as they were.
-pub fn check_reads(d: &[u8], room: &mut [u32], keys: &mut [u64], scratch: &mut [u64], set: &mut [u32]) -> Checked
+pub fn check_reads(
+    d: &[u8],
+    room: &mut [u32],
+    keys: &mut [u64],
+    scratch: &mut [u64],
+    set: &mut [u32],
+) -> Checked
     requires { ⌜ (planForm (now d) ≡ true) × (refusal12 (now d) ≡ none) × SetRoom (length (now keys)) (length (now scratch)) (length (now set)) × (65536 ≤ length (now room)) ⌝ }
     ensures { λ r. ⌜ r ≡ checkedOf (refusedReads 256 3 (now (d .entry))) (refusedReads 256 4 (now (d .entry))) ⌝ }
     ensures { λ _. ⌜ now (room .exit) ≡ replicate 32768 0 ++ drop 32768 (now (room .entry)) ⌝ }

@@ -1,53 +1,42 @@
+-- `partreads::asked::ask_slot` meets its contract: one bit more, or none where the slot is empty.
+-- Assumes nothing.
+use mathlib.Core.Path.{_≡_, refl, sym, _∙_}
 use Prim.Native.Nat.{_+_}
-use mathlib.Core.Path.{_≡_, refl, sym, ap, _∙_}
 use native.Mathlib.Omega.{arith}
+use borrow.Author.Needs.{needs}
 use Rattle.record.specs.Record.{slotAt}
 use Rattle.record.specs.Form.{empty}
 use Rattle.partreads.proofs.AskedLaws.{slot-none, slot-one}
-use borrow.Author.Needs.{needs}
 use Rattle.partreads.proofs.asked.ask_slot.Statement.{statement}
 use Rattle.partreads.proofs.asked.ask_slot.Tie as tie
-use Rattle.partreads.proofs.asked.ask_slot.Reads as reads
-use Rattle.partreads.proofs.asked.ask_slot.Lts as lts
-use Rattle.partreads.proofs.asked.bit_of_pin.Reads as bit-of-pin-reads
-use Rattle.record.proofs.bodies.slot.Reads as slot-reads
 
--- src/asked.rt:67:35
 add-slot : tie.Need-add-slot
 add-slot c = search needs
 
--- src/asked.rt:67:9
 slot-requires : tie.Need-slot-requires
 slot-requires c κs = search needs
 
--- src/asked.rt:69:9
 returns : tie.Need-returns
 returns c = slot-none _ _ _ _ (c .before .before .before .before .before .args .keys .now) (sym (c .before .slot .ensures) ∙ c .if1 .taken)
 
--- src/asked.rt:71:15
 bit-of-pin-requires : tie.Need-bit-of-pin-requires
 bit-of-pin-requires c κs =
     let s = c .before .before .before .before .before in
     let e = c .before .slot .ensures in
     (omega arith, rw e (s .pre .3 (s .args .j) (s .pre .2) (λ z. c .if1 .left (e ∙ z))))
 
--- src/asked.rt:71:5
 mul-keys : tie.Need-mul-keys
 mul-keys c = search needs
 
--- src/asked.rt:71:5
 slice-write-keys : tie.Need-slice-write-keys
 slice-write-keys c = search needs
 
--- src/asked.rt:72:5
 add-result : tie.Need-add-result
 add-result c = search needs
 
--- src/asked.rt:61:1
 same-length : tie.Need-same-length
 same-length c = search needs
 
--- src/asked.rt:61:1
 returns-2 : tie.Need-returns-2
 returns-2 c =
     let s = c .before .before .before .before .before .before in

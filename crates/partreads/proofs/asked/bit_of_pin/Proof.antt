@@ -1,21 +1,16 @@
-use Rattle.partreads.proofs.AskedLaws.{won-entry, won-bit}
+-- `partreads::asked::bit_of_pin` meets its contract: the winner gives the planned position.
+-- Assumes nothing.
 use borrow.Author.Needs.{needs}
+use Rattle.partreads.proofs.AskedLaws.{won-entry, won-bit}
 use Rattle.partreads.proofs.asked.bit_of_pin.Statement.{statement}
 use Rattle.partreads.proofs.asked.bit_of_pin.Tie as tie
-use Rattle.partreads.proofs.asked.bit_of_pin.Reads as reads
-use Rattle.partreads.proofs.asked.bit_of_pin.Lts as lts
-use Rattle.partreads.proofs.asked.bit_of_entry.Reads as bit-of-entry-reads
-use Rattle.partreads.proofs.asked.entry_of.Reads as entry-of-reads
 
--- src/asked.rt:57:21
 entry-of-requires : tie.Need-entry-of-requires
 entry-of-requires c κs = search needs
 
--- src/asked.rt:57:5
 bit-of-entry-requires : tie.Need-bit-of-entry-requires
 bit-of-entry-requires c κs = won-entry _ _ _ (c .before .before .before .pre .1) _ (c .entry-of .ensures)
 
--- src/asked.rt:53:1
 returns : tie.Need-returns
 returns c = won-bit _ _ _ (c .before .before .before .before .pre .1) _ _ (c .before .entry-of .ensures) (c .bit-of-entry .ensures)
 

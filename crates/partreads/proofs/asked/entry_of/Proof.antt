@@ -1,31 +1,25 @@
+-- `partreads::asked::entry_of` meets its contract: what a look into the table tells.
+-- Assumes nothing.
+use borrow.Author.Needs.{needs}
 use Rattle.pinmap.specs.PinMap.{look}
 use Rattle.partreads.proofs.AskedLaws.{found-value, found-missing}
-use borrow.Author.Needs.{needs}
 use Rattle.partreads.proofs.asked.entry_of.Statement.{statement}
 use Rattle.partreads.proofs.asked.entry_of.Tie as tie
-use Rattle.partreads.proofs.asked.entry_of.Reads as reads
-use Rattle.partreads.proofs.asked.entry_of.Lts as lts
-use Rattle.pinmap.proofs.look_up.Reads as look-up-reads
 
--- src/asked.rt:46:11
 look-up-requires : tie.Need-look-up-requires
 look-up-requires c κs = search needs
 
--- src/asked.rt:47:22
 enum-known-w : tie.Need-enum-known-w
 enum-known-w c = search needs
 
--- src/asked.rt:48:27
 enum-told : tie.Need-enum-told
 enum-told c = search needs
 
--- src/asked.rt:42:1
 returns : tie.Need-returns
 returns c =
     let s = c .before .before .before .before .before .args in
     found-value (look (s .pins .now) (s .pin)) _ _ (c .before .before .before .look-up .ensures) (c .before .w .given .1)
 
--- src/asked.rt:42:1
 returns-2 : tie.Need-returns-2
 returns-2 c =
     let s = c .before .before .before .before .args in

@@ -1,22 +1,17 @@
+-- `partreads::asked::part_set` meets its contract: the front of the keys is the bits asked for.
+-- Assumes nothing.
 use mathlib.Core.Path.{refl}
-use Rattle.partreads.proofs.AskedLaws.{asked-size, asked-settable, asked-set}
 use borrow.Author.Needs.{needs}
+use Rattle.partreads.proofs.AskedLaws.{asked-size, asked-settable, asked-set}
 use Rattle.partreads.proofs.asked.part_set.Statement.{statement}
 use Rattle.partreads.proofs.asked.part_set.Tie as tie
-use Rattle.partreads.proofs.asked.part_set.Reads as reads
-use Rattle.partreads.proofs.asked.part_set.Lts as lts
-use Rattle.asks.proofs.read_set.Reads as read-set-reads
-use Rattle.partreads.proofs.asked.ask_bits.Reads as ask-bits-reads
 
--- src/asked.rt:98:9
 ask-bits-requires : tie.Need-ask-bits-requires
 ask-bits-requires c κs = search needs
 
--- src/asked.rt:99:20
 slice-relend-prefix-read-set : tie.Need-slice-relend-prefix-read-set
 slice-relend-prefix-read-set c = search needs
 
--- src/asked.rt:99:20
 slice-aggregate-read-set : tie.Need-slice-aggregate-read-set
 slice-aggregate-read-set c =
     let a = c .before .before .before .ask-bits in
@@ -24,7 +19,6 @@ slice-aggregate-read-set c =
     let o = s .args in
     asked-size (o .d .now) (o .p) (o .keys .now) (o .scratch .now) (o .set .now) _ _ (s .pre .3) (a .ensures .0) (a .ensures .1 .0) (a .ensures .1 .1)
 
--- src/asked.rt:99:5
 read-set-requires : tie.Need-read-set-requires
 read-set-requires c κs =
     let a = c .before .before .before .before .before .ask-bits in
@@ -32,19 +26,15 @@ read-set-requires c κs =
     let o = s .args in
     asked-settable (o .d .now) (o .p) (o .keys .now) (o .scratch .now) (o .set .now) _ _ (s .pre .3) (a .ensures .0) (a .ensures .1 .0) (a .ensures .1 .1) _ refl
 
--- src/asked.rt:92:1
 same-length : tie.Need-same-length
 same-length c = search needs
 
--- src/asked.rt:92:1
 same-length-2 : tie.Need-same-length-2
 same-length-2 c = search needs
 
--- src/asked.rt:92:1
 same-length-3 : tie.Need-same-length-3
 same-length-3 c = search needs
 
--- src/asked.rt:92:1
 returns : tie.Need-returns
 returns c =
     let a = c .before .before .before .before .before .before .before .before .before .before .before .before .ask-bits in

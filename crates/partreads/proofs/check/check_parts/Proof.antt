@@ -1,23 +1,17 @@
-use mathlib.Core.Path.{_≡_, refl, sym, ap, _∙_}
+-- `partreads::check::check_parts` meets its contract. The loop's invariant: what the parts that are left say of 3 and 4 is what all say.
+-- Assumes nothing.
+use mathlib.Core.Path.{_≡_, refl, _∙_}
 use Prim.Native.Nat.{_-_, _<_}
 use native.Mathlib.Omega.{arith}
+use borrow.Author.Needs.{needs}
 use lib.ListN.{length}
 use Rattle.record.specs.Record.{partsOf}
 use Rattle.record.proofs.FormLaws.{formed, body-ready}
 use Rattle.positions.proofs.WinnerLaws.{listed}
 use Rattle.partreads.proofs.EntryLaws.{all-planned}
 use Rattle.partreads.proofs.CheckLaws.{Passing, passing-start, passing-fault, passing-on, passed-fine, passed-full}
-use borrow.Author.Needs.{needs}
 use Rattle.partreads.proofs.check.check_parts.Statement.{statement}
 use Rattle.partreads.proofs.check.check_parts.Tie as tie
-use Rattle.partreads.proofs.check.check_parts.Reads as reads
-use Rattle.partreads.proofs.check.check_parts.Lts as lts
-use Rattle.partreads.proofs.check.check_part.Reads as check-part-reads
-use Rattle.partreads.proofs.check.full_after.Reads as full-after-reads
-use Rattle.partreads.proofs.check.is_nothing.Reads as is-nothing-reads
-use Rattle.record.proofs.bodies.body_at.Reads as body-at-reads
-use Rattle.record.proofs.bodies.first_body.Reads as first-body-reads
-use Rattle.record.proofs.bodies.parts_of.Reads as parts-of-reads
 
 abbrev Inv-loop : tie.InvT-loop
 Inv-loop d room₀ keys₀ scratch₀ set₀ parts at₀ full₀ p₀ room keys scratch set at full p =
@@ -26,123 +20,106 @@ Inv-loop d room₀ keys₀ scratch₀ set₀ parts at₀ full₀ p₀ room keys 
 abbrev μ-loop : tie.MeasureT-loop
 μ-loop d room₀ keys₀ scratch₀ set₀ parts at₀ full₀ p₀ room keys scratch set at full p = parts - p
 
--- src/check.rt:65:9
 parts-of-requires : tie.Need-parts-of-requires Inv-loop μ-loop
 parts-of-requires c κs = formed _ (c .before .before .before .before .before .pre .0) .head .majors
 
--- src/check.rt:66:9
 first-body-requires : tie.Need-first-body-requires Inv-loop μ-loop
 first-body-requires c κs = formed _ (c .before .before .before .before .before .before .pre .0) .head .majors
 
--- src/check.rt:69:5
 loop-holds : tie.Need-loop-holds Inv-loop μ-loop
 loop-holds c = (passing-start _ _ _ (c .first-body .ensures .0), refl, refl, refl, refl)
 
--- src/check.rt:70:13
 body-at-requires : tie.Need-body-at-requires Inv-loop μ-loop
 body-at-requires c κs =
     let s = c .before .before .before .before .before .before .before .before .before in
     body-ready _ (formed _ (s .pre .0) .sizes) _ _ (omega (arith, c .loop-test .taken, c .before .before .before .parts-of .ensures .0)) (c .before .loop .inv .0 .place)
 
--- src/check.rt:71:13
 check-part-requires : tie.Need-check-part-requires Inv-loop μ-loop
 check-part-requires c κs =
     let s = c .before .before .before .before .before .before .before .before .before .before .before .before .before .before in
     let l = c .before .before .before .before .before .before .loop in
     let b = c .before .before .before .before .body-at .ensures in
-    let among : l .p < partsOf (s .args .d .now) = omega (arith, c .before .before .before .before .before .loop-test .taken, c .before .before .before .before .before .before .before .before .parts-of .ensures .0) in
-    (b, omega (arith, b .stages, formed _ (s .pre .0) .part _ among .some-stages), listed _ (s .pre .0), all-planned _ (s .pre .1) _ among,
-     record { keys-room = omega (arith, l .inv .2, s .pre .2 .keys-room); scratch-room = omega (arith, l .inv .3, s .pre .2 .scratch-room); set-room = omega (arith, l .inv .4, s .pre .2 .set-room) },
-     l .inv .1 ∙ s .pre .3)
+    let among : l .p < partsOf (s .args .d .now) = omega (arith, c .before .before .before .before .before .loop-test .taken, c .before .before .before .before .before .before .before .before .parts-of .ensures .0) in (
+      b,
+      omega (arith, b .stages, formed _ (s .pre .0) .part _ among .some-stages),
+      listed _ (s .pre .0),
+      all-planned _ (s .pre .1) _ among,
+      record { keys-room = omega (arith, l .inv .2, s .pre .2 .keys-room); scratch-room = omega (arith, l .inv .3, s .pre .2 .scratch-room); set-room = omega (arith, l .inv .4, s .pre .2 .set-room) },
+      l .inv .1 ∙ s .pre .3,
+    )
 
--- src/check.rt:72:12
 is-nothing-requires : tie.Need-is-nothing-requires Inv-loop μ-loop
 is-nothing-requires c κs = search needs
 
--- src/check.rt:73:13
 same-length : tie.Need-same-length Inv-loop μ-loop
 same-length c = c .before .before .before .before .before .before .before .before .before .before .check-part .kept .1 .1 .1 .0 ∙ c .before .before .before .before .before .before .before .before .before .before .before .before .before .before .before .before .before .loop .inv .1
 
--- src/check.rt:73:13
 same-length-2 : tie.Need-same-length-2 Inv-loop μ-loop
 same-length-2 c = c .before .before .before .before .before .before .before .before .before .before .check-part .kept .1 .1 .1 .1 .0 ∙ c .before .before .before .before .before .before .before .before .before .before .before .before .before .before .before .before .before .loop .inv .2
 
--- src/check.rt:73:13
 same-length-3 : tie.Need-same-length-3 Inv-loop μ-loop
 same-length-3 c = c .before .before .before .before .before .before .before .before .before .before .check-part .kept .1 .1 .1 .1 .1 .0 ∙ c .before .before .before .before .before .before .before .before .before .before .before .before .before .before .before .before .before .loop .inv .3
 
--- src/check.rt:73:13
 same-length-4 : tie.Need-same-length-4 Inv-loop μ-loop
 same-length-4 c = c .before .before .before .before .before .before .before .before .before .before .check-part .kept .1 .1 .1 .1 .1 .1 .0 ∙ c .before .before .before .before .before .before .before .before .before .before .before .before .before .before .before .before .before .loop .inv .4
 
--- src/check.rt:73:13
 returns : tie.Need-returns Inv-loop μ-loop
 returns c =
     let s = c .before .before .before .before .before .before .before .before .before .before .before .before .before .before .before .before .before .before .before .before .before .before .before .before .before .args in
     let l = c .before .before .before .before .before .before .before .before .before .before .before .before .before .before .before .before .before .loop in
     passing-fault (s .d .now) _ (l .at) (l .full) (l .p) (c .before .before .before .before .before .before .before .before .before .before .before .before .before .before .before .before .before .before .before .parts-of .ensures .0) (c .before .before .before .before .before .before .before .before .before .before .before .before .before .before .before .before .loop-test .taken) (l .inv .0) _ (c .before .before .before .before .before .before .before .before .before .before .check-part .ensures) _ (c .before .is-nothing .ensures) (c .if1 .taken)
 
--- src/check.rt:75:9
 full-after-requires : tie.Need-full-after-requires Inv-loop μ-loop
 full-after-requires c κs = search needs
 
--- src/check.rt:77:9
 add-p : tie.Need-add-p Inv-loop μ-loop
 add-p c = search needs
 
--- src/check.rt:69:5
 loop-less : tie.Need-loop-less Inv-loop μ-loop
 loop-less c = omega (arith, c .before .before .before .before .before .before .before .before .before .before .before .before .before .before .before .before .before .loop-test .taken)
 
--- src/check.rt:69:5
 loop-again : tie.Need-loop-again Inv-loop μ-loop
 loop-again c =
     let s = c .before .before .before .before .before .before .before .before .before .before .before .before .before .before .before .before .before .before .before .before .before .before .before .before .before .before .args in
     let l = c .before .before .before .before .before .before .before .before .before .before .before .before .before .before .before .before .before .before .loop in
-    let k = c .before .before .before .before .before .before .before .before .before .before .before .check-part .kept in
-    (passing-on (s .d .now) _ (l .at) (l .full) (l .p) (c .before .before .before .before .before .before .before .before .before .before .before .before .before .before .before .before .before .before .before .before .parts-of .ensures .0) (c .before .before .before .before .before .before .before .before .before .before .before .before .before .before .before .before .before .loop-test .taken) (l .inv .0) _ (c .before .before .before .before .before .before .before .before .before .before .before .check-part .ensures) _ (c .before .before .is-nothing .ensures) (c .before .if1 .left) _ _ (c .full-after .ensures) (c .before .before .before .before .before .before .before .before .before .before .before .before .before .before .before .before .body-at .ensures .end),
-     k .1 .1 .1 .0 ∙ l .inv .1, k .1 .1 .1 .1 .0 ∙ l .inv .2, k .1 .1 .1 .1 .1 .0 ∙ l .inv .3, k .1 .1 .1 .1 .1 .1 .0 ∙ l .inv .4)
+    let k = c .before .before .before .before .before .before .before .before .before .before .before .check-part .kept in (
+      passing-on (s .d .now) _ (l .at) (l .full) (l .p) (c .before .before .before .before .before .before .before .before .before .before .before .before .before .before .before .before .before .before .before .before .parts-of .ensures .0) (c .before .before .before .before .before .before .before .before .before .before .before .before .before .before .before .before .before .loop-test .taken) (l .inv .0) _ (c .before .before .before .before .before .before .before .before .before .before .before .check-part .ensures) _ (c .before .before .is-nothing .ensures) (c .before .if1 .left) _ _ (c .full-after .ensures) (c .before .before .before .before .before .before .before .before .before .before .before .before .before .before .before .before .body-at .ensures .end),
+      k .1 .1 .1 .0 ∙ l .inv .1,
+      k .1 .1 .1 .1 .0 ∙ l .inv .2,
+      k .1 .1 .1 .1 .1 .0 ∙ l .inv .3,
+      k .1 .1 .1 .1 .1 .1 .0 ∙ l .inv .4,
+    )
 
--- src/check.rt:80:9
 same-length-5 : tie.Need-same-length-5 Inv-loop μ-loop
 same-length-5 c = c .before .before .loop .inv .1
 
--- src/check.rt:80:9
 same-length-6 : tie.Need-same-length-6 Inv-loop μ-loop
 same-length-6 c = c .before .before .loop .inv .2
 
--- src/check.rt:80:9
 same-length-7 : tie.Need-same-length-7 Inv-loop μ-loop
 same-length-7 c = c .before .before .loop .inv .3
 
--- src/check.rt:80:9
 same-length-8 : tie.Need-same-length-8 Inv-loop μ-loop
 same-length-8 c = c .before .before .loop .inv .4
 
--- src/check.rt:80:9
 returns-2 : tie.Need-returns-2 Inv-loop μ-loop
 returns-2 c =
     let s = c .before .before .before .before .before .before .before .before .before .before .args in
     let l = c .before .before .loop in
     passed-fine (s .d .now) _ (l .at) (l .full) (l .p) (c .before .before .before .before .parts-of .ensures .0) (omega arith) (l .inv .0) (c .if2 .taken)
 
--- src/check.rt:61:1
 same-length-9 : tie.Need-same-length-9 Inv-loop μ-loop
 same-length-9 c = c .before .before .loop .inv .1
 
--- src/check.rt:61:1
 same-length-10 : tie.Need-same-length-10 Inv-loop μ-loop
 same-length-10 c = c .before .before .loop .inv .2
 
--- src/check.rt:61:1
 same-length-11 : tie.Need-same-length-11 Inv-loop μ-loop
 same-length-11 c = c .before .before .loop .inv .3
 
--- src/check.rt:61:1
 same-length-12 : tie.Need-same-length-12 Inv-loop μ-loop
 same-length-12 c = c .before .before .loop .inv .4
 
--- src/check.rt:61:1
 returns-3 : tie.Need-returns-3 Inv-loop μ-loop
 returns-3 c =
     let s = c .before .before .before .before .before .before .before .before .before .before .args in

@@ -1,35 +1,27 @@
+-- `partreads::check::full_after` meets its contract.
+-- Assumes nothing.
 use borrow.Author.Needs.{needs}
 use Rattle.partreads.proofs.check.full_after.Statement.{statement}
 use Rattle.partreads.proofs.check.full_after.Tie as tie
-use Rattle.partreads.proofs.check.full_after.Reads as reads
-use Rattle.partreads.proofs.check.full_after.Lts as lts
-use Rattle.partreads.proofs.check.earlier.Reads as earlier-reads
 
--- src/check.rt:67:27
 enum-told : tie.Need-enum-told
 enum-told c = search needs
 
--- src/check.rt:68:26
 enum-told-2 : tie.Need-enum-told-2
 enum-told-2 c = search needs
 
--- src/check.rt:68:26
 earlier-requires : tie.Need-earlier-requires
 earlier-requires c κs = search needs
 
--- src/check.rt:69:29
 enum-told-3 : tie.Need-enum-told-3
 enum-told-3 c = search needs
 
--- src/check.rt:63:1
 returns : tie.Need-returns
 returns c = search needs
 
--- src/check.rt:63:1
 returns-2 : tie.Need-returns-2
 returns-2 c = rw (c .before .enum-told2 .given .1) (c .earlier .ensures)
 
--- src/check.rt:63:1
 returns-3 : tie.Need-returns-3
 returns-3 c = search needs
 

@@ -1,14 +1,13 @@
-use Prim.Native.Nat.{_≤_, _-_}
+-- `partreads::local::fill_bases` meets its contract. The loop's invariant: the lanes that are left give what all lanes gave at the start.
+-- Assumes nothing.
 use mathlib.Core.Path.{_≡_, sym, ap, _∙_}
+use Prim.Native.Nat.{_≤_, _-_}
 use native.Mathlib.Omega.{arith}
+use borrow.Author.Needs.{needs}
 use lib.ListN.{length}
 use Rattle.partreads.proofs.BaseLaws.{lane-length, lanesLeft, lanes-on, lanes-end, readable-row}
-use borrow.Author.Needs.{needs}
 use Rattle.partreads.proofs.local.fill_bases.Statement.{statement}
 use Rattle.partreads.proofs.local.fill_bases.Tie as tie
-use Rattle.partreads.proofs.local.fill_bases.Reads as reads
-use Rattle.partreads.proofs.local.fill_bases.Lts as lts
-use Rattle.partreads.proofs.local.lane_bases.Reads as lane-bases-reads
 
 abbrev Inv-loop : tie.InvT-loop
 Inv-loop set table lanes bases₀ j₀ bases j = (j ≤ lanes) × (length bases ≡ length bases₀) × (lanesLeft set table lanes j bases ≡ lanesLeft set table lanes 0 bases₀)
@@ -16,25 +15,20 @@ Inv-loop set table lanes bases₀ j₀ bases j = (j ≤ lanes) × (length bases 
 abbrev μ-loop : tie.MeasureT-loop
 μ-loop set table lanes bases₀ j₀ bases j = lanes - j
 
--- src/local.rt:33:5
 loop-holds : tie.Need-loop-holds Inv-loop μ-loop
 loop-holds c = search needs
 
--- src/local.rt:34:9
 lane-bases-requires : tie.Need-lane-bases-requires Inv-loop μ-loop
 lane-bases-requires c κs =
     let o = c .before .before .before .before .before .before in
     (readable-row (o .pre .0) (c .before .loop-test .taken), omega (arith, o .pre .0 .few), omega (arith, o .pre .1, c .before .before .loop .inv .1))
 
--- src/local.rt:35:9
 add-j : tie.Need-add-j Inv-loop μ-loop
 add-j c = search needs
 
--- src/local.rt:33:5
 loop-less : tie.Need-loop-less Inv-loop μ-loop
 loop-less c = search needs
 
--- src/local.rt:33:5
 loop-again : tie.Need-loop-again Inv-loop μ-loop
 loop-again c =
     let o = c .before .before .before .before .before .before .before .before .before .args in
@@ -42,11 +36,9 @@ loop-again c =
     let e = c .before .before .lane-bases .ensures in
     (omega arith, (ap length e ∙ lane-length _ _ _) ∙ l .inv .1, lanes-on (o .set .now) (o .table .now) (o .lanes) (l .j) (l .bases) _ (c .before .before .before .before .loop-test .taken) e ∙ l .inv .2)
 
--- src/local.rt:28:1
 same-length : tie.Need-same-length Inv-loop μ-loop
 same-length c = c .before .loop .inv .1
 
--- src/local.rt:28:1
 returns : tie.Need-returns Inv-loop μ-loop
 returns c =
     let o = c .before .before .before .before .before .args in

@@ -1,16 +1,14 @@
+-- `partreads::local::lane_bases` meets its contract. The loop's invariant: the pairs from round r on are stored, and their bits counted.
+-- Assumes nothing.
 use mathlib.Core.Path.{_≡_, refl}
 use Prim.Native.Nat.{_+_, _-_, _*_, _/_, _<_, _≤_}
+use native.Mathlib.Omega.{arith}
+use borrow.Author.Needs.{needs}
 use lib.ListN.{length, getD}
 use Rattle.tries.proofs.PairLaws.{count-le}
 use Rattle.partreads.proofs.BaseLaws.{Walked, walked-start, walked-length, walked-entry, walked-sum, walked-on, walked-all}
-use native.Mathlib.Omega.{arith}
-use borrow.Author.Needs.{needs}
 use Rattle.partreads.proofs.local.lane_bases.Statement.{statement}
 use Rattle.partreads.proofs.local.lane_bases.Tie as tie
-use Rattle.partreads.proofs.local.lane_bases.Reads as reads
-use Rattle.partreads.proofs.local.lane_bases.Lts as lts
-use Rattle.tries.proofs.lane_load.Reads as lane-load-reads
-use Rattle.words.proofs.bits.count.Reads as count-reads
 
 abbrev Inv-loop : tie.InvT-loop
 Inv-loop set table j bases₀ r₀ sum₀ bases r sum = Walked set table j bases₀ bases r sum
@@ -30,103 +28,80 @@ size-in c =
     let o = c .before .before .before .before .before in
     walked-length (o .args .set .now) (o .args .table .now) (o .args .j) (o .pre .0) (o .args .bases .now) _ _ _ (c .loop .inv)
 
--- src/local.rt:16:9
 lane-load-requires : tie.Need-lane-load-requires Inv-loop μ-loop
 lane-load-requires c κs = search needs
 
--- src/local.rt:18:25
 cast-sum : tie.Need-cast-sum Inv-loop μ-loop
 cast-sum c = search needs
 
--- src/local.rt:18:19
 mul-sum : tie.Need-mul-sum Inv-loop μ-loop
 mul-sum c = search needs
 
--- src/local.rt:19:5
 loop-holds : tie.Need-loop-holds Inv-loop μ-loop
 loop-holds c =
     let o = c .before .before .before .before in
     walked-start (o .args .set .now) (o .args .table .now) (o .args .j) (o .pre .0) (o .args .bases .now) _ (c .lane-load .ensures .1)
 
--- src/local.rt:20:9
 sub-r : tie.Need-sub-r Inv-loop μ-loop
 sub-r c = search needs
 
--- src/local.rt:21:23
 mul-e : tie.Need-mul-e Inv-loop μ-loop
 mul-e c = search needs
 
--- src/local.rt:21:23
 add-e : tie.Need-add-e Inv-loop μ-loop
 add-e c = search needs
 
--- src/local.rt:21:17
 mul-e-2 : tie.Need-mul-e-2 Inv-loop μ-loop
 mul-e-2 c = search needs
 
--- src/local.rt:21:17
 shared-slice-read-e : tie.Need-shared-slice-read-e Inv-loop μ-loop
 shared-slice-read-e c = search needs
 
--- src/local.rt:21:17
 cast-e : tie.Need-cast-e Inv-loop μ-loop
 cast-e c = omega (arith, entry-in (c .before))
 
--- src/local.rt:22:15
 sub-bases : tie.Need-sub-bases Inv-loop μ-loop
 sub-bases c = omega (arith, entry-in (c .before))
 
--- src/local.rt:22:9
 mul-bases : tie.Need-mul-bases Inv-loop μ-loop
 mul-bases c = omega (arith, entry-in (c .before))
 
--- src/local.rt:22:9
 slice-write-bases : tie.Need-slice-write-bases Inv-loop μ-loop
 slice-write-bases c = omega (arith, entry-in (c .before), size-in (c .before .before), c .before .before .before .before .before .before .before .pre .2)
 
--- src/local.rt:23:39
 mul-count : tie.Need-mul-count Inv-loop μ-loop
 mul-count c = omega (arith, entry-in (c .before))
 
--- src/local.rt:23:39
 sub-count : tie.Need-sub-count Inv-loop μ-loop
 sub-count c = omega (arith, entry-in (c .before))
 
--- src/local.rt:23:35
 mul-count-2 : tie.Need-mul-count-2 Inv-loop μ-loop
 mul-count-2 c = omega (arith, entry-in (c .before))
 
--- src/local.rt:23:35
 shared-slice-read-count : tie.Need-shared-slice-read-count Inv-loop μ-loop
 shared-slice-read-count c = omega (arith, entry-in (c .before .before))
 
--- src/local.rt:23:16
 count-requires : tie.Need-count-requires Inv-loop μ-loop
 count-requires c κs = search needs
 
--- src/local.rt:23:9
 add-sum : tie.Need-add-sum Inv-loop μ-loop
 add-sum c =
     let o = c .before .before .before .before .before .before .before .before .before in
     let l = c .before .before .before .before .loop in
     omega (arith, walked-sum (o .args .set .now) (o .args .table .now) (o .args .j) (o .pre .0) (o .args .bases .now) (l .bases) (l .r) (l .sum) _ (l .inv) (c .before .before .before .loop-test .taken) refl, count-le _ _ (c .count .ensures))
 
--- src/local.rt:19:5
 loop-less : tie.Need-loop-less Inv-loop μ-loop
 loop-less c = search needs
 
--- src/local.rt:19:5
 loop-again : tie.Need-loop-again Inv-loop μ-loop
 loop-again c =
     let o = c .before .before .before .before .before .before .before .before .before in
     let l = c .before .before .before .before .loop in
     walked-on (o .args .set .now) (o .args .table .now) (o .args .j) (o .pre .0) (o .args .bases .now) (l .bases) (l .r) (l .sum) _ (l .inv) (c .before .before .before .loop-test .taken) refl _ _ refl (c .count .ensures)
 
--- src/local.rt:12:1
 same-length : tie.Need-same-length Inv-loop μ-loop
 same-length c = size-in (c .before)
 
--- src/local.rt:12:1
 returns : tie.Need-returns Inv-loop μ-loop
 returns c =
     let o = c .before .before .before .before .before .before in

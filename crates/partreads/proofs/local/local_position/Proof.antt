@@ -1,55 +1,43 @@
-use mathlib.Core.Path.{_≡_, ap, _∙_}
+-- `partreads::local::local_position` meets its contract.
+-- Assumes nothing.
+use mathlib.Core.Path.{ap, _∙_}
 use Prim.Native.Nat.{ℕ, _+_, _*_, _/_, _%_, _^_}
 use native.Mathlib.Omega.{arith}
+use borrow.Author.Needs.{needs}
 use lib.ListN.{getD}
 use Rattle.words.specs.Bit.{pop}
 use Rattle.tries.proofs.PairLaws.{count-le}
 use Rattle.partreads.specs.Bases.{localBy}
-use borrow.Author.Needs.{needs}
 use Rattle.partreads.proofs.local.local_position.Statement.{statement}
 use Rattle.partreads.proofs.local.local_position.Tie as tie
-use Rattle.partreads.proofs.local.local_position.Reads as reads
-use Rattle.partreads.proofs.local.local_position.Lts as lts
-use Rattle.partreads.proofs.local.find_pair.Reads as find-pair-reads
-use Rattle.words.proofs.bits.count_above.Reads as count-above-reads
 
--- src/local.rt:62:9
 find-pair-requires : tie.Need-find-pair-requires
 find-pair-requires c κs = search needs
 
--- src/local.rt:63:5
 mul-result : tie.Need-mul-result
 mul-result c = search needs
 
--- src/local.rt:63:5
 shared-slice-read-result : tie.Need-shared-slice-read-result
 shared-slice-read-result c = search needs
 
--- src/local.rt:63:45
 mul-count-above : tie.Need-mul-count-above
 mul-count-above c = search needs
 
--- src/local.rt:63:45
 add-count-above : tie.Need-add-count-above
 add-count-above c = search needs
 
--- src/local.rt:63:41
 mul-count-above-2 : tie.Need-mul-count-above-2
 mul-count-above-2 c = search needs
 
--- src/local.rt:63:41
 shared-slice-read-count-above : tie.Need-shared-slice-read-count-above
 shared-slice-read-count-above c = search needs
 
--- src/local.rt:63:57
 cast-count-above : tie.Need-cast-count-above
 cast-count-above c = search needs
 
--- src/local.rt:63:16
 count-above-requires : tie.Need-count-above-requires
 count-above-requires c κs = search needs
 
--- src/local.rt:63:5
 add-result : tie.Need-add-result
 add-result c =
     let o = c .before .before .before .before .before .before in
@@ -57,7 +45,6 @@ add-result c =
     let b = ap (λ (k : ℕ). getD (o .args .bases .now) k 0) e in
     omega (arith, count-le _ _ (c .count-above .ensures), o .pre .small, b)
 
--- src/local.rt:58:1
 returns : tie.Need-returns
 unfolding localBy
 returns c =

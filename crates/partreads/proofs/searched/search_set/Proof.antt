@@ -1,87 +1,70 @@
+-- `partreads::searched::search_set` meets its contract: a size that won is read from the table.
+-- Assumes nothing.
 use mathlib.Core.Path.{_∙_}
 use Prim.Native.Nat.{ℕ}
 use native.Mathlib.Omega.{arith}
+use borrow.Author.Needs.{needs}
 use Rattle.rounds.proofs.OutcomeLaws.{won, lost}
 use Rattle.partreads.proofs.SearchedLaws.{in-search, won-few, won-reads, none-reads, stuck-reads}
-use borrow.Author.Needs.{needs}
 use Rattle.partreads.proofs.searched.search_set.Statement.{statement}
 use Rattle.partreads.proofs.searched.search_set.Tie as tie
-use Rattle.partreads.proofs.searched.search_set.Reads as reads
-use Rattle.partreads.proofs.searched.search_set.Lts as lts
-use Rattle.readout.proofs.longest_row.Reads as longest-row-reads
-use Rattle.rounds.proofs.search_sizes.Reads as search-sizes-reads
 
--- src/searched.rt:43:8
 search-sizes-requires : tie.Need-search-sizes-requires
 search-sizes-requires c κs =
     let o = c .before .before .before .before .before .before .before in
     in-search (o .pre .0) (o .pre .1) (λ (x : ℕ). c .before .before .before .before .before .before .shared-slice-known .given x .fits)
 
--- src/searched.rt:44:30
 longest-row-requires : tie.Need-longest-row-requires
 longest-row-requires c κs =
     let t = c .before .before .before .before .before .before .before .before .search-sizes in
     let o = c .before .before .before .before .before .before .before .before .before .before .before .before .before .before .before .before in
     won (in-search (o .pre .0) (o .pre .1) (λ (x : ℕ). c .before .before .before .before .before .before .before .before .before .before .before .before .before .before .before .shared-slice-known .given x .fits)) (t .result) (t .last .1 .0) (t .ensures .0) (c .before .if1 .taken) (t .ensures .1) (t .kept .1 .0 ∙ o .pre .1 .room) .readable
 
--- src/searched.rt:44:30
 cast-t16 : tie.Need-cast-t16
 cast-t16 c =
     let t = c .before .before .before .before .before .before .before .before .before .search-sizes in
     let o = c .before .before .before .before .before .before .before .before .before .before .before .before .before .before .before .before .before in
     omega (arith, won-few (o .pre .0) (o .pre .1) (λ (x : ℕ). c .before .before .before .before .before .before .before .before .before .before .before .before .before .before .before .before .shared-slice-known .given x .fits) (t .last .1 .0) (won (in-search (o .pre .0) (o .pre .1) (λ (x : ℕ). c .before .before .before .before .before .before .before .before .before .before .before .before .before .before .before .before .shared-slice-known .given x .fits)) (t .result) (t .last .1 .0) (t .ensures .0) (c .before .before .if1 .taken) (t .ensures .1) (t .kept .1 .0 ∙ o .pre .1 .room)) _ (c .longest-row .ensures))
 
--- src/searched.rt:44:9
 same-length : tie.Need-same-length
 same-length c = search needs
 
--- src/searched.rt:44:9
 same-length-2 : tie.Need-same-length-2
 same-length-2 c = search needs
 
--- src/searched.rt:44:9
 same-length-3 : tie.Need-same-length-3
 same-length-3 c = search needs
 
--- src/searched.rt:44:9
 returns : tie.Need-returns
 returns c =
     let t = c .before .before .before .before .before .before .before .before .before .search-sizes in
     let o = c .before .before .before .before .before .before .before .before .before .before .before .before .before .before .before .before .before in
     (won-reads (o .pre .0) (o .pre .1) (λ (x : ℕ). c .before .before .before .before .before .before .before .before .before .before .before .before .before .before .before .before .shared-slice-known .given x .fits) (t .last .1 .0) (won (in-search (o .pre .0) (o .pre .1) (λ (x : ℕ). c .before .before .before .before .before .before .before .before .before .before .before .before .before .before .before .before .shared-slice-known .given x .fits)) (t .result) (t .last .1 .0) (t .ensures .0) (c .before .before .if1 .taken) (t .ensures .1) (t .kept .1 .0 ∙ o .pre .1 .room)) _ (c .longest-row .ensures), t .ensures .1)
 
--- src/searched.rt:47:9
 same-length-4 : tie.Need-same-length-4
 same-length-4 c = search needs
 
--- src/searched.rt:47:9
 same-length-5 : tie.Need-same-length-5
 same-length-5 c = search needs
 
--- src/searched.rt:47:9
 same-length-6 : tie.Need-same-length-6
 same-length-6 c = search needs
 
--- src/searched.rt:47:9
 returns-2 : tie.Need-returns-2
 returns-2 c =
     let t = c .before .before .before .before .before .before .before .before .search-sizes in
     let o = c .before .before .before .before .before .before .before .before .before .before .before .before .before .before .before .before .args in
     (none-reads (o .lanes) (o .set .now) (c .if2 .taken), t .ensures .1)
 
--- src/searched.rt:32:1
 same-length-7 : tie.Need-same-length-7
 same-length-7 c = search needs
 
--- src/searched.rt:32:1
 same-length-8 : tie.Need-same-length-8
 same-length-8 c = search needs
 
--- src/searched.rt:32:1
 same-length-9 : tie.Need-same-length-9
 same-length-9 c = search needs
 
--- src/searched.rt:32:1
 returns-3 : tie.Need-returns-3
 returns-3 c =
     let t = c .before .before .before .before .before .before .before .before .search-sizes in
