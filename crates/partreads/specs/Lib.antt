@@ -1,1 +1,5 @@
 pub mod PartReads
+pub mod Ready
+pub mod Answers
+pub mod Bases
+pub mod Entries

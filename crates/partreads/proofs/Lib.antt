@@ -1,0 +1,6 @@
+pub mod AskedLaws
+pub mod BaseLaws
+pub mod SearchedLaws
+pub mod PlaceLaws
+pub mod EntryLaws
+pub mod CheckLaws

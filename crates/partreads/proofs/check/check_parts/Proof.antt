@@ -1,0 +1,159 @@
+-- `partreads::check::check_parts` meets its contract. The loop's invariant: what the parts that are left say of 3 and 4 is what all say.
+-- Assumes nothing.
+use mathlib.Core.Path.{_≡_, refl, _∙_}
+use Prim.Native.Nat.{_-_, _<_}
+use native.Mathlib.Omega.{arith}
+use borrow.Author.Needs.{needs}
+use lib.ListN.{length}
+use Rattle.record.specs.Record.{partsOf}
+use Rattle.record.proofs.FormLaws.{formed, body-ready}
+use Rattle.positions.proofs.WinnerLaws.{listed}
+use Rattle.partreads.proofs.EntryLaws.{all-planned}
+use Rattle.partreads.proofs.CheckLaws.{Passing, passing-start, passing-fault, passing-on, passed-fine, passed-full}
+use Rattle.partreads.proofs.check.check_parts.Statement.{statement}
+use Rattle.partreads.proofs.check.check_parts.Tie as tie
+
+abbrev Inv-loop : tie.InvT-loop
+Inv-loop d room₀ keys₀ scratch₀ set₀ parts at₀ full₀ p₀ room keys scratch set at full p =
+    Passing d parts at full p × (length room ≡ length room₀) × (length keys ≡ length keys₀) × (length scratch ≡ length scratch₀) × (length set ≡ length set₀)
+
+abbrev μ-loop : tie.MeasureT-loop
+μ-loop d room₀ keys₀ scratch₀ set₀ parts at₀ full₀ p₀ room keys scratch set at full p = parts - p
+
+parts-of-requires : tie.Need-parts-of-requires Inv-loop μ-loop
+parts-of-requires c κs = formed _ (c .before .before .before .before .before .pre .0) .head .majors
+
+first-body-requires : tie.Need-first-body-requires Inv-loop μ-loop
+first-body-requires c κs = formed _ (c .before .before .before .before .before .before .pre .0) .head .majors
+
+loop-holds : tie.Need-loop-holds Inv-loop μ-loop
+loop-holds c = (passing-start _ _ _ (c .first-body .ensures .0), refl, refl, refl, refl)
+
+body-at-requires : tie.Need-body-at-requires Inv-loop μ-loop
+body-at-requires c κs =
+    let s = c .before .before .before .before .before .before .before .before .before in
+    body-ready _ (formed _ (s .pre .0) .sizes) _ _ (omega (arith, c .loop-test .taken, c .before .before .before .parts-of .ensures .0)) (c .before .loop .inv .0 .place)
+
+check-part-requires : tie.Need-check-part-requires Inv-loop μ-loop
+check-part-requires c κs =
+    let s = c .before .before .before .before .before .before .before .before .before .before .before .before .before .before in
+    let l = c .before .before .before .before .before .before .loop in
+    let b = c .before .before .before .before .body-at .ensures in
+    let among : l .p < partsOf (s .args .d .now) = omega (arith, c .before .before .before .before .before .loop-test .taken, c .before .before .before .before .before .before .before .before .parts-of .ensures .0) in (
+      b,
+      omega (arith, b .stages, formed _ (s .pre .0) .part _ among .some-stages),
+      listed _ (s .pre .0),
+      all-planned _ (s .pre .1) _ among,
+      record { keys-room = omega (arith, l .inv .2, s .pre .2 .keys-room); scratch-room = omega (arith, l .inv .3, s .pre .2 .scratch-room); set-room = omega (arith, l .inv .4, s .pre .2 .set-room) },
+      l .inv .1 ∙ s .pre .3,
+    )
+
+is-nothing-requires : tie.Need-is-nothing-requires Inv-loop μ-loop
+is-nothing-requires c κs = search needs
+
+same-length : tie.Need-same-length Inv-loop μ-loop
+same-length c = c .before .before .before .before .before .before .before .before .before .before .check-part .kept .1 .1 .1 .0 ∙ c .before .before .before .before .before .before .before .before .before .before .before .before .before .before .before .before .before .loop .inv .1
+
+same-length-2 : tie.Need-same-length-2 Inv-loop μ-loop
+same-length-2 c = c .before .before .before .before .before .before .before .before .before .before .check-part .kept .1 .1 .1 .1 .0 ∙ c .before .before .before .before .before .before .before .before .before .before .before .before .before .before .before .before .before .loop .inv .2
+
+same-length-3 : tie.Need-same-length-3 Inv-loop μ-loop
+same-length-3 c = c .before .before .before .before .before .before .before .before .before .before .check-part .kept .1 .1 .1 .1 .1 .0 ∙ c .before .before .before .before .before .before .before .before .before .before .before .before .before .before .before .before .before .loop .inv .3
+
+same-length-4 : tie.Need-same-length-4 Inv-loop μ-loop
+same-length-4 c = c .before .before .before .before .before .before .before .before .before .before .check-part .kept .1 .1 .1 .1 .1 .1 .0 ∙ c .before .before .before .before .before .before .before .before .before .before .before .before .before .before .before .before .before .loop .inv .4
+
+returns : tie.Need-returns Inv-loop μ-loop
+returns c =
+    let s = c .before .before .before .before .before .before .before .before .before .before .before .before .before .before .before .before .before .before .before .before .before .before .before .before .before .args in
+    let l = c .before .before .before .before .before .before .before .before .before .before .before .before .before .before .before .before .before .loop in
+    passing-fault (s .d .now) _ (l .at) (l .full) (l .p) (c .before .before .before .before .before .before .before .before .before .before .before .before .before .before .before .before .before .before .before .parts-of .ensures .0) (c .before .before .before .before .before .before .before .before .before .before .before .before .before .before .before .before .loop-test .taken) (l .inv .0) _ (c .before .before .before .before .before .before .before .before .before .before .check-part .ensures) _ (c .before .is-nothing .ensures) (c .if1 .taken)
+
+full-after-requires : tie.Need-full-after-requires Inv-loop μ-loop
+full-after-requires c κs = search needs
+
+add-p : tie.Need-add-p Inv-loop μ-loop
+add-p c = search needs
+
+loop-less : tie.Need-loop-less Inv-loop μ-loop
+loop-less c = omega (arith, c .before .before .before .before .before .before .before .before .before .before .before .before .before .before .before .before .before .loop-test .taken)
+
+loop-again : tie.Need-loop-again Inv-loop μ-loop
+loop-again c =
+    let s = c .before .before .before .before .before .before .before .before .before .before .before .before .before .before .before .before .before .before .before .before .before .before .before .before .before .before .args in
+    let l = c .before .before .before .before .before .before .before .before .before .before .before .before .before .before .before .before .before .before .loop in
+    let k = c .before .before .before .before .before .before .before .before .before .before .before .check-part .kept in (
+      passing-on (s .d .now) _ (l .at) (l .full) (l .p) (c .before .before .before .before .before .before .before .before .before .before .before .before .before .before .before .before .before .before .before .before .parts-of .ensures .0) (c .before .before .before .before .before .before .before .before .before .before .before .before .before .before .before .before .before .loop-test .taken) (l .inv .0) _ (c .before .before .before .before .before .before .before .before .before .before .before .check-part .ensures) _ (c .before .before .is-nothing .ensures) (c .before .if1 .left) _ _ (c .full-after .ensures) (c .before .before .before .before .before .before .before .before .before .before .before .before .before .before .before .before .body-at .ensures .end),
+      k .1 .1 .1 .0 ∙ l .inv .1,
+      k .1 .1 .1 .1 .0 ∙ l .inv .2,
+      k .1 .1 .1 .1 .1 .0 ∙ l .inv .3,
+      k .1 .1 .1 .1 .1 .1 .0 ∙ l .inv .4,
+    )
+
+same-length-5 : tie.Need-same-length-5 Inv-loop μ-loop
+same-length-5 c = c .before .before .loop .inv .1
+
+same-length-6 : tie.Need-same-length-6 Inv-loop μ-loop
+same-length-6 c = c .before .before .loop .inv .2
+
+same-length-7 : tie.Need-same-length-7 Inv-loop μ-loop
+same-length-7 c = c .before .before .loop .inv .3
+
+same-length-8 : tie.Need-same-length-8 Inv-loop μ-loop
+same-length-8 c = c .before .before .loop .inv .4
+
+returns-2 : tie.Need-returns-2 Inv-loop μ-loop
+returns-2 c =
+    let s = c .before .before .before .before .before .before .before .before .before .before .args in
+    let l = c .before .before .loop in
+    passed-fine (s .d .now) _ (l .at) (l .full) (l .p) (c .before .before .before .before .parts-of .ensures .0) (omega arith) (l .inv .0) (c .if2 .taken)
+
+same-length-9 : tie.Need-same-length-9 Inv-loop μ-loop
+same-length-9 c = c .before .before .loop .inv .1
+
+same-length-10 : tie.Need-same-length-10 Inv-loop μ-loop
+same-length-10 c = c .before .before .loop .inv .2
+
+same-length-11 : tie.Need-same-length-11 Inv-loop μ-loop
+same-length-11 c = c .before .before .loop .inv .3
+
+same-length-12 : tie.Need-same-length-12 Inv-loop μ-loop
+same-length-12 c = c .before .before .loop .inv .4
+
+returns-3 : tie.Need-returns-3 Inv-loop μ-loop
+returns-3 c =
+    let s = c .before .before .before .before .before .before .before .before .before .before .args in
+    let l = c .before .before .loop in
+    passed-full (s .d .now) _ (l .at) (l .full) (l .p) (c .before .before .before .before .parts-of .ensures .0) (omega arith) (l .inv .0) (c .if2 .left)
+
+pub check-parts-spec : {M : Type 1} → statement M
+check-parts-spec =
+    tie.close
+    (tie.spec
+    Inv-loop
+    μ-loop
+    parts-of-requires
+    first-body-requires
+    loop-holds
+    body-at-requires
+    check-part-requires
+    is-nothing-requires
+    same-length
+    same-length-2
+    same-length-3
+    same-length-4
+    returns
+    full-after-requires
+    add-p
+    loop-less
+    loop-again
+    same-length-5
+    same-length-6
+    same-length-7
+    same-length-8
+    returns-2
+    same-length-9
+    same-length-10
+    same-length-11
+    same-length-12
+    returns-3)

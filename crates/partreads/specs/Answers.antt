@@ -1,0 +1,38 @@
+-- What the answers of the code stand for.
+-- Assumes nothing.
+use mathlib.Core.Bool.{Bool, true, false}
+use mathlib.Core.Option.{Option, none, some}
+use Prim.Native.Nat.{ℕ}
+use lib.Dec.{eqb}
+use Rattle.reads.specs.Search.{longest}
+use Rattle.reads.specs.Outcome.{Outcome, placed, refused}
+use Rattle.record.specs.Tests.{Place}
+use Rattle.partreads.specs.declared.searched.Reads.{Reads}
+use Rattle.partreads.specs.declared.searched.Reads.the-variants.{Nothing, NoRoom, Rounds}
+use Rattle.partreads.specs.declared.check.Checked.{Checked}
+use Rattle.partreads.specs.declared.check.Checked.the-variants as checked
+
+-- the number of rounds; 3 nothing to read; 4 no room
+abbrev pub readsOf : Outcome → Reads
+readsOf (placed lanes) = Rounds (longest lanes)
+readsOf (refused k i) = elim (eqb k 3) [ true ↦ Nothing | false ↦ NoRoom ]
+
+abbrev pub isNothing : Reads → Bool
+isNothing Nothing = true
+isNothing NoRoom = false
+isNothing (Rounds n) = false
+
+-- the first part without room, after part p: `parts` stands for none
+unfoldable pub earlierOf : ℕ → ℕ → ℕ → ℕ
+earlierOf full parts p = elim (eqb full parts) [ true ↦ p | false ↦ full ]
+
+abbrev pub fullAfter : ℕ → ℕ → ℕ → Reads → ℕ
+fullAfter full parts p Nothing = full
+fullAfter full parts p NoRoom = earlierOf full parts p
+fullAfter full parts p (Rounds n) = full
+
+-- 3 over the whole plan before 4
+abbrev pub checkedOf : Option Place → Option Place → Checked
+checkedOf (some x) o = checked.Nothing (x .part)
+checkedOf none (some x) = checked.NoRoom (x .part)
+checkedOf none none = checked.Fine

@@ -1,0 +1,116 @@
+// The bits that the pins of level 0 of stage 0 ask for, and the read set of them.
+ghost use mathlib.Core.Path.{_≡_};
+ghost use Prim.Native.Nat.{_+_, _-_, _^_, _≤_, _<_};
+ghost use lib.Dec.{eqb};
+ghost use lib.ListN.{length};
+ghost use lib.Seq.{sets};
+ghost use Rattle.pinmap.specs.PinMap.{look};
+ghost use Rattle.record.specs.Record.{slotAt};
+ghost use Rattle.record.specs.Form.{empty};
+ghost use Rattle.record.specs.Body.{BodyOf};
+ghost use Rattle.positions.specs.Positions.{planned};
+ghost use Rattle.positions.specs.Winners.{plannedBy};
+ghost use Rattle.partreads.specs.PartReads.{orZero, askedBy, askedTo, readWords};
+ghost use Rattle.partreads.specs.Ready.{numberOf, Narrow, AllNarrow, EntryOf, Won, AllWon, SetRoom};
+use pinmap::Found;
+use record::bodies::Body;
+use record::bodies::slot;
+use record::places::position_base;
+use record::places::word_at;
+use words::units::EMPTY_PIN;
+use words::units::Pin;
+
+// The bit of the position that entry w gives: a staged one's has bit 36, bit 31 of its word.
+pub fn bit_of_entry(d: &[u8], w: u32) -> u64
+    requires { ⌜ EntryOf (now d) w ⌝ }
+    ensures { λ r. ⌜ (r ≡ numberOf (plannedBy (now (d .entry)) w)) × Narrow r ⌝ }
+{
+    let layout = word_at(d, 3);
+    if w <= layout {
+        return (w - 1) as u64;
+    }
+    let i = (w - 1 - layout) as usize;
+    let at = position_base(d) + 3 * i;
+    let place = word_at(d, at + 1) as u64;
+    if word_at(d, at + 2) == 0 {
+        return place;
+    }
+    0x10_0000_0000 + place
+}
+
+// The entry that wins for a pin, 0 where the table has none.
+fn entry_of(pins: &[u32], pin: u32) -> u32
+    requires { ⌜ pin < 2 ^ 32 - 1 ⌝ }
+    ensures { λ r. ⌜ r ≡ orZero (look (now (pins .entry)) pin) ⌝ }
+{
+    match pinmap::look_up(pins, Pin(pin)) {
+        Found::Value(w) => w,
+        Found::Missing => 0,
+    }
+}
+
+// The bit of a pin that has a winner.
+pub fn bit_of_pin(d: &[u8], pins: &[u32], pin: u32) -> u64
+    requires { ⌜ (pin < 2 ^ 32 - 1) × Won (now d) (now pins) pin ⌝ }
+    ensures { λ r. ⌜ (r ≡ numberOf (planned (now (d .entry)) pin)) × Narrow r ⌝ }
+{
+    bit_of_entry(d, entry_of(pins, pin))
+}
+
+// Asks for the bit of slot j's pin, behind the n bits that are there. An empty slot asks for none.
+fn ask_slot(
+    d: &[u8],
+    p: usize,
+    body: Body,
+    pins: &[u32],
+    keys: &mut [u64],
+    n: usize,
+    j: usize,
+) -> usize
+    requires { ⌜ BodyOf (now d) p body × (0 < body .stages) × (j < 8192) × AllWon (now d) p (now pins) × (n < length (now keys)) ⌝ }
+    ensures { λ r. ⌜ r ≡ n + length (askedBy (eqb (slotAt (now (d .entry)) p 0 (8192 + j)) empty) (planned (now (d .entry)) (slotAt (now (d .entry)) p 0 (8192 + j)))) ⌝ }
+    ensures { λ _. ⌜ now (keys .exit) ≡ sets (now (keys .entry)) n (askedBy (eqb (slotAt (now (d .entry)) p 0 (8192 + j)) empty) (planned (now (d .entry)) (slotAt (now (d .entry)) p 0 (8192 + j)))) ⌝ }
+    ensures { λ _. ⌜ AllNarrow (askedBy (eqb (slotAt (now (d .entry)) p 0 (8192 + j)) empty) (planned (now (d .entry)) (slotAt (now (d .entry)) p 0 (8192 + j)))) ⌝ }
+{
+    let pin = slot(d, p, body, 0, 8192 + j);
+    if pin == EMPTY_PIN {
+        return n;
+    }
+    keys[n] = bit_of_pin(d, pins, pin);
+    n + 1
+}
+
+// The bits that the part's pins ask for, from the start of the keys.
+pub fn ask_bits(d: &[u8], p: usize, body: Body, pins: &[u32], keys: &mut [u64]) -> usize
+    requires { ⌜ BodyOf (now d) p body × (0 < body .stages) × AllWon (now d) p (now pins) × (8192 ≤ length (now keys)) ⌝ }
+    ensures { λ r. ⌜ (r ≡ length (askedTo (now (d .entry)) p 8192)) × (r ≤ 8192) ⌝ }
+    ensures { λ _. ⌜ now (keys .exit) ≡ sets (now (keys .entry)) 0 (askedTo (now (d .entry)) p 8192) ⌝ }
+    ensures { λ _. ⌜ AllNarrow (askedTo (now (d .entry)) p 8192) ⌝ }
+{
+    let mut n = 0;
+    let mut j = 0;
+    while j < 8192 {
+        n = ask_slot(d, p, body, pins, keys, n, j);
+        j += 1;
+    }
+    n
+}
+
+// The read set of the part, from the start of `set`. Returns how many words it has. What keys and scratch hold afterwards is left open.
+pub fn part_set(
+    d: &[u8],
+    p: usize,
+    body: Body,
+    pins: &[u32],
+    keys: &mut [u64],
+    scratch: &mut [u64],
+    set: &mut [u32],
+) -> usize
+    requires { ⌜ BodyOf (now d) p body × (0 < body .stages) × AllWon (now d) p (now pins) × SetRoom (length (now keys)) (length (now scratch)) (length (now set)) ⌝ }
+    ensures { λ r. ⌜ (r ≡ length (readWords (now (d .entry)) p)) × (r ≤ 16384) ⌝ }
+    ensures { λ _. ⌜ now (set .exit) ≡ sets (now (set .entry)) 0 (readWords (now (d .entry)) p) ⌝ }
+    ensures { λ _. ⌜ AllNarrow (askedTo (now (d .entry)) p 8192) ⌝ }
+{
+    let n = ask_bits(d, p, body, pins, keys);
+    asks::read_set(&mut keys[..n], scratch, set)
+}
