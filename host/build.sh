@@ -26,20 +26,30 @@ extern() {
     done
 }
 
-# GEM's files, unchanged, with stand-ins for the crates that they name.
-build_oracle() {
+# copy_oracle FROM: GEM's files, with the accessor tails behind them. flatten_given.rs is flatten.rs once more with
+# one call renamed, so that tables can be given (tails/flatten_given.rs).
+copy_oracle() {
     local from=$1 copy=$OUT/oracle name
     rm -rf "$copy"
     mkdir -p "$copy"
     for name in aig aigpdk flatten pe staging; do
         cat "$from/$name.rs" >"$copy/$name.rs"
-        if [ -e "$HOST/oracle/tails/$name.rs" ]; then
-            cat "$HOST/oracle/tails/$name.rs" >>"$copy/$name.rs"
-        fi
+    done
+    local call='flattening_parts\[part_id\]\.make_inputs_outputs('
+    if [ "$(grep -c "$call" "$copy/flatten.rs")" != 1 ]; then
+        echo "host: flatten.rs has not one call of make_inputs_outputs" >&2
+        return 1
+    fi
+    sed "s/$call/flattening_parts[part_id].oracle_given(/" "$copy/flatten.rs" >"$copy/flatten_given.rs"
+    for name in flatten flatten_given; do
+        cat "$HOST/oracle/tails/$name.rs" >>"$copy/$name.rs"
     done
     cp "$HOST/oracle/src/lib.rs" "$copy/lib.rs"
+}
 
-    local stand_ins=$HOST/oracle/stand-ins
+# GEM's files as the crate oracle, with stand-ins for the crates that they name.
+build_oracle() {
+    local stand_ins=$HOST/oracle/stand-ins name
     for name in indexmap ulib clilog compact_str sverilogparse rayon; do
         crate "$name" "$stand_ins/$name.rs"
     done
@@ -50,12 +60,30 @@ build_oracle() {
         -o "$OUT/libserde.so" "$stand_ins/serde.rs"
 
     extern indexmap ulib clilog compact_str sverilogparse rayon netlistdb
-    crate oracle "$copy/lib.rs" --cap-lints allow "${EXTERN[@]}" --extern "serde=$OUT/libserde.so"
+    crate oracle "$OUT/oracle/lib.rs" --cap-lints allow "${EXTERN[@]}" --extern "serde=$OUT/libserde.so"
+}
 
-    extern netlistdb
+# Crates that need nothing else.
+build_plain() {
+    crate random "$HOST/random/src/lib.rs"
+    crate plan "$HOST/plan/src/lib.rs"
+}
+
+# make_plans: the designs through GEM.
+build_make_plans() {
+    extern netlistdb random
     crate netlists "$HOST/netlists/src/lib.rs" "${EXTERN[@]}"
-    extern oracle netlists netlistdb
-    program gem_smoke "$HOST/oracle/bin/gem_smoke.rs" "${EXTERN[@]}"
+    extern oracle netlists plan random
+    crate from_gem "$HOST/plan/from_gem.rs" "${EXTERN[@]}"
+    extern from_gem netlists plan
+    program make_plans "$HOST/oracle/bin/make_plans.rs" "${EXTERN[@]}"
+}
+
+# build_gem FROM: all that is made of GEM's sources.
+build_gem() {
+    copy_oracle "$1"
+    build_oracle
+    build_make_plans
 }
 
 # build_wrapper MAKER: the crate juolgesot over the archive (MAKER archive) or over the model.
@@ -78,9 +106,9 @@ build_programs() {
         extern oracle
     fi
     crate reference "$HOST/compare/reference/$1.rs" "${EXTERN[@]}"
-    extern juolgesot model reference
+    extern juolgesot model reference random plan
     crate compare "$HOST/compare/src/lib.rs" "${EXTERN[@]}"
-    extern juolgesot model reference compare
+    extern juolgesot model reference random plan compare
     local file
     for file in "$HOST"/compare/src/bin/*.rs; do
         program "$(basename "$file" .rs)" "$file" "${EXTERN[@]}"

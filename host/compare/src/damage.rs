@@ -1,6 +1,6 @@
 //! Damaged copies of read sets. What a call is then to answer, the checker finds by itself.
 
-use crate::random::Random;
+use random::Random;
 use crate::sets::STAGED;
 
 pub const KINDS: [&str; 8] = [

@@ -3,7 +3,6 @@
 pub mod answers;
 pub mod checker;
 pub mod damage;
-pub mod random;
 pub mod sets;
 pub mod tally;
 

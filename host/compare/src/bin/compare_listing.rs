@@ -2,7 +2,7 @@
 //!
 //! compare_listing [SEED]    stops at the first difference
 
-use compare::random::Random;
+use random::Random;
 use compare::tally::Tally;
 use juolgesot::ffi::{self, Answer};
 use juolgesot::{LIST_ROOM, LIST_TEXT};

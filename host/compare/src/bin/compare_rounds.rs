@@ -5,7 +5,7 @@
 
 use compare::checker::{Checker, Lent, OutLength};
 use compare::damage;
-use compare::random::Random;
+use random::Random;
 use compare::sets;
 use juolgesot::SET_ROOM;
 use std::collections::BTreeMap;

@@ -2,7 +2,7 @@
 //! The format is in compare/src/answers.rs.
 
 use compare::answers::{self, Case, Stored};
-use compare::random::Random;
+use random::Random;
 use compare::sets;
 use model::rounds::pairs_of;
 
