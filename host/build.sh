@@ -86,8 +86,25 @@ build_gem() {
     build_make_plans
 }
 
+# find_functions MAKER: sets HAS (an array) to the groups of functions that there are, of listing, plans and run. The
+# model has all; the archive is asked for their symbols.
+find_functions() {
+    local group
+    HAS=()
+    for group in listing:juolgesot_list plans:juolgesot_build run:juolgesot_run; do
+        if [ "$1" = model ] || grep -aqw "${group#*:}" "$ARCHIVE/libcapi.a"; then
+            HAS+=("${group%:*}")
+        fi
+    done
+}
+
+has() {
+    [[ " ${HAS[*]-} " == *" $1 "* ]]
+}
+
 # build_wrapper MAKER: the crate juolgesot over the archive (MAKER archive) or over the model.
 build_wrapper() {
+    local group flags=()
     extern model
     crate model "$HOST/model/src/lib.rs"
     if [ "$1" = model ]; then
@@ -95,22 +112,32 @@ build_wrapper() {
     else
         crate archive "$HOST/juolgesot/archive.rs" -L native="$ARCHIVE"
     fi
+    for group in ${HAS[@]+"${HAS[@]}"}; do
+        flags+=(--cfg "has_$group")
+    done
     extern archive
-    crate juolgesot "$HOST/juolgesot/src/lib.rs" "${EXTERN[@]}"
+    crate juolgesot "$HOST/juolgesot/src/lib.rs" ${flags[@]+"${flags[@]}"} "${EXTERN[@]}"
 }
 
-# build_programs REFERENCE: the comparison programs, against gem or against model.
+# build_programs REFERENCE: the comparison programs, against gem or against model, of the functions that there are.
 build_programs() {
-    extern model
+    local name flags=()
+    extern model plan
     if [ "$1" = gem ]; then
-        extern oracle
+        extern oracle plan indexmap
     fi
     crate reference "$HOST/compare/reference/$1.rs" "${EXTERN[@]}"
+    for name in ${HAS[@]+"${HAS[@]}"}; do
+        flags+=(--cfg "has_$name")
+    done
     extern juolgesot model reference random plan
-    crate compare "$HOST/compare/src/lib.rs" "${EXTERN[@]}"
+    crate compare "$HOST/compare/src/lib.rs" ${flags[@]+"${flags[@]}"} "${EXTERN[@]}"
     extern juolgesot model reference random plan compare
-    local file
-    for file in "$HOST"/compare/src/bin/*.rs; do
-        program "$(basename "$file" .rs)" "$file" "${EXTERN[@]}"
+    PROGRAMS=(replay_answers make_answers compare_rounds)
+    ! has listing || PROGRAMS+=(compare_listing)
+    ! has plans || PROGRAMS+=(compare_plans)
+    ! has run || PROGRAMS+=(compare_run)
+    for name in "${PROGRAMS[@]}"; do
+        program "$name" "$HOST/compare/src/bin/$name.rs" "${EXTERN[@]}"
     done
 }

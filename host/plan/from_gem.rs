@@ -109,9 +109,8 @@ fn layout(aig: &AIG, kind: Layout, random: &mut Random) -> Vec<usize> {
         let is_register = |&pin: &usize| matches!(aig.drivers[pin], DriverType::DFF(_) | DriverType::SRAM(_));
         layout.extend((1..=aig.num_aigpins).filter(is_register).take(5));
     }
-    for _ in 0..layout.len() / 4 + 1 {
-        layout.push(usize::MAX);
-    }
+    let gaps = if let Layout::Sparse = kind { 40 * layout.len() } else { layout.len() / 4 + 1 };
+    layout.resize(layout.len() + gaps, usize::MAX);
     random.shuffle(&mut layout);
     layout
 }

@@ -38,6 +38,8 @@ pub enum Layout {
     Gaps,
     /// With gaps, some pins twice, and some pins that are no inputs.
     Crowded,
+    /// In any order, most of them alone in their words: many words to read.
+    Sparse,
 }
 
 /// Makes a design's netlist.
@@ -67,8 +69,8 @@ pub fn forty() -> Vec<Design> {
         ("CRC-32, flat", crc_flat::<32>, &[6], Apart(7), 3, Gaps),
         ("XOR tree of 5", xor_tree::<5>, &[], Merged(1), 1024, Crowded),
         ("XOR tree of 64", xor_tree::<64>, &[], Merged(1), 1, Plain),
-        ("XOR tree of 500", xor_tree::<500>, &[6, 12], Apart(40), 6, Gaps),
-        ("XOR tree of 2000", xor_tree::<2000>, &[8], Apart(64), 3, Plain),
+        ("XOR tree of 500", xor_tree::<500>, &[6, 12], Apart(40), 6, Sparse),
+        ("XOR tree of 2000", xor_tree::<2000>, &[8], Apart(64), 3, Sparse),
         ("counter of 8", counters::<1, 8>, &[], Merged(4), 1, Plain),
         ("counters of 16", counters::<4, 16>, &[], Apart(13), 2, Gaps),
         ("counters of 24, staged", counters::<5, 24>, &[8], Apart(17), 9, Crowded),
@@ -89,7 +91,7 @@ pub fn forty() -> Vec<Design> {
         ("random, 600 gates", random_design::<600>, &[5, 11, 20], Mixed(15), 6, Gaps),
         ("random, 1000 gates", random_design::<1000>, &[12], Apart(25), 1024, Crowded),
         ("random, 2000 gates", random_design::<2000>, &[14, 40], Apart(60), 10, Gaps),
-        ("random, 3000 gates", random_design::<3000>, &[20], Apart(200), 2, Plain),
+        ("random, 3000 gates", random_design::<3000>, &[20], Apart(200), 2, Sparse),
     ];
     assert_eq!(list.len(), 40);
     made(list, SEED)
