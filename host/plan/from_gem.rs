@@ -95,9 +95,8 @@ fn partitions(aig: &AIG, staged: &StagedAIG, clusters: Clusters, random: &mut Ra
 }
 
 fn layout(aig: &AIG, kind: Layout, random: &mut Random) -> Vec<usize> {
-    let is_input = |&pin: &usize| {
-        matches!(aig.drivers[pin], DriverType::InputPort(_) | DriverType::InputClockFlag(..))
-    };
+    let is_input =
+        |&pin: &usize| matches!(aig.drivers[pin], DriverType::InputPort(_) | DriverType::InputClockFlag(..));
     let mut layout: Vec<usize> = (1..=aig.num_aigpins).filter(is_input).collect();
     if let Layout::Plain = kind {
         return layout;

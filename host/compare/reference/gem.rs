@@ -119,8 +119,11 @@ fn aig_of(plan: &Plan) -> (AIG, Vec<StagedAIG>, Vec<Vec<usize>>) {
         .enumerate()
         .map(|(cell, register)| (cell, DFF { d_iv: register.x as usize, en_iv: register.y as usize, q: 0 }))
         .collect();
-    let srams: IndexMap<usize, RAMBlock> =
-        all().filter(|endpoint| endpoint.kind == 3).enumerate().map(|(i, _)| (i, RAMBlock::default())).collect();
+    let srams: IndexMap<usize, RAMBlock> = all()
+        .filter(|endpoint| endpoint.kind == 3)
+        .enumerate()
+        .map(|(i, _)| (i, RAMBlock::default()))
+        .collect();
 
     let (mut register, mut sram) = (outputs.len(), outputs.len() + dffs.len());
     let mut stageds = Vec::new();

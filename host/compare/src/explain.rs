@@ -11,7 +11,8 @@ pub fn word_place(plan: &Accepted<'_>, index: u64) -> String {
     if index >= end {
         return format!("zero word {} behind the end", index - end);
     }
-    let place = starts.windows(2).position(|range| (range[0]..range[1]).contains(&index)).expect("below the end");
+    let place =
+        starts.windows(2).position(|range| (range[0]..range[1]).contains(&index)).expect("below the end");
     let (major, block) = (place / plan.plan.blocks, place % plan.plan.blocks);
     let mut offset = index - starts[place];
     for &part in &plan.blocks.parts[major][block] {

@@ -1,10 +1,12 @@
 //! What the comparison programs share.
 
 pub mod answers;
+pub mod came;
 pub mod checker;
 pub mod damage;
 pub mod explain;
 pub mod lent;
+pub mod plan_changes;
 #[cfg(has_plans)]
 pub mod plan_checker;
 pub mod plan_damage;

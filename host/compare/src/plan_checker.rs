@@ -94,11 +94,15 @@ impl PlanChecker {
                 same_script(&script, expected, &record).map(|()| "the same script".to_string())
             }
             (Flattened::Panicked, Ok(_)) => Err("GEM panicked".to_string()),
-            (Flattened::Panicked, Err(refused)) => Ok(format!("refused {:2}, and GEM panicked", refused.number)),
+            (Flattened::Panicked, Err(refused)) => {
+                Ok(format!("refused {:2}, and GEM panicked", refused.number))
+            }
             (Flattened::Script(_), Err(refused)) if matches!(refused.number, 3 | 4 | 9 | 10) => {
                 Err(format!("GEM went on where the model refuses by {}", refused.number))
             }
-            (Flattened::Script(_), Err(refused)) => Ok(format!("refused {:2}, and GEM went on", refused.number)),
+            (Flattened::Script(_), Err(refused)) => {
+                Ok(format!("refused {:2}, and GEM went on", refused.number))
+            }
         };
         match found {
             Ok(answer) => self.gem.count(&answer),
@@ -128,7 +132,8 @@ pub fn same_script(found: &Script, expected: &Script, record: &[u8]) -> Result<(
         return Err(format!("{} words, expected {}", found.words.len(), expected.words.len()));
     }
     if found.words != expected.words {
-        let at = (0..found.words.len()).find(|&at| found.words[at] != expected.words[at]).expect("they differ");
+        let at =
+            (0..found.words.len()).find(|&at| found.words[at] != expected.words[at]).expect("they differ");
         return Err(word_difference(record, at as isize, found.words[at], expected.words[at]));
     }
     Ok(())

@@ -215,7 +215,8 @@ impl Maker<'_> {
                 Home::Staged(major) => state.normal_bit(self.random, |of| of <= major),
             };
             if self.random.chance(6) {
-                let position = Position { pin, position: self.random.word(), staged: staged.is_some() as u32 };
+                let position =
+                    Position { pin, position: self.random.word(), staged: staged.is_some() as u32 };
                 beaten.push(position);
             }
             positions.push(match staged {
@@ -246,8 +247,7 @@ pub fn tables(random: &mut Random) -> Tables {
 
 /// The counts of a part by the model.
 pub fn model_counts(part: &Part) -> Counts {
-    let plan =
-        Plan { blocks: 1, stages: vec![vec![part.clone()]], ..Plan::default() };
+    let plan = Plan { blocks: 1, stages: vec![vec![part.clone()]], ..Plan::default() };
     let words = plan.words();
     let read = model::record::plan(4 * words.len(), &words).expect("a part in form");
     model::plan::counts(&read.parts[0])
@@ -349,7 +349,8 @@ pub fn relabel(plan: &mut Plan, number: impl Fn(u32) -> u32) {
 
 /// One part that reads so many words of 17 bits: from 257 on they have no packing.
 pub fn words_of_17(random: &mut Random, words: usize) -> Plan {
-    let layout: Vec<u32> = (0..32 * words as u32).map(|index| if index % 32 < 17 { index } else { EMPTY }).collect();
+    let layout: Vec<u32> =
+        (0..32 * words as u32).map(|index| if index % 32 < 17 { index } else { EMPTY }).collect();
     let mut slots: Vec<usize> = (LEVEL_0..LEVEL_0 + 8192).collect();
     random.shuffle(&mut slots);
     let mut stage = Stage::empty();

@@ -20,7 +20,13 @@ impl RunChecker {
 
     /// Compares one call and counts it, or stops the program at a difference. The room is so many words longer than
     /// needed. Gives what the run is to answer.
-    pub fn check(&mut self, kind: &str, case: &Case, more_room: i64, room_is_zero: bool) -> Result<Ran, Refused> {
+    pub fn check(
+        &mut self,
+        kind: &str,
+        case: &Case,
+        more_room: i64,
+        room_is_zero: bool,
+    ) -> Result<Ran, Refused> {
         let start = Instant::now();
         let room = (BLOCK_ROOM * case.starts.len().saturating_sub(1)) as i64 + more_room;
         let room = room.max(0) as usize;

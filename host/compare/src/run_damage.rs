@@ -93,6 +93,12 @@ pub fn case_of(random: &mut Random, plan: &plan::Plan) -> Option<Case> {
 pub type Change = fn(&mut Random, &mut Case, &[PartPlace]) -> Option<()>;
 
 pub fn damages() -> Vec<(u32, &'static str, Change)> {
+    let groups = [of_starts(), of_heads(), of_sections(), of_states(), of_turns(), of_harmless()];
+    groups.into_iter().flatten().collect()
+}
+
+/// Refusal 15 by starts and lengths, and by empty blocks.
+fn of_starts() -> Vec<(u32, &'static str, Change)> {
     vec![
         (15, "no start", |_, case, _| truncated(&mut case.starts, 0)),
         (15, "one start", |_, case, _| truncated(&mut case.starts, 1)),
@@ -130,6 +136,30 @@ pub fn damages() -> Vec<(u32, &'static str, Change)> {
             case.starts[part.block] += random.pick(&[1, 256, 512]);
             Some(())
         }),
+        (15, "empty block with another word", |random, case, parts| {
+            let at = empty_block(random, case, parts)?;
+            let word = random.pick(&[0, 2, 3, 6, 127, 128, 255]);
+            case.words[at + word] = random.pick(&[1, 5, u32::MAX]);
+            Some(())
+        }),
+        (15, "empty block with another word 1", |random, case, parts| {
+            let at = empty_block(random, case, parts)?;
+            case.words[at + 1] = random.pick(&[0, 2, u32::MAX]);
+            Some(())
+        }),
+        (15, "empty block of another length", |random, case, parts| {
+            let at = empty_block(random, case, parts)?;
+            let block = case.starts.iter().position(|&start| start == at as u64)?;
+            let shift = random.pick(&[1, 100, 255]);
+            case.starts[block] += shift;
+            Some(())
+        }),
+    ]
+}
+
+/// Refusal 15 by the head of a part.
+fn of_heads() -> Vec<(u32, &'static str, Change)> {
+    vec![
         (15, "stages 0", |random, case, parts| {
             case.words[any(random, parts)?.at] = 0;
             Some(())
@@ -163,24 +193,6 @@ pub fn damages() -> Vec<(u32, &'static str, Change)> {
             case.words[any(random, &others)?.at + 1] = random.pick(&[1, 2, u32::MAX]);
             Some(())
         }),
-        (15, "empty block with another word", |random, case, parts| {
-            let at = empty_block(random, case, parts)?;
-            let word = random.pick(&[0, 2, 3, 6, 127, 128, 255]);
-            case.words[at + word] = random.pick(&[1, 5, u32::MAX]);
-            Some(())
-        }),
-        (15, "empty block with another word 1", |random, case, parts| {
-            let at = empty_block(random, case, parts)?;
-            case.words[at + 1] = random.pick(&[0, 2, u32::MAX]);
-            Some(())
-        }),
-        (15, "empty block of another length", |random, case, parts| {
-            let at = empty_block(random, case, parts)?;
-            let block = case.starts.iter().position(|&start| start == at as u64)?;
-            let shift = random.pick(&[1, 100, 255]);
-            case.starts[block] += shift;
-            Some(())
-        }),
         (15, "normal words below 0", |random, case, parts| {
             let at = any(random, parts)?.at;
             case.words[at + 4] = case.words[at + 2] - case.words[at + 7] + random.pick(&[1, 2, 5]);
@@ -207,6 +219,20 @@ pub fn damages() -> Vec<(u32, &'static str, Change)> {
             case.new.resize(enough, 0);
             Some(())
         }),
+        (15, "location of no stage", |random, case, parts| {
+            let part = any(random, parts)?;
+            let normal = normal_words(&case.words, part);
+            let index = random.below(Some(normal).filter(|&normal| normal > 0)?);
+            let stage = random.pick(&[part.stages, part.stages + 1, 255]) as u32;
+            set_half(&mut case.words, part.at + 128, index, 256 * stage + random.below(256) as u32);
+            Some(())
+        }),
+    ]
+}
+
+/// Refusal 15 by entries and masks.
+fn of_sections() -> Vec<(u32, &'static str, Change)> {
+    vec![
         (15, "entry of a stage", |random, case, parts| {
             let part = any(random, parts)?;
             let section = random.below(part.stages);
@@ -220,14 +246,6 @@ pub fn damages() -> Vec<(u32, &'static str, Change)> {
             let part = any(random, parts)?;
             bad_entry(random, case, part, part.stages + 1)
         }),
-        (15, "location of no stage", |random, case, parts| {
-            let part = any(random, parts)?;
-            let normal = normal_words(&case.words, part);
-            let index = random.below(Some(normal).filter(|&normal| normal > 0)?);
-            let stage = random.pick(&[part.stages, part.stages + 1, 255]) as u32;
-            set_half(&mut case.words, part.at + 128, index, 256 * stage + random.below(256) as u32);
-            Some(())
-        }),
         (15, "33 bits in a lane", |random, case, parts| {
             let several: Vec<PartPlace> = parts.iter().copied().filter(|part| part.rounds > 1).collect();
             let part = any(random, &several)?;
@@ -239,6 +257,28 @@ pub fn damages() -> Vec<(u32, &'static str, Change)> {
             case.words[last + 1] |= 1 << random.below(32);
             Some(())
         }),
+        (15, "17 and 16 bits in a lane", |random, case, parts| {
+            let at = *any(random, parts)?;
+            let (at, lane) = (more_rounds(case, &at, 2), random.below(256));
+            for (round, mask) in [0x0001_FFFF, 0xFFFF_0000].iter().enumerate() {
+                case.words[at + 512 * round + 2 * lane + 1] = *mask;
+            }
+            Some(())
+        }),
+        (15, "33 rounds of one bit in a lane", |random, case, parts| {
+            let at = *any(random, parts)?;
+            let (at, lane) = (more_rounds(case, &at, 33), random.below(256));
+            for round in 0..33 {
+                case.words[at + 512 * round + 2 * lane + 1] = 1 << random.below(32);
+            }
+            Some(())
+        }),
+    ]
+}
+
+/// Refusal 15 by words outside the states.
+fn of_states() -> Vec<(u32, &'static str, Change)> {
+    vec![
         (15, "word read outside the states", |random, case, parts| {
             let at = any_read(random, case, parts)?;
             let flag = random.pick(&[0, 1 << 31]);
@@ -273,6 +313,12 @@ pub fn damages() -> Vec<(u32, &'static str, Change)> {
             let end = case.words[part.at + 3] as usize + normal_words(&case.words, &part);
             truncated(&mut case.new, end - 1)
         }),
+    ]
+}
+
+/// Refusal 16, and turns that are fine.
+fn of_turns() -> Vec<(u32, &'static str, Change)> {
+    vec![
         (16, "turn of no block", |random, case, _| {
             let blocks = case.starts.len() as u32 - 1;
             let turn = random.below(case.turns.len());
@@ -290,6 +336,26 @@ pub fn damages() -> Vec<(u32, &'static str, Change)> {
             }
             Some(())
         }),
+        (0, "too few turns", |random, case, _| {
+            let turns = random.below(case.turns.len());
+            truncated(&mut case.turns, turns)
+        }),
+        (0, "turns of finished blocks", |random, case, _| {
+            let blocks = case.starts.len() - 1;
+            case.turns.extend((0..random.between(1, 20)).map(|_| random.below(blocks) as u32));
+            Some(())
+        }),
+        (0, "any turns", |random, case, _| {
+            let blocks = case.starts.len() - 1;
+            case.turns = (0..random.below(60)).map(|_| random.below(blocks) as u32).collect();
+            Some(())
+        }),
+    ]
+}
+
+/// Changes that are no fault.
+fn of_harmless() -> Vec<(u32, &'static str, Change)> {
+    vec![
         (0, "words that nobody looks at", |random, case, parts| {
             for part in parts {
                 for word in (8..128).chain([5]) {
@@ -328,14 +394,8 @@ pub fn damages() -> Vec<(u32, &'static str, Change)> {
             Some(())
         }),
         (0, "rounds of empty masks", |random, case, parts| {
-            let part = *any(random, parts)?;
-            let rounds = random.pick(&[1, 2, 40]);
-            let at = part.sections_at();
-            case.words.splice(at..at, vec![0; 512 * rounds]);
-            case.words[part.at + 6] += rounds as u32;
-            for start in case.starts.iter_mut().filter(|start| **start > part.at as u64) {
-                *start += 512 * rounds as u64;
-            }
+            let part = any(random, parts)?;
+            more_rounds(case, part, random.pick(&[1, 2, 40]));
             Some(())
         }),
         (0, "no normal words, any state start", |random, case, parts| {
@@ -387,20 +447,6 @@ pub fn damages() -> Vec<(u32, &'static str, Change)> {
             case.new.extend(state(random, new));
             Some(())
         }),
-        (0, "too few turns", |random, case, _| {
-            let turns = random.below(case.turns.len());
-            truncated(&mut case.turns, turns)
-        }),
-        (0, "turns of finished blocks", |random, case, _| {
-            let blocks = case.starts.len() - 1;
-            case.turns.extend((0..random.between(1, 20)).map(|_| random.below(blocks) as u32));
-            Some(())
-        }),
-        (0, "any turns", |random, case, _| {
-            let blocks = case.starts.len() - 1;
-            case.turns = (0..random.below(60)).map(|_| random.below(blocks) as u32).collect();
-            Some(())
-        }),
     ]
 }
 
@@ -438,6 +484,17 @@ fn truncated<T>(list: &mut Vec<T>, length: usize) -> Option<()> {
     }
     list.truncate(length);
     Some(())
+}
+
+/// Gives a part so many rounds more, all masks empty; they begin at the word given back.
+fn more_rounds(case: &mut Case, part: &PartPlace, rounds: usize) -> usize {
+    let at = part.sections_at();
+    case.words.splice(at..at, vec![0; 512 * rounds]);
+    case.words[part.at + 6] += rounds as u32;
+    for start in case.starts.iter_mut().filter(|start| **start > part.at as u64) {
+        *start += 512 * rounds as u64;
+    }
+    at
 }
 
 /// Where the words of an empty block begin.

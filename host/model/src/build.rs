@@ -58,7 +58,10 @@ pub fn accept(record_bytes: usize, words: &[u32]) -> Result<Accepted<'_>, Refuse
 
 impl Accepted<'_> {
     fn part_words(&self, part: usize) -> u64 {
-        script::part_words(rounds::rounds(&self.lanes[part]) as u64, self.plan.parts[part].stages.len() as u64)
+        script::part_words(
+            rounds::rounds(&self.lanes[part]) as u64,
+            self.plan.parts[part].stages.len() as u64,
+        )
     }
 
     /// The starts of the blocks, and the end.

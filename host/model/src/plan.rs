@@ -123,7 +123,8 @@ pub fn absent_fault(plan: &Plan<'_>) -> Option<Refused> {
 
 pub fn computed_fault(plan: &Plan<'_>) -> Option<Refused> {
     for (number, part) in plan.parts.iter().enumerate() {
-        let read: HashSet<u32> = part.stages[0].level_0().iter().copied().filter(|&pin| pin != EMPTY).collect();
+        let read: HashSet<u32> =
+            part.stages[0].level_0().iter().copied().filter(|&pin| pin != EMPTY).collect();
         for (s, stage) in part.stages.iter().enumerate() {
             let computed = stage
                 .positions()

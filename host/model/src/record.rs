@@ -113,9 +113,10 @@ pub fn plan(record_bytes: usize, words: &[u32]) -> Option<Plan<'_>> {
     let gates = cursor.take(3 * gates as u64)?;
     let layout = cursor.take(layout.into())?;
     let positions = cursor.take(3 * positions as u64)?;
-    let in_range = gates.chunks(3).all(|gate| is_pin(gate[0]) && is_inverted(gate[1]) && is_inverted(gate[2]))
-        && layout.iter().all(|&pin| is_pin(pin) || pin == EMPTY)
-        && positions.chunks(3).all(|entry| is_pin(entry[0]) && entry[2] <= 1);
+    let in_range =
+        gates.chunks(3).all(|gate| is_pin(gate[0]) && is_inverted(gate[1]) && is_inverted(gate[2]))
+            && layout.iter().all(|&pin| is_pin(pin) || pin == EMPTY)
+            && positions.chunks(3).all(|entry| is_pin(entry[0]) && entry[2] <= 1);
     if !in_range {
         return None;
     }

@@ -77,8 +77,7 @@ pub fn words(part: &Part<'_>, facts: &Facts<'_>, found: &Found, gates: &Gates) -
     for (table, lists) in [(part.sram_table, 2), (part.enable_table, 3)] {
         let entries: Vec<u16> = table[..SLOTS].iter().map(|&entry| entry as u16).collect();
         push_permutation(&mut words, &entries);
-        let lists: Vec<&[u32]> =
-            (0..lists).map(|list| &table[SLOTS + LANES * list..][..LANES]).collect();
+        let lists: Vec<&[u32]> = (0..lists).map(|list| &table[SLOTS + LANES * list..][..LANES]).collect();
         push_lanes(&mut words, &lists);
     }
     words

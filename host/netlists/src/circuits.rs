@@ -138,7 +138,8 @@ pub fn crc_trees(b: &mut Builder, state: &[Net], data: &[Net], polynomial: u64) 
     }
     rows.iter()
         .map(|row| {
-            let nets: Vec<Net> = (0..sources.len()).filter(|i| row >> i & 1 == 1).map(|i| sources[i]).collect();
+            let nets: Vec<Net> =
+                (0..sources.len()).filter(|i| row >> i & 1 == 1).map(|i| sources[i]).collect();
             xor_all(b, &nets)
         })
         .collect()
@@ -210,7 +211,13 @@ pub fn bloom(
 }
 
 /// So many gates, each over two nets that are there already, near ones preferred where `reach` is small.
-pub fn random_logic(b: &mut Builder, random: &mut Random, from: &[Net], gates: usize, reach: usize) -> Vec<Net> {
+pub fn random_logic(
+    b: &mut Builder,
+    random: &mut Random,
+    from: &[Net],
+    gates: usize,
+    reach: usize,
+) -> Vec<Net> {
     let mut nets = from.to_vec();
     for _ in 0..gates {
         let near = nets.len() - random.between(1, reach.min(nets.len()));

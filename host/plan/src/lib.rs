@@ -134,9 +134,7 @@ impl Plan {
         words.extend(self.gates.iter().flat_map(|gate| [gate.pin, gate.first, gate.second]));
         words.extend(&self.layout);
         words.extend(self.positions.iter().flat_map(|entry| [entry.pin, entry.position, entry.staged]));
-        words.extend(
-            self.parts().flat_map(|part| [part.stages.len() as u32, part.endpoints.len() as u32]),
-        );
+        words.extend(self.parts().flat_map(|part| [part.stages.len() as u32, part.endpoints.len() as u32]));
         for part in self.parts() {
             part.push_words(&mut words);
         }

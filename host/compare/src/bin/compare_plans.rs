@@ -2,16 +2,19 @@
 //!
 //! compare_plans [PLANS] [SEED]    PLANS is what make_plans wrote; stops at the first difference
 
+use compare::came::Came;
 use compare::plan_checker::{same_script, stop, Expected, More, PlanChecker};
 use compare::plan_damage::{self, Change};
 use compare::plans::{self, Size};
 use plan::stored::{self, Case};
 use plan::{Endpoint, Part, Plan, Position, Stage, Tables, EMPTY, LEVEL_0};
 use random::Random;
-use std::collections::BTreeMap;
 use std::time::Instant;
 
 const SEED: u64 = 20_240_614;
+/// How often each damage is to bring about its refusal, and the plans that are tried for it.
+const TIMES: u32 = 4;
+const MOST_PLANS: usize = 200;
 
 fn main() {
     compare::silence_expected_panics();
@@ -238,7 +241,8 @@ fn boundaries(checker: &mut PlanChecker) {
     plan.stages[0][0].stages[1].locations = vec![255; 2];
     check("257 locations", &plan, 7);
     check("no parts", &Plan { blocks: 3, stages: vec![Vec::new(); 2], ..Plan::default() }, 0);
-    let no_inputs = Plan { layout: Vec::new(), positions: vec![Position { pin: 1, position: 0, staged: 0 }], ..m6() };
+    let no_inputs =
+        Plan { layout: Vec::new(), positions: vec![Position { pin: 1, position: 0, staged: 0 }], ..m6() };
     check("no input layout", &no_inputs, 0);
 }
 
@@ -247,7 +251,8 @@ fn short_results(checker: &mut PlanChecker, random: &mut Random) {
         let plan = plans::any(random, SMALL);
         let record = plan.record();
         let expected = Expected::of(&record);
-        for (starts, words) in [(0, 0), (-1, 0), (0, -1), (-1, -1), (-1, 5000), (5, -2048), (-1_000_000, 0), (0, -100_000_000)]
+        for (starts, words) in
+            [(0, 0), (-1, 0), (0, -1), (-1, -1), (-1, 5000), (5, -2048), (-1_000_000, 0), (0, -100_000_000)]
         {
             let more = More { starts, words, room_is_zero: random.chance(2), ..More::default() };
             checker.check_expected("result room around what is needed", &record, &expected, more);
@@ -280,30 +285,22 @@ fn short_rooms(checker: &mut PlanChecker, random: &mut Random) {
 /// Each damage until its refusal has come three times, and then damages at random.
 fn damaged_plans(checker: &mut PlanChecker, random: &mut Random) {
     let damages = plan_damage::damages();
-    let mut came: BTreeMap<(u32, &str), BTreeMap<u32, u32>> = BTreeMap::new();
-    for _ in 0..40 {
+    let mut came = Came::new(TIMES);
+    for _ in 0..MOST_PLANS {
         let wide = random.chance(4);
         let plan = plans::any(random, Size { wide, ..SMALL });
         for (number, name, change) in &damages {
-            let counts = came.entry((*number, *name)).or_default();
-            if counts.get(number).map_or(false, |&times| times >= 3) {
-                continue;
-            }
-            if let Some(found) = damaged(checker, random, &plan, change, *number) {
-                *counts.entry(found).or_insert(0) += 1;
+            if came.wants(*number, name) {
+                if let Some(found) = damaged(checker, random, &plan, change, *number) {
+                    came.count(*number, name, found);
+                }
             }
         }
+        if damages.iter().all(|(number, name, _)| !came.wants(*number, name)) {
+            break;
+        }
     }
-    for ((number, name), counts) in &came {
-        let others: Vec<String> = counts
-            .iter()
-            .filter(|(found, _)| *found != number)
-            .map(|(found, times)| format!(", {} by {}", times, found))
-            .collect();
-        let times = counts.get(number).copied().unwrap_or(0);
-        println!("  {:2}  {:40} {} times{}", number, name, times, others.concat());
-        assert!(times >= 3, "refusal {} did not come three times by: {}", number, name);
-    }
+    came.print();
     for _ in 0..60 {
         let plan = plans::any(random, Size { majors: 2, parts: 2, stages: 2, ..SMALL });
         for _ in 0..4 {
@@ -318,7 +315,9 @@ fn damaged_plans(checker: &mut PlanChecker, random: &mut Random) {
         if let Some((_, Some(once))) = plan_damage::apply(random, &plan, &damages[first].2) {
             // State is asked of plans in form only.
             let in_form = damages[first].0 != 5 || !matches!(damages[second].0, 7 | 12);
-            if let Some((twice, _)) = in_form.then(|| plan_damage::apply(random, &once, &damages[second].2)).flatten() {
+            if let Some((twice, _)) =
+                in_form.then(|| plan_damage::apply(random, &once, &damages[second].2)).flatten()
+            {
                 checker.check("two damages", &twice, More::default());
             }
         }

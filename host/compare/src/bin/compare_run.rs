@@ -2,6 +2,7 @@
 //!
 //! compare_run [PLANS] [SEED]    PLANS is what make_plans wrote; stops at the first difference
 
+use compare::came::Came;
 use compare::plans::{self, Size};
 use compare::run_checker::RunChecker;
 use compare::run_damage::{self, all_turns, case_of, parts, state, Case, PartPlace};
@@ -10,10 +11,12 @@ use model::record::EMPTY;
 use model::value::Values;
 use plan::stored;
 use random::Random;
-use std::collections::BTreeMap;
 use std::time::Instant;
 
 const SEED: u64 = 20_240_615;
+/// How often each damage is to bring about its refusal, and the scripts that are tried for it.
+const TIMES: u32 = 12;
+const MOST_SCRIPTS: usize = 200;
 
 fn main() {
     let mut words: Vec<String> = std::env::args().skip(1).collect();
@@ -32,7 +35,8 @@ fn main() {
         for case in cases.iter().filter(|case| !case.staged_duplicate) {
             let held = record_words(&case.record);
             let accepted = accept(case.record.len(), &held).expect("a plan in order");
-            bits += full_run(&mut checker, &mut random, "netlists through GEM", &accepted, &case.script.words);
+            bits +=
+                full_run(&mut checker, &mut random, "netlists through GEM", &accepted, &case.script.words);
         }
         println!("netlists: every stored bit has its pin's value by the gates ({} bits)", bits);
     }
@@ -86,7 +90,8 @@ fn full_run(
             case.turns = turns;
             case.turns.extend((0..30).map(|_| random.below(plan.plan.blocks) as u32));
             random.shuffle(&mut case.turns);
-            let again = checker.check("turns of finished blocks", &case, 0, true).expect("the script is in form");
+            let again =
+                checker.check("turns of finished blocks", &case, 0, true).expect("the script is in form");
             assert!(again.new == new && again.turns_left == 0, "the order of turns decides nothing");
         }
         words = case.words;
@@ -145,7 +150,7 @@ const SMALL: Size = Size { majors: 2, parts: 3, stages: 3, inputs: 9000, wide: f
 
 fn random_scripts(checker: &mut RunChecker, random: &mut Random) {
     let mut bits = 0;
-    for _ in 0..25 {
+    for _ in 0..60 {
         let plan = plans::any(random, SMALL);
         let record = plan.record();
         let held = record_words(&record);
@@ -172,32 +177,22 @@ fn small_case(random: &mut Random) -> (Case, Vec<PartPlace>) {
 /// Each damage until its refusal has come three times, and then damages at random.
 fn damaged_scripts(checker: &mut RunChecker, random: &mut Random) {
     let damages = run_damage::damages();
-    let mut came: BTreeMap<(u32, &str), BTreeMap<u32, u32>> = BTreeMap::new();
-    for _ in 0..40 {
+    let mut came = Came::new(TIMES);
+    for _ in 0..MOST_SCRIPTS {
         let (case, places) = small_case(random);
         for (number, name, change) in &damages {
-            let counts = came.entry((*number, *name)).or_default();
-            if counts.get(number).map_or(false, |&times| times >= 4) {
-                continue;
-            }
             let mut damaged = case.clone();
-            if change(random, &mut damaged, &places).is_some() {
+            if came.wants(*number, name) && change(random, &mut damaged, &places).is_some() {
                 let answer = checker.check("damaged", &damaged, 0, random.chance(2));
-                *counts.entry(answer.err().map_or(0, |refused| refused.number)).or_insert(0) += 1;
+                came.count(*number, name, answer.err().map_or(0, |refused| refused.number));
             }
         }
+        if damages.iter().all(|(number, name, _)| !came.wants(*number, name)) {
+            break;
+        }
     }
-    for ((number, name), counts) in &came {
-        let others: Vec<String> = counts
-            .iter()
-            .filter(|(found, _)| *found != number)
-            .map(|(found, times)| format!(", {} by {}", times, found))
-            .collect();
-        let times = counts.get(number).copied().unwrap_or(0);
-        println!("  {:2}  {:40} {} times{}", number, name, times, others.concat());
-        assert!(times >= 3, "refusal {} did not come three times by: {}", number, name);
-    }
-    for _ in 0..25 {
+    came.print();
+    for _ in 0..80 {
         let (case, places) = small_case(random);
         for _ in 0..8 {
             let mut damaged = case.clone();
