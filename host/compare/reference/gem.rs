@@ -10,6 +10,7 @@ use plan::{Part, Plan, Script, Tables, EMPTY};
 use std::any::Any;
 use std::collections::BTreeMap;
 use std::panic::catch_unwind;
+use std::time::{Duration, Instant};
 
 pub const NAME: &str = "GEM's Rust";
 
@@ -52,9 +53,14 @@ pub fn flatten(plan: &Plan) -> Flattened {
         return Flattened::NotAsked;
     }
     match catch_unwind(|| script(plan)) {
-        Ok(script) => Flattened::Script(script),
+        Ok((script, _)) => Flattened::Script(script),
         Err(_) => Flattened::Panicked,
     }
+}
+
+/// How long GEM's flattener takes for a plan in order.
+pub fn flatten_time(plan: &Plan) -> Option<Duration> {
+    Some(script(plan).1)
 }
 
 fn can_be_asked(plan: &Plan) -> bool {
@@ -69,7 +75,8 @@ fn can_be_asked(plan: &Plan) -> bool {
         })
 }
 
-fn script(plan: &Plan) -> Script {
+/// The script, and how long GEM took for it.
+fn script(plan: &Plan) -> (Script, Duration) {
     let (aig, stageds, endpoints) = aig_of(plan);
     let mut endpoints = endpoints.into_iter();
     let parts: Vec<Vec<Partition>> = plan
@@ -93,13 +100,16 @@ fn script(plan: &Plan) -> Script {
         tables: tables.collect::<Vec<_>>().into_iter().rev().collect(),
     };
     let layout = plan.layout.iter().map(|&pin| oracle_pin(pin)).collect();
+    let start = Instant::now();
     let made = oracle_build_given(&aig, &stageds, &slices, plan.blocks as usize, layout, given);
-    Script {
+    let time = start.elapsed();
+    let script = Script {
         starts: made.blocks_start.iter().map(|&start| start as u64).collect(),
         words: made.blocks_data.to_vec(),
         state_words: made.reg_io_state_size.into(),
         sram_words: made.sram_storage_size.into(),
-    }
+    };
+    (script, time)
 }
 
 /// An AIG with the plan's gates and endpoints, the staged pins of each major stage, and the endpoints of each part.

@@ -2,6 +2,7 @@
 
 use plan::{Plan, Script};
 use std::collections::BTreeMap;
+use std::time::Duration;
 
 pub const NAME: &str = "host/model";
 
@@ -23,4 +24,8 @@ pub enum Flattened {
 
 pub fn flatten(_: &Plan) -> Flattened {
     Flattened::NotAsked
+}
+
+pub fn flatten_time(_: &Plan) -> Option<Duration> {
+    None
 }

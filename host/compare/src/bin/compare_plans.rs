@@ -1,6 +1,7 @@
 //! Compares the library's builder with the reference's on whole plans.
 //!
 //! compare_plans [PLANS] [SEED]    PLANS is what make_plans wrote; stops at the first difference
+//! compare_plans bench [SEED]      times of both on the same random plans
 
 use compare::came::Came;
 use compare::plan_checker::{same_script, stop, Expected, More, PlanChecker};
@@ -9,11 +10,11 @@ use compare::plans::{self, Size};
 use plan::stored::{self, Case};
 use plan::{Endpoint, Part, Plan, Position, Stage, Tables, EMPTY, LEVEL_0};
 use random::Random;
-use std::time::Instant;
+use std::time::{Duration, Instant};
 
 const SEED: u64 = 20_240_614;
 /// How often each damage is to bring about its refusal, and the plans that are tried for it.
-const TIMES: u32 = 4;
+const TIMES: u32 = 3;
 const MOST_PLANS: usize = 200;
 
 fn main() {
@@ -27,6 +28,9 @@ fn main() {
     println!("reference: {}; seed {}", reference::NAME, seed);
     let start = Instant::now();
     let mut random = Random::new(seed);
+    if words.first().map_or(false, |word| word == "bench") {
+        return benchmark(&mut random);
+    }
     let mut checker = PlanChecker::new();
     if let Some(path) = words.first() {
         netlists(&mut checker, &std::fs::read(path).expect("the plans can be read"));
@@ -171,7 +175,7 @@ fn m10() -> Plan {
 const SMALL: Size = Size { majors: 3, parts: 2, stages: 3, inputs: 300, wide: false };
 
 fn random_plans(checker: &mut PlanChecker, random: &mut Random) {
-    for _ in 0..40 {
+    for _ in 0..30 {
         let plan = plans::any(random, Size { majors: 5, parts: 5, stages: 3, inputs: 9000, wide: false });
         check_both(checker, "random placements and tables", &plan);
     }
@@ -301,9 +305,9 @@ fn damaged_plans(checker: &mut PlanChecker, random: &mut Random) {
         }
     }
     came.print();
-    for _ in 0..60 {
+    for _ in 0..40 {
         let plan = plans::any(random, Size { majors: 2, parts: 2, stages: 2, ..SMALL });
-        for _ in 0..4 {
+        for _ in 0..6 {
             let mut words = plan.words();
             plan_damage::any_word(random, &plan, &mut words);
             if random.chance(4) {
@@ -347,11 +351,71 @@ fn damaged(
 fn large_sums(checker: &mut PlanChecker) {
     let mut part = plain_part(&[&[]]);
     part.endpoints = vec![Endpoint::sram(); 256];
-    let mut plan = Plan { blocks: 3, layout: vec![1], stages: vec![vec![part; 2048]], ..Plan::default() };
-    let record = plan.record();
+    let record = many_parts(&[(2048, &part)]);
     assert_eq!(checker.check("2^19 SRAMs", &record, More::default()), 8);
     drop(record);
-    plan.stages[0][2047].endpoints.pop();
-    plan.stages[0][2046].stages[0].slots[1] = 77;
-    assert_eq!(checker.check("2^19 - 1 SRAMs, and a bad slot", &plan.record(), More::default()), 9);
+    let mut last = part.clone();
+    last.endpoints.pop();
+    last.stages[0].slots[1] = 77;
+    let record = many_parts(&[(2047, &part), (1, &last)]);
+    assert_eq!(checker.check("2^19 - 1 SRAMs, and a bad slot", &record, More::default()), 9);
+}
+
+/// The record of a plan of one major stage, each part so many times.
+fn many_parts(parts: &[(usize, &Part)]) -> Vec<u8> {
+    let one = |part: &Part| Plan {
+        blocks: 3,
+        layout: vec![1],
+        stages: vec![vec![part.clone()]],
+        ..Plan::default()
+    };
+    let mut words = one(parts[0].1).words();
+    words.truncate(one(parts[0].1).heads_at());
+    words[plan::HEAD_WORDS] = parts.iter().map(|&(times, _)| times as u32).sum();
+    for &(times, part) in parts {
+        for _ in 0..times {
+            words.extend([part.stages.len() as u32, part.endpoints.len() as u32]);
+        }
+    }
+    let mut record = plan::bytes(&words);
+    for &(times, part) in parts {
+        let body = plan::bytes(&one(part).words()[one(part).body_at(0)..]);
+        for _ in 0..times {
+            record.extend_from_slice(&body);
+        }
+    }
+    record
+}
+
+/// Times of `build` and of GEM's flattener, which is given the same tables and positions.
+fn benchmark(random: &mut Random) {
+    let (mut ours, mut gems) = (Duration::ZERO, Duration::ZERO);
+    for index in 0..12 {
+        let plan =
+            plans::any(random, Size { majors: 3, parts: 1 + index, stages: 3, inputs: 9000, wide: false });
+        let record = plan.record();
+        let expected = match Expected::of(&record).answer {
+            Ok(script) => script,
+            Err(_) => continue,
+        };
+        let mut room = vec![0; juolgesot::plan_room(&record) as usize];
+        let (mut starts, mut words) = (vec![0; expected.starts.len()], vec![0; expected.words.len()]);
+        let start = Instant::now();
+        let answer = juolgesot::build_into(&record, &mut room, &mut starts, &mut words);
+        let our_time = start.elapsed();
+        assert!(answer.is_ok() && words == expected.words);
+        let gem_time = reference::flatten_time(&plan).unwrap_or(our_time);
+        println!(
+            "  {:3} parts, {:8} words: {:8.2} ms, {} {:8.2} ms, ratio {:.2}",
+            plan.parts().count(),
+            words.len(),
+            1e3 * our_time.as_secs_f64(),
+            reference::NAME,
+            1e3 * gem_time.as_secs_f64(),
+            our_time.as_secs_f64() / gem_time.as_secs_f64()
+        );
+        ours += our_time;
+        gems += gem_time;
+    }
+    println!("compare_plans bench: ratio {:.2} over all", ours.as_secs_f64() / gems.as_secs_f64());
 }

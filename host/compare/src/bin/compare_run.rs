@@ -7,7 +7,7 @@ use compare::plans::{self, Size};
 use compare::run_checker::RunChecker;
 use compare::run_damage::{self, all_turns, case_of, parts, state, Case, PartPlace};
 use model::build::{accept, Accepted};
-use model::record::EMPTY;
+use model::record::{self, EMPTY};
 use model::value::Values;
 use plan::stored;
 use random::Random;
@@ -33,7 +33,7 @@ fn main() {
     if let Some(path) = words.first() {
         let cases = stored::read(&std::fs::read(path).expect("the plans can be read"));
         for case in cases.iter().filter(|case| !case.staged_duplicate) {
-            let held = record_words(&case.record);
+            let held = record::words(&case.record);
             let accepted = accept(case.record.len(), &held).expect("a plan in order");
             bits +=
                 full_run(&mut checker, &mut random, "netlists through GEM", &accepted, &case.script.words);
@@ -54,10 +54,6 @@ fn main() {
         checker.kinds.total(),
         start.elapsed().as_secs_f64()
     );
-}
-
-fn record_words(record: &[u8]) -> Vec<u32> {
-    model::record::words(record)
 }
 
 /// Runs a script's major stages one after another, each to its end and before that in other orders and with other
@@ -150,10 +146,10 @@ const SMALL: Size = Size { majors: 2, parts: 3, stages: 3, inputs: 9000, wide: f
 
 fn random_scripts(checker: &mut RunChecker, random: &mut Random) {
     let mut bits = 0;
-    for _ in 0..60 {
+    for _ in 0..40 {
         let plan = plans::any(random, SMALL);
         let record = plan.record();
-        let held = record_words(&record);
+        let held = record::words(&record);
         if let Ok(accepted) = accept(record.len(), &held) {
             let words = accepted.words();
             bits += full_run(checker, random, "random placements", &accepted, &words);
@@ -192,7 +188,7 @@ fn damaged_scripts(checker: &mut RunChecker, random: &mut Random) {
         }
     }
     came.print();
-    for _ in 0..80 {
+    for _ in 0..50 {
         let (case, places) = small_case(random);
         for _ in 0..8 {
             let mut damaged = case.clone();
