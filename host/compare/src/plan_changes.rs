@@ -201,13 +201,15 @@ pub fn gate_removed(random: &mut Random, plan: &mut Plan) -> Option<()> {
 
 /// A small pin that stands nowhere in the plan.
 pub fn free_pin(plan: &Plan) -> Option<u32> {
-    let mut used: HashSet<u32> = plan.gates.iter().map(|gate| gate.pin).collect();
-    used.extend(&plan.layout);
-    used.extend(plan.positions.iter().map(|entry| entry.pin));
-    for stage in plan.parts().flat_map(|part| &part.stages) {
-        used.extend(&stage.slots[1..]);
+    let mut used = vec![false; 90_000];
+    let slots = plan.parts().flat_map(|part| &part.stages).flat_map(|stage| &stage.slots[1..]);
+    let listed = plan.gates.iter().map(|gate| gate.pin).chain(plan.positions.iter().map(|entry| entry.pin));
+    for pin in slots.chain(&plan.layout).copied().chain(listed) {
+        if let Some(used) = used.get_mut(pin as usize) {
+            *used = true;
+        }
     }
-    (0..90_000).find(|pin| !used.contains(pin))
+    used.iter().position(|used| !used).map(|pin| pin as u32)
 }
 
 /// Slots of level 0 that are empty and that no position looks at: changing one harms nothing else in its stage.

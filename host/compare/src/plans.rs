@@ -247,10 +247,9 @@ pub fn tables(random: &mut Random) -> Tables {
 
 /// The counts of a part by the model.
 pub fn model_counts(part: &Part) -> Counts {
-    let plan = Plan { blocks: 1, stages: vec![vec![part.clone()]], ..Plan::default() };
-    let words = plan.words();
-    let read = model::record::plan(4 * words.len(), &words).expect("a part in form");
-    model::plan::counts(&read.parts[0])
+    let endpoints: Vec<u32> = part.endpoints.iter().flat_map(|e| [e.kind, e.x, e.y]).collect();
+    let locations: usize = part.stages.iter().map(|stage| stage.locations.len()).sum();
+    model::plan::counts_of(&endpoints, locations as u64)
 }
 
 /// The state of a plan by the model.

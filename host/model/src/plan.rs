@@ -20,12 +20,17 @@ impl Counts {
     }
 }
 
-/// Activations are pairs (d, en): output i is (i, 1), staged pin p is (2p, 1).
 pub fn counts(part: &Part<'_>) -> Counts {
+    counts_of(part.endpoints, part.stages.iter().map(|stage| stage.locations.len() as u64).sum())
+}
+
+/// The counts of these endpoints (kind, x, y) and so many locations. Activations are pairs (d, en): output i is
+/// (i, 1), staged pin p is (2p, 1).
+pub fn counts_of(endpoints: &[u32], locations: u64) -> Counts {
     let mut activations = HashSet::new();
     let mut pins = HashSet::new();
     let mut srams = 0;
-    for endpoint in part.endpoints.chunks(3) {
+    for endpoint in endpoints.chunks(3) {
         let (d, en) = match endpoint[0] {
             0 => (endpoint[1], 1),
             1 => (2 * endpoint[1], 1),
@@ -38,11 +43,8 @@ pub fn counts(part: &Part<'_>) -> Counts {
         activations.insert((d, en));
         pins.insert(d >> 1);
     }
-    Counts {
-        normal: part.stages.iter().map(|stage| stage.locations.len() as u64).sum(),
-        srams,
-        duplicates: ((activations.len() - pins.len() + 31) / 32) as u64,
-    }
+    let duplicates = ((activations.len() - pins.len() + 31) / 32) as u64;
+    Counts { normal: locations, srams, duplicates }
 }
 
 pub fn gate_fault(plan: &Plan<'_>) -> Option<Refused> {

@@ -266,6 +266,7 @@ fn short_results(checker: &mut PlanChecker, random: &mut Random) {
 }
 
 fn short_rooms(checker: &mut PlanChecker, random: &mut Random) {
+    let mut records = vec![counts_of_majors(64), counts_of_majors(65)];
     for index in 0..10 {
         let plan = plans::any(random, SMALL);
         let mut record = plan.record();
@@ -277,13 +278,25 @@ fn short_rooms(checker: &mut PlanChecker, random: &mut Random) {
             4 => record[20..24].copy_from_slice(&[255; 4]),
             _ => {}
         }
-        let expected = Expected::of(&record);
+        records.push(record);
+    }
+    for record in &records {
+        let expected = Expected::of(record);
         for room in [-1, -16, -17, -100_000, 0, 1, 1000] {
             let more = More { room, room_is_zero: random.chance(2), ..More::default() };
-            checker.check_expected("room around what is needed", &record, &expected, more);
+            checker.check_expected("room around what is needed", record, &expected, more);
             checker.kinds.count("room around what is needed");
         }
     }
+}
+
+/// A record of so many major stages, the last of them with a part: the first 64 counts say what room is needed.
+fn counts_of_majors(majors: usize) -> Vec<u8> {
+    let mut plan = m6();
+    let parts = plan.stages.remove(0);
+    plan.stages.resize(majors - 1, Vec::new());
+    plan.stages.push(parts);
+    plan.record()
 }
 
 /// Each damage until its refusal has come three times, and then damages at random.
