@@ -26,20 +26,30 @@ extern() {
     done
 }
 
-# GEM's files, unchanged, with stand-ins for the crates that they name.
-build_oracle() {
+# copy_oracle FROM: GEM's files, with the accessor tails behind them. flatten_given.rs is flatten.rs once more with
+# one call renamed, so that tables can be given (tails/flatten_given.rs).
+copy_oracle() {
     local from=$1 copy=$OUT/oracle name
     rm -rf "$copy"
     mkdir -p "$copy"
     for name in aig aigpdk flatten pe staging; do
         cat "$from/$name.rs" >"$copy/$name.rs"
-        if [ -e "$HOST/oracle/tails/$name.rs" ]; then
-            cat "$HOST/oracle/tails/$name.rs" >>"$copy/$name.rs"
-        fi
+    done
+    local call='flattening_parts\[part_id\]\.make_inputs_outputs('
+    if [ "$(grep -c "$call" "$copy/flatten.rs")" != 1 ]; then
+        echo "host: flatten.rs has not one call of make_inputs_outputs" >&2
+        return 1
+    fi
+    sed "s/$call/flattening_parts[part_id].oracle_given(/" "$copy/flatten.rs" >"$copy/flatten_given.rs"
+    for name in flatten flatten_given; do
+        cat "$HOST/oracle/tails/$name.rs" >>"$copy/$name.rs"
     done
     cp "$HOST/oracle/src/lib.rs" "$copy/lib.rs"
+}
 
-    local stand_ins=$HOST/oracle/stand-ins
+# GEM's files as the crate oracle, with stand-ins for the crates that they name.
+build_oracle() {
+    local stand_ins=$HOST/oracle/stand-ins name
     for name in indexmap ulib clilog compact_str sverilogparse rayon; do
         crate "$name" "$stand_ins/$name.rs"
     done
@@ -50,16 +60,51 @@ build_oracle() {
         -o "$OUT/libserde.so" "$stand_ins/serde.rs"
 
     extern indexmap ulib clilog compact_str sverilogparse rayon netlistdb
-    crate oracle "$copy/lib.rs" --cap-lints allow "${EXTERN[@]}" --extern "serde=$OUT/libserde.so"
+    crate oracle "$OUT/oracle/lib.rs" --cap-lints allow "${EXTERN[@]}" --extern "serde=$OUT/libserde.so"
+}
 
-    extern netlistdb
+# Crates that need nothing else.
+build_plain() {
+    crate random "$HOST/random/src/lib.rs"
+    crate plan "$HOST/plan/src/lib.rs"
+}
+
+# make_plans: the designs through GEM.
+build_make_plans() {
+    extern netlistdb random
     crate netlists "$HOST/netlists/src/lib.rs" "${EXTERN[@]}"
-    extern oracle netlists netlistdb
-    program gem_smoke "$HOST/oracle/bin/gem_smoke.rs" "${EXTERN[@]}"
+    extern oracle netlists plan random
+    crate from_gem "$HOST/plan/from_gem.rs" "${EXTERN[@]}"
+    extern from_gem netlists plan
+    program make_plans "$HOST/oracle/bin/make_plans.rs" "${EXTERN[@]}"
+}
+
+# build_gem FROM: all that is made of GEM's sources.
+build_gem() {
+    copy_oracle "$1"
+    build_oracle
+    build_make_plans
+}
+
+# find_functions MAKER: sets HAS (an array) to the groups of functions that there are, of listing, plans and run. The
+# model has all; the archive is asked for their symbols.
+find_functions() {
+    local group
+    HAS=()
+    for group in listing:juolgesot_list plans:juolgesot_build run:juolgesot_run; do
+        if [ "$1" = model ] || grep -aqw "${group#*:}" "$ARCHIVE/libcapi.a"; then
+            HAS+=("${group%:*}")
+        fi
+    done
+}
+
+has() {
+    [[ " ${HAS[*]-} " == *" $1 "* ]]
 }
 
 # build_wrapper MAKER: the crate juolgesot over the archive (MAKER archive) or over the model.
 build_wrapper() {
+    local group flags=()
     extern model
     crate model "$HOST/model/src/lib.rs"
     if [ "$1" = model ]; then
@@ -67,22 +112,32 @@ build_wrapper() {
     else
         crate archive "$HOST/juolgesot/archive.rs" -L native="$ARCHIVE"
     fi
+    for group in ${HAS[@]+"${HAS[@]}"}; do
+        flags+=(--cfg "has_$group")
+    done
     extern archive
-    crate juolgesot "$HOST/juolgesot/src/lib.rs" "${EXTERN[@]}"
+    crate juolgesot "$HOST/juolgesot/src/lib.rs" ${flags[@]+"${flags[@]}"} "${EXTERN[@]}"
 }
 
-# build_programs REFERENCE: the comparison programs, against gem or against model.
+# build_programs REFERENCE: the comparison programs, against gem or against model, of the functions that there are.
 build_programs() {
-    extern model
+    local name flags=()
+    extern model plan
     if [ "$1" = gem ]; then
-        extern oracle
+        extern oracle plan indexmap
     fi
     crate reference "$HOST/compare/reference/$1.rs" "${EXTERN[@]}"
-    extern juolgesot model reference
-    crate compare "$HOST/compare/src/lib.rs" "${EXTERN[@]}"
-    extern juolgesot model reference compare
-    local file
-    for file in "$HOST"/compare/src/bin/*.rs; do
-        program "$(basename "$file" .rs)" "$file" "${EXTERN[@]}"
+    for name in ${HAS[@]+"${HAS[@]}"}; do
+        flags+=(--cfg "has_$name")
+    done
+    extern juolgesot model reference random plan
+    crate compare "$HOST/compare/src/lib.rs" ${flags[@]+"${flags[@]}"} "${EXTERN[@]}"
+    extern juolgesot model reference random plan compare
+    PROGRAMS=(replay_answers make_answers compare_rounds)
+    ! has listing || PROGRAMS+=(compare_listing)
+    ! has plans || PROGRAMS+=(compare_plans)
+    ! has run || PROGRAMS+=(compare_run)
+    for name in "${PROGRAMS[@]}"; do
+        program "$name" "$HOST/compare/src/bin/$name.rs" "${EXTERN[@]}"
     done
 }

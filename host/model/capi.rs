@@ -3,7 +3,8 @@
 
 #![deny(unsafe_op_in_unsafe_fn)]
 
-use model::{listing, rounds};
+use model::build::{accept, Accepted, Sizes};
+use model::{listing, record, rounds, run, Refused};
 use std::slice::{from_raw_parts, from_raw_parts_mut};
 
 /// # Safety
@@ -72,4 +73,121 @@ pub unsafe extern "C" fn juolgesot_list(
     out[..text.len()].copy_from_slice(text.as_bytes());
     *first = text.len() as u64;
     0
+}
+
+/// Writes sizes, or a refusal's place, and gives the code.
+fn tell_sizes(answer: Result<Sizes, Refused>, results: [&mut u64; 4]) -> u32 {
+    let (code, values) = match answer {
+        Ok(sizes) => (0, [sizes.starts, sizes.words, sizes.state_words, sizes.sram_words]),
+        Err(refused) => (refused.number, [refused.part, refused.item, 0, 0]),
+    };
+    for (result, value) in results.into_iter().zip(values) {
+        *result = value;
+    }
+    code
+}
+
+/// Refusal 32, or what the plan is, the room then holding zeros.
+fn accepted<'a>(plan: &[u8], words: &'a [u32], room: &mut [u32]) -> Result<Accepted<'a>, Refused> {
+    if (room.len() as u64) < record::room_words(words) {
+        return Err(Refused::plain(32));
+    }
+    room.fill(0);
+    accept(plan.len(), words)
+}
+
+/// # Safety
+/// Each pointer is to its length of words or bytes, none of them shared.
+#[no_mangle]
+pub unsafe extern "C" fn juolgesot_plan_sizes(
+    plan: *const u8,
+    plan_len: usize,
+    room: *mut u32,
+    room_len: usize,
+    first: &mut u64,
+    second: &mut u64,
+    third: &mut u64,
+    fourth: &mut u64,
+) -> u32 {
+    let (plan, room) = unsafe { (from_raw_parts(plan, plan_len), from_raw_parts_mut(room, room_len)) };
+    let words = record::words(plan);
+    let answer = accepted(plan, &words, room).map(|accepted| accepted.sizes());
+    tell_sizes(answer, [first, second, third, fourth])
+}
+
+/// # Safety
+/// Each pointer is to its length of words or bytes, none of them shared.
+#[no_mangle]
+pub unsafe extern "C" fn juolgesot_build(
+    plan: *const u8,
+    plan_len: usize,
+    room: *mut u32,
+    room_len: usize,
+    starts: *mut u64,
+    starts_len: usize,
+    words: *mut u32,
+    words_len: usize,
+    first: &mut u64,
+    second: &mut u64,
+    third: &mut u64,
+    fourth: &mut u64,
+) -> u32 {
+    let (plan, room) = unsafe { (from_raw_parts(plan, plan_len), from_raw_parts_mut(room, room_len)) };
+    let (out_starts, out_words) =
+        unsafe { (from_raw_parts_mut(starts, starts_len), from_raw_parts_mut(words, words_len)) };
+    let words = record::words(plan);
+    let answer = accepted(plan, &words, room).and_then(|accepted| {
+        let sizes = accepted.sizes();
+        if (out_starts.len() as u64) < sizes.starts || (out_words.len() as u64) < sizes.words {
+            return Err(Refused::plain(14));
+        }
+        out_starts[..sizes.starts as usize].copy_from_slice(&accepted.starts());
+        out_words[..sizes.words as usize].copy_from_slice(&accepted.words());
+        Ok(sizes)
+    });
+    tell_sizes(answer, [first, second, third, fourth])
+}
+
+/// # Safety
+/// Each pointer is to its length of words, none of them shared.
+#[no_mangle]
+pub unsafe extern "C" fn juolgesot_run(
+    words: *const u32,
+    words_len: usize,
+    starts: *const u64,
+    starts_len: usize,
+    turns: *const u32,
+    turns_len: usize,
+    old: *const u32,
+    old_len: usize,
+    new: *mut u32,
+    new_len: usize,
+    room: *mut u32,
+    room_len: usize,
+    first: &mut u64,
+    second: &mut u64,
+) -> u32 {
+    let (words, starts, turns, old) = unsafe {
+        (
+            from_raw_parts(words, words_len),
+            from_raw_parts(starts, starts_len),
+            from_raw_parts(turns, turns_len),
+            from_raw_parts(old, old_len),
+        )
+    };
+    let (new, room) = unsafe { (from_raw_parts_mut(new, new_len), from_raw_parts_mut(room, room_len)) };
+    let answer = run::answer(words, starts, turns, old, new, room.len());
+    if !matches!(answer, Err(Refused { number: 32, .. })) {
+        room.fill(0);
+    }
+    let (code, results) = match answer {
+        Ok(ran) => {
+            new.copy_from_slice(&ran.new);
+            (0, (ran.turns_left, 0))
+        }
+        Err(refused) => (refused.number, (refused.part, refused.item)),
+    };
+    *first = results.0;
+    *second = results.1;
+    code
 }

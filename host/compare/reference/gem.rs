@@ -1,8 +1,16 @@
 //! The reference of the comparisons: GEM's own Rust.
 
+use indexmap::{IndexMap, IndexSet};
+use oracle::aig::{DriverType, RAMBlock, AIG, DFF};
+use oracle::flatten::OracleTables;
+use oracle::flatten_given::{oracle_build_given, OracleGiven};
+use oracle::pe::{BoomerangStage, Partition};
+use oracle::staging::StagedAIG;
+use plan::{Part, Plan, Script, Tables, EMPTY};
 use std::any::Any;
 use std::collections::BTreeMap;
 use std::panic::catch_unwind;
+use std::time::{Duration, Instant};
 
 pub const NAME: &str = "GEM's Rust";
 
@@ -26,4 +34,184 @@ pub fn lanes_of_map(set: &BTreeMap<u32, u32>) -> Option<Vec<Vec<(u32, u32)>>> {
 
 fn is_no_room(panic: &Box<dyn Any + Send>) -> bool {
     panic.downcast_ref::<&str>() == Some(&NO_ROOM)
+}
+
+/// What GEM makes of a plan.
+pub enum Flattened {
+    Script(Script),
+    Panicked,
+    /// GEM cannot be asked: it has a list by pin, and half words in its tables.
+    NotAsked,
+}
+
+/// Pins above this are not given to GEM.
+const MOST_PIN: u32 = 100_000;
+
+/// GEM's flattener, given the plan's tables and positions.
+pub fn flatten(plan: &Plan) -> Flattened {
+    if !can_be_asked(plan) {
+        return Flattened::NotAsked;
+    }
+    match catch_unwind(|| script(plan)) {
+        Ok((script, _)) => Flattened::Script(script),
+        Err(_) => Flattened::Panicked,
+    }
+}
+
+/// How long GEM's flattener takes for a plan in order.
+pub fn flatten_time(plan: &Plan) -> Option<Duration> {
+    Some(script(plan).1)
+}
+
+fn can_be_asked(plan: &Plan) -> bool {
+    let small = |pin: u32| pin <= MOST_PIN;
+    plan.gates.iter().all(|gate| small(gate.pin) && small(gate.first >> 1) && small(gate.second >> 1))
+        && plan.parts().all(|part| {
+            let tables = part.tables.sram.iter().chain(&part.tables.enable);
+            let slots = part.stages.iter().flat_map(|stage| &stage.slots);
+            tables.into_iter().all(|&entry| entry <= u16::MAX.into())
+                && slots.into_iter().all(|&pin| pin == EMPTY || small(pin))
+                && part.endpoints.iter().all(|endpoint| endpoint.kind <= 3)
+        })
+}
+
+/// The script, and how long GEM took for it.
+fn script(plan: &Plan) -> (Script, Duration) {
+    let (aig, stageds, endpoints) = aig_of(plan);
+    let mut endpoints = endpoints.into_iter();
+    let parts: Vec<Vec<Partition>> = plan
+        .stages
+        .iter()
+        .map(|parts| {
+            let endpoints = endpoints.by_ref();
+            parts.iter().map(|part| partition(part, endpoints.next().expect("a list a part"))).collect()
+        })
+        .collect();
+    let slices: Vec<&[Partition]> = parts.iter().map(|parts| &parts[..]).collect();
+    let stageds: Vec<&StagedAIG> = stageds.iter().collect();
+    let positions = |staged: u32| {
+        let of_kind = plan.positions.iter().filter(move |entry| entry.staged == staged);
+        of_kind.map(|entry| (entry.pin as usize, entry.position)).collect()
+    };
+    let tables = plan.parts().map(|part| oracle_tables(&part.tables));
+    let given = OracleGiven {
+        unstaged: positions(0),
+        staged: positions(1),
+        tables: tables.collect::<Vec<_>>().into_iter().rev().collect(),
+    };
+    let layout = plan.layout.iter().map(|&pin| oracle_pin(pin)).collect();
+    let start = Instant::now();
+    let made = oracle_build_given(&aig, &stageds, &slices, plan.blocks as usize, layout, given);
+    let time = start.elapsed();
+    let script = Script {
+        starts: made.blocks_start.iter().map(|&start| start as u64).collect(),
+        words: made.blocks_data.to_vec(),
+        state_words: made.reg_io_state_size.into(),
+        sram_words: made.sram_storage_size.into(),
+    };
+    (script, time)
+}
+
+/// An AIG with the plan's gates and endpoints, the staged pins of each major stage, and the endpoints of each part.
+fn aig_of(plan: &Plan) -> (AIG, Vec<StagedAIG>, Vec<Vec<usize>>) {
+    let mut drivers = vec![DriverType::InputPort(0); MOST_PIN as usize + 1];
+    drivers[0] = DriverType::Tie0;
+    for gate in &plan.gates {
+        drivers[gate.pin as usize] = DriverType::AndGate(gate.first as usize, gate.second as usize);
+    }
+    let all = || plan.parts().flat_map(|part| &part.endpoints);
+    let primary_outputs: IndexSet<usize> =
+        all().filter(|endpoint| endpoint.kind == 0).map(|endpoint| endpoint.x as usize).collect();
+    let outputs: BTreeMap<usize, usize> =
+        primary_outputs.iter().enumerate().map(|(index, &pin)| (pin, index)).collect();
+    let registers = all().filter(|endpoint| endpoint.kind == 2);
+    let dffs: IndexMap<usize, DFF> = registers
+        .enumerate()
+        .map(|(cell, register)| (cell, DFF { d_iv: register.x as usize, en_iv: register.y as usize, q: 0 }))
+        .collect();
+    let srams: IndexMap<usize, RAMBlock> = all()
+        .filter(|endpoint| endpoint.kind == 3)
+        .enumerate()
+        .map(|(i, _)| (i, RAMBlock::default()))
+        .collect();
+
+    let (mut register, mut sram) = (outputs.len(), outputs.len() + dffs.len());
+    let mut stageds = Vec::new();
+    let mut of_parts = Vec::new();
+    for parts in &plan.stages {
+        let endpoints = || parts.iter().flat_map(|part| &part.endpoints);
+        let mut staged = StagedAIG {
+            primary_inputs: None,
+            primary_output_pins: endpoints()
+                .filter(|endpoint| endpoint.kind == 1)
+                .map(|endpoint| endpoint.x as usize)
+                .collect(),
+            endpoints: Vec::new(),
+        };
+        let mut pin = 0;
+        for part in parts {
+            let mut of_part = Vec::new();
+            for endpoint in &part.endpoints {
+                let counter = match endpoint.kind {
+                    1 => {
+                        of_part.push(pin);
+                        pin += 1;
+                        continue;
+                    }
+                    0 => {
+                        staged.endpoints.push(outputs[&(endpoint.x as usize)]);
+                        of_part.push(staged.primary_output_pins.len() + staged.endpoints.len() - 1);
+                        continue;
+                    }
+                    2 => &mut register,
+                    _ => &mut sram,
+                };
+                staged.endpoints.push(*counter);
+                *counter += 1;
+                of_part.push(staged.primary_output_pins.len() + staged.endpoints.len() - 1);
+            }
+            of_parts.push(of_part);
+        }
+        stageds.push(staged);
+    }
+    let num_aigpins = drivers.len() - 1;
+    (AIG { num_aigpins, drivers, primary_outputs, dffs, srams, ..AIG::default() }, stageds, of_parts)
+}
+
+fn partition(part: &Part, endpoints: Vec<usize>) -> Partition {
+    let stages = part
+        .stages
+        .iter()
+        .map(|stage| BoomerangStage {
+            // Level h has 2^(13-h) slots, at the positions from that number on.
+            hier: (0..=13)
+                .map(|level| 1 << (13 - level))
+                .map(|slots| stage.slots[slots..2 * slots].iter().map(|&pin| oracle_pin(pin)).collect())
+                .collect(),
+            write_outs: stage.locations.iter().map(|&location| location as usize).collect(),
+        })
+        .collect();
+    Partition { endpoints, stages }
+}
+
+fn oracle_pin(pin: u32) -> usize {
+    if pin == EMPTY {
+        usize::MAX
+    } else {
+        pin as usize
+    }
+}
+
+fn oracle_tables(tables: &Tables) -> OracleTables {
+    let entries = |list: &[u32]| list.iter().map(|&entry| entry as u16).collect();
+    OracleTables {
+        sram: entries(&tables.sram),
+        sram_inv: tables.sram_inv.clone(),
+        sram_set0: tables.sram_set0.clone(),
+        enable: entries(&tables.enable),
+        enable_inv: tables.enable_inv.clone(),
+        enable_set0: tables.enable_set0.clone(),
+        data_inv: tables.data_inv.clone(),
+        staged_duplicates: 0,
+    }
 }

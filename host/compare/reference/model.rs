@@ -1,6 +1,8 @@
 //! The reference of the comparisons where GEM's sources are missing: the model of document 01.
 
+use plan::{Plan, Script};
 use std::collections::BTreeMap;
+use std::time::Duration;
 
 pub const NAME: &str = "host/model";
 
@@ -11,4 +13,19 @@ pub fn lanes(pairs: &[(u32, u32)]) -> Option<Vec<Vec<(u32, u32)>>> {
 pub fn lanes_of_map(set: &BTreeMap<u32, u32>) -> Option<Vec<Vec<(u32, u32)>>> {
     let pairs: Vec<(u32, u32)> = set.iter().map(|(&word, &mask)| (word, mask)).collect();
     lanes(&pairs)
+}
+
+/// What GEM makes of a plan, which is not known here: the comparisons use the model itself.
+pub enum Flattened {
+    Script(Script),
+    Panicked,
+    NotAsked,
+}
+
+pub fn flatten(_: &Plan) -> Flattened {
+    Flattened::NotAsked
+}
+
+pub fn flatten_time(_: &Plan) -> Option<Duration> {
+    None
 }

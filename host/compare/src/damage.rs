@@ -1,7 +1,7 @@
 //! Damaged copies of read sets. What a call is then to answer, the checker finds by itself.
 
-use crate::random::Random;
 use crate::sets::STAGED;
+use random::Random;
 
 pub const KINDS: [&str; 8] = [
     "a mask of 0",

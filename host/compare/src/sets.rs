@@ -1,6 +1,6 @@
 //! Read sets to compare on. A set is flat words: word, mask, word, mask ..
 
-use crate::random::Random;
+use random::Random;
 
 pub const STAGED: u32 = 1 << 31;
 /// A word without its flag is below this.

@@ -18,6 +18,7 @@ extern "C" {
         second: *mut u64,
     ) -> u32;
 
+    #[cfg(has_listing)]
     fn juolgesot_list(
         records: *const u8,
         records_len: usize,
@@ -25,6 +26,52 @@ extern "C" {
         room_len: usize,
         out: *mut u8,
         out_len: usize,
+        first: *mut u64,
+        second: *mut u64,
+    ) -> u32;
+
+    #[cfg(has_plans)]
+    fn juolgesot_plan_sizes(
+        plan: *const u8,
+        plan_len: usize,
+        room: *mut u32,
+        room_len: usize,
+        first: *mut u64,
+        second: *mut u64,
+        third: *mut u64,
+        fourth: *mut u64,
+    ) -> u32;
+
+    #[cfg(has_plans)]
+    fn juolgesot_build(
+        plan: *const u8,
+        plan_len: usize,
+        room: *mut u32,
+        room_len: usize,
+        starts: *mut u64,
+        starts_len: usize,
+        words: *mut u32,
+        words_len: usize,
+        first: *mut u64,
+        second: *mut u64,
+        third: *mut u64,
+        fourth: *mut u64,
+    ) -> u32;
+
+    #[cfg(has_run)]
+    fn juolgesot_run(
+        words: *const u32,
+        words_len: usize,
+        starts: *const u64,
+        starts_len: usize,
+        turns: *const u32,
+        turns_len: usize,
+        old: *const u32,
+        old_len: usize,
+        new: *mut u32,
+        new_len: usize,
+        room: *mut u32,
+        room_len: usize,
         first: *mut u64,
         second: *mut u64,
     ) -> u32;
@@ -56,7 +103,17 @@ pub fn read_rounds(set: &[u32], room: &mut [u32], out: &mut [u32]) -> Answer {
     Answer { code, first, second }
 }
 
+/// What a call on a plan gives back: 0 with the number of starts and of words, the state's words and SRAM's words; or
+/// a refusal's number, its place in the first two and 0 in the others.
+#[cfg(has_plans)]
+#[derive(Debug, Clone, Copy, PartialEq, Eq)]
+pub struct PlanAnswer {
+    pub code: u32,
+    pub values: [u64; 4],
+}
+
 /// Code 0: `first` is the number of bytes written to `out`, `second` 0.
+#[cfg(has_listing)]
 pub fn list(records: &[u8], room: &mut [u32], out: &mut [u8]) -> Answer {
     let (mut first, mut second) = (0, 0);
     let code = unsafe {
@@ -67,6 +124,81 @@ pub fn list(records: &[u8], room: &mut [u32], out: &mut [u8]) -> Answer {
             room.len(),
             out.as_mut_ptr(),
             out.len(),
+            &mut first,
+            &mut second,
+        )
+    };
+    Answer { code, first, second }
+}
+
+#[cfg(has_plans)]
+pub fn plan_sizes(plan: &[u8], room: &mut [u32]) -> PlanAnswer {
+    let mut values = [0; 4];
+    let [first, second, third, fourth] = &mut values;
+    let code = unsafe {
+        juolgesot_plan_sizes(
+            plan.as_ptr(),
+            plan.len(),
+            room.as_mut_ptr(),
+            room.len(),
+            first,
+            second,
+            third,
+            fourth,
+        )
+    };
+    PlanAnswer { code, values }
+}
+
+/// Code 0: the first starts and the first words of the lent slices are the script's.
+#[cfg(has_plans)]
+pub fn build(plan: &[u8], room: &mut [u32], starts: &mut [u64], words: &mut [u32]) -> PlanAnswer {
+    let mut values = [0; 4];
+    let [first, second, third, fourth] = &mut values;
+    let code = unsafe {
+        juolgesot_build(
+            plan.as_ptr(),
+            plan.len(),
+            room.as_mut_ptr(),
+            room.len(),
+            starts.as_mut_ptr(),
+            starts.len(),
+            words.as_mut_ptr(),
+            words.len(),
+            first,
+            second,
+            third,
+            fourth,
+        )
+    };
+    PlanAnswer { code, values }
+}
+
+/// Code 0: `first` is the number of turns left, `second` 0.
+#[cfg(has_run)]
+pub fn run(
+    words: &[u32],
+    starts: &[u64],
+    turns: &[u32],
+    old: &[u32],
+    new: &mut [u32],
+    room: &mut [u32],
+) -> Answer {
+    let (mut first, mut second) = (0, 0);
+    let code = unsafe {
+        juolgesot_run(
+            words.as_ptr(),
+            words.len(),
+            starts.as_ptr(),
+            starts.len(),
+            turns.as_ptr(),
+            turns.len(),
+            old.as_ptr(),
+            old.len(),
+            new.as_mut_ptr(),
+            new.len(),
+            room.as_mut_ptr(),
+            room.len(),
             &mut first,
             &mut second,
         )

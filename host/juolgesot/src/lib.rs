@@ -1,15 +1,27 @@
 //! Juolgesot for Rust: safe functions over the archive `libcapi.a` that Rattle builds and proves.
 //!
-//! Each function comes twice: one that owns its memory (`read_rounds`, `list`) and one over
-//! lent slices (`read_rounds_into`, `list_into`) that allocates nothing.
+//! Each function comes twice: one that owns its memory (`read_rounds`, `build` ..) and one over
+//! lent slices (`read_rounds_into`, `build_into` ..) that allocates nothing.
+//!
+//! What the archive has not got yet is left out: `host/check` sets `has_listing`, `has_plans` and `has_run`.
 
 #![deny(unsafe_op_in_unsafe_fn)]
 
 pub mod ffi;
+#[cfg(has_listing)]
 mod listing;
+#[cfg(has_plans)]
+mod plans;
 mod refusal;
 mod rounds;
+#[cfg(has_run)]
+mod run;
 
+#[cfg(has_listing)]
 pub use listing::{list, list_into, LIST_ROOM, LIST_TEXT};
+#[cfg(has_plans)]
+pub use plans::{build, build_into, plan_room, plan_sizes, plan_sizes_into, Script, Sizes};
 pub use refusal::Refusal;
 pub use rounds::{read_rounds, read_rounds_into, ReadRounds, LANES, ROUND_WORDS, SET_ROOM};
+#[cfg(has_run)]
+pub use run::{run, run_into, BLOCK_ROOM};

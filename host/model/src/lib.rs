@@ -3,5 +3,31 @@
 //! It is the second opinion of the comparisons: held to GEM's Rust on every case where GEM's
 //! sources are at hand, and the reference where they are not.
 
+pub mod blocks;
+pub mod build;
 pub mod listing;
+pub mod plan;
+pub mod record;
 pub mod rounds;
+pub mod run;
+pub mod script;
+pub mod value;
+
+/// A refusal's number and place.
+#[derive(Debug, Clone, Copy, PartialEq, Eq)]
+pub struct Refused {
+    pub number: u32,
+    pub part: u64,
+    pub item: u64,
+}
+
+impl Refused {
+    pub fn at(number: u32, part: usize, item: usize) -> Self {
+        Refused { number, part: part as u64, item: item as u64 }
+    }
+
+    /// A refusal that names no place.
+    pub fn plain(number: u32) -> Self {
+        Refused { number, part: 0, item: 0 }
+    }
+}

@@ -1,5 +1,8 @@
 //! Netlists of GEM's cell library (AIGPDK), made in memory.
 
+pub mod circuits;
+pub mod designs;
+
 use netlistdb::{Direction, HierName, NetlistDB, VecCSR};
 
 /// A net. The builder gives each one driver.
@@ -105,6 +108,13 @@ impl Builder {
         (cell, q)
     }
 
+    /// The same, set and reset where the nets are 0.
+    pub fn register_with(&mut self, clock: Net, set: Net, reset: Net) -> (usize, Net) {
+        let cell = self.cell("DFFSR", &[("CLK", clock), ("S", set), ("R", reset)]);
+        let q = self.output_of(cell, "Q", None);
+        (cell, q)
+    }
+
     pub fn set_register(&mut self, register: usize, d: Net) {
         self.pin(register, "D", None, Direction::I, d);
     }
@@ -124,6 +134,19 @@ impl Builder {
         enable: Net,
         data: &[Net; 32],
     ) -> Vec<Net> {
+        self.ram_reading(clock, read, write, enable, data, 32)
+    }
+
+    /// The same with so many bits of read data; the others are not connected.
+    pub fn ram_reading(
+        &mut self,
+        clock: Net,
+        read: &[Net; 13],
+        write: &[Net; 13],
+        enable: Net,
+        data: &[Net; 32],
+        bits: usize,
+    ) -> Vec<Net> {
         let cell = self.cell("$__RAMGEM_SYNC_", &[("PORT_R_CLK", clock), ("PORT_W_CLK", clock)]);
         for bit in 0..13 {
             self.pin(cell, "PORT_R_ADDR", Some(bit), Direction::I, read[bit]);
@@ -133,7 +156,7 @@ impl Builder {
             self.pin(cell, "PORT_W_WR_EN", Some(bit), Direction::I, enable);
             self.pin(cell, "PORT_W_WR_DATA", Some(bit), Direction::I, data[bit]);
         }
-        (0..32).map(|bit| self.output_of(cell, "PORT_R_RD_DATA", Some(bit))).collect()
+        (0..bits).map(|bit| self.output_of(cell, "PORT_R_RD_DATA", Some(bit))).collect()
     }
 
     pub fn finish(self) -> NetlistDB {

@@ -7,5 +7,6 @@
 pub mod aig;
 pub mod aigpdk;
 pub mod flatten;
+pub mod flatten_given;
 pub mod pe;
 pub mod staging;

@@ -6,3 +6,66 @@ pub fn oracle_map_global_read_to_rounds(
 ) -> Vec<Vec<(u32, u32)>> {
     map_global_read_to_rounds(inputs_taken)
 }
+
+/// What `make_inputs_outputs` made for one part.
+pub struct OracleTables {
+    pub sram: Vec<u16>,
+    pub sram_inv: Vec<u32>,
+    pub sram_set0: Vec<u32>,
+    pub enable: Vec<u16>,
+    pub enable_inv: Vec<u32>,
+    pub enable_set0: Vec<u32>,
+    pub data_inv: Vec<u32>,
+    /// Staged pins of the part that lie in its duplicate words.
+    pub staged_duplicates: usize,
+}
+
+/// What `make_inputs_outputs` makes: positions (registers and SRAM outputs; staged pins) and each part's tables.
+/// It is asked again for each part in turn, the part's starts being read from the script that GEM made.
+pub fn oracle_inputs_outputs(
+    aig: &AIG, stageds: &[&StagedAIG],
+    parts_in_stages: &[&[Partition]],
+    script: &FlattenedScriptV1
+) -> (IndexMap<usize, u32>, IndexMap<usize, u32>, Vec<OracleTables>) {
+    let mut input_map = IndexMap::new();
+    let mut staged_io_map = IndexMap::new();
+    let mut tables = Vec::new();
+    for (stage, (parts, staged)) in parts_in_stages.iter().zip(stageds).enumerate() {
+        let mut starts = vec![(0, 0); parts.len()];
+        for (block, block_parts) in script.stages_blocks_parts[stage].iter().enumerate() {
+            let mut at = script.blocks_start[stage * script.num_blocks + block];
+            for &part in block_parts {
+                let words = &script.blocks_data[at..];
+                starts[part] = (words[3], words[5]);
+                at += 10496 + 512 * words[6] as usize + 5120 * words[0] as usize;
+            }
+        }
+        for (part, &(state_start, sram_start)) in parts.iter().zip(&starts) {
+            let mut flattening = FlatteningPart { state_start, sram_start, ..Default::default() };
+            flattening.init_afters_writeouts(aig, staged, part);
+            flattening.make_inputs_outputs(
+                aig, staged, part,
+                &mut input_map, &mut staged_io_map, &mut IndexMap::new()
+            );
+            let normal = (flattening.num_normal_writeouts * 32) as usize;
+            let staged_duplicates = part.endpoints.iter().filter(|&&endpoint| {
+                match staged.get_endpoint_group(aig, endpoint) {
+                    EndpointGroup::StagedIOPin(pin) =>
+                        (*staged_io_map.get(&pin).unwrap() - state_start * 32) as usize >= normal,
+                    _ => false
+                }
+            }).count();
+            tables.push(OracleTables {
+                sram: flattening.sram_duplicate_permute,
+                sram_inv: flattening.sram_duplicate_inv,
+                sram_set0: flattening.sram_duplicate_set0,
+                enable: flattening.clken_permute,
+                enable_inv: flattening.clken_inv,
+                enable_set0: flattening.clken_set0,
+                data_inv: flattening.data_inv,
+                staged_duplicates
+            });
+        }
+    }
+    (input_map, staged_io_map, tables)
+}

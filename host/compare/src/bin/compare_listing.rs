@@ -2,10 +2,10 @@
 //!
 //! compare_listing [SEED]    stops at the first difference
 
-use compare::random::Random;
 use compare::tally::Tally;
 use juolgesot::ffi::{self, Answer};
 use juolgesot::{LIST_ROOM, LIST_TEXT};
+use random::Random;
 use std::time::Instant;
 
 const SEED: u64 = 20_240_613;

@@ -5,9 +5,9 @@
 
 use compare::checker::{Checker, Lent, OutLength};
 use compare::damage;
-use compare::random::Random;
 use compare::sets;
 use juolgesot::SET_ROOM;
+use random::Random;
 use std::collections::BTreeMap;
 use std::time::{Duration, Instant};
 

@@ -2,9 +2,9 @@
 //! The format is in compare/src/answers.rs.
 
 use compare::answers::{self, Case, Stored};
-use compare::random::Random;
 use compare::sets;
 use model::rounds::pairs_of;
+use random::Random;
 
 const SEED: u64 = 20_240_612;
 

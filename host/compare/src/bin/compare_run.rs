@@ -1,0 +1,223 @@
+//! Compares the library's run with the model's, and the model's with the values of the gates.
+//!
+//! compare_run [PLANS] [SEED]    PLANS is what make_plans wrote; stops at the first difference
+
+use compare::came::Came;
+use compare::plans::{self, Size};
+use compare::run_checker::RunChecker;
+use compare::run_damage::{self, all_turns, case_of, parts, state, Case, PartPlace};
+use model::build::{accept, Accepted};
+use model::record::{self, EMPTY};
+use model::value::Values;
+use plan::stored;
+use random::Random;
+use std::time::Instant;
+
+const SEED: u64 = 20_240_615;
+/// How often each damage is to bring about its refusal, and the scripts that are tried for it.
+const TIMES: u32 = 12;
+const MOST_SCRIPTS: usize = 200;
+
+fn main() {
+    let mut words: Vec<String> = std::env::args().skip(1).collect();
+    let seed = words.last().and_then(|word| word.parse().ok());
+    if seed.is_some() {
+        words.pop();
+    }
+    let seed = seed.unwrap_or(SEED);
+    println!("reference: host/model; seed {}", seed);
+    let start = Instant::now();
+    let mut random = Random::new(seed);
+    let mut checker = RunChecker::new();
+    let mut bits = 0;
+    if let Some(path) = words.first() {
+        let cases = stored::read(&std::fs::read(path).expect("the plans can be read"));
+        for case in cases.iter().filter(|case| !case.staged_duplicate) {
+            let held = record::words(&case.record);
+            let accepted = accept(case.record.len(), &held).expect("a plan in order");
+            bits +=
+                full_run(&mut checker, &mut random, "netlists through GEM", &accepted, &case.script.words);
+        }
+        println!("netlists: every stored bit has its pin's value by the gates ({} bits)", bits);
+    }
+    marked(&mut checker);
+    random_scripts(&mut checker, &mut random);
+    damaged_scripts(&mut checker, &mut random);
+    short_rooms(&mut checker, &mut random);
+
+    checker.answers.sort();
+    for tally in [&checker.kinds, &checker.answers] {
+        tally.print();
+    }
+    println!(
+        "compare_run: {} runs, no difference, {:.1} s",
+        checker.kinds.total(),
+        start.elapsed().as_secs_f64()
+    );
+}
+
+/// Runs a script's major stages one after another, each to its end and before that in other orders and with other
+/// turns; then holds every stored bit to the value of its pin by the gates. Gives the number of bits.
+fn full_run(
+    checker: &mut RunChecker,
+    random: &mut Random,
+    kind: &str,
+    plan: &Accepted<'_>,
+    words: &[u32],
+) -> u64 {
+    let starts = plan.starts();
+    let state_words = plan.sizes().state_words as usize;
+    let old = state(random, state_words);
+    let mut new = state(random, state_words);
+    let mut words = words.to_vec();
+    for major in 0..plan.plan.major_parts.len() {
+        let range = major * plan.plan.blocks..(major + 1) * plan.plan.blocks + 1;
+        let starts = starts[range].to_vec();
+        let places = parts(&words, &starts);
+        let turns = all_turns(random, &places);
+        let mut case = Case { words, starts, turns, old: old.clone(), new: new.clone() };
+        let ran = checker.check(kind, &case, 0, true).expect("the script is in form");
+        assert_eq!(ran.turns_left, 0, "turns for every block");
+        new = ran.new;
+        if random.chance(8) || plan.plan.major_parts.len() == 1 {
+            let turns = case.turns.clone();
+            case.turns.truncate(random.below(turns.len() + 1));
+            let _ = checker.check("too few turns", &case, 0, true);
+            case.turns = turns;
+            case.turns.extend((0..30).map(|_| random.below(plan.plan.blocks) as u32));
+            random.shuffle(&mut case.turns);
+            let again =
+                checker.check("turns of finished blocks", &case, 0, true).expect("the script is in form");
+            assert!(again.new == new && again.turns_left == 0, "the order of turns decides nothing");
+        }
+        words = case.words;
+    }
+    stored_bits(plan, &old, &new)
+}
+
+fn stored_bits(plan: &Accepted<'_>, old: &[u32], new: &[u32]) -> u64 {
+    let mut bits = 0;
+    for (number, part) in plan.plan.parts.iter().enumerate() {
+        let mut values = Values::of(part, &plan.gates, &plan.found, old, new);
+        let mut word = plan.blocks.state_starts[number] as usize;
+        for stage in &part.stages {
+            for &location in stage.locations {
+                for bit in 0..32 {
+                    let position = 32 * location as usize + bit;
+                    let pin = if position == 0 { EMPTY } else { stage.at(position) };
+                    if pin != EMPTY {
+                        let held = new[word] >> bit & 1 == 1;
+                        assert_eq!(held, values.value(pin), "part {}, word {}, bit {}", number, word, bit);
+                        bits += 1;
+                    }
+                }
+                word += 1;
+            }
+        }
+    }
+    bits
+}
+
+/// M10: old word 1 stores 1, old word 3 stores 0xFFFFFFFE.
+fn marked(checker: &mut RunChecker) {
+    let mut part = plan::Part { endpoints: Vec::new(), stages: Vec::new(), tables: plan::Tables::zeros() };
+    let mut stage = plan::Stage::empty();
+    stage.slots[8192] = 1;
+    stage.slots[8192 + 4096] = 2;
+    stage.slots[4096] = 3;
+    stage.locations = vec![128];
+    part.stages.push(stage);
+    let plan = plan::Plan {
+        blocks: 1,
+        gates: vec![plan::Gate { pin: 3, first: 2, second: 5 }],
+        layout: vec![1, 2],
+        stages: vec![vec![part]],
+        ..plan::Plan::default()
+    };
+    for (old, stored) in [(1, 1), (3, 0xFFFF_FFFE)] {
+        let mut case = case_of(&mut Random::new(1), &plan).expect("M10 is in order");
+        case.old[0] = old;
+        let ran = checker.check("M10", &case, 0, true).expect("M10 is in form");
+        assert_eq!((ran.new[1], ran.turns_left), (stored, 0), "M10");
+    }
+}
+
+const SMALL: Size = Size { majors: 2, parts: 3, stages: 3, inputs: 9000, wide: false };
+
+fn random_scripts(checker: &mut RunChecker, random: &mut Random) {
+    let mut bits = 0;
+    for _ in 0..40 {
+        let plan = plans::any(random, SMALL);
+        let record = plan.record();
+        let held = record::words(&record);
+        if let Ok(accepted) = accept(record.len(), &held) {
+            let words = accepted.words();
+            bits += full_run(checker, random, "random placements", &accepted, &words);
+        }
+    }
+    println!("random plans: every stored bit has its pin's value by the gates ({} bits)", bits);
+}
+
+/// A script of a block of several parts, one of one part, and an empty one, some of them with several rounds.
+fn small_case(random: &mut Random) -> (Case, Vec<PartPlace>) {
+    loop {
+        let mut plan = plans::any(random, Size { majors: 1, parts: 5, stages: 3, inputs: 9000, wide: false });
+        plan.blocks = random.between(1, plan.stages[0].len() + 2) as u32;
+        if let Some(case) = case_of(random, &plan) {
+            let places = parts(&case.words, &case.starts);
+            return (case, places);
+        }
+    }
+}
+
+/// Each damage until its refusal has come three times, and then damages at random.
+fn damaged_scripts(checker: &mut RunChecker, random: &mut Random) {
+    let damages = run_damage::damages();
+    let mut came = Came::new(TIMES);
+    for _ in 0..MOST_SCRIPTS {
+        let (case, places) = small_case(random);
+        for (number, name, change) in &damages {
+            let mut damaged = case.clone();
+            if came.wants(*number, name) && change(random, &mut damaged, &places).is_some() {
+                let answer = checker.check("damaged", &damaged, 0, random.chance(2));
+                came.count(*number, name, answer.err().map_or(0, |refused| refused.number));
+            }
+        }
+        if damages.iter().all(|(number, name, _)| !came.wants(*number, name)) {
+            break;
+        }
+    }
+    came.print();
+    for _ in 0..50 {
+        let (case, places) = small_case(random);
+        for _ in 0..8 {
+            let mut damaged = case.clone();
+            let changed = run_damage::any_word(random, &mut damaged, &places);
+            if changed.is_some() {
+                let _ = checker.check("any word changed", &damaged, 0, random.chance(2));
+            }
+            let second = random.below(damages.len());
+            // The second damage reads counts that the first may have changed: only after a harmless one.
+            let mut damaged = case.clone();
+            damaged.turns.push(u32::MAX);
+            if damages[second].2(random, &mut damaged, &places).is_some() {
+                let _ = checker.check("damaged, and a turn of no block", &damaged, 0, random.chance(2));
+            }
+        }
+    }
+}
+
+fn short_rooms(checker: &mut RunChecker, random: &mut Random) {
+    for index in 0..8 {
+        let (mut case, places) = small_case(random);
+        match index % 4 {
+            1 => case.turns.push(u32::MAX),
+            2 => case.words[places[0].at] = 0,
+            3 => case.starts.truncate(index / 4),
+            _ => {}
+        }
+        for room in [-1, -1024, -1_000_000, 0, 1, 1024] {
+            let _ = checker.check("room around what is needed", &case, room, random.chance(2));
+        }
+    }
+}

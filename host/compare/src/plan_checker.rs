@@ -1,0 +1,226 @@
+//! One comparison of a plan: `plan_sizes` and `build`, held to the model (and the model to GEM) in every answer and
+//! every lent word.
+
+use crate::explain::word_place;
+use crate::lent::{Lent, Room};
+use crate::tally::Tally;
+use juolgesot::ffi::{self, PlanAnswer};
+use model::build::{accept, Sizes};
+use model::{record, Refused};
+use plan::{Plan, Script};
+use reference::Flattened;
+use std::time::Instant;
+
+/// What a call is lent, each as so many words more than are needed.
+#[derive(Debug, Clone, Copy)]
+pub struct More {
+    pub room: i64,
+    pub room_is_zero: bool,
+    pub starts: i64,
+    pub words: i64,
+}
+
+impl Default for More {
+    fn default() -> Self {
+        More { room: 0, room_is_zero: true, starts: 3, words: 37 }
+    }
+}
+
+/// Room is lent up to this many words; a plan that asks for more meets refusal 32.
+const MOST_ROOM: u64 = 70_000 + 16 * 8192;
+
+/// What a plan is to give, whatever is lent.
+pub struct Expected {
+    pub answer: Result<Script, Refused>,
+    room_words: u64,
+}
+
+impl Expected {
+    pub fn of(record_bytes: &[u8]) -> Self {
+        let words = record::words(record_bytes);
+        let answer = accept(record_bytes.len(), &words).map(|accepted| {
+            let Sizes { state_words, sram_words, .. } = accepted.sizes();
+            Script { starts: accepted.starts(), words: accepted.words(), state_words, sram_words }
+        });
+        Expected { answer, room_words: record::room_words(&words) }
+    }
+
+    /// The refusal's number, or 0.
+    pub fn number(&self) -> u32 {
+        self.answer.as_ref().map_or_else(|refused| refused.number, |_| 0)
+    }
+}
+
+pub struct PlanChecker {
+    pub kinds: Tally,
+    pub answers: Tally,
+    pub gem: Tally,
+}
+
+impl PlanChecker {
+    pub fn new() -> Self {
+        PlanChecker {
+            kinds: Tally::new("plans by kind"),
+            answers: Tally::new("plans by answer"),
+            gem: Tally::new("plans given to GEM's Rust too"),
+        }
+    }
+
+    /// Compares the calls on one record and counts them, or stops the program at a difference. Gives the answer's
+    /// number.
+    pub fn check(&mut self, kind: &str, record: &[u8], more: More) -> u32 {
+        let start = Instant::now();
+        let number = self.check_expected(kind, record, &Expected::of(record), more);
+        self.kinds.count_timed(kind, start.elapsed());
+        number
+    }
+
+    /// The same where what is expected is known already. (Kinds are not counted.)
+    pub fn check_expected(&mut self, kind: &str, record: &[u8], expected: &Expected, more: More) -> u32 {
+        match compare(record, expected, more) {
+            Ok(0) => self.answers.count("built"),
+            Ok(number) => self.answers.count(&format!("refused {:2}", number)),
+            Err(what) => stop(kind, record, &format!("{:?}", more), &what),
+        }
+        expected.number()
+    }
+
+    /// Holds the model to GEM's Rust.
+    pub fn check_gem(&mut self, kind: &str, plan: &Plan, expected: &Expected) {
+        let found = match (reference::flatten(plan), &expected.answer) {
+            (Flattened::NotAsked, _) => return,
+            (Flattened::Script(script), Ok(expected)) => {
+                let record = plan.record();
+                same_script(&script, expected, &record).map(|()| "the same script".to_string())
+            }
+            (Flattened::Panicked, Ok(_)) => Err("GEM panicked".to_string()),
+            (Flattened::Panicked, Err(refused)) => {
+                Ok(format!("refused {:2}, and GEM panicked", refused.number))
+            }
+            (Flattened::Script(_), Err(refused)) if matches!(refused.number, 3 | 4 | 9 | 10) => {
+                Err(format!("GEM went on where the model refuses by {}", refused.number))
+            }
+            (Flattened::Script(_), Err(refused)) => {
+                Ok(format!("refused {:2}, and GEM went on", refused.number))
+            }
+        };
+        match found {
+            Ok(answer) => self.gem.count(&answer),
+            Err(what) => stop(kind, &plan.record(), "", &format!("host/model and GEM: {}", what)),
+        }
+    }
+}
+
+/// The scripts word by word; the first difference with its place.
+pub fn same_script(found: &Script, expected: &Script, record: &[u8]) -> Result<(), String> {
+    if found.starts != expected.starts {
+        let at = found.starts.iter().zip(&expected.starts).position(|(one, other)| one != other);
+        return Err(format!(
+            "{} starts, expected {}; the first that differs is {:?}",
+            found.starts.len(),
+            expected.starts.len(),
+            at
+        ));
+    }
+    if (found.state_words, found.sram_words) != (expected.state_words, expected.sram_words) {
+        return Err(format!(
+            "state {} and SRAM {}, expected {} and {}",
+            found.state_words, found.sram_words, expected.state_words, expected.sram_words
+        ));
+    }
+    if found.words.len() != expected.words.len() {
+        return Err(format!("{} words, expected {}", found.words.len(), expected.words.len()));
+    }
+    if found.words != expected.words {
+        let at =
+            (0..found.words.len()).find(|&at| found.words[at] != expected.words[at]).expect("they differ");
+        return Err(word_difference(record, at as isize, found.words[at], expected.words[at]));
+    }
+    Ok(())
+}
+
+fn word_difference(record: &[u8], at: isize, found: u32, expected: u32) -> String {
+    let words = record::words(record);
+    let place = match accept(record.len(), &words) {
+        Ok(accepted) if at >= 0 => word_place(&accepted, at as u64),
+        _ => "outside the script".to_string(),
+    };
+    format!("word {} is {:#010x}, expected {:#010x} ({})", at, found, expected, place)
+}
+
+/// Compares both calls; gives the number that `build` is to answer.
+fn compare(record: &[u8], expected: &Expected, more: More) -> Result<u32, String> {
+    let room_length = (expected.room_words as i64 + more.room).clamp(0, MOST_ROOM as i64) as usize;
+    let sizes = match &expected.answer {
+        _ if (room_length as u64) < expected.room_words => Err(Refused::plain(32)),
+        Ok(script) => Ok((script.starts.len(), script.words.len())),
+        Err(refused) => Err(*refused),
+    };
+    let before = record.to_vec();
+
+    let mut room = Room::new(room_length, more.room_is_zero);
+    let answer = ffi::plan_sizes(record, room.slice());
+    let wanted = wanted(expected, sizes.as_ref().err().copied());
+    same_answer("plan_sizes", answer, wanted)?;
+    room.check(answer.code).map_err(|what| format!("plan_sizes: {}", what))?;
+
+    let (needed_starts, needed_words) = *sizes.as_ref().unwrap_or(&(8, 300));
+    let starts_length = (needed_starts as i64 + more.starts).max(0) as usize;
+    let words_length = (needed_words as i64 + more.words).max(0) as usize;
+    let refused = match sizes {
+        Err(refused) => Some(refused),
+        Ok((starts, words)) if starts_length < starts || words_length < words => Some(Refused::plain(14)),
+        Ok(_) => None,
+    };
+    let start_before = |index: usize| 0x9000_0000_0000_0000 + index as u64;
+    let word_before = |index: usize| 0xA000_0000 + index as u32;
+    let mut starts = Lent::new(starts_length, start_before, 0xC0DE_D00D);
+    let mut words = Lent::new(words_length, word_before, 0xC0DE_D00D);
+    let mut room = Room::new(room_length, more.room_is_zero);
+    let answer = ffi::build(record, room.slice(), starts.slice(), words.slice());
+    same_answer("build", answer, self::wanted(expected, refused))?;
+    room.check(answer.code)?;
+    let none = (&[][..], &[][..]);
+    let (script_starts, script_words) = match (&expected.answer, refused) {
+        (Ok(script), None) => (&script.starts[..], &script.words[..]),
+        _ => none,
+    };
+    starts.check("start", script_starts, start_before)?;
+    if let Some((at, found, expected)) = words.difference(script_words, word_before) {
+        return Err(word_difference(record, at, found, expected));
+    }
+    if record != before {
+        return Err("the plan was changed".to_string());
+    }
+    Ok(refused.map_or(0, |refused| refused.number))
+}
+
+fn wanted(expected: &Expected, refused: Option<Refused>) -> PlanAnswer {
+    match (&expected.answer, refused.or(expected.answer.as_ref().err().copied())) {
+        (_, Some(refused)) => PlanAnswer { code: refused.number, values: [refused.part, refused.item, 0, 0] },
+        (Ok(script), None) => {
+            let (starts, words) = (script.starts.len() as u64, script.words.len() as u64);
+            PlanAnswer { code: 0, values: [starts, words, script.state_words, script.sram_words] }
+        }
+        (Err(_), None) => unreachable!("the error is in the second"),
+    }
+}
+
+fn same_answer(name: &str, found: PlanAnswer, wanted: PlanAnswer) -> Result<(), String> {
+    if found == wanted {
+        return Ok(());
+    }
+    Err(format!("{} answered {:?}, expected {:?}", name, found, wanted))
+}
+
+/// Says what differs, writes the record to a file, and ends the program.
+pub fn stop(kind: &str, record: &[u8], lent: &str, what: &str) -> ! {
+    println!("DIFFERENCE ({}): {}", kind, what);
+    println!("lent: {}", lent);
+    let path = std::env::temp_dir().join("juolgesot-difference.plan");
+    match std::fs::write(&path, record) {
+        Ok(()) => println!("the plan record ({} bytes) is in {}", record.len(), path.display()),
+        Err(_) => println!("the plan record has {} bytes", record.len()),
+    }
+    std::process::exit(1);
+}

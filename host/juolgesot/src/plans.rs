@@ -1,0 +1,87 @@
+//! Plans to scripts.
+
+use crate::ffi::{self, PlanAnswer};
+use crate::refusal::Refusal;
+
+/// Words of working room for a plan, without those of its parts.
+const PLAN_ROOM: u64 = 65536;
+/// Words of working room for each part.
+const PART_ROOM: u64 = 16;
+/// Parts of a plan, at most: 64 major stages of 4096.
+const MOST_PARTS: u64 = 64 * 4096;
+
+/// How much result room a plan needs, and how large its state and SRAM are.
+#[derive(Debug, Clone, Copy, PartialEq, Eq)]
+pub struct Sizes {
+    pub starts: usize,
+    pub words: usize,
+    pub state_words: u64,
+    pub sram_words: u64,
+}
+
+#[derive(Debug, Clone, PartialEq, Eq)]
+pub struct Script {
+    /// Where each block of each major stage begins, and the end.
+    pub starts: Vec<u64>,
+    pub words: Vec<u32>,
+    pub state_words: u64,
+    pub sram_words: u64,
+}
+
+/// Words of working room for a plan, as the counts of its record say.
+pub fn plan_room(plan: &[u8]) -> u64 {
+    let word = |index: usize| match plan.get(4 * index..4 * index + 4) {
+        Some(bytes) => u32::from_le_bytes([bytes[0], bytes[1], bytes[2], bytes[3]]) as u64,
+        None => 0,
+    };
+    let parts: u64 = (0..word(1).min(64) as usize).map(|stage| word(5 + stage)).sum();
+    PLAN_ROOM + PART_ROOM * parts
+}
+
+fn sizes(answer: PlanAnswer) -> Result<Sizes, Refusal> {
+    let [first, second, third, fourth] = answer.values;
+    match answer.code {
+        0 => Ok(Sizes {
+            starts: first as usize,
+            words: second as usize,
+            state_words: third,
+            sram_words: fourth,
+        }),
+        number => Err(Refusal { number, part: first, item: second }),
+    }
+}
+
+/// The room that a plan asks for, but not more than a plan in range can: such a record is refused by 32.
+fn room_for(plan: &[u8]) -> Vec<u32> {
+    vec![0; plan_room(plan).min(PLAN_ROOM + PART_ROOM * MOST_PARTS) as usize]
+}
+
+/// The sizes of a plan's script, or what refuses the plan.
+pub fn plan_sizes(plan: &[u8]) -> Result<Sizes, Refusal> {
+    plan_sizes_into(plan, &mut room_for(plan))
+}
+
+/// Builds the script of a plan record.
+pub fn build(plan: &[u8]) -> Result<Script, Refusal> {
+    let mut room = room_for(plan);
+    let Sizes { starts, words, state_words, sram_words } = plan_sizes_into(plan, &mut room)?;
+    let (mut starts, mut words) = (vec![0; starts], vec![0; words]);
+    build_into(plan, &mut room, &mut starts, &mut words)?;
+    Ok(Script { starts, words, state_words, sram_words })
+}
+
+/// `plan_sizes` with a lent room of `plan_room` words or more. It holds zeros afterwards, but for refusal 32, which
+/// changes nothing.
+pub fn plan_sizes_into(plan: &[u8], room: &mut [u32]) -> Result<Sizes, Refusal> {
+    sizes(ffi::plan_sizes(plan, room))
+}
+
+/// `build` with lent slices: starts and words are filled from their beginning, the rest is left as it is.
+pub fn build_into(
+    plan: &[u8],
+    room: &mut [u32],
+    starts: &mut [u64],
+    words: &mut [u32],
+) -> Result<Sizes, Refusal> {
+    sizes(ffi::build(plan, room, starts, words))
+}

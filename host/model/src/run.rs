@@ -1,0 +1,260 @@
+//! "The run", and refusals 15 and 16.
+
+use crate::record::{below, LANES, SLOTS};
+use crate::script::{part_words, HEAD_WORDS, SECTION_WORDS};
+use crate::Refused;
+
+/// Words of a run's room for each block.
+pub const BLOCK_ROOM: usize = 1024;
+
+/// A part of the script, in form.
+#[derive(Debug, Clone, Copy)]
+struct Part<'a> {
+    words: &'a [u32],
+    stages: usize,
+    rounds: usize,
+    normal: usize,
+    state_start: usize,
+}
+
+/// Half `index` of some words, the low half of a word first.
+fn half(words: &[u32], index: usize) -> usize {
+    (words[index / 2] >> (16 * (index % 2)) & 0xFFFF) as usize
+}
+
+/// Entry 32t+8k+2h+e of a permutation is in word 1024k+4t+h, low half for e=0.
+fn entry(section: &[u32], index: usize) -> usize {
+    let (t, k, h, e) = (index / 32, index / 8 % 4, index / 2 % 4, index % 2);
+    half(section, 2 * (1024 * k + 4 * t + h) + e)
+}
+
+impl<'a> Part<'a> {
+    /// The part that begins the words of a block, if it is in form.
+    fn first_of(block: &'a [u32], states: (usize, usize)) -> Option<Self> {
+        if block.len() < HEAD_WORDS {
+            return None;
+        }
+        let word = |index: usize| block[index] as u64;
+        let length = part_words(word(6), word(0));
+        if !(1..=255).contains(&word(0)) || length > block.len() as u64 {
+            return None;
+        }
+        if word(1) != (length == block.len() as u64) as u64 {
+            return None;
+        }
+        let normal = word(2).checked_sub(word(4) + word(7))?;
+        let part = Part {
+            words: &block[..length as usize],
+            stages: word(0) as usize,
+            rounds: word(6) as usize,
+            normal: normal as usize,
+            state_start: word(3) as usize,
+        };
+        let good = normal <= 256
+            && part.locations().all(|(stage, _)| stage < part.stages)
+            && part.lanes_in_form(states)
+            && (0..part.stages + 2).all(|section| {
+                let section = part.section(section);
+                (0..SLOTS).all(|index| half(section, index) < SLOTS)
+            })
+            && (normal == 0 || word(3) + normal <= states.0.min(states.1) as u64);
+        if good {
+            Some(part)
+        } else {
+            None
+        }
+    }
+
+    /// Lane bits are at most 32, and words read are inside both states.
+    fn lanes_in_form(&self, states: (usize, usize)) -> bool {
+        (0..LANES).all(|lane| {
+            let mut bits = 0;
+            let inside = (0..self.rounds).map(|round| self.read(round, lane)).all(|(word, mask)| {
+                bits += mask.count_ones() as u64;
+                mask == 0 || ((word & 0x7FFF_FFFF) as usize) < states.0.min(states.1)
+            });
+            inside && bits <= 32
+        })
+    }
+
+    /// Word and mask of a lane in a round.
+    fn read(&self, round: usize, lane: usize) -> (u32, u32) {
+        let at = HEAD_WORDS + 2 * LANES * round + 2 * lane;
+        (self.words[at], self.words[at + 1])
+    }
+
+    /// The sections of the stages, then that of SRAM and duplicates, then that of enables.
+    fn section(&self, index: usize) -> &'a [u32] {
+        &self.words[HEAD_WORDS + 2 * LANES * self.rounds + SECTION_WORDS * index..][..SECTION_WORDS]
+    }
+
+    /// Stage and location of each normal word.
+    fn locations(&self) -> impl Iterator<Item = (usize, usize)> + '_ {
+        (0..self.normal).map(move |index| {
+            let location = half(&self.words[128..], index);
+            (location >> 8, location & 255)
+        })
+    }
+
+    fn turns(&self) -> u64 {
+        self.stages as u64 + 2
+    }
+}
+
+/// The parts of a block, if its words are in form: none for the empty block.
+fn parts(words: &[u32], start: u64, end: u64, states: (usize, usize)) -> Option<Vec<Part<'_>>> {
+    if start >= end || end > words.len() as u64 {
+        return None;
+    }
+    let mut rest = &words[start as usize..end as usize];
+    if rest.len() == HEAD_WORDS && rest.iter().enumerate().all(|(index, &word)| word == (index == 1) as u32) {
+        return Some(Vec::new());
+    }
+    let mut parts = Vec::new();
+    while !rest.is_empty() {
+        let part = Part::first_of(rest, states)?;
+        rest = &rest[part.words.len()..];
+        parts.push(part);
+    }
+    Some(parts)
+}
+
+/// What a block is about to do.
+enum Phase {
+    Read,
+    Stage(usize),
+    Store,
+}
+
+/// A block between two turns.
+struct Block<'a> {
+    parts: Vec<Part<'a>>,
+    part: usize,
+    phase: Phase,
+    /// Bits that the next stage gathers: the lanes' after the read turn, then the positions of the stage just done.
+    bits: Vec<bool>,
+    captured: Vec<u32>,
+}
+
+impl<'a> Block<'a> {
+    fn new(parts: Vec<Part<'a>>) -> Self {
+        Block { parts, part: 0, phase: Phase::Read, bits: Vec::new(), captured: Vec::new() }
+    }
+
+    /// One turn; says whether there was one to do.
+    fn turn(&mut self, old: &[u32], new: &mut [u32]) -> bool {
+        let part = match self.parts.get(self.part) {
+            None => return false,
+            Some(&part) => part,
+        };
+        self.phase = match self.phase {
+            Phase::Read => {
+                self.bits = read(part, old, new);
+                self.captured = vec![0; part.normal];
+                Phase::Stage(0)
+            }
+            Phase::Stage(stage) => {
+                self.bits = evaluate(part.section(stage), &self.bits);
+                for (index, (of_stage, location)) in part.locations().enumerate() {
+                    if of_stage == stage {
+                        let bits = &self.bits[32 * location..32 * location + 32];
+                        let word = bits.iter().rev().fold(0, |word, &bit| word << 1 | bit as u32);
+                        self.captured[index] = word;
+                    }
+                }
+                if stage + 1 == part.stages {
+                    Phase::Store
+                } else {
+                    Phase::Stage(stage + 1)
+                }
+            }
+            Phase::Store => {
+                if part.normal > 0 {
+                    new[part.state_start..part.state_start + part.normal].copy_from_slice(&self.captured);
+                }
+                self.part += 1;
+                Phase::Read
+            }
+        };
+        true
+    }
+}
+
+/// The read turn: "local position of bit k of a pair: 32·lane, plus all mask bits of later rounds in that lane, plus
+/// mask bits above k in the same pair". Unused bits are 0.
+fn read(part: Part<'_>, old: &[u32], new: &[u32]) -> Vec<bool> {
+    let mut bits = vec![false; SLOTS];
+    for lane in 0..LANES {
+        let mut local = 32 * lane;
+        for round in (0..part.rounds).rev() {
+            let (word, mask) = part.read(round, lane);
+            if mask == 0 {
+                continue;
+            }
+            let state = if word >> 31 == 0 { old } else { new };
+            let held = state[(word & 0x7FFF_FFFF) as usize];
+            for k in (0..32).rev().filter(|k| mask >> k & 1 == 1) {
+                bits[local] = held >> k & 1 == 1;
+                local += 1;
+            }
+        }
+    }
+    bits
+}
+
+/// One stage: gathered by the permutation, then level by level. Gives the bits of positions 0..8191.
+fn evaluate(section: &[u32], before: &[bool]) -> Vec<bool> {
+    let mut bits = vec![false; 2 * SLOTS];
+    for index in 0..SLOTS {
+        bits[SLOTS + index] = before[entry(section, index)];
+    }
+    for position in (1..SLOTS).rev() {
+        let (a, b) = below(position);
+        let lane = &section[SLOTS / 2 + 4 * (position / 32)..];
+        let flag = |word: u32| word >> (position % 32) & 1 == 1;
+        let (xora, xorb, orb) = (flag(lane[0]), flag(lane[1]), flag(lane[2]));
+        bits[position] = (bits[a] ^ xora) && ((bits[b] ^ xorb) || orb);
+    }
+    bits.truncate(SLOTS);
+    bits
+}
+
+pub struct Ran {
+    pub new: Vec<u32>,
+    pub turns_left: u64,
+}
+
+/// What a run answers; `new` is the state as it was lent.
+pub fn answer(
+    words: &[u32],
+    starts: &[u64],
+    turns: &[u32],
+    old: &[u32],
+    new: &[u32],
+    room: usize,
+) -> Result<Ran, Refused> {
+    let count = starts.len().saturating_sub(1);
+    if room < BLOCK_ROOM * count {
+        return Err(Refused::plain(32));
+    }
+    if count == 0 {
+        return Err(Refused::at(15, 0, 0));
+    }
+    let states = (old.len(), new.len());
+    let mut blocks = Vec::new();
+    for (index, range) in starts.windows(2).enumerate() {
+        let parts = parts(words, range[0], range[1], states).ok_or(Refused::at(15, 0, index))?;
+        blocks.push(Block::new(parts));
+    }
+    if let Some(turn) = turns.iter().position(|&block| block as usize >= count) {
+        return Err(Refused::at(16, 0, turn));
+    }
+    let mut left: u64 = blocks.iter().flat_map(|block| &block.parts).map(Part::turns).sum();
+    let mut new = new.to_vec();
+    for &block in turns {
+        if blocks[block as usize].turn(old, &mut new) {
+            left -= 1;
+        }
+    }
+    Ok(Ran { new, turns_left: left })
+}

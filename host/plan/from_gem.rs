@@ -1,0 +1,180 @@
+//! GEM's way from a netlist to a plan and its script: AIG, staging, partitioning and flattening by GEM's own files.
+
+use netlists::designs::{Clusters, Design, Layout};
+use oracle::aig::{DriverType, EndpointGroup, AIG};
+use oracle::flatten::{oracle_inputs_outputs, FlattenedScriptV1, OracleTables};
+use oracle::pe::{process_partitions, BoomerangStage, Partition};
+use oracle::staging::{build_staged_aigs, StagedAIG};
+use plan::{Endpoint, Gate, Part, Plan, Position, Script, Stage, Tables, EMPTY};
+use random::Random;
+
+pub struct Made {
+    pub plan: Plan,
+    pub script: Script,
+    /// Staged pins that lie in duplicate words.
+    pub staged_duplicates: usize,
+}
+
+pub fn make(design: &Design) -> Made {
+    let mut random = Random::new(design.seed);
+    let aig = AIG::from_netlistdb(&design.netlist);
+    let staged = build_staged_aigs(&aig, &design.splits);
+    let stages: Vec<&StagedAIG> = staged.iter().map(|(_, _, stage)| stage).collect();
+    let parts: Vec<Vec<Partition>> =
+        stages.iter().map(|stage| partitions(&aig, stage, design.clusters, &mut random)).collect();
+    let slices: Vec<&[Partition]> = parts.iter().map(|parts| &parts[..]).collect();
+    let layout = layout(&aig, design.layout, &mut random);
+    let script = FlattenedScriptV1::from(&aig, &stages, &slices, design.blocks, layout.clone());
+    let (unstaged, staged_pins, tables) = oracle_inputs_outputs(&aig, &stages, &slices, &script);
+
+    let mut positions: Vec<Position> = Vec::new();
+    for (map, staged) in [(&unstaged, 0), (&staged_pins, 1)] {
+        positions.extend(map.iter().map(|(&pin, &position)| Position { pin: pin as u32, position, staged }));
+    }
+    random.shuffle(&mut positions);
+    assert_same_inputs(&script, &layout, &positions);
+
+    let staged_duplicates = tables.iter().map(|tables| tables.staged_duplicates).sum();
+    let mut tables = tables.into_iter();
+    let plan_stages = slices
+        .iter()
+        .zip(&stages)
+        .map(|(parts, staged)| {
+            parts
+                .iter()
+                .map(|part| Part {
+                    endpoints: part.endpoints.iter().map(|&i| endpoint(&aig, staged, i)).collect(),
+                    stages: part.stages.iter().map(stage).collect(),
+                    tables: plain_tables(tables.next().expect("tables for every part")),
+                })
+                .collect()
+        })
+        .collect();
+    let plan = Plan {
+        blocks: design.blocks as u32,
+        gates: gates(&aig),
+        layout: layout.iter().map(|&pin| plain_pin(pin)).collect(),
+        positions,
+        stages: plan_stages,
+    };
+    let script = Script {
+        starts: script.blocks_start.iter().map(|&start| start as u64).collect(),
+        words: script.blocks_data.to_vec(),
+        state_words: script.reg_io_state_size.into(),
+        sram_words: script.sram_storage_size.into(),
+    };
+    Made { plan, script, staged_duplicates }
+}
+
+fn partitions(aig: &AIG, staged: &StagedAIG, clusters: Clusters, random: &mut Random) -> Vec<Partition> {
+    let mut endpoints: Vec<usize> = (0..staged.num_endpoint_groups()).collect();
+    let size = match clusters {
+        Clusters::Merged(size) | Clusters::Apart(size) => size,
+        Clusters::Mixed(size) => {
+            random.shuffle(&mut endpoints);
+            size
+        }
+        Clusters::Backwards(size) => {
+            endpoints.reverse();
+            size
+        }
+    };
+    let mut clusters_of: Vec<Vec<usize>> = endpoints.chunks(size).map(|chunk| chunk.to_vec()).collect();
+    if let Clusters::Mixed(_) = clusters {
+        for cluster in &mut clusters_of {
+            cluster.sort_unstable();
+        }
+    }
+    if let Clusters::Merged(_) = clusters {
+        return process_partitions(aig, staged, clusters_of, 0).expect("the clusters fit");
+    }
+    clusters_of
+        .iter()
+        .map(|cluster| Partition::build_one(aig, staged, cluster).expect("the cluster fits"))
+        .collect()
+}
+
+fn layout(aig: &AIG, kind: Layout, random: &mut Random) -> Vec<usize> {
+    let is_input =
+        |&pin: &usize| matches!(aig.drivers[pin], DriverType::InputPort(_) | DriverType::InputClockFlag(..));
+    let mut layout: Vec<usize> = (1..=aig.num_aigpins).filter(is_input).collect();
+    if let Layout::Plain = kind {
+        return layout;
+    }
+    if let Layout::Crowded = kind {
+        for _ in 0..layout.len() / 3 + 1 {
+            layout.push(random.pick(&layout));
+        }
+        let is_register = |&pin: &usize| matches!(aig.drivers[pin], DriverType::DFF(_) | DriverType::SRAM(_));
+        layout.extend((1..=aig.num_aigpins).filter(is_register).take(5));
+    }
+    let gaps = if let Layout::Sparse = kind { 40 * layout.len() } else { layout.len() / 4 + 1 };
+    layout.resize(layout.len() + gaps, usize::MAX);
+    random.shuffle(&mut layout);
+    layout
+}
+
+/// The script's input map is the layout and then the positions that are not staged.
+fn assert_same_inputs(script: &FlattenedScriptV1, layout: &[usize], positions: &[Position]) {
+    let mut map = std::collections::HashMap::new();
+    for (index, &pin) in layout.iter().enumerate() {
+        if pin != usize::MAX {
+            map.insert(pin, index as u32);
+        }
+    }
+    for entry in positions.iter().filter(|entry| entry.staged == 0) {
+        map.insert(entry.pin as usize, entry.position);
+    }
+    assert_eq!(map.len(), script.input_map.len());
+    assert!(script.input_map.iter().all(|(pin, position)| map.get(pin) == Some(position)));
+}
+
+fn endpoint(aig: &AIG, staged: &StagedAIG, index: usize) -> Endpoint {
+    match staged.get_endpoint_group(aig, index) {
+        EndpointGroup::PrimaryOutput(pin) => Endpoint::output(pin as u32),
+        EndpointGroup::StagedIOPin(pin) => Endpoint::staged(pin as u32),
+        EndpointGroup::DFF(dff) => Endpoint::register(dff.d_iv as u32, dff.en_iv as u32),
+        EndpointGroup::RAMBlock(_) => Endpoint::sram(),
+    }
+}
+
+/// Levels 13 down to 0 end to end, index 0 before them.
+fn stage(stage: &BoomerangStage) -> Stage {
+    let mut slots = vec![EMPTY];
+    for level in stage.hier.iter().rev() {
+        slots.extend(level.iter().map(|&pin| plain_pin(pin)));
+    }
+    Stage { slots, locations: stage.write_outs.iter().map(|&location| location as u32).collect() }
+}
+
+fn plain_pin(pin: usize) -> u32 {
+    if pin == usize::MAX {
+        EMPTY
+    } else {
+        pin as u32
+    }
+}
+
+fn gates(aig: &AIG) -> Vec<Gate> {
+    (0..=aig.num_aigpins)
+        .filter_map(|pin| match aig.drivers[pin] {
+            DriverType::AndGate(first, second) => {
+                Some(Gate { pin: pin as u32, first: first as u32, second: second as u32 })
+            }
+            _ => None,
+        })
+        .collect()
+}
+
+fn plain_tables(tables: OracleTables) -> Tables {
+    let entries = |entries: Vec<u16>| entries.into_iter().map(u32::from).collect();
+    Tables {
+        sram: entries(tables.sram),
+        sram_inv: tables.sram_inv,
+        sram_set0: tables.sram_set0,
+        enable: entries(tables.enable),
+        enable_inv: tables.enable_inv,
+        enable_set0: tables.enable_set0,
+        data_inv: tables.data_inv,
+    }
+}
