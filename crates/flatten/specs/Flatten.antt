@@ -1,116 +1,19 @@
--- The order of a plan's refusals and the assembled script: document 01, "Numbered refusals" and "Blocks and offsets", second half.
+-- What a build answers: document 01, "Numbered refusals" and "Blocks and offsets". n is the number of lanes.
 -- Assumes nothing.
-use mathlib.Core.Bool.{Bool, true, false}
+use mathlib.Core.Bool.{Bool, true, false, _&&_}
 use mathlib.Core.Option.{Option, none, some}
-use mathlib.Core.List.{List, [], _∷_, _++_}
-use Prim.Native.Nat.{ℕ, zero, suc, _+_, _*_, _-_, _/_}
-use lib.Dec.{leb, eqb}
+use mathlib.Core.List.{List}
+use Prim.Native.Nat.{ℕ, _+_, _*_}
+use lib.Dec.{leb}
 use lib.ListN.{length, replicate}
 use lib.Seq.{sets}
-use Rattle.words.specs.Edition.{partWords}
-use Rattle.record.specs.Record.{blocksOf, majorsOf, partsBefore, partsOf, countAt, stagesOf}
-use Rattle.record.specs.Tests.{lowest, Place}
-use Rattle.record.specs.Form.{planForm, roomWords}
-use Rattle.gates.specs.Gates.{badGate}
-use Rattle.counts.specs.Counts.{refusal7}
-use Rattle.blocks.specs.Blocks.{blockOf, stateStart, sramStart, totalsFit, stateWords, sramWords}
-use Rattle.slots.specs.Slots.{refusal9, refusal10, refusal11}
-use Rattle.positions.specs.Positions.{refusal12, refusal13}
-use Rattle.partreads.specs.PartReads.{refusedReads}
-use Rattle.script.specs.Script.{partScript}
+use Rattle.record.specs.Record.{blocksOf, majorsOf}
+use Rattle.record.specs.Form.{roomWords}
+use Rattle.blocks.specs.Blocks.{stateWords, sramWords}
+use Rattle.checks.specs.Refusals.{Refused, nowhere, planVerdict}
+use Rattle.assembly.specs.Assembly.{scriptWords, scriptStarts}
 
--- ---- "A plan: 5 to 13, each over the whole plan before the next, then 3, 4, 14."
-
--- a refusal: its number, and its place
-pub record Refused : Type 0 where
-  pub number : ℕ
-  pub part : ℕ
-  pub item : ℕ
-
-abbrev pub at : ℕ → Place → Refused
-at k q = record { number = k; part = q .part; item = q .item }
-
-abbrev pub nowhere : ℕ → Refused
-nowhere k = record { number = k; part = 0; item = 0 }
-
--- a refusal if a test gives a place, else what comes after it
-abbrev pub orElse : ℕ → Option Place → Option Refused → Option Refused
-orElse k none r = r
-orElse k (some q) r = some (at k q)
-
-abbrev pub unless : ℕ → Bool → Option Refused → Option Refused
-unless k true r = r
-unless k false r = some (nowhere k)
-
-abbrev pub gatePlace : Option ℕ → Option Place
-gatePlace none = none
-gatePlace (some g) = some (record { part = 0; item = g })
-
--- what a plan is refused with, but for room
-unfoldable pub planRefusal : ℕ → List ℕ → Option Refused
-planRefusal n d =
-    unless 5 (planForm d)
-    (orElse 6 (gatePlace (badGate d))
-    (orElse 7 (refusal7 d)
-    (unless 8 (totalsFit d)
-    (orElse 9 (refusal9 d)
-    (orElse 10 (refusal10 d)
-    (orElse 11 (refusal11 d)
-    (orElse 12 (refusal12 d)
-    (orElse 13 (refusal13 d)
-    (orElse 3 (refusedReads n 3 d)
-    (orElse 4 (refusedReads n 4 d) none))))))))))
-
--- ---- assembly: "Data is laid stage by stage, block by block; an empty block is 256 words, zero but word 1 = 1."
-
--- the parts of block b among the first m parts of major stage s, in the order in which they were put there
-unfoldable pub blockParts : List ℕ → ℕ → ℕ → ℕ → List ℕ
-blockParts d s b zero = []
-blockParts d s b (suc i) = elim (eqb (blockOf d s i) b) [ true ↦ blockParts d s b i ++ (i ∷ []) | false ↦ blockParts d s b i ]
-
--- the words of part i of major stage s
-unfoldable pub wordsOfPart : ℕ → List ℕ → ℕ → ℕ → ℕ → List ℕ
-wordsOfPart n d s i last = partScript n d (partsBefore d s + i) last (stateStart d s i) (sramStart d s i)
-
--- "1 on the last part of a block"
-unfoldable pub joinedParts : ℕ → List ℕ → ℕ → List ℕ → List ℕ
-joinedParts n d s [] = []
-joinedParts n d s (i ∷ []) = wordsOfPart n d s i 1
-joinedParts n d s (i ∷ j ∷ is) = wordsOfPart n d s i 0 ++ joinedParts n d s (j ∷ is)
-
-unfoldable pub blockWords : ℕ → List ℕ → ℕ → List ℕ → List ℕ
-blockWords n d s [] = 0 ∷ 1 ∷ replicate (n - 2) 0
-blockWords n d s (i ∷ is) = joinedParts n d s (i ∷ is)
-
--- the first b blocks of major stage s, and the first s major stages
-unfoldable pub stageWords : ℕ → List ℕ → ℕ → ℕ → List ℕ
-stageWords n d s zero = []
-stageWords n d s (suc b) = stageWords n d s b ++ blockWords n d s (blockParts d s b (countAt d s))
-
-unfoldable pub majorWords : ℕ → List ℕ → ℕ → List ℕ
-majorWords n d zero = []
-majorWords n d (suc s) = majorWords n d s ++ stageWords n d s (blocksOf d)
-
--- "One final start, then 2048 zero words."
-unfoldable pub scriptWords : ℕ → List ℕ → List ℕ
-scriptWords n d = majorWords n d (majorsOf d) ++ replicate (8 * n) 0
-
--- the start of block b of major stage s, and all starts: stage by stage, block by block, then the end
-unfoldable pub blockStart : ℕ → List ℕ → ℕ → ℕ → ℕ
-blockStart n d s b = length (majorWords n d s) + length (stageWords n d s b)
-
-unfoldable pub stageStarts : ℕ → List ℕ → ℕ → ℕ → List ℕ
-stageStarts n d s zero = []
-stageStarts n d s (suc b) = stageStarts n d s b ++ (blockStart n d s b ∷ [])
-
-unfoldable pub majorStarts : ℕ → List ℕ → ℕ → List ℕ
-majorStarts n d zero = []
-majorStarts n d (suc s) = majorStarts n d s ++ stageStarts n d s (blocksOf d)
-
-unfoldable pub scriptStarts : ℕ → List ℕ → List ℕ
-scriptStarts n d = majorStarts n d (majorsOf d) ++ (length (majorWords n d (majorsOf d)) ∷ [])
-
--- ---- the answer
+-- ---- the sizes of a plan
 
 pub record Sizes : Type 0 where
   pub starts : ℕ
@@ -129,3 +32,33 @@ sizesOf n d = record {
   state = stateWords d;
   sram = sramWords d;
 }
+
+-- "A plan: 5 to 13 .., then 3, 4", 32 before them
+unfoldable pub sizing : ℕ → List ℕ → ℕ → Build
+sizing n d r = elim (planVerdict n d r) [ some q ↦ refusal q | none ↦ built (sizesOf n d) ]
+
+-- ---- the build: "then 3, 4, 14". Result slices of s starts and w words
+
+unfoldable pub fits : Sizes → ℕ → ℕ → Bool
+fits x s w = leb (x .starts) s && leb (x .words) w
+
+abbrev pub ifFits : Bool → Sizes → Build
+ifFits true x = built x
+ifFits false x = refusal (nowhere 14)
+
+unfoldable pub building : ℕ → List ℕ → ℕ → ℕ → ℕ → Build
+building n d r s w = elim (planVerdict n d r) [ some q ↦ refusal q | none ↦ ifFits (fits (sizesOf n d) s w) (sizesOf n d) ]
+
+-- what the two result slices then hold, and the room
+unfoldable pub laid : Build → List ℕ → List ℕ → List ℕ
+laid (built x) l before = sets before 0 l
+laid (refusal q) l before = before
+
+abbrev pub startsAfter : ℕ → List ℕ → ℕ → List ℕ → List ℕ → List ℕ
+startsAfter n d r starts words = laid (building n d r (length starts) (length words)) (scriptStarts n d) starts
+
+abbrev pub wordsAfter : ℕ → List ℕ → ℕ → List ℕ → List ℕ → List ℕ
+wordsAfter n d r starts words = laid (building n d r (length starts) (length words)) (scriptWords n d) words
+
+unfoldable pub roomAfter : List ℕ → List ℕ → List ℕ
+roomAfter d room = elim (leb (roomWords d) (length room)) [ false ↦ room | true ↦ replicate (length room) 0 ]

@@ -1,0 +1,1 @@
+// The assembled script: definitions and their laws.

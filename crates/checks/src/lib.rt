@@ -1,0 +1,1 @@
+// The refusals of a plan, in their order.
