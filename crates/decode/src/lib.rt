@@ -1,0 +1,1 @@
+// Scripts read back: definitions and theorems, no code.

@@ -1,0 +1,1 @@
+// The order of turns: definitions and theorems, no code.

@@ -1,0 +1,1 @@
+// Demand 3: definitions and theorem, no code.
