@@ -116,14 +116,14 @@ module _ (d : List ℕ) (p : ℕ) (s : Sound d p) where
       one q n (suc i) h = absurd (omega arith)
 
       by : (b : Bool) → eqb (slotAt d p 0 (8192 + j)) empty ≡ b → AllNarrow (askedBy b (planned d (slotAt d p 0 (8192 + j))))
-      by true e i h = absurd (omega arith)
+      by true e = λ i h. absurd (omega arith)
       by false e =
           let r = slot-planned j l (eqb-false _ _ e) in
           rw (r .is, askedBy) (one (bitNumber (r .position)) (place-narrow _ r))
 
   asked-narrow : (n : ℕ) → n ≤ 8192 → AllNarrow (askedTo d p n)
   unfolding askedTo
-  asked-narrow zero h i l = absurd (omega arith)
+  asked-narrow zero h = λ i l. absurd (omega arith)
   asked-narrow (suc n) h = narrow-append (askedTo d p n) (slotAsks d p n) (asked-narrow n (omega arith)) (slot-narrow n (omega arith))
 
   -- ---- so the part's lanes are a packing of its set

@@ -37,9 +37,8 @@ use Rattle.meaning.proofs.ReadLaws.{pin-value}
 -- orb set and no inversion: the bit of slot a
 gate-carried : (a b : ℕ) → a < 2 → gate a b 0 0 1 ≡ a
 unfolding gate
-gate-carried zero b h = refl
-gate-carried (suc zero) zero h = refl
-gate-carried (suc zero) (suc b) h = omega arith
+gate-carried zero b h = omega arith
+gate-carried (suc zero) b h = omega arith
 gate-carried (suc (suc a)) b h = absurd (omega arith)
 
 -- orb clear: the AND of both, inversions applied
@@ -104,7 +103,8 @@ module _ (d : List ℕ) (p : ℕ) (s : Sound d p) (last state sram : ℕ) (W : L
         → levelBit 256 W o k row h (2 ^ i) q ≡ pinValue d p old new (slotAt d p k q)
     unfolding levelBit
     level-value zero i e q lo hi full =
-        let z : 2 ^ i ≡ 2 ^ 13 = ap (λ (x : ℕ). 2 ^ x) (omega arith) in
+        let last-level : i ≡ 13 = omega arith in
+        let z : 2 ^ i ≡ 2 ^ 13 = ap (λ (x : ℕ). 2 ^ x) last-level in
         let j : 8192 + (q - 8192) ≡ q = omega arith in
         let same : slotAt d p k (8192 + (q - 8192)) ≡ slotAt d p k q = ap (slotAt d p k) j in
         gathers (q - 8192) (omega arith) (λ y. full (sym same ∙ y)) ∙ ap (pinValue d p old new) same
@@ -112,7 +112,8 @@ module _ (d : List ℕ) (p : ℕ) (s : Sound d p) (last state sram : ℕ) (W : L
         let up = level-value h (suc i) (omega arith) in
         let m : 2 ^ suc i ≡ 2 * 2 ^ i = omega arith in
         let least : 1 ≤ 2 ^ i = pow-pos i in
-        let most : 2 * 2 ^ i ≤ 2 ^ 13 = rw (← m) (pow-mono (omega arith)) in
+        let lower : suc i ≤ 13 = omega arith in
+        let most : 2 ^ suc i ≤ 2 ^ 13 = pow-mono lower in
         let t : top q ≡ 2 ^ i = top-is 13 q i (omega arith) (record { least = lo; most = hi }) in
         let a : slotAt d p k (q + 2 ^ i) ≡ slotA d p k q = ap (λ (x : ℕ). slotAt d p k (q + x)) (sym t) in
         let b : slotAt d p k (q + 2 * 2 ^ i) ≡ slotB d p k q = ap (λ (x : ℕ). slotAt d p k (q + 2 * x)) (sym t) in
