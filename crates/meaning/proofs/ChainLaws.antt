@@ -5,17 +5,17 @@ use mathlib.Core.Path.{_≡_, refl, sym, ap, _∙_}
 use mathlib.Core.Bool.{Bool, true, false}
 use mathlib.Core.List.{List}
 use mathlib.Core.Logic.{⊎-elim}
-use Prim.Native.Nat.{ℕ, zero, suc, _+_, _*_, _/_, _%_, _≤_, _<_}
+use Prim.Native.Nat.{ℕ, zero, suc, _+_, _/_, _%_, _≤_, _<_}
 use native.Mathlib.Nat.{not-suc-le-zero}
 use native.Mathlib.Numerals.{add-one}
 use native.Mathlib.Omega.{arith}
-use borrow.Author.Tests.{eq-eqb, ne-eqb, le-leb, lt-leb}
+use borrow.Author.Tests.{eq-eqb, ne-eqb, lt-leb}
 use lib.Dec.{leb}
 use lib.ListN.{getD}
 use Rattle.words.specs.Sum.{sumTo}
 use Rattle.words.specs.Bit.{bitAt}
 use Rattle.words.proofs.BitLaws.{lt-or-ge}
-use Rattle.record.specs.Record.{stagesOf, stageLocations, locationsIn, locationsOf, locationAt, countBase, slotAt}
+use Rattle.record.specs.Record.{stagesOf, stageLocations, locationsIn, locationsOf, countBase, slotAt}
 use Rattle.record.specs.Form.{empty}
 use Rattle.record.proofs.FormLaws.{formed}
 use Rattle.counts.proofs.PartLaws.{passed}

@@ -5,15 +5,15 @@ use mathlib.Core.List.{List}
 use Prim.Native.Nat.{ℕ, suc, _+_, _*_, _/_, _%_, _≤_, _<_}
 use native.Mathlib.Omega.{arith}
 use lib.ListN.{getD}
-use Rattle.words.specs.Bit.{bit, bitAt}
-use Rattle.record.specs.Record.{stagesOf, locationsOf, locationAt, slotAt}
+use Rattle.words.specs.Bit.{bit}
+use Rattle.record.specs.Record.{locationsOf, locationAt, slotAt}
 use Rattle.record.specs.Form.{empty}
 use Rattle.values.specs.Values.{pinValue}
 use Rattle.script.specs.Script.{locationStage}
-use Rattle.machine.specs.Part.{stagesAt, normalAt, locationIn}
+use Rattle.machine.specs.Part.{stagesAt, locationIn}
 use Rattle.machine.specs.Turn.{readRow}
 use Rattle.machine.proofs.StageLaws.{at-word}
-use Rattle.order.specs.Order.{rowAfter, capsAfter, capturedBy}
+use Rattle.order.specs.Order.{rowAfter, capturedBy}
 use Rattle.decode.specs.Decoded.{Decoded}
 use Rattle.meaning.specs.Meaning.{Sound}
 use Rattle.meaning.proofs.ChainLaws.{location-at, kept-word, row-values}

@@ -1,24 +1,23 @@
 -- Stage 0: each of its entries is the local position of a bit that the part requests, so that the read turn left the pin's state bit there.
 -- Assumes nothing.
-use mathlib.Core.Path.{_≡_, refl, sym, ap, ap₂, subst, _∙_}
+use mathlib.Core.Path.{_≡_, refl, sym, ap, ap₂, _∙_}
 use mathlib.Core.Bool.{Bool, true, false}
-use mathlib.Core.Option.{Option, none, some}
+use mathlib.Core.Option.{none, some}
 use mathlib.Core.List.{List, [], _∷_}
 use mathlib.Core.Logic.{_⊎_, ⊎-elim}
-use Prim.Native.Nat.{ℕ, zero, suc, _+_, _*_, _-_, _/_, _%_, _^_, _≤_, _<_}
+use Prim.Native.Nat.{ℕ, zero, suc, _+_, _-_, _/_, _%_, _^_, _≤_, _<_}
 use native.Mathlib.Omega.{arith}
 use borrow.Author.Tests.{lt-ltb, le-ltb, ne-eqb, eqb-false}
 use lib.Dec.{eqb}
 use lib.ListN.{getD}
 use Rattle.words.specs.Bit.{bit, bitAt}
-use Rattle.words.specs.Sum.{sumTo}
 use Rattle.reads.specs.ReadSet.{pairsOf, broken}
 use Rattle.reads.specs.Packing.{times, Packing}
 use Rattle.reads.specs.Local.{localOf}
 use Rattle.reads.specs.ReadTurn.{laneWord}
 use Rattle.reads.proofs.PackingLaws.{lanes-packing}
 use Rattle.reads.proofs.SetLaws.{pairs-small}
-use Rattle.reads.proofs.LocalLaws.{Requested, OwnPositions, own-positions}
+use Rattle.reads.proofs.LocalLaws.{Requested, own-positions}
 use Rattle.reads.proofs.SectionWordLaws.{section-word, section-mask}
 use Rattle.reads.proofs.ReadTurnLaws.{ReadBy, read-requested}
 use Rattle.asks.proofs.RequestLaws.{set-requests}
@@ -43,7 +42,7 @@ use Rattle.partreads.proofs.AskedLaws.{slotAsks, narrow-append}
 use Rattle.partreads.proofs.SearchedLaws.{reads-slot}
 use Rattle.partreads.proofs.EntryLaws.{words-form, words-small, asked-in, packed-found}
 use Rattle.script.specs.Script.{stageEntry, pinEntry}
-use Rattle.machine.specs.Part.{readWordAt, readMaskAt, roundsAt, entryAt}
+use Rattle.machine.specs.Part.{readWordAt, readMaskAt, entryAt}
 use Rattle.machine.specs.Turn.{stateWord, readRow}
 use Rattle.machine.proofs.TurnLaws.{read-lane}
 use Rattle.decode.specs.Decoded.{Decoded}

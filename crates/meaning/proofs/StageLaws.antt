@@ -1,32 +1,29 @@
 -- One stage: from the values that it gathers, level by level, to the values at its positions. A slot's pin is carried from slot a, or is the gate of
 -- slots a and b; the masks make the position's bit the one or the other.
 -- Assumes nothing.
-use mathlib.Core.Path.{_≡_, refl, sym, ap, ap₂, subst, _∙_}
+use mathlib.Core.Path.{_≡_, refl, sym, ap, ap₂, _∙_}
 use mathlib.Core.List.{List}
-use mathlib.Core.Option.{none, some}
-use Prim.Native.Nat.{ℕ, zero, suc, _+_, _*_, _-_, _/_, _%_, _^_, _≤_, _<_, min, max}
+use mathlib.Core.Option.{none}
+use Prim.Native.Nat.{ℕ, zero, suc, _+_, _*_, _-_, _/_, _%_, _^_, _≤_, _<_, min}
 use native.Mathlib.Omega.{arith}
 use lib.Bits.{differ}
 use lib.Pow.{pow-pos, pow-mono}
-use Rattle.words.specs.Bit.{bit, bitAt}
 use Rattle.record.specs.Record.{stagesOf, slotAt, gateFirst, gateSecond}
 use Rattle.record.specs.Form.{empty}
-use Rattle.gates.specs.Gates.{gateOf, gateBit, value}
+use Rattle.gates.specs.Gates.{gateBit, value}
 use Rattle.gates.specs.Values.{gateFoundOf}
 use Rattle.gates.specs.declared.GateFound.the-variants as found-as
 use Rattle.gates.proofs.GateLaws.{first-falls, second-falls}
 use Rattle.gates.proofs.ValueLaws.{value-gate}
 use Rattle.slots.specs.Slots.{top, slotA, slotB}
-use Rattle.slots.proofs.SlotLaws.{Feeds, Stands, vacant, carried, computed, position-stands, computed-unread}
-use Rattle.slots.proofs.TopLaws.{TopAt, top-is}
+use Rattle.slots.proofs.SlotLaws.{Stands, vacant, carried, computed, position-stands, computed-unread}
+use Rattle.slots.proofs.TopLaws.{top-is}
 use Rattle.positions.specs.Input.{input}
 use Rattle.positions.proofs.PositionLaws.{input-other}
 use Rattle.values.specs.Values.{pinValue}
-use Rattle.script.specs.Script.{xoraBit, xorbBit, orbBit}
 use Rattle.script.specs.Writers.{MaskBits}
 use Rattle.script.proofs.MaskLaws.{bits-carried, bits-gate}
-use Rattle.machine.specs.Part.{entryAt, laneWordAt}
-use Rattle.machine.specs.Turn.{gate, gateAt, levelBit, positionBit, stageRow}
+use Rattle.machine.specs.Turn.{gate, gateAt, levelBit, stageRow}
 use Rattle.machine.proofs.StageLaws.{level-of, level-below, level-bit-lt, position-level, stage-bit}
 use Rattle.decode.specs.Decoded.{Decoded}
 use Rattle.meaning.specs.Meaning.{Sound, Gathers, HoldsValues}
