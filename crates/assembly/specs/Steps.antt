@@ -11,6 +11,7 @@ use Rattle.reads.specs.Search.{longest}
 use Rattle.record.specs.Record.{blocksOf, countAt, partsBefore, stagesOf}
 use Rattle.blocks.specs.Blocks.{blockOf}
 use Rattle.blocks.specs.Sums.{inBlock}
+use Rattle.blocks.specs.Table.{cell}
 use Rattle.partreads.specs.PartReads.{partLanes}
 use Rattle.assembly.specs.Assembly.{blockParts, wordsOfPart}
 
@@ -34,6 +35,10 @@ partsIn d s b = blockParts d s b (countAt d s)
 -- how many parts of the plan come before the parts of block b of major stage s: the rank of its first part, if it has one
 unfoldable pub firstRank : List ℕ → ℕ → ℕ → ℕ
 firstRank d s b = partsBefore d s + sumTo (λ x. inBlock (blockOf d s) (λ i. 1) x (countAt d s)) b
+
+-- the part of rank k, as the table says
+abbrev pub partAt : List ℕ → ℕ → ℕ
+partAt room k = getD room (cell k 9) 0
 
 -- the empty blocks of the first s major stages
 unfoldable pub emptyBlocks : List ℕ → ℕ → ℕ
