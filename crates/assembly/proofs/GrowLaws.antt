@@ -1,23 +1,17 @@
--- A list that grows at its end, piece by piece: its length, and where each piece stands.
+-- A list that grows at its end, piece by piece: where each piece stands.
 -- Assumes nothing.
-use mathlib.Core.Path.{_≡_, sym, ap, _∙_}
+use mathlib.Core.Path.{_≡_, ap, _∙_}
 use mathlib.Core.Logic.{⊎-elim}
 use mathlib.Core.List.{List, _++_}
 use Prim.Native.Nat.{ℕ, zero, suc, _+_, _≤_, _<_}
 use native.Mathlib.Omega.{arith}
 use lib.ListN.{length, getD, length-append, List·getD-append}
 use lib.Seq.{getD-append-add}
-use Rattle.words.specs.Sum.{sumTo}
 use Rattle.words.proofs.BitLaws.{lt-or-ge}
 
 module _ (f g : ℕ → List ℕ) (more : (k : ℕ) → f (suc k) ≡ f k ++ g k) where
   pub grown-next : (k : ℕ) → length (f (suc k)) ≡ length (f k) + length (g k)
   grown-next k = ap length (more k) ∙ length-append (f k) (g k)
-
-  pub grown-length : (m : ℕ) → length (f m) ≡ length (f 0) + sumTo (λ k. length (g k)) m
-  unfolding sumTo
-  grown-length zero = omega arith
-  grown-length (suc m) = omega (arith, grown-next m, grown-length m)
 
   -- what stands there stays
   pub grown-same : (m k t : ℕ) → k ≤ m → t < length (f k) → (t < length (f m)) × (getD (f m) t 0 ≡ getD (f k) t 0)

@@ -1,27 +1,23 @@
 -- How many words the assembled script has: its parts', and those of its empty blocks. The number of lanes is even and at least 16.
 -- Assumes nothing.
-use mathlib.Core.Path.{_≡_, refl, sym, ap, ap₂, _∙_}
+use mathlib.Core.Path.{_≡_, refl, sym, ap, _∙_}
 use mathlib.Core.Logic.{⊎-elim}
-use mathlib.Core.List.{List, [], _∷_, _++_}
+use mathlib.Core.List.{List}
 use Prim.Native.Nat.{ℕ, zero, suc, _+_, _*_, _-_, _%_, _≤_, _<_}
-use native.Mathlib.Nat.{mul-suc, mul-zero}
-use native.Mathlib.Numerals.{add-one}
+use native.Mathlib.Nat.{mul-suc, mul-add}
 use native.Mathlib.Omega.{arith}
 use lib.ListN.{length, getD, replicate, length-append, length-replicate}
 use Rattle.words.specs.Sum.{sumTo}
-use Rattle.words.proofs.SumLaws.{sum-ext}
 use Rattle.words.proofs.BitLaws.{lt-or-ge}
 use Rattle.record.specs.Record.{blocksOf, majorsOf, countAt, partsBefore, partsOf}
-use Rattle.record.proofs.RecordLaws.{parts-more as before-more}
 use Rattle.blocks.specs.Blocks.{blockOf}
 use Rattle.blocks.specs.Sums.{inBlock}
 use Rattle.blocks.proofs.TotalLaws.{sum-split}
 use Rattle.blocks.proofs.BlockLaws.{in-total}
 use Rattle.script.proofs.LengthLaws.{script-length}
-use Rattle.assembly.specs.Assembly.{blockParts, wordsOfPart, blockWords, stageWords, majorWords, scriptWords}
+use Rattle.assembly.specs.Assembly.{wordsOfPart, blockWords, stageWords, majorWords, scriptWords}
 use Rattle.assembly.specs.Steps.{lastMark, partsWords, lengthOf, partsIn, emptyBlocks}
-use Rattle.assembly.proofs.GrowLaws.{grown-length}
-use Rattle.assembly.proofs.StepLaws.{parts-all, block-none, stage-more, major-more, script-is}
+use Rattle.assembly.proofs.StepLaws.{parts-all, block-none, script-is}
 use Rattle.assembly.proofs.RankLaws.{parts-sum, block-lt, parts-some, parts-no}
 
 module _ (n : ℕ) (d : List ℕ) (wide : 16 ≤ n) (even : n % 2 ≡ 0) where

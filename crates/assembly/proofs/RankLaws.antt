@@ -3,30 +3,29 @@
 -- Assumes nothing.
 use mathlib.Core.Path.{_≡_, refl, sym, ap, ap₂, _∙_}
 use mathlib.Core.Bool.{Bool, true, false}
-use mathlib.Core.Logic.{_⊎_, inl, inr, ⊎-elim}
+use mathlib.Core.Logic.{_⊎_, ⊎-elim}
 use mathlib.Core.List.{List, [], _∷_, _++_, append-nil}
-use Prim.Native.Nat.{ℕ, zero, suc, _+_, _*_, _-_, _≤_, _<_}
+use Prim.Native.Nat.{ℕ, zero, suc, _+_, _-_, _≤_, _<_}
 use native.Mathlib.Numerals.{add-one}
-use native.Mathlib.Nat.{one-mul}
 use native.Mathlib.Omega.{arith}
-use borrow.Author.Tests.{eq-eqb, ne-eqb, eqb-true}
+use borrow.Author.Tests.{eq-eqb, ne-eqb}
 use lib.Dec.{eqb}
 use lib.ListN.{length, getD, length-append, List·getD-append}
 use lib.Seq.{getD-at, getD-append-seam}
 use Rattle.words.specs.Sum.{sumTo}
 use Rattle.words.proofs.SumLaws.{sum-more, sum-le, sum-ext}
 use Rattle.words.proofs.BitLaws.{lt-or-ge}
-use Rattle.record.specs.Record.{blocksOf, majorsOf, countAt, partsBefore, stagesOf}
+use Rattle.record.specs.Record.{blocksOf, majorsOf, countAt, partsBefore}
 use Rattle.record.proofs.RecordLaws.{parts-more}
-use Rattle.blocks.specs.Blocks.{blockIn, blockOf, costsAfter}
-use Rattle.blocks.specs.Sums.{given, inBlock}
+use Rattle.blocks.specs.Blocks.{blockIn, blockOf}
+use Rattle.blocks.specs.Sums.{inBlock}
 use Rattle.blocks.specs.Table.{rankOf, Tabled}
 use Rattle.blocks.specs.Fill.{blockAt}
-use Rattle.blocks.proofs.TotalLaws.{same-or, given-true, given-false, sum-const, sum-zero}
+use Rattle.blocks.proofs.TotalLaws.{same-or, sum-const}
 use Rattle.blocks.proofs.OrderLaws.{rank-taken, taken-blocks}
-use Rattle.blocks.proofs.BlockLaws.{in-none, in-more, in-here, in-other, in-grows, in-total, in-lt, for-early}
+use Rattle.blocks.proofs.BlockLaws.{in-none, in-here, in-other, in-total, in-lt, for-early}
 use Rattle.assembly.specs.Assembly.{blockParts}
-use Rattle.assembly.specs.Steps.{lastMark, partsIn, firstRank, partAt}
+use Rattle.assembly.specs.Steps.{lastMark, partsIn, firstRank, rankedAt}
 use Rattle.assembly.proofs.GrowLaws.{grown-same}
 use Rattle.assembly.proofs.StepLaws.{mark-last, mark-more}
 
@@ -137,6 +136,14 @@ module _ (d : List ℕ) (s : ℕ) where
       in
       (r .0, r .1 ∙ ap (λ (x : List ℕ). getD x (inBefore d s b i) 0) (parts-here b i e) ∙ getD-at (blockParts d s b i) i [] 0 _ k)
 
+  -- so each part of the stage has a block and a place in it
+  pub part-found : (i : ℕ) → i < countAt d s → 0 < blocksOf d
+      → (b : ℕ) × (j : ℕ) × (b < blocksOf d) × (j < length (partsIn d s b)) × (getD (partsIn d s b) j 0 ≡ i)
+  unfolding blockOf
+  part-found i h some =
+      let r = part-in (blockOf d s i) (countAt d s) i h refl in
+      (blockOf d s i, inBefore d s (blockOf d s i) i, in-lt (blocksOf d) _ some i, r .0, r .1)
+
   -- a sum over the parts of a block, as a list and as numbers
   pub parts-sum : (f : ℕ → ℕ) (b m : ℕ) → sumTo (λ k. f (getD (blockParts d s b m) k 0)) (length (blockParts d s b m)) ≡ inBlock (blockOf d s) f b m
   unfolding sumTo blockParts
@@ -241,37 +248,37 @@ module _ (d : List ℕ) (s : ℕ) where
 -- ---- the table: row k's word 9 is the part of rank k, whose word 6 is its block
 
 module _ (d room : List ℕ) (t : Tabled d room) (s : ℕ) (stage : s < majorsOf d) where
-  pub row-at : (b j : ℕ) → j < length (partsIn d s b) → partAt room (firstRank d s b + j) ≡ partsBefore d s + getD (partsIn d s b) j 0
+  pub row-at : (b j : ℕ) → j < length (partsIn d s b) → rankedAt room (firstRank d s b + j) ≡ partsBefore d s + getD (partsIn d s b) j 0
   row-at b j h =
       let r = part-at d s b (countAt d s) j h in
-      ap (partAt room) (sym (rank-at d s b j h)) ∙ t .allotted s _ stage (r .number) .ranked
+      ap (rankedAt room) (sym (rank-at d s b j h)) ∙ t .allotted s _ stage (r .number) .ranked
 
-  pub block-at : (b j : ℕ) → j < length (partsIn d s b) → blockAt room (partAt room (firstRank d s b + j)) ≡ b
+  pub block-at : (b j : ℕ) → j < length (partsIn d s b) → blockAt room (rankedAt room (firstRank d s b + j)) ≡ b
   block-at b j h =
       let r = part-at d s b (countAt d s) j h in
       ap (blockAt room) (row-at b j h) ∙ t .allotted s _ stage (r .number) .block ∙ r .block
 
   -- in the code's terms: rank k of the stage, from the first of block b on
-  pub rank-inside : (b k : ℕ) → firstRank d s b ≤ k → k < firstRank d s (b + 1) → blockAt room (partAt room k) ≡ b
+  pub rank-inside : (b k : ℕ) → firstRank d s b ≤ k → k < firstRank d s (b + 1) → blockAt room (rankedAt room k) ≡ b
   rank-inside b k l u =
       let e : k ≡ firstRank d s b + (k - firstRank d s b) = omega arith in
-      ap (λ (x : ℕ). blockAt room (partAt room x)) e ∙ block-at b (k - firstRank d s b) (omega (arith, first-more d s b))
+      ap (λ (x : ℕ). blockAt room (rankedAt room x)) e ∙ block-at b (k - firstRank d s b) (omega (arith, first-more d s b))
 
-  pub rank-outside : (b k : ℕ) → firstRank d s (b + 1) ≤ k → k < partsBefore d (s + 1) → blockAt room (partAt room k) ≡ b → ⊥
+  pub rank-outside : (b k : ℕ) → firstRank d s (b + 1) ≤ k → k < partsBefore d (s + 1) → blockAt room (rankedAt room k) ≡ b → ⊥
   rank-outside b k l u e =
       let (i, r) = rank-found d s k (omega (arith, first-none d s, first-le d s 0 (b + 1) (omega arith))) u in
       let a = t .allotted s i stage (r .number) in
-      let is : partAt room k ≡ partsBefore d s + i = ap (partAt room) (sym (r .rank)) ∙ a .ranked in
+      let is : rankedAt room k ≡ partsBefore d s + i = ap (rankedAt room) (sym (r .rank)) ∙ a .ranked in
       let q : blockOf d s i ≡ b = sym (a .block) ∙ ap (blockAt room) (sym is) ∙ e in
       omega (arith, r .until, ap (λ (x : ℕ). firstRank d s (x + 1)) q)
 
   -- the last mark: the next part is of another block, or the stage ends
   module _ (b k : ℕ) (some : 0 < blocksOf d) (in-blocks : b < blocksOf d) (from : firstRank d s b ≤ k) (until : k < firstRank d s (b + 1)) where
-    pub mark-end : (k + 1 < partsBefore d (s + 1) → blockAt room (partAt room (k + 1)) ≡ b → ⊥) → lastMark (length (partsIn d s b)) (k - firstRank d s b) ≡ 1
+    pub mark-end : (k + 1 < partsBefore d (s + 1) → blockAt room (rankedAt room (k + 1)) ≡ b → ⊥) → lastMark (length (partsIn d s b)) (k - firstRank d s b) ≡ 1
     mark-end h =
         ⊎-elim (λ l. absurd (h (omega (arith, first-in d s (b + 1) (omega arith) some)) (rank-inside b (k + 1) (omega arith) l)))
         (λ l. mark-last _ _ (omega (arith, first-more d s b)))
         (lt-or-ge (k + 1) (firstRank d s (b + 1)))
 
-    pub mark-on : k + 1 < partsBefore d (s + 1) → blockAt room (partAt room (k + 1)) ≡ b → lastMark (length (partsIn d s b)) (k - firstRank d s b) ≡ 0
+    pub mark-on : k + 1 < partsBefore d (s + 1) → blockAt room (rankedAt room (k + 1)) ≡ b → lastMark (length (partsIn d s b)) (k - firstRank d s b) ≡ 0
     mark-on l e = mark-more _ _ (λ q. rank-outside b (k + 1) (omega (arith, first-more d s b)) l e)

@@ -13,7 +13,7 @@ use Rattle.words.proofs.BitLaws.{lt-or-ge}
 use Rattle.record.specs.Record.{blocksOf, majorsOf}
 use Rattle.assembly.specs.Assembly.{blockWords, stageWords, majorWords, blockStart, stageStarts, majorStarts, scriptStarts}
 use Rattle.assembly.specs.Steps.{partsIn}
-use Rattle.assembly.proofs.GrowLaws.{grown-next, grown-at}
+use Rattle.assembly.proofs.GrowLaws.{grown-le, grown-at}
 
 module _ (n : ℕ) (d : List ℕ) where
   -- ---- where blocks begin and end
@@ -69,16 +69,42 @@ module _ (n : ℕ) (d : List ℕ) where
 
   stage-start : (s b : ℕ) → b < blocksOf d → getD (stageStarts n d s (blocksOf d)) b 0 ≡ blockStart n d s b
   unfolding stageStarts
-  stage-start s b h = ?
+  stage-start s b h =
+      let e : b ≡ length (stageStarts n d s b) + 0 = omega (arith, stage-starts s b) in
+      ap (λ (x : ℕ). getD (stageStarts n d s (blocksOf d)) x 0) e
+      ∙ grown-at (stageStarts n d s) (λ x. blockStart n d s x ∷ []) (λ x. refl) (blocksOf d) b 0 h (omega arith)
 
   block-start : (s b : ℕ) → s < majorsOf d → b < blocksOf d → getD (scriptStarts n d) (blocksOf d * s + b) 0 ≡ blockStart n d s b
   unfolding majorStarts
-  block-start s b l h = ?
+  block-start s b l h =
+      let f : ℕ → List ℕ = λ x. stageStarts n d x (blocksOf d) in
+      let e : blocksOf d * s + b ≡ length (majorStarts n d s) + b = ap (λ (x : ℕ). x + b) (sym (major-starts s)) in
+      let u : blocksOf d * s + b < length (majorStarts n d (majorsOf d)) =
+      omega (arith, major-starts (suc s), mul-suc (blocksOf d) s, grown-le (majorStarts n d) f (λ x. refl) (majorsOf d) (suc s) l)
+      in
+      ap (λ (x : List ℕ). getD x (blocksOf d * s + b) 0) starts-are
+      ∙ List·getD-append (majorStarts n d (majorsOf d)) _ 0 (blocksOf d * s + b) u
+      ∙ ap (λ (x : ℕ). getD (majorStarts n d (majorsOf d)) x 0) e
+      ∙ grown-at (majorStarts n d) f (λ x. refl) (majorsOf d) s b l (omega (arith, stage-starts s (blocksOf d)))
+      ∙ stage-start s b h
 
   -- the start of a major stage, and the end
   pub major-start : (s : ℕ) → s ≤ majorsOf d → 0 < blocksOf d → getD (scriptStarts n d) (blocksOf d * s) 0 ≡ length (majorWords n d s)
-  major-start s l h = ?
+  major-start s l h =
+      ⊎-elim (λ u. ap (λ (x : ℕ). getD (scriptStarts n d) x 0) (sym (add-zero (blocksOf d * s))) ∙ block-start s 0 u h ∙ start-first s)
+      (λ u.
+      let e : majorsOf d ≡ s = omega arith in
+      ap (λ (x : List ℕ). getD x (blocksOf d * s) 0) starts-are
+      ∙ getD-at (majorStarts n d (majorsOf d)) _ [] 0 (blocksOf d * s) (major-starts (majorsOf d) ∙ ap (λ (x : ℕ). blocksOf d * x) e)
+      ∙ ap (λ (x : ℕ). length (majorWords n d x)) e)
+      (lt-or-ge s (majorsOf d))
 
   -- the start of each block, and of the next major stage
   pub start-at : (s b : ℕ) → s < majorsOf d → b ≤ blocksOf d → 0 < blocksOf d → getD (scriptStarts n d) (blocksOf d * s + b) 0 ≡ blockStart n d s b
-  start-at s b l u h = ?
+  start-at s b l u h =
+      ⊎-elim (λ v. block-start s b l v)
+      (λ v.
+      let e : b ≡ blocksOf d = omega arith in
+      let k : blocksOf d * s + b ≡ blocksOf d * (s + 1) = omega (arith, mul-suc (blocksOf d) s, ap (λ (x : ℕ). blocksOf d * x) (add-one s)) in
+      ap (λ (x : ℕ). getD (scriptStarts n d) x 0) k ∙ major-start (s + 1) (omega arith) h ∙ sym (start-last s) ∙ ap (blockStart n d s) (sym e))
+      (lt-or-ge b (blocksOf d))

@@ -1,18 +1,16 @@
 -- The writer's steps: the words of a block part by part, of a major stage block by block, of a plan stage by stage.
 -- Assumes nothing.
 use mathlib.Core.Path.{_≡_, refl, sym, ap, ap₂, _∙_}
-use mathlib.Core.Bool.{Bool, true, false}
 use mathlib.Core.Logic.{⊎-elim}
 use mathlib.Core.List.{List, [], _∷_, _++_, append-assoc, append-nil}
-use Prim.Native.Nat.{ℕ, zero, suc, _+_, _*_, _-_, _≤_, _<_}
+use Prim.Native.Nat.{ℕ, zero, suc, _+_, _*_, _-_, _<_}
 use native.Mathlib.Numerals.{add-one}
 use native.Mathlib.Omega.{arith}
 use borrow.Author.Tests.{eq-eqb, ne-eqb}
-use lib.Dec.{eqb}
 use lib.ListN.{length, getD, replicate}
-use Rattle.record.specs.Record.{blocksOf, majorsOf, countAt}
+use Rattle.record.specs.Record.{blocksOf, majorsOf}
 use Rattle.blocks.proofs.TotalLaws.{same-or}
-use Rattle.assembly.specs.Assembly.{blockParts, wordsOfPart, joinedParts, blockWords, stageWords, majorWords, scriptWords}
+use Rattle.assembly.specs.Assembly.{wordsOfPart, joinedParts, blockWords, stageWords, majorWords, scriptWords}
 use Rattle.assembly.specs.Steps.{lastMark, partsWords, partsIn}
 
 -- ---- the last mark

@@ -2,7 +2,7 @@
 -- Assumes nothing.
 use mathlib.Core.Bool.{true, false}
 use mathlib.Core.List.{List, [], _++_}
-use Prim.Native.Nat.{ℕ, zero, suc, _+_, _*_, _-_}
+use Prim.Native.Nat.{ℕ, zero, suc, _+_, _-_}
 use lib.Dec.{eqb}
 use lib.ListN.{length, getD}
 use Rattle.words.specs.Edition.{partWords}
@@ -13,7 +13,7 @@ use Rattle.blocks.specs.Blocks.{blockOf}
 use Rattle.blocks.specs.Sums.{inBlock}
 use Rattle.blocks.specs.Table.{cell}
 use Rattle.partreads.specs.PartReads.{partLanes}
-use Rattle.assembly.specs.Assembly.{blockParts, wordsOfPart}
+use Rattle.assembly.specs.Assembly.{blockParts, wordsOfPart, blockStart}
 
 -- "1 on the last part of a block": of part j of c parts
 unfoldable pub lastMark : ℕ → ℕ → ℕ
@@ -32,13 +32,17 @@ lengthOf n d p = partWords n (longest (partLanes n d p)) (stagesOf d p)
 abbrev pub partsIn : List ℕ → ℕ → ℕ → List ℕ
 partsIn d s b = blockParts d s b (countAt d s)
 
+-- where part j of block b of major stage s begins
+unfoldable pub partStart : ℕ → List ℕ → ℕ → ℕ → ℕ → ℕ
+partStart n d s b j = blockStart n d s b + length (partsWords n d s (partsIn d s b) j)
+
 -- how many parts of the plan come before the parts of block b of major stage s: the rank of its first part, if it has one
 unfoldable pub firstRank : List ℕ → ℕ → ℕ → ℕ
 firstRank d s b = partsBefore d s + sumTo (λ x. inBlock (blockOf d s) (λ i. 1) x (countAt d s)) b
 
 -- the part of rank k, as the table says
-abbrev pub partAt : List ℕ → ℕ → ℕ
-partAt room k = getD room (cell k 9) 0
+abbrev pub rankedAt : List ℕ → ℕ → ℕ
+rankedAt room k = getD room (cell k 9) 0
 
 -- the empty blocks of the first s major stages
 unfoldable pub emptyBlocks : List ℕ → ℕ → ℕ
