@@ -136,13 +136,16 @@ module _ (d : List ℕ) (s : ℕ) where
       in
       (r .0, r .1 ∙ ap (λ (x : List ℕ). getD x (inBefore d s b i) 0) (parts-here b i e) ∙ getD-at (blockParts d s b i) i [] 0 _ k)
 
+  pub block-lt : 0 < blocksOf d → (i : ℕ) → blockOf d s i < blocksOf d
+  unfolding blockOf
+  block-lt h i = in-lt (blocksOf d) _ h i
+
   -- so each part of the stage has a block and a place in it
   pub part-found : (i : ℕ) → i < countAt d s → 0 < blocksOf d
       → (b : ℕ) × (j : ℕ) × (b < blocksOf d) × (j < length (partsIn d s b)) × (getD (partsIn d s b) j 0 ≡ i)
-  unfolding blockOf
   part-found i h some =
       let r = part-in (blockOf d s i) (countAt d s) i h refl in
-      (blockOf d s i, inBefore d s (blockOf d s i) i, in-lt (blocksOf d) _ some i, r .0, r .1)
+      (blockOf d s i, inBefore d s (blockOf d s i) i, block-lt some i, r .0, r .1)
 
   -- a sum over the parts of a block, as a list and as numbers
   pub parts-sum : (f : ℕ → ℕ) (b m : ℕ) → sumTo (λ k. f (getD (blockParts d s b m) k 0)) (length (blockParts d s b m)) ≡ inBlock (blockOf d s) f b m
@@ -179,10 +182,6 @@ module _ (d : List ℕ) (s : ℕ) where
   pub first-le : (b c : ℕ) → b ≤ c → firstRank d s b ≤ firstRank d s c
   unfolding firstRank
   first-le b c l = omega (arith, sum-le (λ x. inBefore d s x (countAt d s)) b c l)
-
-  pub block-lt : 0 < blocksOf d → (i : ℕ) → blockOf d s i < blocksOf d
-  unfolding blockOf
-  block-lt h i = in-lt (blocksOf d) _ h i
 
   pub first-all : 0 < blocksOf d → firstRank d s (blocksOf d) ≡ partsBefore d (s + 1)
   unfolding firstRank
