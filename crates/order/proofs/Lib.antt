@@ -1,3 +1,5 @@
 pub mod FormLaws
 pub mod TurnsLaws
 pub mod StoreLaws
+pub mod BlockLaws
+pub mod OrderLaws

@@ -94,8 +94,8 @@ module _ (P : Type 0) (nil : P) (turn : P → List ℕ → P) (put : P → List 
     pub falls : (b : ℕ) (p : P) (m : List ℕ) → Ok b p m → left (turn p m) ≡ left p - 1
 
   module _ (Ok : ℕ → P → List ℕ → Type 0) (own : ℕ → ℕ → Bool) (B : ℕ) (left : P → ℕ) (s₀ : List P × List ℕ)
-      (A : Independent (length (s₀ .0)) Ok own B left) (ok₀ : (b : ℕ) → b < length (s₀ .0) → Ok b (getD (s₀ .0) b nil) (s₀ .1)) where
-    pub solo-ok : (b k : ℕ) → b < length (s₀ .0) → Ok b (solo s₀ b k .0) (solo s₀ b k .1)
+      (n : ℕ) (long : length (s₀ .0) ≡ n) (A : Independent n Ok own B left) (ok₀ : (b : ℕ) → b < n → Ok b (getD (s₀ .0) b nil) (s₀ .1)) where
+    pub solo-ok : (b k : ℕ) → b < n → Ok b (solo s₀ b k .0) (solo s₀ b k .1)
     solo-ok b zero h = ok₀ b h
     solo-ok b (suc k) h = A .ok b _ _ (solo-ok b k h)
 
@@ -103,11 +103,11 @@ module _ (P : Type 0) (nil : P) (turn : P → List ℕ → P) (put : P → List 
     solo-size b zero = refl
     solo-size b (suc k) = A .size _ _ ∙ solo-size b k
 
-    solo-frame : (b k w : ℕ) → b < length (s₀ .0) → own b w ≡ false → getD (solo s₀ b k .1) w 0 ≡ getD (s₀ .1) w 0
+    solo-frame : (b k w : ℕ) → b < n → own b w ≡ false → getD (solo s₀ b k .1) w 0 ≡ getD (s₀ .1) w 0
     solo-frame b zero w h o = refl
     solo-frame b (suc k) w h o = A .frame b _ _ _ w (solo-ok b k h) o ∙ solo-frame b k w h o
 
-    pub solo-left : (b k : ℕ) → b < length (s₀ .0) → left (solo s₀ b k .0) ≡ left (getD (s₀ .0) b nil) - k
+    pub solo-left : (b k : ℕ) → b < n → left (solo s₀ b k .0) ≡ left (getD (s₀ .0) b nil) - k
     solo-left b zero h = omega arith
     solo-left b (suc k) h = A .falls b _ _ (solo-ok b k h) ∙ omega (arith, solo-left b k h)
 
@@ -119,24 +119,24 @@ module _ (P : Type 0) (nil : P) (turn : P → List ℕ → P) (put : P → List 
         go true e = absurd (h e)
 
     -- words below B are no block's
-    low : (b w : ℕ) → b < length (s₀ .0) → w < B → own b w ≡ false
+    low : (b w : ℕ) → b < n → w < B → own b w ≡ false
     low b w h l = not-own b w (λ e. omega (arith, A .high b w h e))
 
     -- after c b turns of each block b
     pub record Project (c : ℕ → ℕ) (s : List P × List ℕ) : Type 0 where
-      pub blocks : length (s .0) ≡ length (s₀ .0)
+      pub blocks : length (s .0) ≡ n
       pub size : length (s .1) ≡ length (s₀ .1)
-      pub priv : (b : ℕ) → b < length (s₀ .0) → getD (s .0) b nil ≡ solo s₀ b (c b) .0
-      pub mine : (b w : ℕ) → b < length (s₀ .0) → own b w ≡ true → getD (s .1) w 0 ≡ getD (solo s₀ b (c b) .1) w 0
-      pub rest : (w : ℕ) → ((b : ℕ) → b < length (s₀ .0) → own b w ≡ false) → getD (s .1) w 0 ≡ getD (s₀ .1) w 0
+      pub priv : (b : ℕ) → b < n → getD (s .0) b nil ≡ solo s₀ b (c b) .0
+      pub mine : (b w : ℕ) → b < n → own b w ≡ true → getD (s .1) w 0 ≡ getD (solo s₀ b (c b) .1) w 0
+      pub rest : (w : ℕ) → ((b : ℕ) → b < n → own b w ≡ false) → getD (s .1) w 0 ≡ getD (s₀ .1) w 0
 
-    same : (c : ℕ → ℕ) (s : List P × List ℕ) (b : ℕ) → b < length (s₀ .0) → Project c s → Same B (s .1) (solo s₀ b (c b) .1)
+    same : (c : ℕ → ℕ) (s : List P × List ℕ) (b : ℕ) → b < n → Project c s → Same B (s .1) (solo s₀ b (c b) .1)
     same c s b h I = record {
       size = I .size ∙ sym (solo-size b (c b));
       below = λ w k. I .rest w (λ b′ h′. low b′ w h′ k) ∙ sym (solo-frame b (c b) w h (low b w h k));
     }
 
-    project-step : (c : ℕ → ℕ) (s : List P × List ℕ) (t : ℕ) → t < length (s₀ .0) → Project c s → Project (λ b. hit b t + c b) (step s t)
+    project-step : (c : ℕ → ℕ) (s : List P × List ℕ) (t : ℕ) → t < n → Project c s → Project (λ b. hit b t + c b) (step s t)
     project-step c s t h I = record {
       blocks = length-set (s .0) t _ ∙ I .blocks;
       size = A .size _ _ ∙ I .size;
@@ -151,18 +151,18 @@ module _ (P : Type 0) (nil : P) (turn : P → List ℕ → P) (put : P → List 
         frame : (w : ℕ) → own t w ≡ false → getD (step s t .1) w 0 ≡ getD (s .1) w 0
         frame w o = A .frame t _ _ _ w fine o
 
-        priv′ : (b : ℕ) → b < length (s₀ .0) → Dec (b ≡ t) → getD (step s t .0) b nil ≡ solo s₀ b (hit b t + c b) .0
+        priv′ : (b : ℕ) → b < n → Dec (b ≡ t) → getD (step s t .0) b nil ≡ solo s₀ b (hit b t + c b) .0
         priv′ b k (yes e) =
             rw (e, hit-same t t refl, one-add, getD-set-same (s .0) t (turn (getD (s .0) t nil) (s .1)) nil (omega (arith, I .blocks)), I .priv t h) (A .blind t _ _ _ (solo-ok t (c t) h) (same c s t h I))
         priv′ b k (no e) = rw (hit-other b t e, zero-add, getD-set-other (s .0) t b (turn (getD (s .0) t nil) (s .1)) nil e) (I .priv b k)
 
-        mine′ : (b w : ℕ) → b < length (s₀ .0) → own b w ≡ true → Dec (b ≡ t) → getD (step s t .1) w 0 ≡ getD (solo s₀ b (hit b t + c b) .1) w 0
+        mine′ : (b w : ℕ) → b < n → own b w ≡ true → Dec (b ≡ t) → getD (step s t .1) w 0 ≡ getD (solo s₀ b (hit b t + c b) .1) w 0
         mine′ b w k o (yes e) =
             rw (e, hit-same t t refl, one-add)
             (ap (λ p. getD (put p (s .1)) w 0) (I .priv t h) ∙ A .word t _ _ _ w (solo-ok t (c t) h) (same c s t h I) (I .mine t w h (rw e at o)))
         mine′ b w k o (no e) = rw (hit-other b t e, zero-add) (frame w (not-own t w (λ o′. e (A .apart b t w k h o o′))) ∙ I .mine b w k o)
 
-    project-run : (c : ℕ → ℕ) (s : List P × List ℕ) (ts : List ℕ) → Names (length (s₀ .0)) ts → Project c s → Project (λ b. count b ts + c b) (run s ts)
+    project-run : (c : ℕ → ℕ) (s : List P × List ℕ) (ts : List ℕ) → Names n ts → Project c s → Project (λ b. count b ts + c b) (run s ts)
     unfolding count
     project-run c s [] h I = rw (fun-ext (λ b. zero-add (c b))) I
     project-run c s (t ∷ ts) h I =
@@ -172,8 +172,8 @@ module _ (P : Type 0) (nil : P) (turn : P → List ℕ → P) (put : P → List 
         e b = omega arith
 
     -- after any turns each block's private state and words are those of the block alone, after its own turns
-    pub project : (ts : List ℕ) → Names (length (s₀ .0)) ts → Project (λ b. count b ts) (run s₀ ts)
+    pub project : (ts : List ℕ) → Names n ts → Project (λ b. count b ts) (run s₀ ts)
     project ts h = subst (λ f. Project f (run s₀ ts)) (fun-ext (λ b. add-zero (count b ts))) (project-run (λ b. 0) s₀ ts h start)
       where
         start : Project (λ b. 0) s₀
-        start = record { blocks = refl; size = refl; priv = λ b h. refl; mine = λ b w h o. refl; rest = λ w h. refl }
+        start = record { blocks = long; size = refl; priv = λ b h. refl; mine = λ b w h o. refl; rest = λ w h. refl }
