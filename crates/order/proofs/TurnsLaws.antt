@@ -58,6 +58,11 @@ pub names-of : (n : ℕ) (ts : List ℕ) → ((i : ℕ) → i < length ts → ge
 names-of n [] h = tt
 names-of n (t ∷ ts) h = (h 0 (omega arith), names-of n ts (λ i l. h (suc i) (omega arith)))
 
+pub names-at : (n : ℕ) (ts : List ℕ) → Names n ts → (i : ℕ) → i < length ts → getD ts i 0 < n
+names-at n [] h i l = absurd (omega arith)
+names-at n (t ∷ ts) h zero l = h .0
+names-at n (t ∷ ts) h (suc i) l = names-at n ts (h .1) i (omega arith)
+
 pub names-append : (n : ℕ) (ts us : List ℕ) → Names n ts → Names n us → Names n (ts ++ us)
 names-append n [] us h k = k
 names-append n (t ∷ ts) us h k = (h .0, names-append n ts us (h .1) k)
