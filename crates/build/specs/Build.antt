@@ -3,9 +3,9 @@
 use mathlib.Core.Path.{_≡_}
 use mathlib.Core.Bool.{true}
 use mathlib.Core.Option.{none}
-use mathlib.Core.List.{List, _++_}
+use mathlib.Core.List.{List}
 use Prim.Native.Nat.{ℕ, _+_, _*_, _/_, _≤_, _<_}
-use lib.ListN.{length}
+use lib.ListN.{length, take, drop}
 use Rattle.reads.specs.ReadSet.{pairsOf}
 use Rattle.reads.specs.Search.{lanesOf, longest}
 use Rattle.reads.specs.Outcome.{placed}
@@ -33,9 +33,10 @@ pub record Buildable (d : List ℕ) (p : ℕ) (b : Body) : Type 0 where
   pub tables : refusal13 d ≡ none
   pub reads : partReads 256 d p ≡ placed (partLanes 256 d p)
 
--- the room when a part's reads are found: the winners of its pins, and its lanes
-unfoldable pub foundRoom : List ℕ → ℕ → List ℕ
-foundRoom d p = wonPins 32768 d p ++ tableAfter 256 (lanesOf 256 (pairsOf (readWords d p)))
+-- the room when a part's reads are found: the winners of its pins, and behind them its lanes
+pub record FoundRoom (d : List ℕ) (p : ℕ) (room : List ℕ) : Type 0 where
+  pub pins : take 32768 room ≡ wonPins 32768 d p
+  pub lanes : drop 32768 room ≡ tableAfter 256 (lanesOf 256 (pairsOf (readWords d p)))
 
 -- the lanes of a set in a table, the number of their rounds, and room for their words and for where each pair's bits begin
 pub record ReadsRoom (set table : List ℕ) (rounds : ℕ) (bases out : List ℕ) : Type 0 where

@@ -14,7 +14,7 @@ ghost use Rattle.partreads.specs.Bases.{storeLanes};
 ghost use Rattle.partreads.specs.Entries.{Numbered};
 ghost use Rattle.script.specs.Script.{stageSection, partScript};
 ghost use Rattle.script.specs.Writers.{NumbersOf};
-ghost use Rattle.build.specs.Build.{Buildable, foundRoom, ReadsRoom, FrontRoom};
+ghost use Rattle.build.specs.Build.{Buildable, FoundRoom, ReadsRoom, FrontRoom};
 use partreads::asked::part_set;
 use partreads::entries::first_entries;
 use partreads::local::fill_bases;
@@ -40,7 +40,7 @@ fn find_reads(
 ) -> usize
     requires { ⌜ Buildable (now d) p body × SetRoom (length (now keys)) (length (now scratch)) (length (now set)) × (length (now room) ≡ 40960) ⌝ }
     ensures { λ r. ⌜ (r ≡ length (readWords (now (d .entry)) p)) × (r ≤ 16384) ⌝ }
-    ensures { λ _. ⌜ now (room .exit) ≡ foundRoom (now (d .entry)) p ⌝ }
+    ensures { λ _. ⌜ FoundRoom (now (d .entry)) p (now (room .exit)) ⌝ }
     ensures { λ _. ⌜ now (set .exit) ≡ sets (now (set .entry)) 0 (readWords (now (d .entry)) p) ⌝ }
     ensures { λ _. ⌜ AllNarrow (askedTo (now (d .entry)) p 8192) ⌝ }
 {
@@ -94,6 +94,7 @@ fn write_front(
 )
     requires { ⌜ Buildable (now d) p body × (rounds ≡ longest (partLanes 256 (now d) p)) × FrontRoom rounds (length (now room)) (length (now keys)) (length (now scratch)) (length (now set)) (length (now bases)) (length (now entries)) (length (now out)) ⌝ }
     ensures { λ _. ⌜ now (out .exit) ≡ readSection (partLanes 256 (now (d .entry)) p) ++ stageSection 256 (now (d .entry)) p 0 ⌝ }
+    ensures { λ _. ⌜ rounds ≤ 32 ⌝ }
 {
     let n = find_reads(d, p, body, room, keys, scratch, set);
     let reads = 512 * rounds;
@@ -105,6 +106,7 @@ fn write_front(
 fn build_front(d: &[u8], p: usize, body: Body, rounds: usize, room: &mut [u32], out: &mut [u32])
     requires { ⌜ Buildable (now d) p body × (rounds ≡ longest (partLanes 256 (now d) p)) × (length (now room) ≡ 40960) × (length (now out) ≡ 512 * rounds + 5120) ⌝ }
     ensures { λ _. ⌜ now (out .exit) ≡ readSection (partLanes 256 (now (d .entry)) p) ++ stageSection 256 (now (d .entry)) p 0 ⌝ }
+    ensures { λ _. ⌜ rounds ≤ 32 ⌝ }
 {
     let mut keys = [0u64; 8192];
     let mut scratch = [0u64; 8192];
