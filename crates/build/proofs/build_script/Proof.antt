@@ -49,20 +49,20 @@ build-front-requires c κs =
 slice-relend-prefix-write-script : tie.Need-slice-relend-prefix-write-script
 slice-relend-prefix-write-script c =
     let o = c .before .before .before .before .before .before .before .before .before .before .before in
-    omega (arith, still-wide (o .args .room .now) _ (o .pre .2) (c .before .before .before .before .build-front .kept .1 .1 .1 .1 .0), o .pre .2)
+    omega (arith, still-wide (o .args .room .now) (c .before .before .before .before .build-front .last .1 .1 .1 .1 .0) (o .pre .2) (c .before .before .before .before .build-front .kept .1 .1 .1 .1 .0), o .pre .2)
 
 slice-aggregate-write-script : tie.Need-slice-aggregate-write-script
 slice-aggregate-write-script c =
     let o = c .before .before .before .before .before .before .before .before .before .before .before .before in
-    sym (lent-size (o .args .room .now) _ (o .pre .2) (c .before .before .before .before .before .build-front .kept .1 .1 .1 .1 .0))
+    sym (lent-size (o .args .room .now) (c .before .before .before .before .before .build-front .last .1 .1 .1 .1 .0) (o .pre .2) (c .before .before .before .before .before .build-front .kept .1 .1 .1 .1 .0))
 
 write-script-requires : tie.Need-write-script-requires
 write-script-requires c κs =
     let o = c .before .before .before .before .before .before .before .before .before .before .before .before .before in
     let k = o .pre .0 in
     let f = c .before .before .before .before .before .before .build-front in
-    let lent = lent-size (o .args .room .now) _ (o .pre .2) (f .kept .1 .1 .1 .1 .0) in
-    (part-accepted _ _ _ k, script-room (o .args .d .now) (o .args .p) (o .args .body) k (o .args .x) (o .pre .1) (o .args .out .now) (o .pre .3) _ (f .ensures .0) _ (omega (arith, lent)) (f .ensures .1))
+    let lent = lent-size (o .args .room .now) (f .last .1 .1 .1 .1 .0) (o .pre .2) (f .kept .1 .1 .1 .1 .0) in
+    (part-accepted _ _ _ k, script-room (o .args .d .now) (o .args .p) (o .args .body) k (o .args .x) (o .pre .1) (o .args .out .now) (o .pre .3) (f .last .1 .1 .1 .1 .1 .0) (f .ensures .0) _ (omega (arith, lent)) (f .ensures .1))
 
 sub-clear : tie.Need-sub-clear
 sub-clear c = search needs
@@ -73,7 +73,7 @@ part-clear-start c = search needs
 part-clear-end : tie.Need-part-clear-end
 part-clear-end c =
     let o = c .before .before .before .before .before .before .before .before .before .before .before .before .before .before .before .before .before .before in
-    omega (arith, wide-after (o .args .room .now) _ (o .pre .2) (c .before .before .before .before .before .before .before .before .before .before .before .build-front .kept .1 .1 .1 .1 .0) _ (c .before .before .before .before .write-script .ensures .0), o .pre .2)
+    omega (arith, wide-after (o .args .room .now) (c .before .before .before .before .before .before .before .before .before .before .before .build-front .last .1 .1 .1 .1 .0) (o .pre .2) (c .before .before .before .before .before .before .before .before .before .before .before .build-front .kept .1 .1 .1 .1 .0) (c .before .before .before .before .write-script .last .1 .1 .1 .1 .0) (c .before .before .before .before .write-script .ensures .0), o .pre .2)
 
 clear-requires : tie.Need-clear-requires
 clear-requires c κs = search needs
@@ -81,18 +81,18 @@ clear-requires c κs = search needs
 same-length : tie.Need-same-length
 same-length c =
     let o = c .before .before .before .before .before .before .before .before .before .before .before .before .before .before .before .before .before .before .before .before .before .before in
-    room-length (o .args .room .now) _ (o .pre .2) (c .before .before .before .before .before .before .before .before .before .before .before .before .before .before .before .build-front .kept .1 .1 .1 .1 .0) _ (c .before .before .before .before .before .before .before .before .write-script .ensures .0) _ (c .before .before .clear .ensures)
+    room-length (o .args .room .now) (c .before .before .before .before .before .before .before .before .before .before .before .before .before .before .before .build-front .last .1 .1 .1 .1 .0) (o .pre .2) (c .before .before .before .before .before .before .before .before .before .before .before .before .before .before .before .build-front .kept .1 .1 .1 .1 .0) (c .before .before .before .before .before .before .before .before .write-script .last .1 .1 .1 .1 .0) (c .before .before .before .before .before .before .before .before .write-script .ensures .0) (c .before .before .clear .last .0) (c .before .before .clear .ensures)
 
 same-length-2 : tie.Need-same-length-2
 same-length-2 c =
     let o = c .before .before .before .before .before .before .before .before .before .before .before .before .before .before .before .before .before .before .before .before .before .before in
-    c .before .before .before .before .before .before .before .before .write-script .kept .1 .1 .1 .1 .1 .0 ∙ script-long (o .args .d .now) (o .args .p) (o .args .body) (o .pre .0) (o .args .x) (o .pre .1) (o .args .out .now) (o .pre .3) _ (c .before .before .before .before .before .before .before .before .before .before .before .before .before .before .before .build-front .ensures .0)
+    c .before .before .before .before .before .before .before .before .write-script .kept .1 .1 .1 .1 .1 .0 ∙ script-long (o .args .d .now) (o .args .p) (o .args .body) (o .pre .0) (o .args .x) (o .pre .1) (o .args .out .now) (o .pre .3) (c .before .before .before .before .before .before .before .before .before .before .before .before .before .before .before .build-front .last .1 .1 .1 .1 .1 .0) (c .before .before .before .before .before .before .before .before .before .before .before .before .before .before .before .build-front .ensures .0)
 
 returns : tie.Need-returns
 returns c =
     let o = c .before .before .before .before .before .before .before .before .before .before .before .before .before .before .before .before .before .before .before .before .before .before in
     let w = c .before .before .before .before .before .before .before .before .write-script in
-    (room-left (o .args .room .now) _ (o .pre .2) (c .before .before .before .before .before .before .before .before .before .before .before .before .before .before .before .build-front .kept .1 .1 .1 .1 .0) _ (w .ensures .0) _ (c .before .before .clear .ensures), w .ensures .1)
+    (room-left (o .args .room .now) (c .before .before .before .before .before .before .before .before .before .before .before .before .before .before .before .build-front .last .1 .1 .1 .1 .0) (o .pre .2) (c .before .before .before .before .before .before .before .before .before .before .before .before .before .before .before .build-front .kept .1 .1 .1 .1 .0) (w .last .1 .1 .1 .1 .0) (w .ensures .0) (c .before .before .clear .last .0) (c .before .before .clear .ensures), w .ensures .1)
 
 pub build-script-spec : {M : Type 1} → statement M
 build-script-spec =

@@ -18,7 +18,10 @@ find-reads-requires : tie.Need-find-reads-requires
 find-reads-requires c κs = search needs
 
 mul-reads : tie.Need-mul-reads
-mul-reads c = omega (arith, c .before .before .before .before .before .before .before .before .before .before .before .before .before .before .before .before .before .before .before .before .before .pre .2 .sections)
+mul-reads c =
+    let o = c .before .before .before .before .before .before .before .before .before .before .before .before .before .before .before .before .before .before .before .before .before in
+    let f = c .before .before .before .before .before .before .before .before .find-reads in
+    omega (arith, rounds-few (o .args .d .now) (o .args .p) (o .args .body) (o .pre .0) (f .ensures .1 .1 .1) _ (f .ensures .1 .0) (f .kept .1 .1 .1 .0 ∙ o .pre .2 .found) (o .args .set .now) _ _ (f .ensures .0) (f .ensures .1 .1 .0) (o .pre .2 .reads .set-room) (o .args .rounds) (o .pre .1))
 
 slice-reshare-prefix-write-reads : tie.Need-slice-reshare-prefix-write-reads
 slice-reshare-prefix-write-reads c = search needs
@@ -83,13 +86,13 @@ sub-write-first : tie.Need-sub-write-first
 sub-write-first c =
     let o = c .before .before .before .before .before .before .before .before .before .before .before .before .before .before .before .before .before .before .before .before .before .before .before .before .before .before .before .before .before .before .before .before .before .before .before in
     let w = c .before .before .before .before .before .before .before .before .write-reads in
-    omega (arith, front-length (o .args .rounds) (o .args .out .now) (o .pre .2 .sections) _ (w .kept .1 .1 .1 .1 .0))
+    omega (arith, front-length (o .args .rounds) (o .args .out .now) (o .pre .2 .sections) (w .last .1 .1 .1 .1 .0) (w .kept .1 .1 .1 .1 .0))
 
 part-write-first-start : tie.Need-part-write-first-start
 part-write-first-start c =
     let o = c .before .before .before .before .before .before .before .before .before .before .before .before .before .before .before .before .before .before .before .before .before .before .before .before .before .before .before .before .before .before .before .before .before .before .before in
     let w = c .before .before .before .before .before .before .before .before .write-reads in
-    omega (arith, front-length (o .args .rounds) (o .args .out .now) (o .pre .2 .sections) _ (w .kept .1 .1 .1 .1 .0))
+    omega (arith, front-length (o .args .rounds) (o .args .out .now) (o .pre .2 .sections) (w .last .1 .1 .1 .1 .0) (w .kept .1 .1 .1 .1 .0))
 
 part-write-first-end : tie.Need-part-write-first-end
 part-write-first-end c = search needs
@@ -103,7 +106,7 @@ write-first-requires c κs =
       pins-won-there (o .args .d .now) (o .args .p) (o .args .body) (o .pre .0) (f .ensures .1 .1 .1) _ (f .ensures .1 .0) (f .kept .1 .1 .1 .0 ∙ o .pre .2 .found) (o .args .set .now) _ _ (f .ensures .0) (f .ensures .1 .1 .0) (o .pre .2 .reads .set-room),
       pairs-numbered (o .args .d .now) (o .args .p) (o .args .body) (o .pre .0) (f .ensures .1 .1 .1) _ (f .ensures .1 .0) (f .kept .1 .1 .1 .0 ∙ o .pre .2 .found) (o .args .set .now) _ _ (f .ensures .0) (f .ensures .1 .1 .0) (o .pre .2 .reads .set-room) (o .args .bases .now) _ (o .pre .2 .pairs) (w .ensures .0),
       o .pre .2 .slots,
-      first-length (o .args .rounds) (o .args .out .now) (o .pre .2 .sections) _ (w .kept .1 .1 .1 .1 .0),
+      first-length (o .args .rounds) (o .args .out .now) (o .pre .2 .sections) (w .last .1 .1 .1 .1 .0) (w .kept .1 .1 .1 .1 .0),
     )
 
 same-length : tie.Need-same-length
@@ -132,7 +135,7 @@ returns c =
     let o = c .before .before .before .before .before .before .before .before .before .before .before .before .before .before .before .before .before .before .before .before .before .before .before .before .before .before .before .before .before .before .before .before .before .before .before .before .before .before .before .before .before in
     let f = c .before .before .before .before .before .before .before .before .before .before .before .before .before .before .before .before .before .before .before .before .before .before .before .before .before .before .before .before .find-reads in
     let w = c .before .before .before .before .before .before .before .before .before .before .before .before .before .before .write-reads in
-    let z = c .before .before .write-first in
+    let z = c .before .before .before .before .write-first in
     let size = w .kept .1 .1 .1 .1 .0 ∙ length-take-le (512 * o .args .rounds) (o .args .out .now) (omega (arith, o .pre .2 .sections)) in
     let lanes = lanes-are (o .args .d .now) (o .args .p) (o .args .body) (o .pre .0) (f .ensures .1 .1 .1) _ (f .ensures .1 .0) (f .kept .1 .1 .1 .0 ∙ o .pre .2 .found) (o .args .set .now) _ _ (f .ensures .0) (f .ensures .1 .1 .0) (o .pre .2 .reads .set-room) in (
       two-parts (512 * o .args .rounds) (o .args .out .now) (w .last .1 .1 .1 .1 .0) _ size ∙ ap₂ _++_ (w .ensures .1 ∙ ap readSection lanes) (z .ensures),
