@@ -99,10 +99,19 @@ fn write_front(
     let n = find_reads(d, p, body, room, keys, scratch, set);
     let reads = 512 * rounds;
     write_reads(&set[..n], &room[32768..], rounds, bases, &mut out[..reads]);
-    write_first(d, p, body, &room[..32768], &set[..n], bases, entries, &mut out[reads..]);
+    write_first(
+        d,
+        p,
+        body,
+        &room[..32768],
+        &set[..n],
+        bases,
+        entries,
+        &mut out[reads..],
+    );
 }
 
-// The same, with lists of its own.
+// The same, with lists of its own: 256 KiB of them.
 fn build_front(d: &[u8], p: usize, body: Body, rounds: usize, room: &mut [u32], out: &mut [u32])
     requires { ⌜ Buildable (now d) p body × (rounds ≡ longest (partLanes 256 (now d) p)) × (length (now room) ≡ 40960) × (length (now out) ≡ 512 * rounds + 5120) ⌝ }
     ensures { λ _. ⌜ now (out .exit) ≡ readSection (partLanes 256 (now (d .entry)) p) ++ stageSection 256 (now (d .entry)) p 0 ⌝ }
@@ -129,17 +138,10 @@ fn build_front(d: &[u8], p: usize, body: Body, rounds: usize, room: &mut [u32], 
 }
 
 // Writes the script of part p. The first 65536 words of the room are zero afterwards, the others as they were.
-pub fn build_script(
-    d: &[u8],
-    p: usize,
-    body: Body,
-    x: Numbers,
-    room: &mut [u32],
-    out: &mut [u32],
-)
+pub fn build_script(d: &[u8], p: usize, body: Body, x: Numbers, room: &mut [u32], out: &mut [u32])
     requires { ⌜ Buildable (now d) p body × NumbersOf (now d) p x × (65536 ≤ length (now room)) × (length (now out) ≡ partWords 256 (x .rounds) (x .stages)) ⌝ }
-    ensures { λ _. ⌜ now (room .exit) ≡ replicate 65536 0 ++ drop 65536 (now (room .entry)) ⌝ }
     ensures { λ _. ⌜ now (out .exit) ≡ partScript 256 (now (d .entry)) p (x .last) (x .state) (x .sram) ⌝ }
+    ensures { λ _. ⌜ now (room .exit) ≡ replicate 65536 0 ++ drop 65536 (now (room .entry)) ⌝ }
 {
     let rounds = x.rounds as usize;
     let to = 256 + 512 * rounds + 5120;

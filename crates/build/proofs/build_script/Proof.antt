@@ -1,9 +1,7 @@
 -- The read section and the first stage are written before the rest; the room is cleared.
 -- Assumes nothing.
 use mathlib.Core.Path.{sym, _∙_}
-use Prim.Native.Nat.{_≤_}
 use native.Mathlib.Omega.{arith}
-use lib.ListN.{length}
 use lib.Seq.{length-take-le}
 use Rattle.build.proofs.BuildLaws.{part-accepted, front-room, script-room, script-long, still-wide, lent-size, wide-after, room-left, room-length}
 use borrow.Author.Needs.{needs}
@@ -92,7 +90,7 @@ returns : tie.Need-returns
 returns c =
     let o = c .before .before .before .before .before .before .before .before .before .before .before .before .before .before .before .before .before .before .before .before .before .before in
     let w = c .before .before .before .before .before .before .before .before .write-script in
-    (room-left (o .args .room .now) (c .before .before .before .before .before .before .before .before .before .before .before .before .before .before .before .build-front .last .1 .1 .1 .1 .0) (o .pre .2) (c .before .before .before .before .before .before .before .before .before .before .before .before .before .before .before .build-front .kept .1 .1 .1 .1 .0) (w .last .1 .1 .1 .1 .0) (w .ensures .0) (c .before .before .clear .last .0) (c .before .before .clear .ensures), w .ensures .1)
+    (w .ensures .1, room-left (o .args .room .now) (c .before .before .before .before .before .before .before .before .before .before .before .before .before .before .before .build-front .last .1 .1 .1 .1 .0) (o .pre .2) (c .before .before .before .before .before .before .before .before .before .before .before .before .before .before .before .build-front .kept .1 .1 .1 .1 .0) (w .last .1 .1 .1 .1 .0) (w .ensures .0) (c .before .before .clear .last .0) (c .before .before .clear .ensures))
 
 pub build-script-spec : {M : Type 1} → statement M
 build-script-spec =

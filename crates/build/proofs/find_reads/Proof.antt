@@ -85,9 +85,11 @@ returns c =
     let r = c .before .before .before .before .before .before .before .before .before .before .before .before .before .before .before .before .before .part-set in
     let s = c .before .before .before .before .before .before .search-set in
     let front = set-front (o .args .d .now) (o .args .p) (o .args .set .now) _ _ (r .ensures .0) (r .ensures .1 .0) (o .pre .1 .set-room) in (
-      r .ensures .0, (
-      found-room (o .args .d .now) (o .args .p) (o .args .room .now) (o .pre .2) _ (c .before .before .before .before .before .before .before .before .before .before .before .before .before .before .before .before .before .before .before .before .before .before .before .before .fill-pins .ensures) (s .last .1 .0) (s .kept .1 .0) _ front (s .ensures .1),
-      r .ensures .1),
+      r .ensures .0,
+      (
+        found-room (o .args .d .now) (o .args .p) (o .args .room .now) (o .pre .2) _ (c .before .before .before .before .before .before .before .before .before .before .before .before .before .before .before .before .before .before .before .before .before .before .before .before .fill-pins .ensures) (s .last .1 .0) (s .kept .1 .0) _ front (s .ensures .1),
+        r .ensures .1,
+      ),
     )
 
 pub find-reads-spec : {M : Type 1} → statement M
