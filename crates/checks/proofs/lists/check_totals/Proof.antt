@@ -1,3 +1,7 @@
+-- `checks::lists::check_totals` meets its contract.
+-- Assumes nothing.
+use Rattle.checks.specs.Steps.{totalRefusal}
+use Rattle.checks.proofs.VerdictLaws.{unless-told}
 use borrow.Author.Needs.{needs}
 use Rattle.checks.proofs.lists.check_totals.Statement.{statement}
 use Rattle.checks.proofs.lists.check_totals.Tie as tie
@@ -16,7 +20,8 @@ same-length c = search needs
 
 -- src/lists.rt:35:1
 returns : tie.Need-returns
-returns c = ?
+unfolding totalRefusal
+returns c = (unless-told 8 _ _ _ (c .before .before .before .allot .ensures .0) (c .of-test .ensures), c .before .before .before .allot .ensures .1 .0)
 
 pub check-totals-spec : {M : Type 1} → statement M
 check-totals-spec = tie.close (tie.spec allot-requires of-test-requires same-length returns)

@@ -1,3 +1,5 @@
+-- `checks::tell::of_gates` meets its contract.
+-- Assumes nothing.
 use borrow.Author.Needs.{needs}
 use Rattle.checks.proofs.tell.of_gates.Statement.{statement}
 use Rattle.checks.proofs.tell.of_gates.Tie as tie
@@ -24,7 +26,7 @@ returns c = search needs
 
 -- src/tell.rt:50:1
 returns-2 : tie.Need-returns-2
-returns-2 c = ?
+returns-2 c = rw (c .before .before .list .given .1) (c .refuse .ensures)
 
 pub of-gates-spec : {M : Type 1} → statement M
 of-gates-spec =
