@@ -35,11 +35,11 @@ stores-is : (W : List ℕ) (o w : ℕ) → storesAt W o w ≡ true → Stores W 
 unfolding storesAt
 stores-is W o w h =
     let (a, b) = and-true (leb (startAt W o) w) (ltb w (startAt W o + normalAt W o)) h in
-    record { from = leb-true _ _ a; until = ltb-true _ _ b }
+    record { from = leb-true _ _ a; until = omega (arith, ltb-true w (startAt W o + normalAt W o) b) }
 
 is-stores : (W : List ℕ) (o w : ℕ) → Stores W o w → storesAt W o w ≡ true
 unfolding storesAt
-is-stores W o w h = true-and _ _ (le-leb _ _ (h .from)) (lt-ltb _ _ (h .until))
+is-stores W o w h = true-and _ _ (le-leb _ _ (h .from)) (lt-ltb w (startAt W o + normalAt W o) (omega (arith, h .until)))
 
 -- a store turn leaves the other words
 store-other : (W : List ℕ) (o : ℕ) (m caps : List ℕ) (w : ℕ) → length caps ≡ normalAt W o → (Stores W o w → ⊥) → getD (sets m (startAt W o) caps) w 0 ≡ getD m w 0
@@ -142,7 +142,7 @@ module _ (n L : ℕ) (W starts : List ℕ) (s t : ℕ) (old new : List ℕ) (B :
   -- ---- the read turn and the store turn of a part
 
   row-is : (b i o : ℕ) → Part b i o → (k k′ : List ℕ) → Same B k k′ → readRow n W o old k ≡ readRow n W o old k′
-  row-is b i o q k k′ S = row-same n W o old k k′ (λ r l hr hl hm hw. S .below _ (laid .apart .reads b i o q r l hr hl hm hw))
+  row-is b i o q k k′ S = row-same n W o old k k′ (λ r l hr hl hm hw. S .below _ (omega (arith, laid .apart .reads b i o q r l hr hl hm hw)))
 
   length-caps : (o : ℕ) → length (caps o) ≡ normalAt W o
   length-caps o = caps-length n L W o (readRow n W o old new) (stagesAt W o)
