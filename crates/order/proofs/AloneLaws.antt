@@ -1,28 +1,28 @@
--- The blocks of one major stage: whatever the order of their turns, once none is left each part's words hold what the part captured (`stored`), and
--- words that no part stores stay (`untouched`). So all orders leave one new state (`in-any-order`).
+-- A block alone: its parts one after the other, each read, worked and stored, and what its words hold by then. Its turns see words below B alone and
+-- write words of its own alone, so a run's turns leave each block as if it had been alone (`ran`).
 -- Assumes nothing.
-use mathlib.Core.Path.{_≡_, refl, sym, ap, ap₂, _∙_, subst}
+use mathlib.Core.Path.{_≡_, refl, sym, ap, _∙_, subst}
 use mathlib.Core.Bool.{Bool, true, false, _&&_}
-use mathlib.Core.List.{List, [], _∷_, _++_}
+use mathlib.Core.List.{List, [], _∷_}
 use mathlib.Core.Logic.{_⊎_, inl, inr, ⊎-elim}
 use mathlib.Core.Option.{none}
-use Prim.Native.Nat.{ℕ, zero, suc, _+_, _-_, _^_, _≤_, _<_}
+use Prim.Native.Nat.{ℕ, zero, suc, _+_, _-_, _≤_, _<_}
 use native.Mathlib.Nat.{add-zero, zero-add}
 use native.Mathlib.Omega.{arith}
 use borrow.Author.Tests.{leb-true, ltb-true, le-leb, lt-ltb, eq-eqb, ne-eqb}
-use lib.Dec.{leb, ltb, eqb}
-use lib.ListN.{length, getD, set, replicate}
-use lib.Seq.{ext-getD, sets, length-sets}
+use lib.Dec.{leb, ltb}
+use lib.ListN.{length, getD}
+use lib.Seq.{sets, length-sets}
 use Rattle.words.proofs.BitLaws.{lt-or-ge}
 use Rattle.record.specs.Tests.{someBelow}
-use Rattle.record.proofs.TestLaws.{and-true, true-and, not-both, some-found, some-at, not-none}
-use Rattle.machine.specs.Part.{stagesAt, lastAt, startAt, normalAt, endAt, roundsAt, readWordAt, readMaskAt}
-use Rattle.machine.specs.Turn.{readRow, Block, begins, ended, stored, turned, written}
-use Rattle.machine.specs.Run.{Running, blocksFrom, step, runFrom, runTurns, turnsFrom, turnsAfter, turnsLeft, allLeft, badBlock, badTurn}
-use Rattle.order.specs.Order.{partsFrom, partsAt, capsAfter, capturedBy, blockTurns, oneAfterAnother, Stores, PartAt, Apart}
+use Rattle.record.proofs.TestLaws.{and-true, true-and, not-both, some-found, some-at}
+use Rattle.machine.specs.Part.{stagesAt, lastAt, startAt, normalAt, endAt}
+use Rattle.machine.specs.Turn.{readRow, Block, begins, ended}
+use Rattle.machine.specs.Run.{Running, blocksFrom, step, runFrom, runTurns, turnsFrom, turnsAfter, turnsLeft, badBlock}
+use Rattle.order.specs.Order.{partsFrom, partsAt, capturedBy, blockTurns, Stores, PartAt, Apart}
 use Rattle.order.proofs.FormLaws.{Formed, Chain, form-chain, part-first, Ith, ith-part, after-last, after-more, turns-split}
 use Rattle.order.proofs.StoreLaws.{sets-other, sets-same}
-use Rattle.order.proofs.TurnsLaws.{Same, count, count-append, count-replicate, Names, names-of, names-append, names-replicate, Independent, Project}
+use Rattle.order.proofs.TurnsLaws.{Same, count, Names, Independent, Project}
 use Rattle.order.proofs.TurnsLaws as Turns
 use Rattle.order.proofs.BlockLaws.{row-same, staged, caps-length, empty-phase, ended-phase, turnOf, putOf, turn-read, put-read, turn-stage, put-stage, turn-store, turn-last, turn-more, put-store, turn-none, put-none, leftOf, left-read, left-stage, left-none, written-size}
 
@@ -35,11 +35,11 @@ stores-is : (W : List ℕ) (o w : ℕ) → storesAt W o w ≡ true → Stores W 
 unfolding storesAt
 stores-is W o w h =
     let (a, b) = and-true (leb (startAt W o) w) (ltb w (startAt W o + normalAt W o)) h in
-    record { from = leb-true _ _ a; until = ltb-true _ _ b }
+    record { from = leb-true _ _ a; until = omega (arith, ltb-true w (startAt W o + normalAt W o) b) }
 
 is-stores : (W : List ℕ) (o w : ℕ) → Stores W o w → storesAt W o w ≡ true
 unfolding storesAt
-is-stores W o w h = true-and _ _ (le-leb _ _ (h .from)) (lt-ltb _ _ (h .until))
+is-stores W o w h = true-and _ _ (le-leb _ _ (h .from)) (lt-ltb w (startAt W o + normalAt W o) (omega (arith, h .until)))
 
 -- a store turn leaves the other words
 store-other : (W : List ℕ) (o : ℕ) (m caps : List ℕ) (w : ℕ) → length caps ≡ normalAt W o → (Stores W o w → ⊥) → getD (sets m (startAt W o) caps) w 0 ≡ getD m w 0
@@ -91,8 +91,8 @@ module _ (n L : ℕ) (W starts : List ℕ) (s t : ℕ) (old new : List ℕ) (B :
   ith b i h l = ⊎-elim
       (λ e. absurd (omega (arith, empty-parts b e)))
       (λ c.
-        let e = some-parts b (chain-formed (length W) (getD starts b 0) c .0 .stages) in
-        subst (λ os. Ith n W t os (length W) i) (sym e) (ith-part n W t (length W) (getD starts b 0) i c (subst (λ os. i < length os) e l)))
+      let e = some-parts b (chain-formed (length W) (getD starts b 0) c .0 .stages) in
+      subst (λ os. Ith n W t os (length W) i) (sym e) (ith-part n W t (length W) (getD starts b 0) i c (subst (λ os. i < length os) e l)))
       (form-chain n W starts s t b (laid .form) h)
 
   -- the i-th part of block b is its last, or there is a next one, at its end
@@ -110,10 +110,10 @@ module _ (n L : ℕ) (W starts : List ℕ) (s t : ℕ) (old new : List ℕ) (B :
         next = ⊎-elim
             (λ e. inl (e, I .ends e))
             (λ e.
-              let (more, at) = I .goes e in
-              let J = ith b (suc i) (q .block) more in
-              let split = turns-split n W t (J .fuel) (getD (partsOf b) (suc i) 0) (J .chain) (J .fewer) in
-              inr (e, record { block = q .block; inside = more; at = at }, after-more n W t _ e ∙ subst (λ x. turnsFrom n W (length W) x ≡ stagesAt W x + 2 + turnsAfter n W x) (sym at) split))
+            let (more, at) = I .goes e in
+            let J = ith b (suc i) (q .block) more in
+            let split = turns-split n W t (J .fuel) (getD (partsOf b) (suc i) 0) (J .chain) (J .fewer) in
+            inr (e, record { block = q .block; inside = more; at = at }, after-more n W t _ e ∙ subst (λ x. turnsFrom n W (length W) x ≡ stagesAt W x + 2 + turnsAfter n W x) (sym at) split))
             last;
       })
 
@@ -142,7 +142,7 @@ module _ (n L : ℕ) (W starts : List ℕ) (s t : ℕ) (old new : List ℕ) (B :
   -- ---- the read turn and the store turn of a part
 
   row-is : (b i o : ℕ) → Part b i o → (k k′ : List ℕ) → Same B k k′ → readRow n W o old k ≡ readRow n W o old k′
-  row-is b i o q k k′ S = row-same n W o old k k′ (λ r l hr hl hm hw. S .below _ (laid .apart .reads b i o q r l hr hl hm hw))
+  row-is b i o q k k′ S = row-same n W o old k k′ (λ r l hr hl hm hw. S .below _ (omega (arith, laid .apart .reads b i o q r l hr hl hm hw)))
 
   length-caps : (o : ℕ) → length (caps o) ≡ normalAt W o
   length-caps o = caps-length n L W o (readRow n W o old new) (stagesAt W o)
@@ -201,7 +201,7 @@ module _ (n L : ℕ) (W starts : List ℕ) (s t : ℕ) (old new : List ℕ) (B :
   write p k = putOf n L W old p k
 
   abbrev left : Block → ℕ
-  left p = leftOf n L W p
+  left p = leftOf n W p
 
   -- after j stages: a stage, or the store turn
   stage-or-store : (b i o j : ℕ) → Part b i o → j ≤ stagesAt W o → Now b i (staging o j)
@@ -217,9 +217,9 @@ module _ (n L : ℕ) (W starts : List ℕ) (s t : ℕ) (old new : List ℕ) (B :
   put-held b i o k q S H j e l r h g = ⊎-elim
       (λ d. put-other o (startAt W e + l) k (λ st. omega (arith, laid .apart .apart b i o b j e _ q r st (record { from = omega arith; until = omega arith }) .1)) ∙ H j e l r d g)
       (λ d.
-        let is : j ≡ i = omega arith in
-        let at : e ≡ o = r .at ∙ ap (λ (x : ℕ). getD (partsOf b) x 0) is ∙ sym (q .at) in
-        subst (λ x. getD (put o k) (startAt W x + l) 0 ≡ getD (caps x) l 0) (sym at) (put-same b i o l k q (same-new k S) (subst (λ x. l < normalAt W x) at g)))
+      let is : j ≡ i = omega arith in
+      let at : e ≡ o = r .at ∙ ap (λ (x : ℕ). getD (partsOf b) x 0) is ∙ sym (q .at) in
+      subst (λ x. getD (put o k) (startAt W x + l) 0 ≡ getD (caps x) l 0) (sym at) (put-same b i o l k q (same-new k S) (subst (λ x. l < normalAt W x) at g)))
       (lt-or-ge j i)
 
   put-below : (b i o : ℕ) (k : List ℕ) → Part b i o → Same B k new → Same B (put o k) new
@@ -248,14 +248,14 @@ module _ (n L : ℕ) (W starts : List ℕ) (s t : ℕ) (old new : List ℕ) (B :
   -- after the store turn: finished, or at the next part
   turn-puts : (b i o : ℕ) (p : Block) (k : List ℕ) → Part b i o → p ≡ staging o (stagesAt W o) → Now b (suc i) (turn p k)
   turn-puts b i o p k q e = ⊎-elim
-      (λ x. rests (ap (λ y. turn y k .phase) e ∙ ap (λ y. y .phase) (turn-last n L W old o _ k (x .0)) ∙ ended-phase n L W o) (omega arith))
+      (λ x. rests (ap (λ y. turn y k .phase) e ∙ ap (λ y. y .phase) (turn-last n L W old o _ k (x .0)) ∙ ended-phase o) (omega arith))
       (λ x. reads (endAt n W o) (x .1) (ap (λ y. turn y k) e ∙ turn-more n L W old o _ k (x .0)))
       (known b i o q .next)
 
   left-puts : (b i o : ℕ) (p : Block) (k : List ℕ) → Part b i o → p ≡ staging o (stagesAt W o) → left (turn p k) ≡ turnsAfter n W o
   left-puts b i o p k q e = ap (λ x. left (turn x k)) e ∙ ⊎-elim
-      (λ x. ap left (turn-last n L W old o _ k (x .0)) ∙ left-none n L W (ended o) (ended-phase n L W o) ∙ sym (after-last n W t o (x .0)))
-      (λ x. ap left (turn-more n L W old o _ k (x .0)) ∙ left-read n L W (endAt n W o) (known b (suc i) (endAt n W o) (x .1) .formed .stages) ∙ sym (x .2))
+      (λ x. ap left (turn-last n L W old o _ k (x .0)) ∙ left-none n W (ended o) (ended-phase o) ∙ sym (after-last n W t o (x .0)))
+      (λ x. ap left (turn-more n L W old o _ k (x .0)) ∙ left-read n W (endAt n W o) (known b (suc i) (endAt n W o) (x .1) .formed .stages) ∙ sym (x .2))
       (known b i o q .next)
 
   -- ---- a block's turn keeps what is known of it, sees words below B alone, and writes its own words alone
@@ -306,7 +306,7 @@ module _ (n L : ℕ) (W starts : List ℕ) (s t : ℕ) (old new : List ℕ) (B :
       go (rests e h) = rw (put-none n L W old p k e)
 
   turn-size : (p : Block) (k : List ℕ) → length (write p k) ≡ length k
-  turn-size p k = written-size n L W old (p .phase) p k
+  turn-size p k = written-size W (p .phase) p k
 
   -- one turn fewer is left
   turn-falls : (b : ℕ) (p : Block) (k : List ℕ) → Ok b p k → left (turn p k) ≡ left p - 1
@@ -316,11 +316,11 @@ module _ (n L : ℕ) (W starts : List ℕ) (s t : ℕ) (old new : List ℕ) (B :
       go (reads o q e) =
           ap left (turn-reads b (a .index) o p k q e)
           ∙ left-stage n L W o _ 0 (omega arith)
-          ∙ omega (arith, ap left e ∙ left-read n L W o (known b (a .index) o q .formed .stages))
+          ∙ omega (arith, ap left e ∙ left-read n W o (known b (a .index) o q .formed .stages))
       go (works o j q h e) =
           ap left (turn-works o j p k h e) ∙ left-stage n L W o _ (suc j) h ∙ omega (arith, ap left e ∙ left-stage n L W o _ j (omega arith))
       go (puts o q e) = left-puts b (a .index) o p k q e ∙ omega (arith, ap left e ∙ left-stage n L W o _ (stagesAt W o) (omega arith))
-      go (rests e h) = ap left (turn-none n L W old p k e) ∙ omega (arith, left-none n L W p e)
+      go (rests e h) = ap left (turn-none n L W old p k e) ∙ omega (arith, left-none n W p e)
 
   independent : Independent Block (ended 0) turn write m Ok own B left
   independent = record {
@@ -336,7 +336,7 @@ module _ (n L : ℕ) (W starts : List ℕ) (s t : ℕ) (old new : List ℕ) (B :
 
   -- nothing left: each of its parts has stored
   rests-of : (b i : ℕ) (p : Block) → Now b i p → left p ≡ 0 → length (partsOf b) ≤ i
-  rests-of b i p (reads o q e) z = absurd (omega (arith, ap left e ∙ left-read n L W o (known b i o q .formed .stages)))
+  rests-of b i p (reads o q e) z = absurd (omega (arith, ap left e ∙ left-read n W o (known b i o q .formed .stages)))
   rests-of b i p (works o j q h e) z = absurd (omega (arith, ap left e ∙ left-stage n L W o _ j (omega arith)))
   rests-of b i p (puts o q e) z = absurd (omega (arith, ap left e ∙ left-stage n L W o _ (stagesAt W o) (omega arith)))
   rests-of b i p (rests e h) z = h
@@ -362,11 +362,11 @@ module _ (n L : ℕ) (W starts : List ℕ) (s t : ℕ) (old new : List ℕ) (B :
 
   start-now : (b : ℕ) → b < m → Now b 0 (begins W (getD starts b 0))
   start-now b h = ⊎-elim
-      (λ e. rests (empty-phase n L W (getD starts b 0) e) (omega (arith, empty-parts b e)))
+      (λ e. rests (empty-phase W (getD starts b 0) e) (omega (arith, empty-parts b e)))
       (λ c.
-        let is = some-parts b (chain-formed (length W) (getD starts b 0) c .0 .stages) in
-        let (some, at) = part-first n W t (length W) (getD starts b 0) c in
-        reads (getD starts b 0) (record { block = h; inside = subst (λ os. 0 < length os) (sym is) some; at = subst (λ os. getD starts b 0 ≡ getD os 0 0) (sym is) at }) refl)
+      let is = some-parts b (chain-formed (length W) (getD starts b 0) c .0 .stages) in
+      let (some, at) = part-first n W t (length W) (getD starts b 0) c in
+      reads (getD starts b 0) (record { block = h; inside = subst (λ os. 0 < length os) (sym is) some; at = subst (λ os. getD starts b 0 ≡ getD os 0 0) (sym is) at }) refl)
       (form-chain n W starts s t b (laid .form) h)
 
   start-ok : (b : ℕ) → b < m → Ok b (getD (starting .0) b (ended 0)) (starting .1)

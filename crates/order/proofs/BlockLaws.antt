@@ -7,7 +7,7 @@ use mathlib.Core.Logic.{⊎-elim}
 use Prim.Native.Nat.{ℕ, zero, suc, _+_, _-_, _^_, _≤_, _<_}
 use native.Mathlib.Numerals.{add-one}
 use native.Mathlib.Omega.{arith}
-use borrow.Author.Tests.{ltb-false, eqb-true, eqb-false, eq-eqb, ne-eqb}
+use borrow.Author.Tests.{ltb-false, eq-eqb, ne-eqb}
 use lib.Dec.{ltb, eqb}
 use lib.ListN.{length, getD, length-replicate}
 use lib.Seq.{sets, length-sets}
@@ -48,6 +48,42 @@ pub row-same : (n : ℕ) (W : List ℕ) (o : ℕ) (old m m′ : List ℕ)
 unfolding readRow
 row-same n W o old m m′ h = listOf-ext _ _ n (λ l k. lane-ext _ _ _ (roundsAt W o) (λ r j g. window-same old m m′ (readWordAt n W o r l) (h r l j k g)))
 
+-- ---- phases
+
+module _ (W : List ℕ) where
+  begins-phase : (o : ℕ) → 1 ≤ stagesAt W o → begins W o .phase ≡ 0
+  unfolding begins
+  begins-phase o h = rw (ne-eqb (stagesAt W o) 0 (λ e. omega arith), begins)
+
+  pub empty-phase : (o : ℕ) → stagesAt W o ≡ 0 → begins W o .phase ≡ 3
+  unfolding begins
+  empty-phase o h = rw (eq-eqb (stagesAt W o) 0 h, begins)
+
+  pub written-size : (f : ℕ) (p : Block) (m : List ℕ) → length (written W f p m) ≡ length m
+  unfolding written stored
+  written-size zero p m = refl
+  written-size (suc zero) p m = refl
+  written-size (suc (suc zero)) p m = length-sets m (startAt W (p .part)) (p .caps)
+  written-size (suc (suc (suc f))) p m = refl
+
+pub ended-phase : (o : ℕ) → ended o .phase ≡ 3
+unfolding ended
+ended-phase o = refl
+
+-- ---- turns left
+
+module _ (n : ℕ) (W : List ℕ) where
+  abbrev pub leftOf : Block → ℕ
+  leftOf p = turnsLeft n W (p .phase) p
+
+  pub left-read : (o : ℕ) → 1 ≤ stagesAt W o → leftOf (begins W o) ≡ stagesAt W o + 2 + turnsAfter n W o
+  unfolding turnsLeft begins
+  left-read o h = ap (λ f. turnsLeft n W f (begins W o)) (begins-phase W o h)
+
+  pub left-none : (p : Block) → p .phase ≡ 3 → leftOf p ≡ 0
+  unfolding turnsLeft
+  left-none p e = ap (λ f. turnsLeft n W f p) e
+
 -- ---- the stages
 
 module _ (n L : ℕ) (W : List ℕ) where
@@ -66,19 +102,7 @@ module _ (n L : ℕ) (W : List ℕ) where
   caps-length o row zero = length-replicate (normalAt W o) 0
   caps-length o row (suc k) = captured-length n W o k _ _
 
-  -- ---- phases
-
-  begins-phase : (o : ℕ) → 1 ≤ stagesAt W o → begins W o .phase ≡ 0
-  unfolding begins
-  begins-phase o h = rw (ne-eqb (stagesAt W o) 0 (λ e. omega arith), begins)
-
-  pub empty-phase : (o : ℕ) → stagesAt W o ≡ 0 → begins W o .phase ≡ 3
-  unfolding begins
-  empty-phase o h = rw (eq-eqb (stagesAt W o) 0 h, begins)
-
-  pub ended-phase : (o : ℕ) → ended o .phase ≡ 3
-  unfolding ended
-  ended-phase o = refl
+  -- ---- its phase
 
   staged-phase : (o : ℕ) (row : List ℕ) (k : ℕ) → k < stagesAt W o → staged o row k .phase ≡ 1
   unfolding staged
@@ -87,6 +111,13 @@ module _ (n L : ℕ) (W : List ℕ) where
   all-phase : (o : ℕ) (row : List ℕ) → staged o row (stagesAt W o) .phase ≡ 2
   unfolding staged
   all-phase o row = rw (eq-eqb (stagesAt W o) (stagesAt W o) refl, staged)
+
+  pub left-stage : (o : ℕ) (row : List ℕ) (k : ℕ) → k ≤ stagesAt W o → leftOf n W (staged o row k) ≡ stagesAt W o - k + 1 + turnsAfter n W o
+  unfolding turnsLeft staged
+  left-stage o row k h = ⊎-elim
+      (λ l. ap (λ f. turnsLeft n W f (staged o row k)) (staged-phase o row k l))
+      (λ l. let e : k ≡ stagesAt W o = omega arith in rw e (ap (λ f. turnsLeft n W f (staged o row (stagesAt W o))) (all-phase o row) ∙ omega arith))
+      (lt-or-ge k (stagesAt W o))
 
   -- ---- turns
 
@@ -100,11 +131,11 @@ module _ (n L : ℕ) (W : List ℕ) where
 
     pub turn-read : (o : ℕ) (m : List ℕ) → 1 ≤ stagesAt W o → turnOf (begins W o) m ≡ staged o (readRow n W o old m) 0
     unfolding turned afterRead staged begins rowAfter capsAfter
-    turn-read o m h = ap (λ f. turned n L W old f (begins W o) m) (begins-phase o h) ∙ rw (ne-eqb 0 (stagesAt W o) (λ e. omega arith))
+    turn-read o m h = ap (λ f. turned n L W old f (begins W o) m) (begins-phase W o h) ∙ rw (ne-eqb 0 (stagesAt W o) (λ e. omega arith))
 
     pub put-read : (o : ℕ) (m : List ℕ) → 1 ≤ stagesAt W o → putOf (begins W o) m ≡ m
     unfolding written
-    put-read o m h = ap (λ f. written W f (begins W o) m) (begins-phase o h)
+    put-read o m h = ap (λ f. written W f (begins W o) m) (begins-phase W o h)
 
     pub turn-stage : (o : ℕ) (row : List ℕ) (k : ℕ) (m : List ℕ) → k < stagesAt W o → turnOf (staged o row k) m ≡ staged o row (suc k)
     unfolding turned afterStage staged rowAfter capsAfter
@@ -138,30 +169,3 @@ module _ (n L : ℕ) (W : List ℕ) where
     pub put-none : (p : Block) (m : List ℕ) → p .phase ≡ 3 → putOf p m ≡ m
     unfolding written
     put-none p m e = ap (λ f. written W f p m) e
-
-    pub written-size : (f : ℕ) (p : Block) (m : List ℕ) → length (written W f p m) ≡ length m
-    unfolding written stored
-    written-size zero p m = refl
-    written-size (suc zero) p m = refl
-    written-size (suc (suc zero)) p m = length-sets m (startAt W (p .part)) (p .caps)
-    written-size (suc (suc (suc f))) p m = refl
-
-  -- ---- turns left
-
-  abbrev pub leftOf : Block → ℕ
-  leftOf p = turnsLeft n W (p .phase) p
-
-  pub left-read : (o : ℕ) → 1 ≤ stagesAt W o → leftOf (begins W o) ≡ stagesAt W o + 2 + turnsAfter n W o
-  unfolding turnsLeft begins
-  left-read o h = ap (λ f. turnsLeft n W f (begins W o)) (begins-phase o h)
-
-  pub left-stage : (o : ℕ) (row : List ℕ) (k : ℕ) → k ≤ stagesAt W o → leftOf (staged o row k) ≡ stagesAt W o - k + 1 + turnsAfter n W o
-  unfolding turnsLeft staged
-  left-stage o row k h = ⊎-elim
-      (λ l. ap (λ f. turnsLeft n W f (staged o row k)) (staged-phase o row k l))
-      (λ l. let e : k ≡ stagesAt W o = omega arith in rw e (ap (λ f. turnsLeft n W f (staged o row (stagesAt W o))) (all-phase o row) ∙ omega arith))
-      (lt-or-ge k (stagesAt W o))
-
-  pub left-none : (p : Block) → p .phase ≡ 3 → leftOf p ≡ 0
-  unfolding turnsLeft
-  left-none p e = ap (λ f. turnsLeft n W f p) e

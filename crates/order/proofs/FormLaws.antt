@@ -6,7 +6,7 @@ use mathlib.Core.Bool.{Bool, true, false, _&&_, _||_}
 use mathlib.Core.List.{List, [], _∷_}
 use mathlib.Core.Logic.{_⊎_, inl, inr, ⊎-elim}
 use mathlib.Core.Option.{Option, none, some}
-use Prim.Native.Nat.{ℕ, zero, suc, _+_, _*_, _-_, _≤_, _<_}
+use Prim.Native.Nat.{ℕ, zero, suc, _+_, _-_, _≤_, _<_}
 use native.Mathlib.Nat.{add-zero}
 use native.Mathlib.Omega.{arith}
 use borrow.Author.Tests.{leb-true, ltb-true, eqb-true, eq-eqb, ne-eqb}
@@ -16,7 +16,7 @@ use Rattle.record.specs.Tests.{allBelow, firstNot}
 use Rattle.record.proofs.TestLaws.{and-true, all-at, not-none, not-both}
 use Rattle.machine.specs.Part.{stagesAt, lastAt, writeOutsAt, startAt, sramsAt, duplicatesAt, normalAt, endAt}
 use Rattle.machine.specs.Run.{turnsFrom, turnsAfter, entriesForm, locationsForm, lanesForm, readsForm, storesForm, partForm, partsForm, emptyBlock, blockForm, badBlock}
-use Rattle.order.specs.Order.{partsFrom, partsAt}
+use Rattle.order.specs.Order.{partsFrom}
 
 -- ---- what the form says of one part: t is the number of words of the new state
 

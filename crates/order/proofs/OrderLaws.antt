@@ -1,8 +1,8 @@
 -- The blocks of one major stage: whatever the order of their turns, once none is left each part's words hold what the part captured (`stored`), and
 -- words that no part stores stay (`untouched`). So all orders leave one new state (`in-any-order`).
 -- Assumes nothing.
-use mathlib.Core.Path.{_≡_, refl, sym, ap, _∙_, subst}
-use mathlib.Core.List.{List, [], _∷_, _++_}
+use mathlib.Core.Path.{_≡_, refl, sym, _∙_, subst}
+use mathlib.Core.List.{List, [], _∷_}
 use mathlib.Core.Logic.{⊎-elim}
 use mathlib.Core.Option.{none}
 use Prim.Native.Nat.{ℕ, zero, suc, _+_, _-_, _≤_, _<_}
@@ -19,7 +19,7 @@ use Rattle.machine.specs.Run.{runTurns, turnsLeft, allLeft, badTurn}
 use Rattle.order.specs.Order.{capturedBy, blockTurns, oneAfterAnother, Stores, PartAt}
 use Rattle.order.proofs.TurnsLaws.{count, count-append, count-replicate, Names, names-of, names-at, names-append, names-replicate}
 use Rattle.order.proofs.BlockLaws.{ended-phase, left-none}
-use Rattle.order.proofs.AloneLaws.{Laid, Ran, ran, Storer, storer}
+use Rattle.order.proofs.AloneLaws.{Laid, ran, storer}
 
 -- ---- "turn names no block", excluded
 
@@ -35,7 +35,7 @@ named starts turns h = none-not (λ i. ltb (getD turns i 0) (length starts - 1))
 
 none-each : (n : ℕ) (W : List ℕ) (ps : List Block) → allLeft n W ps ≡ 0 → (b : ℕ) → turnsLeft n W (getD ps b (ended 0) .phase) (getD ps b (ended 0)) ≡ 0
 unfolding allLeft
-none-each n W [] e b = left-none n n W (ended 0) (ended-phase n n W 0)
+none-each n W [] e b = left-none n W (ended 0) (ended-phase 0)
 none-each n W (p ∷ ps) e zero = omega arith
 none-each n W (p ∷ ps) e (suc b) = none-each n W ps (omega arith) b
 
@@ -63,8 +63,8 @@ one-count n W starts (suc k) b h =
     ⊎-elim
     (λ l. omega (arith, both, one-count n W starts k b l))
     (λ l.
-      let e : b ≡ k = omega arith in
-      omega (arith, both, subst (λ x. blockTurns n W (getD starts x 0) ≡ count x (replicate (blockTurns n W (getD starts k 0)) k)) (sym e) (sym (count-replicate k _))))
+    let e : b ≡ k = omega arith in
+    omega (arith, both, subst (λ x. blockTurns n W (getD starts x 0) ≡ count x (replicate (blockTurns n W (getD starts k 0)) k)) (sym e) (sym (count-replicate k _))))
     (lt-or-ge b k)
 
 -- ---- the theorems
@@ -92,11 +92,11 @@ module _ (n L : ℕ) (W starts : List ℕ) (s t : ℕ) (old new : List ℕ) (B :
       → runTurns n L W starts ts old new .new ≡ runTurns n L W starts us old new .new
   one-end ts us a b f g = ext-getD 0 _ _ (same-length ts a ∙ sym (same-length us b)) (λ w h. ⊎-elim
       (λ q.
-        let l = w - startAt W (q .o) in
-        let is : startAt W (q .o) + l ≡ w = omega (arith, q .stores .from) in
-        let fits : l < normalAt W (q .o) = omega (arith, q .stores .from, q .stores .until) in
-        subst (λ x. getD (runTurns n L W starts ts old new .new) x 0 ≡ getD (runTurns n L W starts us old new .new) x 0) is
-        (stored ts a f (q .b) (q .i) (q .o) l (q .part) fits ∙ sym (stored us b g (q .b) (q .i) (q .o) l (q .part) fits)))
+      let l = w - startAt W (q .o) in
+      let is : startAt W (q .o) + l ≡ w = omega (arith, q .stores .from) in
+      let fits : l < normalAt W (q .o) = omega (arith, q .stores .from, q .stores .until) in
+      subst (λ x. getD (runTurns n L W starts ts old new .new) x 0 ≡ getD (runTurns n L W starts us old new .new) x 0) is
+      (stored ts a f (q .b) (q .i) (q .o) l (q .part) fits ∙ sym (stored us b g (q .b) (q .i) (q .o) l (q .part) fits)))
       (λ free. untouched ts a w free ∙ sym (untouched us b w free))
       (storer n L W starts s t old new B laid w))
 
@@ -105,8 +105,8 @@ module _ (n L : ℕ) (W starts : List ℕ) (s t : ℕ) (old new : List ℕ) (B :
   one-done =
       let r = ran n L W starts s t old new B laid (oneAfterAnother n W starts (length starts - 1)) (one-names n W starts (length starts - 1) (length starts - 1) (omega arith)) in
       each-none n W _ (λ b h.
-        let l : b < length starts - 1 = omega (arith, r .blocks) in
-        omega (arith, r .turns-left b l, one-count n W starts (length starts - 1) b l))
+      let l : b < length starts - 1 = omega (arith, r .blocks) in
+      omega (arith, r .turns-left b l, one-count n W starts (length starts - 1) b l))
 
   -- any order makes the new state that the blocks make one after another
   pub in-any-order : (turns : List ℕ) → badTurn starts turns ≡ none → allLeft n W (runTurns n L W starts turns old new .blocks) ≡ 0
