@@ -1,1 +1,4 @@
 pub mod StateLaws
+pub mod GoodLaws
+pub mod TakingLaws
+pub mod LeftLaws

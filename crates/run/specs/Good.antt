@@ -16,6 +16,14 @@ pub record Parts (W : List ℕ) (s t e o : ℕ) : Type 0 where
   pub f : ℕ
   pub form : partsForm 256 W s t e f o ≡ true
 
+-- the same to the end of their block
+pub record PartsFrom (W : List ℕ) (o : ℕ) : Type 0 where
+  pub s : ℕ
+  pub t : ℕ
+  pub e : ℕ
+  pub within : e ≤ length W
+  pub parts : Parts W s t e o
+
 -- a block of words lo .. hi - 1: what is left of it is in form
 pub record Good (W : List ℕ) (s t lo hi : ℕ) (b : Block) : Type 0 where
   pub order : lo ≤ hi
