@@ -12,11 +12,12 @@ use lib.ListN.{length, getD}
 use Rattle.machine.specs.Part.{stagesAt, lastAt, endAt}
 use Rattle.machine.specs.Turn.{Block}
 use Rattle.machine.specs.Run.{turnsFrom, turnsAfter, turnsLeft, allLeft}
+use Rattle.turns.specs.Well.{PartIn}
 use Rattle.turns.specs.Block.{blockIn}
 use Rattle.turns.proofs.FormLaws.{InForm}
 use Rattle.run.specs.States.{partOf, phaseOf, stageOf, roomOf, blockOf, blocksIn}
 use Rattle.run.specs.Good.{Parts, PartsFrom, Good, GoodIn, Goods}
-use Rattle.run.proofs.GoodLaws.{parts-first, parts-rest, part-turns}
+use Rattle.run.proofs.GoodLaws.{parts-first, part-well, parts-rest, part-turns}
 
 -- ---- the parts after the one at o, f at most
 
@@ -74,7 +75,14 @@ module _ (W : List ℕ) where
       let first = parts-first W (p .s) (p .t) (p .e) o (p .parts) in
       (omega (arith, part-turns W o), omega (arith, first .header, p .within), omega (arith, first .ends, p .within))
 
+  pub walk-part : (at o sum : ℕ) → Walking at o sum → PartIn 256 W o
+  walk-part at o sum w = let p = w .from in part-well W (p .s) (p .t) (p .e) o (p .parts) (p .within) .part
+
   module _ (at o sum : ℕ) (w : Walking at o sum) (d : lastAt W o ≡ 1 → ⊥) where
+    -- where the next part begins
+    pub walk-after : (o′ : ℕ) → o′ ≡ endAt 256 W o → o′ < length W
+    walk-after o′ e = let p = w .from in omega (arith, e, parts-first W (p .s) (p .t) (p .e) (endAt 256 W o) (parts-rest W (p .s) (p .t) (p .e) o (p .parts) (p .within) d) .header, p .within)
+
     abbrev walk-on : PartsFrom W (endAt 256 W o)
     walk-on = let p = w .from in record { s = p .s; t = p .t; e = p .e; within = p .within; parts = parts-rest W (p .s) (p .t) (p .e) o (p .parts) (p .within) d }
 
