@@ -139,15 +139,15 @@ module _ (W r : List ℕ) (p f k : ℕ) (part : p ≡ partOf r) (phase : f ≡ p
     unfolding turnsLeft blockIn
     left-stage x stages e = rw (stages, after) (sym (ap (λ (y : ℕ). turnsLeft 256 W y (blockIn 256 W p f k r)) e)) ∙ left-is
 
-    pub left-store : (2 < f → ⊥) → (f ≡ 0 → ⊥) → (f ≡ 1 → ⊥) → 1 + a ≡ turnsLeft 256 W (phaseOf r) (blockOf W r)
+    pub left-store : f ≤ 2 → (f ≡ 0 → ⊥) → (f ≡ 1 → ⊥) → 1 + a ≡ turnsLeft 256 W (phaseOf r) (blockOf W r)
     unfolding turnsLeft blockIn
     left-store d z o = rw after (sym (ap (λ (y : ℕ). turnsLeft 256 W y (blockIn 256 W p f k r)) two)) ∙ left-is
       where
-        two-of : (x : ℕ) → (2 < x → ⊥) → (x ≡ 0 → ⊥) → (x ≡ 1 → ⊥) → x ≡ 2
+        two-of : (x : ℕ) → x ≤ 2 → (x ≡ 0 → ⊥) → (x ≡ 1 → ⊥) → x ≡ 2
         two-of zero d z o = absurd (z refl)
         two-of (suc zero) d z o = absurd (o refl)
         two-of (suc (suc zero)) d z o = refl
-        two-of (suc (suc (suc x))) d z o = absurd (d (omega arith))
+        two-of (suc (suc (suc x))) d z o = absurd (omega arith)
 
         two : f ≡ 2
         two = two-of f d z o
