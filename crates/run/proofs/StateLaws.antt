@@ -5,14 +5,14 @@ use mathlib.Core.Bool.{Bool, true, false}
 use mathlib.Core.List.{List, [], _∷_, _++_}
 use mathlib.Core.Logic.{⊎-elim}
 use Prim.Native.Nat.{ℕ, zero, suc, _+_, _*_, _-_, _/_, _%_, _^_, _≤_, _<_}
-use native.Mathlib.Nat.{add-zero}
+use native.Mathlib.Nat.{zero-add, add-zero}
 use native.Mathlib.Omega.{arith}
 use lib.Dec.{eqb}
 use lib.ListN.{length, getD, take, drop, set, length-drop, length-set}
 use lib.Seq.{sets, length-sets, length-take-le, getD-take, getD-drop, getD-set-same, getD-set-other, ext-getD}
 use Rattle.words.proofs.BitLaws.{lt-or-ge}
 use Rattle.machine.specs.Part.{stagesAt, normalAt}
-use Rattle.machine.specs.Turn.{Block, begins}
+use Rattle.machine.specs.Turn.{Block, begins, ended}
 use Rattle.machine.specs.Run.{blocksFrom}
 use Rattle.turns.specs.Block.{held, blockIn}
 use Rattle.turns.proofs.FillLaws.{take-sets, sets-in, sets-under, sets-over, put-is}
@@ -244,3 +244,17 @@ pub begun-all : (W starts room : List ℕ) (m i : ℕ) → ((b : ℕ) → i ≤ 
 unfolding blocksIn blocksFrom
 begun-all W starts room zero i h = refl
 begun-all W starts room (suc m) i h = ap₂ _∷_ (h i (omega arith) (omega arith)) (begun-all W starts room m (i + 1) (λ b l u. h b (omega arith) (omega arith)))
+
+-- the same read back
+from-at : (W starts : List ℕ) (m i t : ℕ) (d : Block) → t < m → getD (blocksFrom W starts m i) t d ≡ begins W (getD starts (i + t) 0)
+unfolding blocksFrom
+from-at W starts zero i t d l = absurd (omega arith)
+from-at W starts (suc m) i zero d l = ap (λ (b : ℕ). begins W (getD starts b 0)) (sym (add-zero i))
+from-at W starts (suc m) i (suc t) d l =
+    let there : i + 1 + t ≡ i + suc t = omega arith in
+    from-at W starts m (i + 1) t d (omega arith) ∙ ap (λ (b : ℕ). begins W (getD starts b 0)) there
+
+pub begun-at : (W starts room : List ℕ) (m : ℕ) → blocksIn W room m 0 ≡ blocksFrom W starts m 0 → (b : ℕ) → b < m → blockOf W (roomOf room b) ≡ begins W (getD starts b 0)
+begun-at W starts room m e b l =
+    ap (λ (a : ℕ). blockOf W (roomOf room a)) (sym (zero-add b)) ∙ sym (blocks-at W room m 0 b (ended 0) l) ∙ ap (λ (bs : List Block). getD bs b (ended 0)) e
+    ∙ from-at W starts m 0 b (ended 0) l ∙ ap (λ (a : ℕ). begins W (getD starts a 0)) (zero-add b)
