@@ -52,6 +52,11 @@ module _ (W starts turns : List ℕ) (s t : ℕ) (room : List ℕ) (a : Accepted
       pub run-new : new₂ ≡ runTurns 256 13 W starts turns old new .new
       run-new = ap (λ (r : Running). r .new) run-is
 
+-- ---- a room that is cleared
+
+pub again : (n : ℕ) (u v : List ℕ) → v ≡ replicate (length u) 0 → length u ≡ n → v ≡ replicate n 0
+again n u v e l = e ∙ ap (λ (k : ℕ). replicate k 0) l
+
 -- ---- what the searches say
 
 pub found-none : (r : Found) (o : Option ℕ) → foundOf r ≡ o → r ≡ Nowhere → o ≡ none
@@ -79,9 +84,9 @@ module _ (W starts turns old new room : List ℕ) where
       (r ≡ ranOf (outcome 256 13 W starts turns old new (length room)))
       × ((new′ ≡ newAfter (outcome 256 13 W starts turns old new (length room)) new) × (room′ ≡ roomAfter starts room))
 
-  pub told-short : length room / 1024 < length starts - 1 → (r : Ran) → r ≡ ranOf (refused 32 0) → Told r new room
+  pub told-short : (m : ℕ) → m ≡ length starts - 1 → length room / 1024 < m → (r : Ran) → r ≡ ranOf (refused 32 0) → Told r new room
   unfolding outcome newAfter roomAfter
-  told-short h r e =
+  told-short m few h r e =
       let short : leb (1024 * (length starts - 1)) (length room) ≡ false = lt-leb (1024 * (length starts - 1)) (length room) (omega arith) in
       (e ∙ rw (short, outcome), (rw (short, outcome), rw (short, roomAfter)))
 

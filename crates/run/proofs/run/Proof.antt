@@ -1,3 +1,7 @@
+use mathlib.Core.Path.{_≡_, refl, sym, ap, _∙_}
+use native.Mathlib.Omega.{arith}
+use lib.ListN.{length}
+use Rattle.run.proofs.AnswerLaws.{again, found-none, found-some, told-short, told-block, told-turn, told-run, accepted}
 use borrow.Author.Needs.{needs}
 use Rattle.run.proofs.run.Statement.{statement}
 use Rattle.run.proofs.run.Tie as tie
@@ -20,7 +24,7 @@ refuse-requires c κs = search needs
 
 -- src/lib.rt:87:9
 returns : tie.Need-returns
-returns c = search needs
+returns c = told-short (c .before .before .before .before .before .before .before .before .before .args .words .now) (c .before .before .before .before .before .before .before .before .before .args .starts .now) (c .before .before .before .before .before .before .before .before .before .args .turns .now) (c .before .before .before .before .before .before .before .before .before .args .old .now) (c .before .before .before .before .before .before .before .before .before .args .new .now) (c .before .before .before .before .before .before .before .before .before .args .room .now) _ (c .before .before .blocks-of .ensures) (c .before .if1 .taken) _ (c .refuse .ensures)
 
 -- src/lib.rt:89:5
 clear-requires : tie.Need-clear-requires
@@ -60,7 +64,7 @@ enum-told-2 c = search needs
 
 -- src/lib.rt:94:41
 run-well-requires : tie.Need-run-well-requires
-run-well-requires c κs = search needs
+run-well-requires c κs = accepted (c .before .before .before .before .before .before .before .before .before .before .before .before .before .before .before .before .before .before .before .before .args .words .now) (c .before .before .before .before .before .before .before .before .before .before .before .before .before .before .before .before .before .before .before .before .args .starts .now) (c .before .before .before .before .before .before .before .before .before .before .before .before .before .before .before .before .before .before .before .before .args .turns .now) (c .before .before .before .before .before .before .before .before .before .before .before .before .before .before .before .before .before .before .before .before .args .old .now) (c .before .before .before .before .before .before .before .before .before .before .before .before .before .before .before .before .before .before .before .before .args .new .now) (c .before .before .before .before .before .before .before .before .before .before .before .before .before .before .before .before .before .before .before .before .args .room .now) _ (c .before .before .before .before .before .before .before .before .before .before .before .before .before .blocks-of .ensures) (c .before .before .before .before .before .before .before .before .before .before .before .before .if1 .left) _ (c .before .before .before .before .before .before .before .before .before .before .clear .ensures) (found-none _ _ (c .before .before .before .before .before .before .before .bad-block .ensures) (c .before .before .before .before .before .enum-told .given .1)) (found-none _ _ (c .before .before .before .before .bad-turn .ensures) (c .before .before .enum-told2 .given .1)) _ (search needs)
 
 -- src/lib.rt:74:1
 same-length : tie.Need-same-length
@@ -68,7 +72,7 @@ same-length c = search needs
 
 -- src/lib.rt:74:1
 returns-2 : tie.Need-returns-2
-returns-2 c = search needs
+returns-2 c = told-block (c .before .before .before .before .before .before .before .before .before .before .before .before .before .before .before .before .before .args .words .now) (c .before .before .before .before .before .before .before .before .before .before .before .before .before .before .before .before .before .args .starts .now) (c .before .before .before .before .before .before .before .before .before .before .before .before .before .before .before .before .before .args .turns .now) (c .before .before .before .before .before .before .before .before .before .before .before .before .before .before .before .before .before .args .old .now) (c .before .before .before .before .before .before .before .before .before .before .before .before .before .before .before .before .before .args .new .now) (c .before .before .before .before .before .before .before .before .before .before .before .before .before .before .before .before .before .args .room .now) _ (c .before .before .before .before .before .before .before .before .before .before .blocks-of .ensures) (c .before .before .before .before .before .before .before .before .before .if1 .left) _ (c .before .before .before .before .before .before .before .clear .ensures) _ (found-some _ _ _ (c .before .before .before .before .bad-block .ensures) (c .before .before .i .given .1)) _ (c .refuse2 .ensures)
 
 -- src/lib.rt:74:1
 same-length-2 : tie.Need-same-length-2
@@ -76,7 +80,7 @@ same-length-2 c = search needs
 
 -- src/lib.rt:74:1
 returns-3 : tie.Need-returns-3
-returns-3 c = search needs
+returns-3 c = told-turn (c .before .before .before .before .before .before .before .before .before .before .before .before .before .before .before .before .before .before .before .before .args .words .now) (c .before .before .before .before .before .before .before .before .before .before .before .before .before .before .before .before .before .before .before .before .args .starts .now) (c .before .before .before .before .before .before .before .before .before .before .before .before .before .before .before .before .before .before .before .before .args .turns .now) (c .before .before .before .before .before .before .before .before .before .before .before .before .before .before .before .before .before .before .before .before .args .old .now) (c .before .before .before .before .before .before .before .before .before .before .before .before .before .before .before .before .before .before .before .before .args .new .now) (c .before .before .before .before .before .before .before .before .before .before .before .before .before .before .before .before .before .before .before .before .args .room .now) _ (c .before .before .before .before .before .before .before .before .before .before .before .before .before .blocks-of .ensures) (c .before .before .before .before .before .before .before .before .before .before .before .before .if1 .left) _ (c .before .before .before .before .before .before .before .before .before .before .clear .ensures) (found-none _ _ (c .before .before .before .before .before .before .before .bad-block .ensures) (c .before .before .before .before .before .enum-told .given .1)) _ (found-some _ _ _ (c .before .before .before .before .bad-turn .ensures) (c .before .before .i2 .given .1)) _ (c .refuse3 .ensures)
 
 -- src/lib.rt:74:1
 same-length-3 : tie.Need-same-length-3
@@ -88,7 +92,9 @@ same-length-4 c = search needs
 
 -- src/lib.rt:74:1
 returns-4 : tie.Need-returns-4
-returns-4 c = search needs
+returns-4 c =
+    let done = c .before .before .before .before .run-well .ensures in
+    told-run (c .before .before .before .before .before .before .before .before .before .before .before .before .before .before .before .before .before .before .before .before .before .before .before .before .before .args .words .now) (c .before .before .before .before .before .before .before .before .before .before .before .before .before .before .before .before .before .before .before .before .before .before .before .before .before .args .starts .now) (c .before .before .before .before .before .before .before .before .before .before .before .before .before .before .before .before .before .before .before .before .before .before .before .before .before .args .turns .now) (c .before .before .before .before .before .before .before .before .before .before .before .before .before .before .before .before .before .before .before .before .before .before .before .before .before .args .old .now) (c .before .before .before .before .before .before .before .before .before .before .before .before .before .before .before .before .before .before .before .before .before .before .before .before .before .args .new .now) (c .before .before .before .before .before .before .before .before .before .before .before .before .before .before .before .before .before .before .before .before .before .before .before .before .before .args .room .now) _ (c .before .before .before .before .before .before .before .before .before .before .before .before .before .before .before .before .before .before .blocks-of .ensures) (c .before .before .before .before .before .before .before .before .before .before .before .before .before .before .before .before .before .if1 .left) _ (again (length (c .before .before .before .before .before .before .before .before .before .before .before .before .before .before .before .before .before .before .before .before .before .before .before .before .before .args .room .now)) (c .before .before .before .before .before .before .before .before .before .before .before .before .before .before .before .clear .last .0) _ (done .1 .1) (search needs)) (found-none _ _ (c .before .before .before .before .before .before .before .before .before .before .before .before .bad-block .ensures) (c .before .before .before .before .before .before .before .before .before .before .enum-told .given .1)) (found-none _ _ (c .before .before .before .before .before .before .before .before .before .bad-turn .ensures) (c .before .before .before .before .before .before .before .enum-told2 .given .1)) _ _ (done .0) (done .1 .0)
 
 pub run-spec : {M : Type 1} → statement M
 run-spec =
