@@ -204,8 +204,13 @@ module _ (W room : List ℕ) where
     range-bound zero i h = omega (arith, left-none i, ap (λ (x : ℕ). getD starts x 0) (add-zero i))
     range-bound (suc m) i h =
         let there : i + 1 + m ≡ i + suc m = omega arith in
-        omega (arith, left-one m i, left-bound W s t (getD starts i 0) (getD starts (i + 1) 0) (blockOf W (roomOf room i)) (g .each i (omega arith)) (phaseOf (roomOf room i)) refl,
-          range-bound m (i + 1) (omega arith), ap (λ (x : ℕ). getD starts x 0) there)
+        omega (
+          arith,
+          left-one m i,
+          left-bound W s t (getD starts i 0) (getD starts (i + 1) 0) (blockOf W (roomOf room i)) (g .each i (omega arith)) (phaseOf (roomOf room i)) refl,
+          range-bound m (i + 1) (omega arith),
+          ap (λ (x : ℕ). getD starts x 0) there,
+        )
 
     pub all-bound : allLeft 256 W (blocksIn W room (length starts - 1) 0) ≤ length W
     all-bound = by (length starts - 1) refl

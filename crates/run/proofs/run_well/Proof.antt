@@ -51,9 +51,10 @@ returns c =
     let blocks = c .before .before .before .before .before .before .before .before .before .before .before .before .before .before .before .before .before .blocks-of .ensures in
     let begun = c .before .before .before .before .before .before .before .before .before .before .before .before .before .before .before .begin-blocks .ensures in
     let good = goods-begun (c .before .before .before .before .before .before .before .before .before .before .before .before .before .before .before .before .before .before .before .before .before .before .before .before .args .words .now) (c .before .before .before .before .before .before .before .before .before .before .before .before .before .before .before .before .before .before .before .before .before .before .before .before .args .starts .now) (c .before .before .before .before .before .before .before .before .before .before .before .before .before .before .before .before .before .before .before .before .before .before .before .before .args .turns .now) _ _ (c .before .before .before .before .before .before .before .before .before .before .before .before .before .before .before .before .before .before .before .before .before .before .before .before .args .room .now) (c .before .before .before .before .before .before .before .before .before .before .before .before .before .before .before .before .before .before .before .before .before .before .before .before .pre) _ (search needs) _ blocks begun in
-    let ran = c .before .before .before .before .before .before .before .before .before .before .take-turns .ensures .1 (start .args .starts .now) good (start .pre .named) in
-    (run-left (c .before .before .before .before .before .before .before .before .before .before .before .before .before .before .before .before .before .before .before .before .before .before .before .before .args .words .now) (c .before .before .before .before .before .before .before .before .before .before .before .before .before .before .before .before .before .before .before .before .before .before .before .before .args .starts .now) (c .before .before .before .before .before .before .before .before .before .before .before .before .before .before .before .before .before .before .before .before .before .before .before .before .args .turns .now) _ _ (c .before .before .before .before .before .before .before .before .before .before .before .before .before .before .before .before .before .before .before .before .before .before .before .before .args .room .now) (c .before .before .before .before .before .before .before .before .before .before .before .before .before .before .before .before .before .before .before .before .before .before .before .before .pre) _ (search needs) _ blocks begun (start .args .old .now) (start .args .new .now) _ _ ran _ (c .before .before .before .before .turns-left .ensures),
-    (run-new (c .before .before .before .before .before .before .before .before .before .before .before .before .before .before .before .before .before .before .before .before .before .before .before .before .args .words .now) (c .before .before .before .before .before .before .before .before .before .before .before .before .before .before .before .before .before .before .before .before .before .before .before .before .args .starts .now) (c .before .before .before .before .before .before .before .before .before .before .before .before .before .before .before .before .before .before .before .before .before .before .before .before .args .turns .now) _ _ (c .before .before .before .before .before .before .before .before .before .before .before .before .before .before .before .before .before .before .before .before .before .before .before .before .args .room .now) (c .before .before .before .before .before .before .before .before .before .before .before .before .before .before .before .before .before .before .before .before .before .before .before .before .pre) _ (search needs) _ blocks begun (start .args .old .now) (start .args .new .now) _ _ ran, again (length (start .args .room .now)) (c .before .before .before .before .before .before .before .before .before .before .take-turns .last .1 .1 .1 .1 .0) _ (c .before .before .clear .ensures) (search needs)))
+    let ran = c .before .before .before .before .before .before .before .before .before .before .take-turns .ensures .1 (start .args .starts .now) good (start .pre .named) in (
+      run-left (c .before .before .before .before .before .before .before .before .before .before .before .before .before .before .before .before .before .before .before .before .before .before .before .before .args .words .now) (c .before .before .before .before .before .before .before .before .before .before .before .before .before .before .before .before .before .before .before .before .before .before .before .before .args .starts .now) (c .before .before .before .before .before .before .before .before .before .before .before .before .before .before .before .before .before .before .before .before .before .before .before .before .args .turns .now) _ _ (c .before .before .before .before .before .before .before .before .before .before .before .before .before .before .before .before .before .before .before .before .before .before .before .before .args .room .now) (c .before .before .before .before .before .before .before .before .before .before .before .before .before .before .before .before .before .before .before .before .before .before .before .before .pre) _ (search needs) _ blocks begun (start .args .old .now) (start .args .new .now) _ _ ran _ (c .before .before .before .before .turns-left .ensures),
+      (run-new (c .before .before .before .before .before .before .before .before .before .before .before .before .before .before .before .before .before .before .before .before .before .before .before .before .args .words .now) (c .before .before .before .before .before .before .before .before .before .before .before .before .before .before .before .before .before .before .before .before .before .before .before .before .args .starts .now) (c .before .before .before .before .before .before .before .before .before .before .before .before .before .before .before .before .before .before .before .before .before .before .before .before .args .turns .now) _ _ (c .before .before .before .before .before .before .before .before .before .before .before .before .before .before .before .before .before .before .before .before .before .before .before .before .args .room .now) (c .before .before .before .before .before .before .before .before .before .before .before .before .before .before .before .before .before .before .before .before .before .before .before .before .pre) _ (search needs) _ blocks begun (start .args .old .now) (start .args .new .now) _ _ ran, again (length (start .args .room .now)) (c .before .before .before .before .before .before .before .before .before .before .take-turns .last .1 .1 .1 .1 .0) _ (c .before .before .clear .ensures) (search needs)),
+    )
 
 pub run-well-spec : {M : Type 1} → statement M
 run-well-spec =

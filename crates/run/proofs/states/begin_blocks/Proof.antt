@@ -88,7 +88,7 @@ same-length c = search needs
 
 -- src/states.rt:37:1
 returns : tie.Need-returns Inv-loop μ-loop
-returns c = 
+returns c =
     let l = c .before .loop in
     let start = c .before .before .before .before .before in
     let e : l .b ≡ start .args .blocks = omega arith in

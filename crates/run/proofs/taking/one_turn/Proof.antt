@@ -41,9 +41,10 @@ returns : tie.Need-returns
 returns c =
     let start = c .before .before .before .before .before .before .before .before .before .before .before .before .before .before .before .before .before in
     let state = c .before .before .before .before .before .before .before .before .before .before .before .load-state .ensures in
-    let turn = c .before .before .before .before .before .before .before .before .turn .ensures in
-    (turn-kept (start .args .words .now) _ _ (start .args .room .now) (start .pre) _ _ _ (state .0) (state .1) (state .2) (start .args .old .now) (start .args .new .now) _ _ _ _ (turn .0) _ (search needs) (c .before .before .store-state .ensures),
-    turn-wrote (start .args .words .now) _ _ (start .args .room .now) (start .pre) _ _ _ (state .0) (state .1) (state .2) (start .args .old .now) (start .args .new .now) _ _ _ _ (turn .0) _ (turn .1 .0))
+    let turn = c .before .before .before .before .before .before .before .before .turn .ensures in (
+      turn-kept (start .args .words .now) _ _ (start .args .room .now) (start .pre) _ _ _ (state .0) (state .1) (state .2) (start .args .old .now) (start .args .new .now) _ _ _ _ (turn .0) _ (search needs) (c .before .before .store-state .ensures),
+      turn-wrote (start .args .words .now) _ _ (start .args .room .now) (start .pre) _ _ _ (state .0) (state .1) (state .2) (start .args .old .now) (start .args .new .now) _ _ _ _ (turn .0) _ (turn .1 .0),
+    )
 
 pub one-turn-spec : {M : Type 1} → statement M
 one-turn-spec =
