@@ -1,12 +1,12 @@
 -- How many turns are left: the walk over a block's parts and the sum over the blocks, and that both stay within the words.
 -- Assumes nothing.
-use mathlib.Core.Path.{_≡_, refl, sym, ap, ap₂, _∙_}
+use mathlib.Core.Path.{_≡_, refl, sym, ap, _∙_}
 use mathlib.Core.Bool.{Bool, true, false}
 use mathlib.Core.List.{List}
-use Prim.Native.Nat.{ℕ, zero, suc, _+_, _*_, _-_, _≤_, _<_}
+use Prim.Native.Nat.{ℕ, zero, suc, _+_, _-_, _≤_, _<_}
 use native.Mathlib.Nat.{zero-add, add-zero}
 use native.Mathlib.Omega.{arith}
-use borrow.Author.Tests.{eqb-true, eqb-false, eq-eqb, ne-eqb}
+use borrow.Author.Tests.{eqb-false, eq-eqb, ne-eqb}
 use lib.Dec.{eqb}
 use lib.ListN.{length, getD}
 use Rattle.machine.specs.Part.{stagesAt, lastAt, endAt}
@@ -69,11 +69,11 @@ module _ (W : List ℕ) where
   pub walk-start : (at : ℕ) → PartsFrom W at → Walking at at 0
   walk-start at p = record { from = p; f = length W; enough = omega (arith, p .within); same = ap (λ (n : ℕ). 0 + n) (rest-all at) ∙ zero-add _ }
 
-  pub walk-inside : (at o sum : ℕ) → Walking at o sum → (o < endAt 256 W o) × (o + 256 ≤ length W) × (endAt 256 W o ≤ length W)
+  pub walk-inside : (at o sum : ℕ) → Walking at o sum → (o < endAt 256 W o) × (o + 256 ≤ length W)
   walk-inside at o sum w =
       let p = w .from in
       let first = parts-first W (p .s) (p .t) (p .e) o (p .parts) in
-      (omega (arith, part-turns W o), omega (arith, first .header, p .within), omega (arith, first .ends, p .within))
+      (omega (arith, part-turns W o), omega (arith, first .header, p .within))
 
   pub walk-part : (at o sum : ℕ) → Walking at o sum → PartIn 256 W o
   walk-part at o sum w = let p = w .from in part-well W (p .s) (p .t) (p .e) o (p .parts) (p .within) .part
@@ -204,8 +204,13 @@ module _ (W room : List ℕ) where
     range-bound zero i h = omega (arith, left-none i, ap (λ (x : ℕ). getD starts x 0) (add-zero i))
     range-bound (suc m) i h =
         let there : i + 1 + m ≡ i + suc m = omega arith in
-        omega (arith, left-one m i, left-bound W s t (getD starts i 0) (getD starts (i + 1) 0) (blockOf W (roomOf room i)) (g .each i (omega arith)) (phaseOf (roomOf room i)) refl,
-          range-bound m (i + 1) (omega arith), ap (λ (x : ℕ). getD starts x 0) there)
+        omega (
+          arith,
+          left-one m i,
+          left-bound W s t (getD starts i 0) (getD starts (i + 1) 0) (blockOf W (roomOf room i)) (g .each i (omega arith)) (phaseOf (roomOf room i)) refl,
+          range-bound m (i + 1) (omega arith),
+          ap (λ (x : ℕ). getD starts x 0) there,
+        )
 
     pub all-bound : allLeft 256 W (blocksIn W room (length starts - 1) 0) ≤ length W
     all-bound = by (length starts - 1) refl
