@@ -1,27 +1,27 @@
 -- The run that is not refused, put together from its steps, and one law for each way out.
 -- Assumes nothing.
-use mathlib.Core.Path.{_≡_, refl, sym, ap, subst, _∙_}
+use mathlib.Core.Path.{_≡_, sym, ap, subst, _∙_}
 use mathlib.Core.Bool.{true, false}
 use mathlib.Core.Option.{Option, none, some}
 use mathlib.Core.List.{List}
 use Prim.Native.Nat.{ℕ, _+_, _*_, _-_, _/_, _≤_, _<_}
 use native.Mathlib.Omega.{arith}
 use borrow.Author.Tests.{le-leb, lt-leb, ltb-true}
-use lib.Dec.{leb, ltb}
-use lib.ListN.{length, getD, replicate, length-replicate}
+use lib.Dec.{leb}
+use lib.ListN.{length, getD, replicate}
 use Rattle.record.specs.Tests.{firstNot}
 use Rattle.record.proofs.TestLaws.{not-none}
-use Rattle.machine.specs.Turn.{Block, begins}
+use Rattle.machine.specs.Turn.{Block}
 use Rattle.machine.specs.Run.{Running, blocksFrom, runFrom, runTurns, allLeft, badBlock, badTurn, blockForm, outcome, newAfter, roomAfter, refused}
 use Rattle.turns.specs.declared.refuse.Found.{Found}
 use Rattle.turns.specs.declared.refuse.Found.the-variants.{At, Nowhere}
 use Rattle.turns.specs.Found.{foundOf}
 use Rattle.turns.proofs.RefuseLaws.{blockGood, turnGood}
 use Rattle.run.specs.declared.Ran.{Ran}
-use Rattle.run.specs.declared.Ran.the-variants.{Left, Refused}
+use Rattle.run.specs.declared.Ran.the-variants.{Left}
 use Rattle.run.specs.Answers.{ranOf}
-use Rattle.run.specs.States.{roomOf, blockOf, blocksIn, running}
-use Rattle.run.specs.Good.{Good, Goods, Named, Accepted, Beginnings}
+use Rattle.run.specs.States.{blocksIn, running}
+use Rattle.run.specs.Good.{Good, Goods, Accepted, Beginnings}
 use Rattle.run.proofs.StateLaws.{begun-at}
 use Rattle.run.proofs.GoodLaws.{BlockAt, block-at, begins-good}
 

@@ -1,25 +1,23 @@
 -- What refusal 15 leaves of a block, and that every turn keeps it.
 -- Assumes nothing.
-use mathlib.Core.Path.{_≡_, refl, sym, ap, subst, _∙_}
+use mathlib.Core.Path.{_≡_, refl, sym, ap, _∙_}
 use mathlib.Core.Bool.{Bool, true, false, _||_, _&&_}
 use mathlib.Core.List.{List}
 use mathlib.Core.Logic.{⊎-elim}
-use Prim.Native.Nat.{ℕ, zero, suc, _+_, _*_, _-_, _≤_, _<_}
+use Prim.Native.Nat.{ℕ, zero, suc, _+_, _≤_, _<_}
 use native.Mathlib.Nat.{add-zero}
 use native.Mathlib.Omega.{arith}
-use borrow.Author.Tests.{leb-true, ltb-true, eqb-true, eqb-false, eq-eqb, ne-eqb}
+use borrow.Author.Tests.{leb-true, ltb-true, eqb-true, eqb-false}
 use lib.Dec.{leb, ltb, eqb}
 use lib.ListN.{length, getD}
 use Rattle.words.proofs.BitLaws.{lt-or-ge}
-use Rattle.record.specs.Tests.{allBelow}
 use Rattle.record.proofs.TestLaws.{not-both, and-true, all-at}
-use Rattle.machine.specs.Part.{stagesAt, lastAt, normalAt, endAt}
+use Rattle.machine.specs.Part.{stagesAt, lastAt, endAt}
 use Rattle.machine.specs.Turn.{Block, begins, ended, afterRead, afterStage, afterStore, turned}
 use Rattle.machine.specs.Run.{partForm, partsForm, emptyBlock, blockForm}
-use Rattle.turns.specs.Block.{blockIn, PartWell, BlockWell}
+use Rattle.turns.specs.Block.{PartWell}
 use Rattle.turns.proofs.FormLaws.{InForm, in-form, parts-well, parts-next}
-use Rattle.run.specs.States.{partOf, phaseOf, stageOf, roomOf, blockOf}
-use Rattle.run.specs.Good.{Parts, Good, GoodIn}
+use Rattle.run.specs.Good.{Parts, Good}
 
 -- ---- the parts from word o to word e
 

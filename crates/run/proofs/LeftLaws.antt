@@ -1,12 +1,12 @@
 -- How many turns are left: the walk over a block's parts and the sum over the blocks, and that both stay within the words.
 -- Assumes nothing.
-use mathlib.Core.Path.{_≡_, refl, sym, ap, ap₂, _∙_}
+use mathlib.Core.Path.{_≡_, refl, sym, ap, _∙_}
 use mathlib.Core.Bool.{Bool, true, false}
 use mathlib.Core.List.{List}
-use Prim.Native.Nat.{ℕ, zero, suc, _+_, _*_, _-_, _≤_, _<_}
+use Prim.Native.Nat.{ℕ, zero, suc, _+_, _-_, _≤_, _<_}
 use native.Mathlib.Nat.{zero-add, add-zero}
 use native.Mathlib.Omega.{arith}
-use borrow.Author.Tests.{eqb-true, eqb-false, eq-eqb, ne-eqb}
+use borrow.Author.Tests.{eqb-false, eq-eqb, ne-eqb}
 use lib.Dec.{eqb}
 use lib.ListN.{length, getD}
 use Rattle.machine.specs.Part.{stagesAt, lastAt, endAt}
@@ -69,11 +69,11 @@ module _ (W : List ℕ) where
   pub walk-start : (at : ℕ) → PartsFrom W at → Walking at at 0
   walk-start at p = record { from = p; f = length W; enough = omega (arith, p .within); same = ap (λ (n : ℕ). 0 + n) (rest-all at) ∙ zero-add _ }
 
-  pub walk-inside : (at o sum : ℕ) → Walking at o sum → (o < endAt 256 W o) × (o + 256 ≤ length W) × (endAt 256 W o ≤ length W)
+  pub walk-inside : (at o sum : ℕ) → Walking at o sum → (o < endAt 256 W o) × (o + 256 ≤ length W)
   walk-inside at o sum w =
       let p = w .from in
       let first = parts-first W (p .s) (p .t) (p .e) o (p .parts) in
-      (omega (arith, part-turns W o), omega (arith, first .header, p .within), omega (arith, first .ends, p .within))
+      (omega (arith, part-turns W o), omega (arith, first .header, p .within))
 
   pub walk-part : (at o sum : ℕ) → Walking at o sum → PartIn 256 W o
   walk-part at o sum w = let p = w .from in part-well W (p .s) (p .t) (p .e) o (p .parts) (p .within) .part

@@ -1,13 +1,13 @@
 -- The turns one after the other: a turn in a block's room is a step of the run as all rooms hold it.
 -- Assumes nothing.
 use mathlib.Core.Path.{_≡_, refl, sym, ap, ap₂, subst, _∙_}
-use mathlib.Core.List.{List, _∷_}
+use mathlib.Core.List.{List}
 use mathlib.Core.Logic.{⊎-elim}
 use Prim.Native.Nat.{ℕ, _+_, _*_, _-_, _≤_, _<_}
 use native.Mathlib.Nat.{zero-add}
 use native.Mathlib.Numerals.{add-one}
 use native.Mathlib.Omega.{arith}
-use lib.ListN.{length, getD, take, drop, set}
+use lib.ListN.{length, getD, drop, set}
 use lib.Seq.{sets, drop-cons, drop-length}
 use Rattle.words.proofs.BitLaws.{lt-or-ge}
 use Rattle.machine.specs.Part.{normalAt}
@@ -15,8 +15,8 @@ use Rattle.machine.specs.Turn.{Block, ended, turned, written}
 use Rattle.machine.specs.Run.{Running, step, runFrom}
 use Rattle.turns.specs.Block.{blockIn, BlockWell}
 use Rattle.run.specs.States.{partOf, phaseOf, stageOf, stateWords, roomOf, blockOf, blocksIn, running}
-use Rattle.run.specs.Good.{Parts, Good, GoodIn, Goods, Named}
-use Rattle.run.proofs.StateLaws.{lent, lent-room, lent-long, lent-same, lent-other, room-long, stored-block, blocks-set, blocks-at}
+use Rattle.run.specs.Good.{Good, GoodIn, Goods, Named}
+use Rattle.run.proofs.StateLaws.{lent, lent-long, lent-same, lent-other, room-long, stored-block, blocks-set, blocks-at}
 use Rattle.run.proofs.GoodLaws.{parts-first, part-well, turned-good}
 
 -- ---- one turn, of the block in room r

@@ -1,8 +1,7 @@
 // The small states of the blocks, in the lent room.
 ghost use mathlib.Core.Path.{_≡_};
-ghost use mathlib.Core.Bool.{true};
-ghost use Prim.Native.Nat.{_+_, _*_, _-_, _^_, _<_, _≤_};
-ghost use lib.ListN.{length, getD};
+ghost use Prim.Native.Nat.{_+_, _*_, _<_, _≤_};
+ghost use lib.ListN.{length};
 ghost use lib.Seq.{sets};
 ghost use Rattle.machine.specs.Run.{blocksFrom};
 ghost use Rattle.run.specs.States.{partOf, phaseOf, stageOf, stateWords, blocksIn};

@@ -1,96 +1,68 @@
-use mathlib.Core.Path.{_≡_, refl, sym, ap, _∙_}
-use native.Mathlib.Omega.{arith}
+-- `run::run` meets its contract: one law for each way out.
+-- Assumes nothing.
 use lib.ListN.{length}
 use Rattle.run.proofs.AnswerLaws.{again, found-none, found-some, told-short, told-block, told-turn, told-run, accepted}
 use borrow.Author.Needs.{needs}
 use Rattle.run.proofs.run.Statement.{statement}
 use Rattle.run.proofs.run.Tie as tie
-use Rattle.run.proofs.run.Reads as reads
-use Rattle.run.proofs.run.Lts as lts
-use Rattle.run.proofs.blocks_of.Reads as blocks-of-reads
-use Rattle.run.proofs.refuse.Reads as refuse-reads
-use Rattle.run.proofs.run_well.Reads as run-well-reads
-use Rattle.turns.proofs.refuse.bad_block.Reads as bad-block-reads
-use Rattle.turns.proofs.refuse.bad_turn.Reads as bad-turn-reads
-use Rattle.turns.proofs.store.clear.Reads as clear-reads
 
--- src/lib.rt:86:28
 blocks-of-requires : tie.Need-blocks-of-requires
 blocks-of-requires c κs = search needs
 
--- src/lib.rt:87:9
 refuse-requires : tie.Need-refuse-requires
 refuse-requires c κs = search needs
 
--- src/lib.rt:87:9
 returns : tie.Need-returns
 returns c = told-short (c .before .before .before .before .before .before .before .before .before .args .words .now) (c .before .before .before .before .before .before .before .before .before .args .starts .now) (c .before .before .before .before .before .before .before .before .before .args .turns .now) (c .before .before .before .before .before .before .before .before .before .args .old .now) (c .before .before .before .before .before .before .before .before .before .args .new .now) (c .before .before .before .before .before .before .before .before .before .args .room .now) _ (c .before .before .blocks-of .ensures) (c .before .if1 .taken) _ (c .refuse .ensures)
 
--- src/lib.rt:89:5
 clear-requires : tie.Need-clear-requires
 clear-requires c κs = search needs
 
--- src/lib.rt:90:11
 bad-block-requires : tie.Need-bad-block-requires
 bad-block-requires c κs = search needs
 
--- src/lib.rt:91:19
 enum-known-i : tie.Need-enum-known-i
 enum-known-i c = search needs
 
--- src/lib.rt:91:25
 refuse-requires-2 : tie.Need-refuse-requires-2
 refuse-requires-2 c κs = search needs
 
--- src/lib.rt:92:33
 enum-told : tie.Need-enum-told
 enum-told c = search needs
 
--- src/lib.rt:92:33
 bad-turn-requires : tie.Need-bad-turn-requires
 bad-turn-requires c κs = search needs
 
--- src/lib.rt:93:23
 enum-known-i-2 : tie.Need-enum-known-i-2
 enum-known-i-2 c = search needs
 
--- src/lib.rt:93:29
 refuse-requires-3 : tie.Need-refuse-requires-3
 refuse-requires-3 c κs = search needs
 
--- src/lib.rt:94:77
 enum-told-2 : tie.Need-enum-told-2
 enum-told-2 c = search needs
 
--- src/lib.rt:94:41
 run-well-requires : tie.Need-run-well-requires
 run-well-requires c κs = accepted (c .before .before .before .before .before .before .before .before .before .before .before .before .before .before .before .before .before .before .before .before .args .words .now) (c .before .before .before .before .before .before .before .before .before .before .before .before .before .before .before .before .before .before .before .before .args .starts .now) (c .before .before .before .before .before .before .before .before .before .before .before .before .before .before .before .before .before .before .before .before .args .turns .now) (c .before .before .before .before .before .before .before .before .before .before .before .before .before .before .before .before .before .before .before .before .args .old .now) (c .before .before .before .before .before .before .before .before .before .before .before .before .before .before .before .before .before .before .before .before .args .new .now) (c .before .before .before .before .before .before .before .before .before .before .before .before .before .before .before .before .before .before .before .before .args .room .now) _ (c .before .before .before .before .before .before .before .before .before .before .before .before .before .blocks-of .ensures) (c .before .before .before .before .before .before .before .before .before .before .before .before .if1 .left) _ (c .before .before .before .before .before .before .before .before .before .before .clear .ensures) (found-none _ _ (c .before .before .before .before .before .before .before .bad-block .ensures) (c .before .before .before .before .before .enum-told .given .1)) (found-none _ _ (c .before .before .before .before .bad-turn .ensures) (c .before .before .enum-told2 .given .1)) _ (search needs)
 
--- src/lib.rt:74:1
 same-length : tie.Need-same-length
 same-length c = search needs
 
--- src/lib.rt:74:1
 returns-2 : tie.Need-returns-2
 returns-2 c = told-block (c .before .before .before .before .before .before .before .before .before .before .before .before .before .before .before .before .before .args .words .now) (c .before .before .before .before .before .before .before .before .before .before .before .before .before .before .before .before .before .args .starts .now) (c .before .before .before .before .before .before .before .before .before .before .before .before .before .before .before .before .before .args .turns .now) (c .before .before .before .before .before .before .before .before .before .before .before .before .before .before .before .before .before .args .old .now) (c .before .before .before .before .before .before .before .before .before .before .before .before .before .before .before .before .before .args .new .now) (c .before .before .before .before .before .before .before .before .before .before .before .before .before .before .before .before .before .args .room .now) _ (c .before .before .before .before .before .before .before .before .before .before .blocks-of .ensures) (c .before .before .before .before .before .before .before .before .before .if1 .left) _ (c .before .before .before .before .before .before .before .clear .ensures) _ (found-some _ _ _ (c .before .before .before .before .bad-block .ensures) (c .before .before .i .given .1)) _ (c .refuse2 .ensures)
 
--- src/lib.rt:74:1
 same-length-2 : tie.Need-same-length-2
 same-length-2 c = search needs
 
--- src/lib.rt:74:1
 returns-3 : tie.Need-returns-3
 returns-3 c = told-turn (c .before .before .before .before .before .before .before .before .before .before .before .before .before .before .before .before .before .before .before .before .args .words .now) (c .before .before .before .before .before .before .before .before .before .before .before .before .before .before .before .before .before .before .before .before .args .starts .now) (c .before .before .before .before .before .before .before .before .before .before .before .before .before .before .before .before .before .before .before .before .args .turns .now) (c .before .before .before .before .before .before .before .before .before .before .before .before .before .before .before .before .before .before .before .before .args .old .now) (c .before .before .before .before .before .before .before .before .before .before .before .before .before .before .before .before .before .before .before .before .args .new .now) (c .before .before .before .before .before .before .before .before .before .before .before .before .before .before .before .before .before .before .before .before .args .room .now) _ (c .before .before .before .before .before .before .before .before .before .before .before .before .before .blocks-of .ensures) (c .before .before .before .before .before .before .before .before .before .before .before .before .if1 .left) _ (c .before .before .before .before .before .before .before .before .before .before .clear .ensures) (found-none _ _ (c .before .before .before .before .before .before .before .bad-block .ensures) (c .before .before .before .before .before .enum-told .given .1)) _ (found-some _ _ _ (c .before .before .before .before .bad-turn .ensures) (c .before .before .i2 .given .1)) _ (c .refuse3 .ensures)
 
--- src/lib.rt:74:1
 same-length-3 : tie.Need-same-length-3
 same-length-3 c = search needs
 
--- src/lib.rt:74:1
 same-length-4 : tie.Need-same-length-4
 same-length-4 c = search needs
 
--- src/lib.rt:74:1
 returns-4 : tie.Need-returns-4
 returns-4 c =
     let done = c .before .before .before .before .run-well .ensures in

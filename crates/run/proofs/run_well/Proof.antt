@@ -1,50 +1,35 @@
-use mathlib.Core.Path.{_≡_, refl, sym, ap, _∙_}
-use native.Mathlib.Omega.{arith}
+-- `run::run_well` meets its contract: the blocks begin, take their turns and tell what is left; each step's facts are those of the one before.
+-- Assumes nothing.
 use lib.ListN.{length}
 use Rattle.run.proofs.AnswerLaws.{again, beginnings, goods-begun, run-left, run-new}
 use borrow.Author.Needs.{needs}
 use Rattle.run.proofs.run_well.Statement.{statement}
 use Rattle.run.proofs.run_well.Tie as tie
-use Rattle.run.proofs.run_well.Reads as reads
-use Rattle.run.proofs.run_well.Lts as lts
-use Rattle.run.proofs.blocks_of.Reads as blocks-of-reads
-use Rattle.run.proofs.left.turns_left.Reads as turns-left-reads
-use Rattle.run.proofs.states.begin_blocks.Reads as begin-blocks-reads
-use Rattle.run.proofs.taking.take_turns.Reads as take-turns-reads
-use Rattle.turns.proofs.store.clear.Reads as clear-reads
 
--- src/lib.rt:54:9
 blocks-of-requires : tie.Need-blocks-of-requires
 blocks-of-requires c κs = search needs
 
--- src/lib.rt:55:5
 begin-blocks-requires : tie.Need-begin-blocks-requires
 begin-blocks-requires c κs = beginnings (c .before .before .before .before .before .before .before .before .args .words .now) (c .before .before .before .before .before .before .before .before .args .starts .now) (c .before .before .before .before .before .before .before .before .args .turns .now) _ _ (c .before .before .before .before .before .before .before .before .args .room .now) (c .before .before .before .before .before .before .before .before .pre) _ (c .before .blocks-of .ensures)
 
--- src/lib.rt:56:5
 take-turns-requires : tie.Need-take-turns-requires
 take-turns-requires c κs = (c .before .before .before .before .before .before .before .before .before .before .before .before .before .args .starts .now, goods-begun (c .before .before .before .before .before .before .before .before .before .before .before .before .before .args .words .now) (c .before .before .before .before .before .before .before .before .before .before .before .before .before .args .starts .now) (c .before .before .before .before .before .before .before .before .before .before .before .before .before .args .turns .now) _ _ (c .before .before .before .before .before .before .before .before .before .before .before .before .before .args .room .now) (c .before .before .before .before .before .before .before .before .before .before .before .before .before .pre) _ (search needs) _ (c .before .before .before .before .before .before .blocks-of .ensures) (c .before .before .before .before .begin-blocks .ensures), c .before .before .before .before .before .before .before .before .before .before .before .before .before .pre .named)
 
--- src/lib.rt:57:9
 turns-left-requires : tie.Need-turns-left-requires
 turns-left-requires c κs =
     let start = c .before .before .before .before .before .before .before .before .before .before .before .before .before .before .before .before .before .before .before in
     let begun = goods-begun (c .before .before .before .before .before .before .before .before .before .before .before .before .before .before .before .before .before .before .before .args .words .now) (c .before .before .before .before .before .before .before .before .before .before .before .before .before .before .before .before .before .before .before .args .starts .now) (c .before .before .before .before .before .before .before .before .before .before .before .before .before .before .before .before .before .before .before .args .turns .now) _ _ (c .before .before .before .before .before .before .before .before .before .before .before .before .before .before .before .before .before .before .before .args .room .now) (c .before .before .before .before .before .before .before .before .before .before .before .before .before .before .before .before .before .before .before .pre) _ (search needs) _ (c .before .before .before .before .before .before .before .before .before .before .before .before .blocks-of .ensures) (c .before .before .before .before .before .before .before .before .before .before .begin-blocks .ensures) in
     (start .args .starts .now, _, _, c .before .before .before .before .before .before .before .before .before .before .before .before .blocks-of .ensures, c .before .before .before .before .before .take-turns .ensures .0 (start .args .starts .now) begun (start .pre .named))
 
--- src/lib.rt:58:5
 clear-requires : tie.Need-clear-requires
 clear-requires c κs = search needs
 
--- src/lib.rt:41:1
 same-length : tie.Need-same-length
 same-length c = search needs
 
--- src/lib.rt:41:1
 same-length-2 : tie.Need-same-length-2
 same-length-2 c = search needs
 
--- src/lib.rt:41:1
 returns : tie.Need-returns
 returns c =
     let start = c .before .before .before .before .before .before .before .before .before .before .before .before .before .before .before .before .before .before .before .before .before .before .before .before in

@@ -1,16 +1,13 @@
-use mathlib.Core.Path.{_≡_, refl, sym, ap, _∙_}
-use Prim.Native.Nat.{_-_, _≤_}
+-- `run::left::turns_after` meets its contract. The invariant: the turns counted and those after the part at o are all.
+-- Assumes nothing.
+use mathlib.Core.Path.{sym, _∙_}
+use Prim.Native.Nat.{_-_}
 use native.Mathlib.Omega.{arith}
 use lib.ListN.{length}
 use Rattle.run.proofs.LeftLaws.{Walking, walk-start, walk-inside, walk-part, walk-after, walk-next, walk-bound, walk-end}
 use borrow.Author.Needs.{needs}
 use Rattle.run.proofs.left.turns_after.Statement.{statement}
 use Rattle.run.proofs.left.turns_after.Tie as tie
-use Rattle.run.proofs.left.turns_after.Reads as reads
-use Rattle.run.proofs.left.turns_after.Lts as lts
-use Rattle.turns.proofs.part.last.Reads as last-reads
-use Rattle.turns.proofs.part.part_end.Reads as part-end-reads
-use Rattle.turns.proofs.part.stages.Reads as stages-reads
 
 abbrev Inv-loop : tie.InvT-loop
 Inv-loop words at o₀ sum₀ o sum = Walking words at o sum
@@ -18,45 +15,36 @@ Inv-loop words at o₀ sum₀ o sum = Walking words at o sum
 abbrev μ-loop : tie.MeasureT-loop
 μ-loop words at o₀ sum₀ o sum = length words - o
 
--- src/left.rt:19:5
 loop-holds : tie.Need-loop-holds Inv-loop μ-loop
 loop-holds c = walk-start (c .before .args .words .now) (c .before .args .at) (c .before .pre)
 
--- src/left.rt:19:11
 last-requires : tie.Need-last-requires Inv-loop μ-loop
 last-requires c κs = walk-part (c .before .before .args .words .now) _ _ _ (c .loop .inv)
 
--- src/left.rt:20:9
 part-end-requires : tie.Need-part-end-requires Inv-loop μ-loop
 part-end-requires c κs = walk-inside (c .before .before .before .before .args .words .now) _ _ _ (c .before .before .loop .inv) .1
 
--- src/left.rt:21:16
 stages-requires : tie.Need-stages-requires Inv-loop μ-loop
 stages-requires c κs = walk-after (c .before .before .before .before .before .args .words .now) _ _ _ (c .before .before .before .loop .inv) (λ q. c .before .if1 .taken (c .before .before .last .ensures ∙ q)) _ (c .part-end .ensures)
 
--- src/left.rt:21:16
 add-sum : tie.Need-add-sum Inv-loop μ-loop
 add-sum c =
     let w = walk-next (c .before .before .before .before .before .before .args .words .now) _ _ _ (c .before .before .before .before .loop .inv) (λ q. c .before .before .if1 .taken (c .before .before .before .last .ensures ∙ q)) _ _ (c .before .part-end .ensures) (c .stages .ensures) in
     omega (arith, walk-bound (c .before .before .before .before .before .before .args .words .now) _ _ _ (c .before .before .before .before .before .before .pre) w)
 
--- src/left.rt:21:9
 add-sum-2 : tie.Need-add-sum-2 Inv-loop μ-loop
 add-sum-2 c =
     let w = walk-next (c .before .before .before .before .before .before .args .words .now) _ _ _ (c .before .before .before .before .loop .inv) (λ q. c .before .before .if1 .taken (c .before .before .before .last .ensures ∙ q)) _ _ (c .before .part-end .ensures) (c .stages .ensures) in
     omega (arith, walk-bound (c .before .before .before .before .before .before .args .words .now) _ _ _ (c .before .before .before .before .before .before .pre) w)
 
--- src/left.rt:19:5
 loop-less : tie.Need-loop-less Inv-loop μ-loop
 loop-less c =
     let inside = walk-inside (c .before .before .before .before .before .before .args .words .now) _ _ _ (c .before .before .before .before .loop .inv) in
     omega (arith, inside .0, inside .1, c .before .part-end .ensures)
 
--- src/left.rt:19:5
 loop-again : tie.Need-loop-again Inv-loop μ-loop
 loop-again c = walk-next (c .before .before .before .before .before .before .args .words .now) _ _ _ (c .before .before .before .before .loop .inv) (λ q. c .before .before .if1 .taken (c .before .before .before .last .ensures ∙ q)) _ _ (c .before .part-end .ensures) (c .stages .ensures)
 
--- src/left.rt:13:1
 returns : tie.Need-returns Inv-loop μ-loop
 returns c = walk-end (c .before .before .before .before .args .words .now) _ _ _ (c .before .before .loop .inv) (sym (c .before .last .ensures) ∙ c .if1 .left)
 

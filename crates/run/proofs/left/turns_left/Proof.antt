@@ -1,19 +1,17 @@
-use Prim.Native.Nat.{ℕ}
+-- `run::left::turns_left` meets its contract. The invariant: the turns counted and those of the blocks from b on are all.
+-- Assumes nothing.
+use mathlib.Core.Path.{_≡_, ap, _∙_}
+use Prim.Native.Nat.{ℕ, _+_, _-_, _≤_}
 use native.Mathlib.Nat.{zero-add, sub-zero}
-use mathlib.Core.Path.{_≡_, refl, sym, ap, _∙_}
-use Prim.Native.Nat.{_+_, _-_, _≤_}
 use native.Mathlib.Omega.{arith}
 use Rattle.machine.specs.Run.{allLeft}
 use Rattle.run.specs.States.{blocksIn}
 use Rattle.run.proofs.StateLaws.{lent-room}
-use Rattle.run.proofs.TakingLaws.{room-fits, room-good}
+use Rattle.run.proofs.TakingLaws.{room-good}
 use Rattle.run.proofs.LeftLaws.{left-next, left-all, all-bound}
 use borrow.Author.Needs.{needs}
 use Rattle.run.proofs.left.turns_left.Statement.{statement}
 use Rattle.run.proofs.left.turns_left.Tie as tie
-use Rattle.run.proofs.left.turns_left.Reads as reads
-use Rattle.run.proofs.left.turns_left.Lts as lts
-use Rattle.run.proofs.left.block_left.Reads as block-left-reads
 
 abbrev Inv-loop : tie.InvT-loop
 Inv-loop words blocks room sum₀ b₀ sum b = (b ≤ blocks) × (sum + allLeft 256 words (blocksIn words room (blocks - b) b) ≡ allLeft 256 words (blocksIn words room blocks 0))
@@ -21,48 +19,38 @@ Inv-loop words blocks room sum₀ b₀ sum b = (b ≤ blocks) × (sum + allLeft 
 abbrev μ-loop : tie.MeasureT-loop
 μ-loop words blocks room sum₀ b₀ sum b = blocks - b
 
--- src/left.rt:54:5
 loop-holds : tie.Need-loop-holds Inv-loop μ-loop
 loop-holds c =
     let W = c .before .before .args .words .now in
     (omega arith, zero-add _ ∙ ap (λ (m : ℕ). allLeft 256 W (blocksIn W (c .before .before .args .room .now) m 0)) (sub-zero (c .before .before .args .blocks)))
 
--- src/left.rt:55:40
 mul-block-left : tie.Need-mul-block-left Inv-loop μ-loop
 mul-block-left c = search needs
 
--- src/left.rt:55:50
 mul-block-left-2 : tie.Need-mul-block-left-2 Inv-loop μ-loop
 mul-block-left-2 c = search needs
 
--- src/left.rt:55:50
 add-block-left : tie.Need-add-block-left Inv-loop μ-loop
 add-block-left c = search needs
 
--- src/left.rt:55:34
 mul-block-left-3 : tie.Need-mul-block-left-3 Inv-loop μ-loop
 mul-block-left-3 c = search needs
 
--- src/left.rt:55:34
 sub-block-left : tie.Need-sub-block-left Inv-loop μ-loop
 sub-block-left c = search needs
 
--- src/left.rt:55:34
 part-block-left-start : tie.Need-part-block-left-start Inv-loop μ-loop
 part-block-left-start c = search needs
 
--- src/left.rt:55:34
 part-block-left-end : tie.Need-part-block-left-end Inv-loop μ-loop
 part-block-left-end c = search needs
 
--- src/left.rt:55:16
 block-left-requires : tie.Need-block-left-requires Inv-loop μ-loop
 block-left-requires c κs =
     let start = c .before .before .before .before .before in
     let b = c .before .before .loop .b in
     (start .pre .1, start .pre .2, rw (lent-room (start .args .room .now) b) (room-good (start .args .words .now) (start .pre .0) (start .pre .1) (start .pre .2) (start .args .room .now) (start .pre .4) b (omega (arith, start .pre .3))))
 
--- src/left.rt:55:9
 add-sum : tie.Need-add-sum Inv-loop μ-loop
 add-sum c =
     let start = c .before .before .before .before .before .before in
@@ -70,22 +58,18 @@ add-sum c =
     let next = left-next (start .args .words .now) (start .args .room .now) (start .args .blocks) (l .b) (l .sum) _ _ (omega arith) (rw (lent-room (start .args .room .now) (l .b)) at (c .block-left .ensures)) (l .inv .1) in
     omega (arith, next, all-bound (start .args .words .now) (start .args .room .now) (start .pre .0) (start .pre .1) (start .pre .2) (start .pre .4), ap (λ (m : ℕ). allLeft 256 (start .args .words .now) (blocksIn (start .args .words .now) (start .args .room .now) m 0)) (start .pre .3))
 
--- src/left.rt:56:9
 add-b : tie.Need-add-b Inv-loop μ-loop
 add-b c = search needs
 
--- src/left.rt:54:5
 loop-less : tie.Need-loop-less Inv-loop μ-loop
 loop-less c = search needs
 
--- src/left.rt:54:5
 loop-again : tie.Need-loop-again Inv-loop μ-loop
 loop-again c =
     let start = c .before .before .before .before .before .before in
     let l = c .before .before .before .loop in
     (omega arith, left-next (start .args .words .now) (start .args .room .now) (start .args .blocks) (l .b) (l .sum) _ _ (omega arith) (rw (lent-room (start .args .room .now) (l .b)) at (c .block-left .ensures)) (l .inv .1))
 
--- src/left.rt:48:1
 returns : tie.Need-returns Inv-loop μ-loop
 returns c =
     let start = c .before .before .before .before in

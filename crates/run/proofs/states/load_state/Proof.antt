@@ -1,47 +1,37 @@
+-- `run::states::load_state` meets its contract: every word read is below 2^32.
+-- Assumes nothing.
 use native.Mathlib.Omega.{arith}
 use borrow.Author.Needs.{needs}
 use Rattle.run.proofs.states.load_state.Statement.{statement}
 use Rattle.run.proofs.states.load_state.Tie as tie
-use Rattle.run.proofs.states.load_state.Reads as reads
-use Rattle.run.proofs.states.load_state.Lts as lts
 
--- src/states.rt:18:15
 shared-slice-read-t3 : tie.Need-shared-slice-read-t3
 shared-slice-read-t3 c = search needs
 
--- src/states.rt:18:15
 cast-t4 : tie.Need-cast-t4
 cast-t4 c = omega (arith, c .shared-slice-known .given 768)
 
--- src/states.rt:18:53
 shared-slice-read-t6 : tie.Need-shared-slice-read-t6
 shared-slice-read-t6 c = search needs
 
--- src/states.rt:18:53
 cast-t7 : tie.Need-cast-t7
 cast-t7 c = omega (arith, c .shared-slice-known2 .given 769)
 
--- src/states.rt:18:36
 mul-t8 : tie.Need-mul-t8
 mul-t8 c = omega (arith, c .shared-slice-known2 .given 769)
 
--- src/states.rt:18:15
 add-t9 : tie.Need-add-t9
 add-t9 c = omega (arith, c .shared-slice-known2 .given 769, c .before .shared-slice-known .given 768)
 
--- src/states.rt:19:16
 shared-slice-read-t11 : tie.Need-shared-slice-read-t11
 shared-slice-read-t11 c = search needs
 
--- src/states.rt:20:16
 shared-slice-read-t13 : tie.Need-shared-slice-read-t13
 shared-slice-read-t13 c = search needs
 
--- src/states.rt:20:16
 cast-t14 : tie.Need-cast-t14
 cast-t14 c = omega (arith, c .shared-slice-known4 .given 771)
 
--- src/states.rt:13:1
 returns : tie.Need-returns
 returns c = search needs
 

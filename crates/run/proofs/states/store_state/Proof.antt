@@ -1,44 +1,35 @@
+-- `run::states::store_state` meets its contract: four words stored.
+-- Assumes nothing.
 use mathlib.Core.Path.{refl}
 use Rattle.run.specs.States.{stateWords}
 use borrow.Author.Needs.{needs}
 use Rattle.run.proofs.states.store_state.Statement.{statement}
 use Rattle.run.proofs.states.store_state.Tie as tie
-use Rattle.run.proofs.states.store_state.Reads as reads
-use Rattle.run.proofs.states.store_state.Lts as lts
 
--- src/states.rt:30:17
 cast-room : tie.Need-cast-room
 cast-room c = search needs
 
--- src/states.rt:30:5
 slice-write-room : tie.Need-slice-write-room
 slice-write-room c = search needs
 
--- src/states.rt:31:17
 cast-room-2 : tie.Need-cast-room-2
 cast-room-2 c = search needs
 
--- src/states.rt:31:5
 slice-write-room-2 : tie.Need-slice-write-room-2
 slice-write-room-2 c = search needs
 
--- src/states.rt:32:5
 slice-write-room-3 : tie.Need-slice-write-room-3
 slice-write-room-3 c = search needs
 
--- src/states.rt:33:17
 cast-room-3 : tie.Need-cast-room-3
 cast-room-3 c = search needs
 
--- src/states.rt:33:5
 slice-write-room-4 : tie.Need-slice-write-room-4
 slice-write-room-4 c = search needs
 
--- src/states.rt:25:1
 same-length : tie.Need-same-length
 same-length c = search needs
 
--- src/states.rt:25:1
 returns : tie.Need-returns
 unfolding stateWords
 returns c = refl
