@@ -117,7 +117,7 @@ module _ (d : List ℕ) (accepted : Accepted d) (s : ℕ) (stage : s < majorsOf 
     -- ---- the parts that the run finds
 
     -- c of them, from part j on
-    record Found (os : List ℕ) (j c : ℕ) : Type 0 where
+    pub record Found (os : List ℕ) (j c : ℕ) : Type 0 where
       pub many : length os ≡ c
       pub at : (k : ℕ) → k < c → getD os k 0 ≡ place (j + k)
 
@@ -163,8 +163,10 @@ module _ (d : List ℕ) (accepted : Accepted d) (s : ℕ) (stage : s < majorsOf 
     found-some h =
         let stages : 0 < stagesAt W (place 0) = omega (arith, part-back 0 h .stages, able d accepted (planPart 0) (plan-part 0 h) .some-stages) in
         let more : suc (count - 1) ≡ count = omega arith in
-        rw (← part-first 256 d s b, ne-eqb (stagesAt W (place 0)) 0 (λ e. omega arith), partsAt, ← more)
-        (found-from (length W) (count - 1) 0 (omega (arith, few-parts)) (omega arith))
+        let from : Found (partsFrom 256 W (length W) (place 0)) 0 count =
+        subst (λ (c : ℕ). Found (partsFrom 256 W (length W) (place 0)) 0 c) more (found-from (length W) (count - 1) 0 (omega (arith, few-parts)) (omega arith)) in
+        subst (λ (o : ℕ). Found (partsAt 256 W o) 0 count) (part-first 256 d s b)
+        (rw (ne-eqb (stagesAt W (place 0)) 0 (λ e. omega arith), partsAt) from)
 
     pub found : Found (partsAt 256 W (blockStart 256 d s b)) 0 count
     found = ⊎-elim found-some (λ h. found-none (omega arith)) (lt-or-ge 0 count)
