@@ -96,9 +96,9 @@ module _ (d : List ℕ) (accepted : Accepted d) (s : ℕ) (stage : s < majorsOf 
   stored-once i k w a b = ⊎-elim
       (λ (e : i ≡ k). e)
       (λ (n : i ≡ k → ⊥). absurd (⊎-elim
-        (λ l. omega (arith, a .until, b .from))
-        (λ l. omega (arith, b .until, a .from))
-        (state-apart d s s i k (a .part) (b .part) (λ e. n (omega arith)))))
+      (λ l. omega (arith, a .until, b .from))
+      (λ l. omega (arith, b .until, a .from))
+      (state-apart d s s i k (a .part) (b .part) (λ e. n (omega arith)))))
       (same-or i k)
 
   -- a part stands once
@@ -125,7 +125,7 @@ module _ (d : List ℕ) (accepted : Accepted d) (s : ℕ) (stage : s < majorsOf 
         e,
         major,
         read-before d (tests d accepted .totals) (tests d accepted .twelve) p there (lanes-found d accepted p there) r l
-        (λ z. omega (arith, D .read-mask r l a k)) (omega arith),
+            (λ z. omega (arith, D .read-mask r l a k)) (omega arith),
       )
 
   -- THE BLOCKS OF A MAJOR STAGE ARE KEPT APART
@@ -134,7 +134,7 @@ module _ (d : List ℕ) (accepted : Accepted d) (s : ℕ) (stage : s < majorsOf 
     reads = λ b j o q. part-reads b j o (planned b j o q);
     high = λ b j o w q h. stored-high (number b j) w (stored-by b j o w (planned b j o q) h);
     apart = λ b j o c k e w q r h l.
-      let x = planned b j o q in
-      let y = planned c k e r in
-      one-place b j c k (x .inside) (y .inside) (stored-once _ _ w (stored-by b j o w x h) (stored-by c k e w y l));
+        let x = planned b j o q in
+        let y = planned c k e r in
+        one-place b j c k (x .inside) (y .inside) (stored-once _ _ w (stored-by b j o w x h) (stored-by c k e w y l));
   }
