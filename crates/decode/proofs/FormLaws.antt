@@ -1,7 +1,7 @@
 -- The script of a part of an accepted plan passes the run's test of 15: each of the test's clauses from what the words say when read back.
 -- Assumes nothing.
-use mathlib.Core.Path.{_≡_, refl, sym, ap, _∙_}
-use mathlib.Core.Bool.{Bool, true, false, _&&_, _||_, or-true}
+use mathlib.Core.Path.{_≡_, sym, ap, _∙_}
+use mathlib.Core.Bool.{true, false, _&&_, _||_, or-true}
 use mathlib.Core.Option.{none}
 use mathlib.Core.List.{List, [], _∷_}
 use mathlib.Core.Logic.{⊎-elim}
@@ -11,7 +11,7 @@ use native.Mathlib.Decide.{ℕ-discrete}
 use native.Mathlib.Numerals.{one-add}
 use native.Mathlib.Omega.{arith}
 use borrow.Author.Tests.{eq-eqb, ne-eqb, lt-ltb, le-leb}
-use lib.Dec.{leb, ltb, eqb}
+use lib.Dec.{ltb, eqb}
 use lib.ListN.{length, getD}
 use Rattle.words.specs.Sum.{sumTo}
 use Rattle.words.specs.Bit.{pop}
@@ -23,16 +23,16 @@ use Rattle.reads.specs.Local.{wordIn, maskIn}
 use Rattle.reads.specs.Outcome.{placed}
 use Rattle.reads.proofs.LocalLaws.{pop-zero}
 use Rattle.reads.proofs.RoundLaws.{longest-ge}
-use Rattle.record.specs.Record.{majorsOf, countAt, partsBefore, partsOf, stagesOf, locationsOf, locationAt, tableAt}
+use Rattle.record.specs.Record.{majorsOf, partsOf, stagesOf, locationsOf, locationAt}
 use Rattle.record.proofs.TestLaws.{true-and, all-true}
-use Rattle.counts.specs.Counts.{srams, duplicates, writeOuts}
+use Rattle.counts.specs.Counts.{writeOuts}
 use Rattle.blocks.specs.Blocks.{stateWords, totalsFit}
 use Rattle.blocks.proofs.TotalLaws.{sum-zero, sum-split}
 use Rattle.blocks.proofs.StartLaws.{part-split, state-in, state-mono}
 use Rattle.positions.specs.Positions.{startOf, refusal12}
 use Rattle.positions.proofs.MajorLaws.{start-is}
 use Rattle.partreads.specs.PartReads.{partReads, partLanes}
-use Rattle.script.specs.Script.{locationStage, stageEntry}
+use Rattle.script.specs.Script.{locationStage}
 use Rattle.machine.specs.Part.{stagesAt, lastAt, writeOutsAt, startAt, sramsAt, roundsAt, duplicatesAt, normalAt, endAt, locationIn, readWordAt, readMaskAt, entryAt}
 use Rattle.machine.specs.Run.{entriesForm, locationsForm, lanesForm, readsForm, storesForm, partForm}
 use Rattle.decode.specs.Decoded.{Decoded}
