@@ -1,10 +1,10 @@
 -- What a part of a plan without refusals 8 and 12 reads lies in the planned state, and before the state of its own major stage where it is staged:
 -- each bit that a slot asks for, so each word of its lanes. So the search was given a set in form, and its lanes are sound.
 -- Assumes nothing.
-use mathlib.Core.Path.{_≡_, refl, sym, ap, _∙_}
+use mathlib.Core.Path.{_≡_, refl, sym, _∙_}
 use mathlib.Core.Bool.{Bool, true, false}
 use mathlib.Core.Option.{Option, none, some}
-use mathlib.Core.List.{List, [], _∷_, _++_}
+use mathlib.Core.List.{List, [], _∷_}
 use mathlib.Core.Logic.{_⊎_, ⊎-elim}
 use Prim.Native.Nat.{ℕ, zero, suc, _+_, _*_, _-_, _/_, _%_, _^_, _≤_, _<_}
 use native.Mathlib.Nat.{not-suc-le-zero, le-of-suc-le-suc}
@@ -14,7 +14,7 @@ use lib.Dec.{eqb}
 use lib.ListN.{length, getD}
 use Rattle.words.proofs.BitLaws.{lt-or-ge}
 use Rattle.reads.specs.ReadSet.{pairsFrom, pairsOf}
-use Rattle.reads.specs.Search.{Lane, joined}
+use Rattle.reads.specs.Search.{Lane}
 use Rattle.reads.specs.Packing.{times}
 use Rattle.reads.specs.Local.{wordIn, maskIn}
 use Rattle.reads.specs.Outcome.{placed}
@@ -23,7 +23,7 @@ use Rattle.reads.proofs.SetLaws.{times-here, times-cases}
 use Rattle.reads.proofs.RoundLaws.{in-lanes}
 use Rattle.reads.proofs.SectionWordLaws.{mask-none}
 use Rattle.reads.proofs.OutcomeLaws.{Sound}
-use Rattle.asks.proofs.FormLaws.{EachPair, Keeps, set-each}
+use Rattle.asks.proofs.FormLaws.{EachPair, set-each}
 use Rattle.tries.specs.Decoded.{Each}
 use Rattle.tries.proofs.TableLaws.{each-append, each-at}
 use Rattle.rounds.specs.Rounds.{Solvable}
