@@ -21,7 +21,7 @@ use Rattle.reads.specs.ReadTurn.{appended, laneWord}
 use Rattle.machine.specs.Part.{normalAt, endAt, locationIn, readWordAt, readMaskAt, sectionAt, entryAt, laneWordAt}
 use Rattle.machine.specs.Turn.{stateWord, readRow, gate, gateAt, levelBit, positionBit, stageRow, captured, begins, ended, afterRead, afterStage, afterStore, stored, turned, written}
 use Rattle.machine.specs.Run.{blocksFrom, step, runFrom, turnsFrom, turnsAfter, turnsLeft, allLeft}
-use Rattle.marked.specs.Scripts.{entrySeen, gateThree, gateRun}
+use Rattle.marked.specs.Scripts.{locationsIn, locationsSeen, entrySeen, gateThree, gateRun}
 
 -- what the definitions give, and what document 01 says
 pub record Example : Type 0 where
@@ -46,6 +46,8 @@ marked =
       got = readRounds (same 256 0 1 ++ (256 ∷ 4294967295 ∷ [])) (ask 256 31 ∷ ask 256 0 ∷ ask 255 0 ∷ ask 0 0 ∷ []);
       said = 2 ∷ 0 ∷ 31 ∷ 32 ∷ 33 ∷ [];
     }
+    -- M6 stage 0 locations 1, 2, stage 1 location 3: 0x00020001, 0xFFFF0103
+    ∷ record { got = locationsSeen; said = 0x00020001 ∷ 0xFFFF0103 ∷ [] }
     -- M7 output 10, staged 5, DFF d=10 en=1, output 11: one duplicate word
     ∷ record { got = duplicateWords; said = 1 ∷ [] }
     -- M8 two blocks, stages 4, 2, 1, 1: blocks (0,3), (1,2); with 40 inputs and one word each, starts 2, 4, 5, 3 by part
@@ -67,5 +69,5 @@ told [] = []
 told (e ∷ es) = e .said ∷ told es
 
 pub marked-right : given marked ≡ told marked
-unfolding bit bitAt wordOf placeOf halfOf appended laneWord normalAt endAt locationIn readWordAt readMaskAt sectionAt entryAt laneWordAt stateWord readRow gate gateAt levelBit positionBit stageRow captured begins ended afterRead afterStage afterStore stored turned written blocksFrom step runFrom turnsFrom turnsAfter turnsLeft allLeft entryOf entrySeen gateThree gateRun sumTo listOf activationsOf isIn different duplicatesIn leastTo blockFor costsAfter blockIn comesBefore takenBefore duplicateWords stagesIn blocksOfParts startsOfParts marked given told same positions seen popIn total pairsFrom pairForm brokenFrom piecesIn insertPiece ordered joined firstRoom tryFrom firstWin longest maskIn later localAt roundFrom spotFrom localOf packed readSet fitted outcome
+unfolding bit bitAt wordOf placeOf halfOf appended laneWord normalAt endAt locationIn readWordAt readMaskAt sectionAt entryAt laneWordAt stateWord readRow gate gateAt levelBit positionBit stageRow captured begins ended afterRead afterStage afterStore stored turned written blocksFrom step runFrom turnsFrom turnsAfter turnsLeft allLeft entryOf locationsIn locationsSeen entrySeen gateThree gateRun sumTo listOf activationsOf isIn different duplicatesIn leastTo blockFor costsAfter blockIn comesBefore takenBefore duplicateWords stagesIn blocksOfParts startsOfParts marked given told same positions seen popIn total pairsFrom pairForm brokenFrom piecesIn insertPiece ordered joined firstRoom tryFrom firstWin longest maskIn later localAt roundFrom spotFrom localOf packed readSet fitted outcome
 marked-right = refl

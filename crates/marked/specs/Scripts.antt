@@ -1,10 +1,19 @@
--- M9 and M10: the place of an entry, and a run, with what the definitions of `words` and `machine` give for them.
+-- M6, M9 and M10: locations, the place of an entry, and a run, with what the definitions of `script`, `words` and `machine` give for them.
 -- Assumes nothing.
 use mathlib.Core.List.{List, [], _∷_, _++_}
-use Prim.Native.Nat.{ℕ, _+_, _-_, _%_}
-use lib.ListN.{replicate}
+use Prim.Native.Nat.{ℕ, zero, suc, _+_, _-_, _%_}
+use lib.ListN.{take, replicate}
 use Rattle.words.specs.Section.{placeOf, entryOf}
+use Rattle.script.specs.Script.{stageIn, halfIn, halfWords}
 use Rattle.machine.specs.Run.{runTurns, allLeft}
+
+-- M6: two locations in stage 0 and one in stage 1; the first two words
+unfoldable pub locationsIn : ℕ → ℕ
+locationsIn zero = 2
+locationsIn (suc s) = 1
+
+unfoldable pub locationsSeen : List ℕ
+locationsSeen = take 2 (halfWords (halfIn (stageIn locationsIn 2) (λ l. l + 1) 3) 256)
 
 -- M9: the word of entry 33 and its half, and the entry in the high half of that word
 unfoldable pub entrySeen : List ℕ

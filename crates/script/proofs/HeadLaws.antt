@@ -1,6 +1,6 @@
 -- The numbers and the locations of a part, in the code's terms.
 -- Assumes nothing.
-use mathlib.Core.Path.{_≡_, refl}
+use mathlib.Core.Path.{_≡_, refl, sym, ap}
 use mathlib.Core.List.{List, _∷_}
 use Prim.Native.Nat.{ℕ, suc, _+_, _*_, _^_, _%_, _≤_, _<_}
 use native.Mathlib.Numerals.{add-one}
@@ -44,11 +44,13 @@ stage-is d p l n h = rw h
 
 pub half-within : (d : List ℕ) (p l n : ℕ) → n ≡ locationsOf d p → l < n → 256 * locationStage d p l + locationAt d p l ≡ locationHalf d p l
 unfolding locationHalf
-half-within d p l n e h = let k : l < locationsOf d p = omega arith in rw (lt-ltb _ _ k, locationHalf)
+half-within d p l n e h = let k : l < locationsOf d p = omega arith in
+    sym (ap (λ b. elim b [ true ↦ 256 * locationStage d p l + locationAt d p l | false ↦ 65535 ]) (lt-ltb _ _ k))
 
 pub half-past : (d : List ℕ) (p l n : ℕ) → n ≡ locationsOf d p → n ≤ l → 65535 ≡ locationHalf d p l
 unfolding locationHalf
-half-past d p l n e h = let k : locationsOf d p ≤ l = omega arith in rw (le-ltb _ _ k, locationHalf)
+half-past d p l n e h = let k : locationsOf d p ≤ l = omega arith in
+    sym (ap (λ b. elim b [ true ↦ 256 * locationStage d p l + locationAt d p l | false ↦ 65535 ]) (le-ltb _ _ k))
 
 -- word j of the locations
 abbrev pub locationWord : List ℕ → ℕ → ℕ → ℕ

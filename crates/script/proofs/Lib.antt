@@ -7,4 +7,3 @@ pub mod EntryLaws
 pub mod LengthLaws
 pub mod ScriptLaws
 pub mod AcceptedLaws
-pub mod MarkedLaws

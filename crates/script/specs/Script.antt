@@ -28,15 +28,26 @@ numbers n d p last state sram =
     stagesOf d p ∷ last ∷ writeOuts d p ∷ state ∷ srams d p ∷ sram ∷ longest (partLanes n d p) ∷ duplicates d p ∷ replicate (n / 2 - 8) 0
 
 -- "locations (stage·256+w), two to a word, first in the low half; a last odd one has high half 0xFFFF; the rest 0xFFFFFFFF"
--- the stage of location l: how many stages end at or before it
+-- over the numbers of locations of n stages: the stage of location l is how many stages end at or before it
+abbrev pub stageIn : (ℕ → ℕ) → ℕ → ℕ → ℕ
+stageIn counts n l = sumTo (λ s. elim (leb (sumTo counts (suc s)) l) [ true ↦ 1 | false ↦ 0 ]) n
+
+-- the half of location l of m, from stages and locations, and the words of n halves
+abbrev pub halfIn : (ℕ → ℕ) → (ℕ → ℕ) → ℕ → ℕ → ℕ
+halfIn stage location m l = elim (ltb l m) [ true ↦ 256 * stage l + location l | false ↦ 65535 ]
+
+abbrev pub halfWords : (ℕ → ℕ) → ℕ → List ℕ
+halfWords half n = listOf (λ j. half (2 * j + 1) * 2 ^ 16 + half (2 * j)) (n / 2)
+
+-- those of a part
 unfoldable pub locationStage : List ℕ → ℕ → ℕ → ℕ
-locationStage d p l = sumTo (λ s. elim (leb (sumTo (stageLocations d p) (suc s)) l) [ true ↦ 1 | false ↦ 0 ]) (stagesOf d p)
+locationStage d p l = stageIn (stageLocations d p) (stagesOf d p) l
 
 unfoldable pub locationHalf : List ℕ → ℕ → ℕ → ℕ
-locationHalf d p l = elim (ltb l (locationsOf d p)) [ true ↦ 256 * locationStage d p l + locationAt d p l | false ↦ 65535 ]
+locationHalf d p l = halfIn (locationStage d p) (locationAt d p) (locationsOf d p) l
 
 unfoldable pub locationWords : ℕ → List ℕ → ℕ → List ℕ
-locationWords n d p = listOf (λ j. locationHalf d p (2 * j + 1) * 2 ^ 16 + locationHalf d p (2 * j)) (n / 2)
+locationWords n d p = halfWords (locationHalf d p) n
 
 -- ---- a stage
 
