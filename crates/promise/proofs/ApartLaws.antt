@@ -1,7 +1,7 @@
 -- The parts that the run finds in a major stage are the plan's, each where assembly put it. So what they read of the new state was stored by earlier
 -- major stages, what they store are their own words, and no two store the same.
 -- Assumes nothing.
-use mathlib.Core.Path.{_≡_, refl, sym, ap, ap₂, _∙_, subst}
+use mathlib.Core.Path.{_≡_, sym, ap, ap₂, _∙_, subst}
 use mathlib.Core.List.{List}
 use mathlib.Core.Logic.{⊎-elim}
 use Prim.Native.Nat.{ℕ, _+_, _-_, _^_, _≤_, _<_}
@@ -9,8 +9,7 @@ use native.Mathlib.Nat.{zero-add}
 use native.Mathlib.Omega.{arith}
 use lib.ListN.{length, getD}
 use Rattle.reads.specs.Search.{longest}
-use Rattle.reads.specs.Local.{maskIn}
-use Rattle.record.specs.Record.{blocksOf, majorsOf, countAt, partsBefore, partsOf, locationsOf}
+use Rattle.record.specs.Record.{blocksOf, majorsOf, countAt, partsBefore, partsOf}
 use Rattle.counts.specs.Counts.{writeOuts}
 use Rattle.blocks.specs.Blocks.{blockOf, stateOf, stateStart, sramStart}
 use Rattle.blocks.proofs.TotalLaws.{same-or}

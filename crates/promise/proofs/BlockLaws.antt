@@ -2,31 +2,27 @@
 -- finds these parts and no others.
 -- Assumes nothing.
 use mathlib.Core.Path.{_≡_, refl, sym, ap, _∙_, subst}
-use mathlib.Core.Bool.{true, false}
 use mathlib.Core.List.{List, [], _∷_}
 use mathlib.Core.Logic.{⊎-elim}
-use Prim.Native.Nat.{ℕ, zero, suc, _+_, _*_, _-_, _≤_, _<_, min}
+use Prim.Native.Nat.{ℕ, zero, suc, _+_, _*_, _-_, _≤_, _<_}
 use native.Mathlib.Nat.{add-zero, mul-suc, mul-le-mul-left}
-use native.Mathlib.Numerals.{add-one}
 use native.Mathlib.Omega.{arith}
 use borrow.Author.Tests.{eq-eqb, ne-eqb}
-use lib.Dec.{eqb}
-use lib.ListN.{length, getD, take, drop, replicate, length-drop}
+use lib.ListN.{length, getD, drop, length-drop}
 use lib.Seq.{getD-take, getD-drop, length-take-le}
 use Rattle.words.proofs.BitLaws.{lt-or-ge}
 use Rattle.record.specs.Record.{blocksOf, majorsOf, countAt, partsBefore, partsOf}
 use Rattle.blocks.specs.Blocks.{stateStart, sramStart}
-use Rattle.script.proofs.LengthLaws.{script-length}
-use Rattle.assembly.specs.Assembly.{wordsOfPart, majorWords, scriptWords, blockStart, scriptStarts}
+use Rattle.assembly.specs.Assembly.{wordsOfPart, blockStart, scriptStarts}
 use Rattle.assembly.specs.Steps.{lastMark, lengthOf, partsIn, partStart}
 use Rattle.assembly.proofs.StepLaws.{mark-last, mark-more}
-use Rattle.assembly.proofs.RankLaws.{PartAt, part-at}
-use Rattle.assembly.proofs.LengthLaws.{words-length, part-length}
+use Rattle.assembly.proofs.RankLaws.{part-at}
+use Rattle.assembly.proofs.LengthLaws.{words-length}
 use Rattle.assembly.proofs.StartLaws.{starts-length, start-at}
 use Rattle.assembly.proofs.PlaceLaws.{block-inside, empty-place, part-first, part-next, part-last, part-place, part-after}
 use Rattle.machine.specs.Part.{stagesAt, lastAt, endAt}
 use Rattle.order.specs.Order.{partsFrom, partsAt}
-use Rattle.decode.specs.Decoded.{StandsAt, Decoded}
+use Rattle.decode.specs.Decoded.{Decoded}
 use Rattle.decode.proofs.DecodeLaws.{decoded}
 use Rattle.promise.specs.Promise.{Accepted, assembled, startsOf}
 use Rattle.promise.proofs.AcceptedLaws.{part-there, some-blocks, able}

@@ -1,21 +1,19 @@
 -- The assembled words of an accepted plan pass the run's test of 15, for states of the planned size: each part passes it, the parts of a block stand
 -- end to end, and a block without parts is the empty block.
 -- Assumes nothing.
-use mathlib.Core.Path.{_≡_, refl, sym, ap, _∙_, subst}
-use mathlib.Core.Bool.{Bool, true, false, _||_, or-true}
-use mathlib.Core.Option.{none}
-use mathlib.Core.List.{List, [], _∷_}
+use mathlib.Core.Path.{_≡_, refl, ap, _∙_, subst}
+use mathlib.Core.Bool.{true, false, _||_, or-true}
+use mathlib.Core.List.{List, _∷_}
 use mathlib.Core.Logic.{⊎-elim}
 use Prim.Native.Nat.{ℕ, zero, suc, _+_, _-_, _≤_, _<_}
 use native.Mathlib.Omega.{arith}
 use borrow.Author.Tests.{eq-eqb, ne-eqb, lt-ltb, le-leb}
-use lib.Dec.{leb, ltb, eqb}
+use lib.Dec.{eqb}
 use lib.ListN.{length, getD, replicate, getD-replicate}
 use Rattle.words.proofs.BitLaws.{lt-or-ge}
 use Rattle.record.specs.Record.{blocksOf, majorsOf}
 use Rattle.record.proofs.TestLaws.{true-and, all-true, none-not}
-use Rattle.blocks.specs.Blocks.{stateStart, stateWords}
-use Rattle.blocks.proofs.TotalLaws.{same-or}
+use Rattle.blocks.specs.Blocks.{stateWords}
 use Rattle.positions.proofs.MajorLaws.{start-is}
 use Rattle.assembly.specs.Assembly.{blockStart}
 use Rattle.assembly.specs.Steps.{lastMark, partsIn}

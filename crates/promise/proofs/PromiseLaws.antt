@@ -2,27 +2,26 @@
 -- Assumes nothing.
 use mathlib.Core.Path.{_≡_, refl, sym, ap, _∙_}
 use mathlib.Core.List.{List}
-use Prim.Native.Nat.{ℕ, _+_, _*_, _-_, _≤_, _<_}
+use Prim.Native.Nat.{ℕ, _+_, _*_, _-_, _<_}
 use native.Mathlib.Omega.{arith}
 use lib.ListN.{length, getD}
 use Rattle.words.specs.Bit.{bit, bitAt}
-use Rattle.record.specs.Record.{blocksOf, majorsOf, countAt, partsBefore, locationsOf}
-use Rattle.blocks.specs.Blocks.{stateOf, stateStart, stateWords}
+use Rattle.record.specs.Record.{blocksOf, countAt, partsBefore, locationsOf}
+use Rattle.blocks.specs.Blocks.{stateOf, stateStart}
 use Rattle.values.specs.Values.{pinValue}
 use Rattle.assembly.specs.Steps.{partsIn, partStart}
 use Rattle.assembly.proofs.RankLaws.{part-found}
-use Rattle.machine.specs.Part.{startAt}
 use Rattle.machine.specs.Run.{runTurns}
 use Rattle.machine.proofs.StageLaws.{at-word}
-use Rattle.order.specs.Order.{oneAfterAnother, capturedBy}
+use Rattle.order.specs.Order.{oneAfterAnother}
 use Rattle.order.proofs.AloneLaws.{Laid}
 use Rattle.order.proofs.OrderLaws.{in-any-order, untouched, stored}
 use Rattle.meaning.proofs.MeaningLaws.{captured-pin}
-use Rattle.promise.specs.Promise.{assembled, startsOf, stageRun, carried, Carries, StoredBy, Kept, Done, Demand3}
+use Rattle.promise.specs.Promise.{assembled, startsOf, stageRun, carried, Carries, StoredBy, Done, Demand3}
 use Rattle.promise.proofs.AcceptedLaws.{part-there, some-blocks, sound}
 use Rattle.promise.proofs.BlockLaws.{starts-are}
 use Rattle.promise.proofs.FormLaws.{never-refused}
-use Rattle.promise.proofs.ApartLaws.{PlanPart, planned, run-part, number, back, stored-by, apart}
+use Rattle.promise.proofs.ApartLaws.{planned, run-part, back, stored-by, apart}
 
 module _ (d : List ℕ) (s : ℕ) (turns old new : List ℕ) (done : Done d s turns old new) where
   abbrev W : List ℕ

@@ -4,10 +4,9 @@
 -- from the gates, the pins its part reads having the bits at their planned positions in the two states."
 -- Assumes nothing.
 use mathlib.Core.Path.{_≡_}
-use mathlib.Core.Bool.{true, false}
 use mathlib.Core.Option.{none}
 use mathlib.Core.List.{List}
-use Prim.Native.Nat.{ℕ, _+_, _*_, _/_, _%_, _≤_, _<_}
+use Prim.Native.Nat.{ℕ, _+_, _*_, _≤_, _<_}
 use lib.ListN.{length, getD, take, drop}
 use Rattle.words.specs.Bit.{bitAt}
 use Rattle.record.specs.Record.{blocksOf, majorsOf, partsBefore, countAt, locationsOf, locationAt, slotAt}
