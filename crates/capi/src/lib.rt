@@ -5,8 +5,10 @@ ghost use lib.ListN.{length};
 ghost use Rattle.reads.specs.Outcome.{outcome, resultAfter, roomAfter};
 ghost use Rattle.listing.specs.Listing.{listed, textAfter};
 ghost use Rattle.values.specs.Values.{outcome as valued, roomAfter as planRoomAfter};
+ghost use Rattle.flatten.specs.Flatten.{sizing, building, startsAfter, wordsAfter, roomAfter as builtRoomAfter};
 ghost use Rattle.machine.specs.Run.{outcome as ranAs, newAfter, roomAfter as runRoomAfter};
-ghost use Rattle.capi.specs.Answers.{roundsNumber, roundsFirst, roundsSecond, listedNumber, listedFirst, listedSecond, valueNumber, valueFirst, valueSecond, ranNumber, ranFirst, ranSecond};
+ghost use Rattle.capi.specs.Answers.{roundsNumber, roundsFirst, roundsSecond, listedNumber, listedFirst, listedSecond, valueNumber, valueFirst, valueSecond, ranNumber, ranFirst, ranSecond, builtNumber, builtFirst, builtSecond, builtThird, builtFourth};
+use flatten::Flattened;
 use listing::Listed;
 use rounds::Rounds;
 use run::Ran;
@@ -129,6 +131,80 @@ pub extern "C" fn juolgesot_run(
         Ran::Refused(refusal) => {
             *first = refusal.part as u64;
             *second = refusal.item;
+            refusal.number
+        }
+    }
+}
+
+// What a plan's result takes: starts, words, state words and SRAM words, or the refusal's part and item and twice 0.
+#[no_mangle]
+pub extern "C" fn juolgesot_plan_sizes(
+    plan: &[u8],
+    room: &mut [u32],
+    first: &mut u64,
+    second: &mut u64,
+    third: &mut u64,
+    fourth: &mut u64,
+) -> u32
+    ensures { λ r. ⌜ r ≡ builtNumber (sizing 256 (now (plan .entry)) (length (now (room .entry)))) ⌝ }
+    ensures { λ r. ⌜ now (first .exit) ≡ builtFirst (sizing 256 (now (plan .entry)) (length (now (room .entry)))) ⌝ }
+    ensures { λ r. ⌜ now (second .exit) ≡ builtSecond (sizing 256 (now (plan .entry)) (length (now (room .entry)))) ⌝ }
+    ensures { λ r. ⌜ now (third .exit) ≡ builtThird (sizing 256 (now (plan .entry)) (length (now (room .entry)))) ⌝ }
+    ensures { λ r. ⌜ now (fourth .exit) ≡ builtFourth (sizing 256 (now (plan .entry)) (length (now (room .entry)))) ⌝ }
+    ensures { λ r. ⌜ now (room .exit) ≡ builtRoomAfter (now (plan .entry)) (now (room .entry)) ⌝ }
+{
+    match flatten::plan_sizes(plan, room) {
+        Flattened::Built(sizes) => {
+            *first = sizes.starts;
+            *second = sizes.words;
+            *third = sizes.state;
+            *fourth = sizes.sram;
+            0
+        }
+        Flattened::Refused(refusal) => {
+            *first = refusal.part as u64;
+            *second = refusal.item;
+            *third = 0;
+            *fourth = 0;
+            refusal.number
+        }
+    }
+}
+
+// The assembled script of a plan; the four numbers are those of its sizes.
+#[no_mangle]
+pub extern "C" fn juolgesot_build(
+    plan: &[u8],
+    room: &mut [u32],
+    starts: &mut [u64],
+    words: &mut [u32],
+    first: &mut u64,
+    second: &mut u64,
+    third: &mut u64,
+    fourth: &mut u64,
+) -> u32
+    ensures { λ r. ⌜ r ≡ builtNumber (building 256 (now (plan .entry)) (length (now (room .entry))) (length (now (starts .entry))) (length (now (words .entry)))) ⌝ }
+    ensures { λ r. ⌜ now (first .exit) ≡ builtFirst (building 256 (now (plan .entry)) (length (now (room .entry))) (length (now (starts .entry))) (length (now (words .entry)))) ⌝ }
+    ensures { λ r. ⌜ now (second .exit) ≡ builtSecond (building 256 (now (plan .entry)) (length (now (room .entry))) (length (now (starts .entry))) (length (now (words .entry)))) ⌝ }
+    ensures { λ r. ⌜ now (third .exit) ≡ builtThird (building 256 (now (plan .entry)) (length (now (room .entry))) (length (now (starts .entry))) (length (now (words .entry)))) ⌝ }
+    ensures { λ r. ⌜ now (fourth .exit) ≡ builtFourth (building 256 (now (plan .entry)) (length (now (room .entry))) (length (now (starts .entry))) (length (now (words .entry)))) ⌝ }
+    ensures { λ r. ⌜ now (room .exit) ≡ builtRoomAfter (now (plan .entry)) (now (room .entry)) ⌝ }
+    ensures { λ r. ⌜ now (starts .exit) ≡ startsAfter 256 (now (plan .entry)) (length (now (room .entry))) (now (starts .entry)) (now (words .entry)) ⌝ }
+    ensures { λ r. ⌜ now (words .exit) ≡ wordsAfter 256 (now (plan .entry)) (length (now (room .entry))) (now (starts .entry)) (now (words .entry)) ⌝ }
+{
+    match flatten::build_flattened_script_v1(plan, room, starts, words) {
+        Flattened::Built(sizes) => {
+            *first = sizes.starts;
+            *second = sizes.words;
+            *third = sizes.state;
+            *fourth = sizes.sram;
+            0
+        }
+        Flattened::Refused(refusal) => {
+            *first = refusal.part as u64;
+            *second = refusal.item;
+            *third = 0;
+            *fourth = 0;
             refusal.number
         }
     }

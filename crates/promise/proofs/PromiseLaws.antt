@@ -1,9 +1,12 @@
 -- DEMAND 3. Order and frame are those of any run whose blocks are kept apart; the pins come from the part that stores the word.
 -- Assumes nothing.
 use mathlib.Core.Path.{_≡_, refl, sym, ap, _∙_}
+use mathlib.Core.Bool.{Bool, true, false}
+use mathlib.Core.Option.{Option, none, some}
 use mathlib.Core.List.{List}
 use Prim.Native.Nat.{ℕ, _+_, _*_, _-_, _<_}
 use native.Mathlib.Omega.{arith}
+use lib.Dec.{leb}
 use lib.ListN.{length, getD}
 use Rattle.words.specs.Bit.{bit, bitAt}
 use Rattle.record.specs.Record.{blocksOf, countAt, partsBefore, locationsOf}
@@ -11,13 +14,13 @@ use Rattle.blocks.specs.Blocks.{stateOf, stateStart}
 use Rattle.values.specs.Values.{pinValue}
 use Rattle.assembly.specs.Steps.{partsIn, partStart}
 use Rattle.assembly.proofs.RankLaws.{part-found}
-use Rattle.machine.specs.Run.{runTurns}
+use Rattle.machine.specs.Run.{runTurns, allLeft, badBlock, badTurn, Ran, ran, refused, outcome}
 use Rattle.machine.proofs.StageLaws.{at-word}
 use Rattle.order.specs.Order.{oneAfterAnother}
 use Rattle.order.proofs.AloneLaws.{Laid}
 use Rattle.order.proofs.OrderLaws.{in-any-order, untouched, stored}
 use Rattle.meaning.proofs.MeaningLaws.{captured-pin}
-use Rattle.promise.specs.Promise.{assembled, startsOf, stageRun, carried, Carries, StoredBy, Done, Demand3}
+use Rattle.promise.specs.Promise.{assembled, startsOf, stageRun, carried, Carries, StoredBy, Done, Demand3, AsRun}
 use Rattle.promise.proofs.AcceptedLaws.{part-there, some-blocks, sound}
 use Rattle.promise.proofs.BlockLaws.{starts-are}
 use Rattle.promise.proofs.FormLaws.{never-refused}
@@ -79,3 +82,30 @@ demand3 d s turns old new done = record {
   frame = unchanged d s turns old new done;
   pins = λ i l k h. pins-held d s turns old new done i h l k;
 }
+
+-- ---- as a run answers it: an answer with turns left was not refused, and is what the turns made
+
+clash : (n i k : ℕ) (after : List ℕ) → refused n i ≡ ran k after → ⊥
+clash n i k after e = let z : _≡_ {A = ℕ} 0 1 = cc in omega arith
+
+went : (k : ℕ) (after : List ℕ) (fits : Bool) (block turn : Option ℕ) (r : Ran)
+    → elim fits [ false ↦ refused 32 0 | true ↦ elim block [ some i ↦ refused 15 i | none ↦ elim turn [ some i ↦ refused 16 i | none ↦ r ] ] ] ≡ ran k after
+    → (turn ≡ none) × (r ≡ ran k after)
+went k after false block turn r e = absurd (clash _ _ _ _ e)
+went k after true (some i) turn r e = absurd (clash _ _ _ _ e)
+went k after true none (some i) r e = absurd (clash _ _ _ _ e)
+went k after true none none r e = (refl, e)
+
+pub as-run : AsRun
+unfolding outcome
+as-run d s turns old new after room accepted stage old-size new-size e =
+    let x = stageRun d s turns old new in
+    let q =
+        went 0 after (leb (1024 * (length (startsOf d s) - 1)) room) (badBlock 256 (assembled d) (startsOf d s) (length old) (length new))
+        (badTurn (startsOf d s) turns) (ran (allLeft 256 (assembled d) (x .blocks)) (x .new)) e
+    in
+    let f = q .1 in
+    let none-left : allLeft 256 (assembled d) (stageRun d s turns old new .blocks) ≡ 0 = cc in
+    let is : stageRun d s turns old new .new ≡ after = cc in
+    rw (← is)
+    (demand3 d s turns old new (record { accepted = accepted; stage = stage; old-size = old-size; new-size = new-size; named = q .0; all = none-left }))

@@ -16,7 +16,7 @@ use Rattle.values.specs.Values.{pinValue}
 use Rattle.script.specs.Script.{locationStage}
 use Rattle.checks.specs.Refusals.{planRefusal}
 use Rattle.assembly.specs.Assembly.{scriptWords, scriptStarts}
-use Rattle.machine.specs.Run.{Running, runTurns, allLeft, badBlock, badTurn}
+use Rattle.machine.specs.Run.{ran, outcome, Running, runTurns, allLeft, badBlock, badTurn}
 use Rattle.order.specs.Order.{oneAfterAnother}
 
 -- ---- "an assembled accepted plan": nothing of it is refused. Its words, and the block starts of major stage s with their end
@@ -49,14 +49,13 @@ pub record StoredBy (d : List ℕ) (s i w : ℕ) : Type 0 where
   pub from : stateStart d s i ≤ w
   pub until : w < stateStart d s i + locationsOf d (partsBefore d s + i)
 
--- ---- the promise
+-- ---- the promise, of the new state `after` that is left
 
-pub record Kept (d : List ℕ) (s : ℕ) (turns old new : List ℕ) : Type 0 where
-  pub order : stageRun d s turns old new .new ≡ stageRun d s (oneAfterAnother 256 (assembled d) (startsOf d s) (blocksOf d)) old new .new
-  pub frame : (w : ℕ) → ((i : ℕ) → StoredBy d s i w → ⊥) → getD (stageRun d s turns old new .new) w 0 ≡ getD new w 0
+pub record Kept (d : List ℕ) (s : ℕ) (old new after : List ℕ) : Type 0 where
+  pub order : after ≡ stageRun d s (oneAfterAnother 256 (assembled d) (startsOf d s) (blocksOf d)) old new .new
+  pub frame : (w : ℕ) → ((i : ℕ) → StoredBy d s i w → ⊥) → getD after w 0 ≡ getD new w 0
   pub pins : (i l k : ℕ) → i < countAt d s → l < locationsOf d (partsBefore d s + i) → k < 32 → Carries d (partsBefore d s + i) l k
-      → bitAt (stageRun d s turns old new .new) (32 * (stateStart d s i + l) + k)
-      ≡ pinValue d (partsBefore d s + i) old new (carried d (partsBefore d s + i) l k)
+      → bitAt after (32 * (stateStart d s i + l) + k) ≡ pinValue d (partsBefore d s + i) old new (carried d (partsBefore d s + i) l k)
 
 -- "Once every block has had its turns": no turns are left
 pub record Done (d : List ℕ) (s : ℕ) (turns old new : List ℕ) : Type 0 where
@@ -69,9 +68,15 @@ pub record Done (d : List ℕ) (s : ℕ) (turns old new : List ℕ) : Type 0 whe
 
 -- DEMAND 3
 abbrev pub Demand3 : Type 0
-Demand3 = (d : List ℕ) (s : ℕ) (turns old new : List ℕ) → Done d s turns old new → Kept d s turns old new
+Demand3 = (d : List ℕ) (s : ℕ) (turns old new : List ℕ) → Done d s turns old new → Kept d s old new (stageRun d s turns old new .new)
 
 -- and the run of an accepted plan is never refused by 15, whatever the states of the planned size hold
 abbrev pub NeverRefused : Type 0
 NeverRefused =
     (d : List ℕ) (s t u : ℕ) → Accepted d → s < majorsOf d → stateWords d ≤ t → stateWords d ≤ u → badBlock 256 (assembled d) (startsOf d s) t u ≡ none
+
+-- the same of what a run answers: it was not refused, no turns are left, and `after` is the new state
+abbrev pub AsRun : Type 0
+AsRun =
+    (d : List ℕ) (s : ℕ) (turns old new after : List ℕ) (room : ℕ) → Accepted d → s < majorsOf d → length old ≡ stateWords d → length new ≡ stateWords d
+    → outcome 256 13 (assembled d) (startsOf d s) turns old new room ≡ ran 0 after → Kept d s old new after
