@@ -37,25 +37,25 @@ fn blocks_of(starts: &[u64]) -> usize
     starts.len() - 1
 }
 
-// A run that is not refused; how many turns are left. The room is clear after it.
+// A run that is not refused; how many turns are left. The blocks' rooms are clear after it.
 fn run_well(
     words: &[u32],
     starts: &[u64],
     turns: &[u32],
     old: &[u32],
     new: &mut [u32],
-    room: &mut [u32],
+    rooms: &mut [u32],
 ) -> u64
-    requires { ⌜ Accepted (now words) (now starts) (now turns) (length (now old)) (length (now new)) (now room) ⌝ }
+    requires { ⌜ Accepted (now words) (now starts) (now turns) (length (now old)) (length (now new)) (now rooms) ⌝ }
     ensures left { λ r. ⌜ r ≡ allLeft 256 (now (words .entry)) (runTurns 256 13 (now (words .entry)) (now (starts .entry)) (now (turns .entry)) (now (old .entry)) (now (new .entry)) .blocks) ⌝ }
     ensures state { λ _. ⌜ now (new .exit) ≡ runTurns 256 13 (now (words .entry)) (now (starts .entry)) (now (turns .entry)) (now (old .entry)) (now (new .entry)) .new ⌝ }
-    ensures room { λ _. ⌜ now (room .exit) ≡ replicate (length (now (room .entry))) 0 ⌝ }
+    ensures room { λ _. ⌜ now (rooms .exit) ≡ replicate (length (now (rooms .entry))) 0 ⌝ }
 {
     let blocks = blocks_of(starts);
-    begin_blocks(words, starts, blocks, room);
-    take_turns(words, turns, old, new, room);
-    let left = turns_left(words, blocks, room);
-    clear(room);
+    begin_blocks(words, starts, blocks, rooms);
+    take_turns(words, turns, old, new, rooms);
+    let left = turns_left(words, blocks, rooms);
+    clear(rooms);
     left as u64
 }
 
