@@ -7,6 +7,7 @@ ghost use Rattle.listing.specs.Listing.{listed, textAfter};
 ghost use Rattle.values.specs.Values.{outcome as valued, roomAfter as planRoomAfter};
 ghost use Rattle.flatten.specs.Flatten.{sizing, building, startsAfter, wordsAfter, roomAfter as builtRoomAfter};
 ghost use Rattle.machine.specs.Run.{outcome as ranAs, newAfter, roomAfter as runRoomAfter};
+ghost use Rattle.capi.specs.Promised.{Promised};
 ghost use Rattle.capi.specs.Answers.{roundsNumber, roundsFirst, roundsSecond, listedNumber, listedFirst, listedSecond, valueNumber, valueFirst, valueSecond, ranNumber, ranFirst, ranSecond, builtNumber, builtFirst, builtSecond, builtThird, builtFourth};
 use flatten::Flattened;
 use listing::Listed;
@@ -121,6 +122,7 @@ pub extern "C" fn juolgesot_run(
     ensures { λ r. ⌜ now (second .exit) ≡ ranSecond (ranAs 256 13 (now (words .entry)) (now (starts .entry)) (now (turns .entry)) (now (old .entry)) (now (new .entry)) (length (now (room .entry)))) ⌝ }
     ensures { λ r. ⌜ now (new .exit) ≡ newAfter (ranAs 256 13 (now (words .entry)) (now (starts .entry)) (now (turns .entry)) (now (old .entry)) (now (new .entry)) (length (now (room .entry)))) (now (new .entry)) ⌝ }
     ensures { λ r. ⌜ now (room .exit) ≡ runRoomAfter (now (starts .entry)) (now (room .entry)) ⌝ }
+    ensures promise { λ r. ⌜ Promised (now (words .entry)) (now (starts .entry)) (now (old .entry)) (now (new .entry)) r (now (first .exit)) (now (new .exit)) ⌝ }
 {
     match run::run(words, starts, turns, old, new, room) {
         Ran::Left(n) => {

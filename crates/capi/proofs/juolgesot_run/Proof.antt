@@ -3,6 +3,7 @@
 use lib.ListN.{length}
 use Rattle.machine.specs.Run.{outcome}
 use Rattle.capi.proofs.AnswerLaws.{run-left, run-refused}
+use Rattle.capi.proofs.PromisedLaws.{promised, with-last}
 use borrow.Author.Needs.{needs}
 use Rattle.capi.proofs.juolgesot_run.Statement.{statement}
 use Rattle.capi.proofs.juolgesot_run.Tie as tie
@@ -29,7 +30,9 @@ returns : tie.Need-returns
 returns c =
     let a = c .before .before .before .before .before .before .before .before .before .before .before .before .before .before .before .before .args in
     let m = c .before .before .before .before .before .before .before .run in
-    run-left (outcome 256 13 (a .words .now) (a .starts .now) (a .turns .now) (a .old .now) (a .new .now) (length (a .room .now))) _ _ _ (m .ensures .0) (c .before .n .given .1) (m .ensures .1)
+    with-last
+    (run-left (outcome 256 13 (a .words .now) (a .starts .now) (a .turns .now) (a .old .now) (a .new .now) (length (a .room .now))) _ _ _ (m .ensures .0) (c .before .n .given .1) (m .ensures .1))
+    (promised (a .words .now) (a .starts .now) (a .turns .now) (a .old .now) (a .new .now) (length (a .room .now)) _ _ _)
 
 same-length-3 : tie.Need-same-length-3
 same-length-3 c = search needs
@@ -41,7 +44,9 @@ returns-2 : tie.Need-returns-2
 returns-2 c =
     let a = c .before .before .before .before .before .before .before .before .before .before .before .before .before .before .before .before .before .args in
     let m = c .before .before .before .before .before .before .before .before .run in
-    run-refused (outcome 256 13 (a .words .now) (a .starts .now) (a .turns .now) (a .old .now) (a .new .now) (length (a .room .now))) _ _ _ (m .ensures .0) (c .before .before .refusal .given .1) (m .ensures .1)
+    with-last
+    (run-refused (outcome 256 13 (a .words .now) (a .starts .now) (a .turns .now) (a .old .now) (a .new .now) (length (a .room .now))) _ _ _ (m .ensures .0) (c .before .before .refusal .given .1) (m .ensures .1))
+    (promised (a .words .now) (a .starts .now) (a .turns .now) (a .old .now) (a .new .now) (length (a .room .now)) _ _ _)
 
 pub juolgesot-run-spec : {M : Type 1} → statement M
 juolgesot-run-spec =
