@@ -13,7 +13,11 @@ use Rattle.listing.specs.declared.Listed.the-variants.{Text, Refused as NotList
 use Rattle.values.specs.Values.{Outcome as Valued, bit, refused as unvalued, answerOf}
 use Rattle.values.specs.declared.Answer.{Answer}
 use Rattle.values.specs.declared.Answer.the-variants.{Bit, Refused as NotValued}
-use Rattle.capi.specs.Answers.{roundsNumber, roundsFirst, roundsSecond, listedNumber, listedFirst, listedSecond, valueNumber, valueFirst, valueSecond}
+use Rattle.machine.specs.Run.{Ran, ran, refused as notRun}
+use Rattle.run.specs.declared.Ran.{Ran as RunAnswer}
+use Rattle.run.specs.declared.Ran.the-variants.{Left, Refused as NotRun}
+use Rattle.run.specs.Answers.{ranOf}
+use Rattle.capi.specs.Answers.{roundsNumber, roundsFirst, roundsSecond, listedNumber, listedFirst, listedSecond, valueNumber, valueFirst, valueSecond, ranNumber, ranFirst, ranSecond}
 
 -- what the last two clauses say stays as it is
 pub rounds-placed : (o : Outcome) (r : Rounds) (n : ℕ) (A : Type 0) → r ≡ roundsOf o → r ≡ Placed n → A
@@ -47,5 +51,18 @@ pub value-refused : (o : Valued) (r : Answer) (x : Refusal) (A : Type 0) → r �
 value-refused (bit b) r x A e f a = let z : _≡_ {A = ℕ} 0 1 = cc in absurd (omega arith)
 value-refused (unvalued k i) r x A e f a =
     let q : NotValued x ≡ NotValued (record { number = k; part = 0; item = i }) = sym f ∙ e in
+    let s : x ≡ record { number = k; part = 0; item = i } = cc in
+    ((cc), ((cc), ((cc), a)))
+
+-- and of a run
+pub run-left : (o : Ran) (r : RunAnswer) (k : ℕ) (A : Type 0) → r ≡ ranOf o → r ≡ Left k → A → (0 ≡ ranNumber o) × ((k ≡ ranFirst o) × ((0 ≡ ranSecond o) × A))
+run-left (ran n new) r k A e f a = (refl, ((cc), (refl, a)))
+run-left (notRun n i) r k A e f a = let z : _≡_ {A = ℕ} 0 1 = cc in absurd (omega arith)
+
+pub run-refused : (o : Ran) (r : RunAnswer) (x : Refusal) (A : Type 0) → r ≡ ranOf o → r ≡ NotRun x → A
+    → (x .number ≡ ranNumber o) × ((x .part ≡ ranFirst o) × ((x .item ≡ ranSecond o) × A))
+run-refused (ran n new) r x A e f a = let z : _≡_ {A = ℕ} 0 1 = cc in absurd (omega arith)
+run-refused (notRun k i) r x A e f a =
+    let q : NotRun x ≡ NotRun (record { number = k; part = 0; item = i }) = sym f ∙ e in
     let s : x ≡ record { number = k; part = 0; item = i } = cc in
     ((cc), ((cc), ((cc), a)))

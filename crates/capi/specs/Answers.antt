@@ -4,6 +4,7 @@ use Prim.Native.Nat.{ℕ}
 use Rattle.reads.specs.Search.{longest}
 use Rattle.reads.specs.Outcome.{Outcome, placed, refused}
 use Rattle.values.specs.Values.{Outcome as Valued, bit, refused as unvalued}
+use Rattle.machine.specs.Run.{Ran, ran, refused as notRun}
 use Rattle.listing.specs.declared.Listed.{Listed}
 use Rattle.listing.specs.declared.Listed.the-variants.{Text, Refused}
 
@@ -45,3 +46,16 @@ valueFirst (unvalued n i) = 0
 abbrev pub valueSecond : Valued → ℕ
 valueSecond (bit v) = 0
 valueSecond (unvalued n i) = i
+
+-- of a run: 0 with the turns left and 0; or the number with part 0 and the item
+abbrev pub ranNumber : Ran → ℕ
+ranNumber (ran k new) = 0
+ranNumber (notRun n i) = n
+
+abbrev pub ranFirst : Ran → ℕ
+ranFirst (ran k new) = k
+ranFirst (notRun n i) = 0
+
+abbrev pub ranSecond : Ran → ℕ
+ranSecond (ran k new) = 0
+ranSecond (notRun n i) = i

@@ -1,14 +1,13 @@
 -- A plan that no refusal is given to has passed each one; and each of its parts has lanes.
 -- Assumes nothing.
-use mathlib.Core.Path.{_≡_, refl, sym, ap, _∙_}
+use mathlib.Core.Path.{_≡_, refl}
 use mathlib.Core.Bool.{Bool, true, false}
 use mathlib.Core.Option.{Option, none, some}
 use mathlib.Core.List.{List}
 use Prim.Native.Nat.{ℕ, _<_}
 use native.Mathlib.Omega.{arith}
 use Rattle.reads.specs.ReadSet.{pairsOf}
-use Rattle.reads.specs.Search.{Lane}
-use Rattle.reads.specs.Outcome.{Outcome, placed, refused}
+use Rattle.reads.specs.Outcome.{placed}
 use Rattle.record.specs.Record.{partsOf}
 use Rattle.record.specs.Tests.{Place}
 use Rattle.record.specs.Form.{planForm}

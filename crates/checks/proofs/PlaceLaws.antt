@@ -4,7 +4,7 @@ use mathlib.Core.Path.{_≡_, refl, sym, ap, _∙_}
 use mathlib.Core.Bool.{Bool, true, false}
 use mathlib.Core.Option.{Option, none, some}
 use mathlib.Core.List.{List}
-use Prim.Native.Nat.{ℕ, _^_, _<_}
+use Prim.Native.Nat.{ℕ}
 use native.Mathlib.Omega.{arith}
 use lib.Dec.{eqb}
 use Rattle.reads.specs.Outcome.{Outcome, placed, refused}
@@ -25,7 +25,7 @@ use Rattle.positions.specs.Positions.{refusal12, refusal13}
 use Rattle.partreads.specs.declared.check.Checked.{Checked}
 use Rattle.partreads.specs.PartReads.{badReads, refusedReads}
 use Rattle.partreads.specs.Answers.{checkedOf}
-use Rattle.checks.specs.Refusals.{Refused, orElse, gatePlace}
+use Rattle.checks.specs.Refusals.{orElse, gatePlace}
 use Rattle.checks.specs.Steps.{Few, readRefusal}
 use Rattle.checks.specs.Verdicts.{lowestPlace, faultPlace, listPlace, nothingPlace, roomPlace, checkedRefusal}
 use Rattle.checks.proofs.PassedLaws.{some-none}

@@ -1,35 +1,30 @@
 -- The room: clear, then with the part table, then with the rounds; and what it holds in the end.
 -- Assumes nothing.
 use mathlib.Core.Path.{_≡_, refl, sym, ap, _∙_}
-use mathlib.Core.Bool.{Bool, true, false}
+use mathlib.Core.Bool.{true}
 use mathlib.Core.Option.{Option, none, some}
 use mathlib.Core.List.{List, _++_}
 use Prim.Native.Nat.{ℕ, _+_, _*_, _≤_, _<_}
 use native.Mathlib.Omega.{arith}
-use borrow.Author.Tests.{le-leb, lt-leb, leb-true}
-use lib.Dec.{leb}
+use borrow.Author.Tests.{le-leb, lt-leb}
 use lib.ListN.{length, getD, take, drop, replicate, length-replicate, getD-replicate, take-append-drop}
 use lib.Seq.{length-take-le, getD-take, ext-getD}
-use Rattle.record.specs.Record.{partsOf, countAt, majorsOf}
-use Rattle.record.specs.Form.{planForm, roomWords}
+use Rattle.record.specs.Record.{partsOf}
+use Rattle.record.specs.Form.{roomWords}
 use Rattle.blocks.specs.Blocks.{totalsFit}
-use Rattle.blocks.specs.Table.{cell, Counted, Allotted, Tabled}
+use Rattle.blocks.specs.Table.{cell, Tabled}
 use Rattle.blocks.specs.Fill.{Fillable, tabledRoom, allottedRoom}
 use Rattle.blocks.proofs.FillLaws.{put-long, put-here, put-word, put-low}
 use Rattle.blocks.proofs.TableLaws.{tabled-room, tabled-long, tabled-other}
 use Rattle.blocks.proofs.WholeLaws.{fillable}
-use Rattle.positions.specs.Positions.{refusal12}
 use Rattle.positions.specs.Places.{Judgeable}
-use Rattle.partreads.specs.PartReads.{refusedReads}
 use Rattle.partreads.specs.Ready.{ClearRoom, Searchable}
 use Rattle.partreads.specs.Answers.{roundsIn, partsUpTo, roundRows, searchedRoom}
 use Rattle.record.specs.Tests.{Place}
 use Rattle.checks.specs.Refusals.{Refused, planRefusal, planVerdict, nowhere}
 use Rattle.checks.specs.Steps.{listRefusal, totalRefusal, placeRefusal}
-use Rattle.checks.specs.Verdicts.{verdictOf}
-use Rattle.checks.specs.declared.Verdict.{Verdict}
 use Rattle.checks.specs.Ready.{Ready, Cleared, readyRoom, roomLeft}
-use Rattle.checks.proofs.PassedLaws.{passed, some-none}
+use Rattle.checks.proofs.PassedLaws.{passed}
 use Rattle.checks.proofs.StepLaws.{lists-passed, totals-passed, places-passed}
 
 -- ---- the first words, lent and zero again

@@ -17,7 +17,7 @@ use Rattle.checks.specs.Steps.{first, listRefusal, totalRefusal, pinRefu
 use Rattle.checks.specs.Verdicts.{verdictOf, isRefused}
 use Rattle.checks.specs.declared.Verdict.{Verdict}
 use Rattle.checks.proofs.PassedLaws.{past, past-unless, no-gate}
-use Rattle.checks.proofs.VerdictLaws.{stopped, went-on, never, stopped-at, stopped-by}
+use Rattle.checks.proofs.VerdictLaws.{stopped, stopped-at, stopped-by}
 
 -- ---- a later step of a group, those before it being passed
 

@@ -1,18 +1,18 @@
 -- What an accepted plan gives of each of its parts: refusals 5, 7, 8, 12 and 13 excluded, and its reads packed.
 -- Assumes nothing.
-use mathlib.Core.Path.{_≡_, refl, sym, ap, subst, _∙_}
-use mathlib.Core.Bool.{Bool, true, false}
-use mathlib.Core.Option.{Option, none, some}
+use mathlib.Core.Path.{_≡_, sym, ap, subst, _∙_}
+use mathlib.Core.Bool.{true}
+use mathlib.Core.Option.{none, some}
 use mathlib.Core.List.{List}
-use Prim.Native.Nat.{ℕ, zero, suc, _+_, _*_, _/_, _%_, _^_, _≤_, _<_}
+use Prim.Native.Nat.{ℕ, zero, suc, _+_, _*_, _≤_, _<_}
 use native.Mathlib.Decide.{ℕ-discrete}
 use native.Mathlib.Numerals.{add-one}
 use native.Mathlib.Omega.{arith}
 use borrow.Author.Tests.{eq-eqb, ne-eqb}
-use lib.ListN.{length, getD}
+use lib.ListN.{length}
 use Rattle.reads.specs.ReadSet.{pairsOf}
 use Rattle.reads.specs.Search.{Lane, lanesOf}
-use Rattle.reads.specs.Outcome.{Outcome, placed, refused}
+use Rattle.reads.specs.Outcome.{placed}
 use Rattle.tries.specs.Table.{tableOf}
 use Rattle.tries.proofs.TableLaws.{table-length}
 use Rattle.rounds.specs.Rounds.{tableAfter}
@@ -26,7 +26,6 @@ use Rattle.blocks.specs.Blocks.{totalsFit}
 use Rattle.positions.specs.Positions.{planned, refusal12, refusal13}
 use Rattle.positions.proofs.PositionLaws.{sram-entry, enable-entry}
 use Rattle.partreads.specs.PartReads.{readWords, partReads, lanesIn, partLanes, localPosition, badReads, refusedReads}
-use Rattle.partreads.specs.Entries.{NumberedAt}
 use Rattle.partreads.proofs.EntryLaws.{part-found, part-numbered, all-planned}
 use Rattle.partreads.proofs.CheckLaws.{Answered, three, four, rounds, answered}
 use Rattle.script.specs.Script.{pinEntry, stageEntry}
@@ -83,7 +82,7 @@ module _ (d : List ℕ) (p : ℕ) (form : planForm d ≡ true) (seven : refusal7
     locations = passed d seven p part .locations;
     some-stages = formed d form .part p part .some-stages;
     stages = formed d form .part p part .stages;
-    entry = stage-small;
+    entry = λ k i h l. omega (arith, stage-small k i h l);
     sram = λ i h. sram-entry d thirteen p i part h;
     enable = λ i h. enable-entry d thirteen p i part h;
     wide = lanes-wide;

@@ -3,20 +3,19 @@
 -- Assumes nothing.
 use mathlib.Core.Path.{_≡_, refl, sym, ap, _∙_}
 use mathlib.Core.Bool.{Bool, true, false}
-use mathlib.Core.List.{List, [], _∷_}
-use mathlib.Core.Logic.{⊎-elim}
+use mathlib.Core.List.{List, []}
 use Prim.Native.Nat.{ℕ, zero, suc, _+_, _*_, _-_, _/_, _%_, _^_, _≤_, _<_}
 use native.Mathlib.Nat.{add-zero, mod-lt, mul-suc}
 use native.Mathlib.Numerals.{add-one}
 use native.Mathlib.Omega.{arith}
-use borrow.Author.Tests.{lt-ltb, lt-leb}
-use lib.Dec.{leb, ltb}
+use borrow.Author.Tests.{lt-leb}
+use lib.Dec.{leb}
 use lib.ListN.{length, getD}
 use Rattle.words.specs.Sum.{sumTo}
 use Rattle.words.specs.Bit.{bit}
-use Rattle.words.specs.Section.{placeOf, halfOf, sectionOf}
+use Rattle.words.specs.Section.{placeOf, halfOf}
 use Rattle.words.specs.Edition.{sectionWords, partWords}
-use Rattle.words.proofs.BitLaws.{lt-or-ge, bit-wordOf}
+use Rattle.words.proofs.BitLaws.{bit-wordOf}
 use Rattle.words.proofs.SectionLaws.{getD-listOf, half-two, place-lt}
 use Rattle.reads.specs.Search.{longest}
 use Rattle.reads.specs.Local.{wordIn, maskIn}
@@ -24,8 +23,8 @@ use Rattle.reads.proofs.SectionWordLaws.{section-word, section-mask}
 use Rattle.record.specs.Record.{stagesOf, countBase, stageLocations, locationsIn, locationsOf, locationAt, tableAt}
 use Rattle.counts.specs.Counts.{srams, duplicates, writeOuts}
 use Rattle.partreads.specs.PartReads.{partLanes}
-use Rattle.script.specs.Script.{numbers, locationStage, locationHalf, locationWords, stageEntry, xoraBit, xorbBit, orbBit, laneWord, laneList, stageSection, sramSection, enableSection, partScript}
-use Rattle.script.proofs.HeadLaws.{endedBy, half-within, half-past}
+use Rattle.script.specs.Script.{numbers, locationStage, locationHalf, locationWords, stageEntry, xoraBit, xorbBit, orbBit, laneWord, stageSection, sramSection, enableSection, partScript}
+use Rattle.script.proofs.HeadLaws.{endedBy, half-within}
 use Rattle.script.specs.Writers.{endsBy}
 use Rattle.script.proofs.LengthLaws.{script-length}
 use Rattle.script.proofs.MaskLaws.{xora-lt, xorb-lt, orb-lt}
@@ -127,7 +126,6 @@ module _ (n : ℕ) (d : List ℕ) (p last state sram : ℕ) (many : 16 ≤ n) (e
     location-is : (l : ℕ) → l < locationsOf d p → locationIn n W o l ≡ 256 * locationStage d p l + locationAt d p l
     unfolding locationIn locationWords
     location-is l h =
-        let j : ℕ = l / 2 in
         let e : o + n / 2 + l / 2 ≡ o + (n / 2 + l / 2) = omega arith in
         let m : l / 2 < n / 2 = omega arith in
         let lower : 2 * (l / 2) + 0 < locationsOf d p = omega arith in
@@ -236,28 +234,37 @@ module _ (n : ℕ) (d : List ℕ) (p last state sram : ℕ) (many : 16 ≤ n) (e
       ap (λ (x : ℕ). bit x (q % 32)) (in-lane k (q / 32) 2 h m (omega arith) ∙ section-third _ _ _ n (stageEntry n d p k) (q / 32) m)
       ∙ lane-bit (orbBit d p k) q (orb-lt d p k)
 
+  -- ---- all of it, where each number fits its half
+
+  read-back : ((l : ℕ) → l < locationsOf d p → locationAt d p l ≤ 255) → S ≤ 255 → locationsOf d p ≤ n → length (partLanes n d p) ≡ n
+      → ((k j : ℕ) → k < S → j < 32 * n → stageEntry n d p k j < 2 ^ 16) → ((j : ℕ) → j < 32 * n → tableAt d p j < 2 ^ 16)
+      → ((j : ℕ) → j < 32 * n → tableAt d p (34 * n + j) < 2 ^ 16) → Decoded n d p last state sram W o
+  read-back locations few-stages few wide entries srams enables = record {
+    stages = stages-is;
+    last-mark = last-is;
+    write-outs = write-outs-is;
+    start = start-is;
+    sram-count = srams-is;
+    rounds = rounds-is;
+    duplicate-words = duplicates-is;
+    normal = normal-is;
+    end = end-is;
+    location = location-is locations few-stages few;
+    read-word = read-word-is wide;
+    read-mask = read-mask-is wide;
+    entry = λ k i h l. entry-is k i h l (λ j u. entries k j h u);
+    sram-entry = sram-is srams;
+    enable-entry = enable-is enables;
+    xora = xora-is;
+    xorb = xorb-is;
+    orb = orb-is;
+  }
+
 -- THE SCRIPT OF A PART, READ BACK
 pub decoded : (d : List ℕ) (p last state sram : ℕ) (W : List ℕ) (o : ℕ) → Decodable d p → StandsAt 256 d p last state sram W o
     → Decoded 256 d p last state sram W o
 decoded d p last state sram W o given stands =
-    let many : 16 ≤ 256 = omega arith in
-    record {
-      stages = stages-is 256 d p last state sram many refl W o stands;
-      last-mark = last-is 256 d p last state sram many refl W o stands;
-      write-outs = write-outs-is 256 d p last state sram many refl W o stands;
-      start = start-is 256 d p last state sram many refl W o stands;
-      sram-count = srams-is 256 d p last state sram many refl W o stands;
-      rounds = rounds-is 256 d p last state sram many refl W o stands;
-      duplicate-words = duplicates-is 256 d p last state sram many refl W o stands;
-      normal = normal-is 256 d p last state sram many refl W o stands;
-      end = end-is 256 d p last state sram many refl W o stands;
-      location = location-is 256 d p last state sram many refl W o stands (given .location) (given .stages) (given .locations);
-      read-word = read-word-is 256 d p last state sram many refl W o stands (given .wide);
-      read-mask = read-mask-is 256 d p last state sram many refl W o stands (given .wide);
-      entry = λ k i h l. entry-is 256 d p last state sram many refl W o stands k i h l (λ j u. omega (arith, given .entry k j h u));
-      sram-entry = sram-is 256 d p last state sram many refl W o stands (λ j u. omega (arith, given .sram j u));
-      enable-entry = enable-is 256 d p last state sram many refl W o stands (λ j u. omega (arith, given .enable j u));
-      xora = xora-is 256 d p last state sram many refl W o stands;
-      xorb = xorb-is 256 d p last state sram many refl W o stands;
-      orb = orb-is 256 d p last state sram many refl W o stands;
-    }
+    read-back 256 d p last state sram (omega arith) refl W o stands (given .location) (given .stages) (given .locations) (given .wide)
+    (λ k j h l. omega (arith, given .entry k j h l))
+    (λ j l. omega (arith, given .sram j l))
+    (λ j l. omega (arith, given .enable j l))

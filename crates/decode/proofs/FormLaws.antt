@@ -1,18 +1,16 @@
 -- The script of a part of an accepted plan passes the run's test of 15: each of the test's clauses from what the words say when read back.
 -- Assumes nothing.
-use mathlib.Core.Path.{_≡_, refl, sym, ap, _∙_}
-use mathlib.Core.Bool.{Bool, true, false, _&&_, _||_, or-true}
+use mathlib.Core.Path.{_≡_, ap, _∙_}
+use mathlib.Core.Bool.{true, false, _&&_, _||_, or-true}
 use mathlib.Core.Option.{none}
-use mathlib.Core.List.{List, [], _∷_}
+use mathlib.Core.List.{List, []}
 use mathlib.Core.Logic.{⊎-elim}
-use Prim.Native.Nat.{ℕ, zero, suc, _+_, _*_, _-_, _/_, _%_, _^_, _≤_, _<_}
-use native.Mathlib.Nat.{not-suc-le-zero, le-of-suc-le-suc}
+use Prim.Native.Nat.{ℕ, _+_, _*_, _-_, _/_, _%_, _^_, _≤_, _<_}
 use native.Mathlib.Decide.{ℕ-discrete}
-use native.Mathlib.Numerals.{one-add}
 use native.Mathlib.Omega.{arith}
 use borrow.Author.Tests.{eq-eqb, ne-eqb, lt-ltb, le-leb}
-use lib.Dec.{leb, ltb, eqb}
-use lib.ListN.{length, getD}
+use lib.Dec.{ltb, eqb}
+use lib.ListN.{getD}
 use Rattle.words.specs.Sum.{sumTo}
 use Rattle.words.specs.Bit.{pop}
 use Rattle.words.proofs.BitLaws.{lt-or-ge}
@@ -21,18 +19,17 @@ use Rattle.reads.specs.ReadSet.{total}
 use Rattle.reads.specs.Search.{Lane, longest}
 use Rattle.reads.specs.Local.{wordIn, maskIn}
 use Rattle.reads.specs.Outcome.{placed}
-use Rattle.reads.proofs.LocalLaws.{pop-zero}
 use Rattle.reads.proofs.RoundLaws.{longest-ge}
-use Rattle.record.specs.Record.{majorsOf, countAt, partsBefore, partsOf, stagesOf, locationsOf, locationAt, tableAt}
+use Rattle.reads.proofs.ReadTurnLaws.{sum-total}
+use Rattle.record.specs.Record.{majorsOf, partsOf, stagesOf, locationsOf, locationAt}
 use Rattle.record.proofs.TestLaws.{true-and, all-true}
-use Rattle.counts.specs.Counts.{srams, duplicates, writeOuts}
+use Rattle.counts.specs.Counts.{writeOuts}
 use Rattle.blocks.specs.Blocks.{stateWords, totalsFit}
-use Rattle.blocks.proofs.TotalLaws.{sum-zero, sum-split}
 use Rattle.blocks.proofs.StartLaws.{part-split, state-in, state-mono}
 use Rattle.positions.specs.Positions.{startOf, refusal12}
 use Rattle.positions.proofs.MajorLaws.{start-is}
 use Rattle.partreads.specs.PartReads.{partReads, partLanes}
-use Rattle.script.specs.Script.{locationStage, stageEntry}
+use Rattle.script.specs.Script.{locationStage}
 use Rattle.machine.specs.Part.{stagesAt, lastAt, writeOutsAt, startAt, sramsAt, roundsAt, duplicatesAt, normalAt, endAt, locationIn, readWordAt, readMaskAt, entryAt}
 use Rattle.machine.specs.Run.{entriesForm, locationsForm, lanesForm, readsForm, storesForm, partForm}
 use Rattle.decode.specs.Decoded.{Decoded}
@@ -85,18 +82,6 @@ module _ (n : ℕ) (W : List ℕ) (o : ℕ) where
       (true-and _ _
       (true-and _ _ (true-and _ _ (true-and _ _ (true-and _ _ (le-leb _ _ head) (le-leb _ _ a)) (le-leb _ _ b)) (le-leb _ _ c)) (eq-eqb _ _ m)) f) g) h) i) j
 
--- ---- the bits of a lane, round by round
-
-lane-total : (l : Lane) (m : ℕ) → length l ≤ m → sumTo (λ r. pop (maskIn l r)) m ≡ total l
-unfolding maskIn total sumTo
-lane-total [] m h = sum-zero (λ r. pop 0) m (λ i k. pop-zero)
-lane-total (p ∷ l) zero h = absurd (not-suc-le-zero h)
-lane-total (p ∷ l) (suc m) h =
-    let f : ℕ → ℕ = λ r. pop (maskIn (p ∷ l) r) in
-    let split : sumTo f (suc m) ≡ sumTo f 1 + sumTo (λ r. f (1 + r)) m = ap (sumTo f) (sym (one-add m)) ∙ sum-split f 1 m in
-    let rest : sumTo (λ r. f (1 + r)) m ≡ sumTo (λ r. pop (maskIn l r)) m = sum-ext (λ r. f (1 + r)) (λ r. pop (maskIn l r)) m (λ r k. ap f (one-add r)) in
-    omega (arith, lane-total l m (le-of-suc-le-suc h))
-
 -- ---- the test
 
 module _ (d : List ℕ) (p last state sram : ℕ) (W : List ℕ) (o : ℕ) (able : Decodable d p) (back : Decoded 256 d p last state sram W o) where
@@ -126,7 +111,7 @@ module _ (d : List ℕ) (p last state sram : ℕ) (W : List ℕ) (o : ℕ) (able
       let e : sumTo (λ r. pop (readMaskAt 256 W o r i)) (roundsAt W o) ≡ total lane =
       ap (sumTo (λ r. pop (readMaskAt 256 W o r i))) (back .rounds)
       ∙ sum-ext _ (λ r. pop (maskIn lane r)) (longest (partLanes 256 d p)) (λ r k. ap pop (back .read-mask r i k h))
-      ∙ lane-total lane (longest (partLanes 256 d p)) (longest-ge (partLanes 256 d p) i) in
+      ∙ sum-total lane (longest (partLanes 256 d p)) (longest-ge (partLanes 256 d p) i) in
       omega arith
 
   words-there : (s t : ℕ) → ((r i : ℕ) → (maskIn (getD (partLanes 256 d p) i []) r ≡ 0 → ⊥) → wordIn (getD (partLanes 256 d p) i []) r % 2 ^ 31 < s)

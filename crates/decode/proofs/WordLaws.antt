@@ -1,19 +1,19 @@
 -- The words of a part's script by section, over the number of lanes n, which is even and at least 16.
 -- Assumes nothing.
-use mathlib.Core.Path.{_≡_, refl, sym, ap, _∙_}
-use mathlib.Core.List.{List, [], _∷_, _++_}
+use mathlib.Core.Path.{_≡_, ap, _∙_}
+use mathlib.Core.List.{List, _++_}
 use mathlib.Core.Logic.{⊎-elim}
 use Prim.Native.Nat.{ℕ, zero, suc, _+_, _*_, _-_, _/_, _%_, _≤_, _<_}
 use native.Mathlib.Nat.{mul-suc, mul-le-mul-left, not-suc-le-zero, eq-or-lt-of-le, le-of-suc-le-suc}
 use native.Mathlib.Omega.{arith}
-use lib.ListN.{length, getD}
+use lib.ListN.{getD}
 use Rattle.words.specs.Edition.{sectionWords}
 use Rattle.reads.specs.Search.{longest}
 use Rattle.reads.specs.Words.{readSection}
 use Rattle.record.specs.Record.{stagesOf}
 use Rattle.partreads.specs.PartReads.{partLanes}
 use Rattle.script.specs.Script.{numbers, locationWords, stageSection, stageSections, sramSection, enableSection, partScript}
-use Rattle.script.proofs.LengthLaws.{numbers-length, locations-length, reads-length, stage-length, stages-length, sram-length}
+use Rattle.script.proofs.LengthLaws.{numbers-length, locations-length, reads-length, stages-length, sram-length}
 use Rattle.decode.proofs.ListLaws.{in-front, behind}
 
 -- place j of section k is before the end of the m-th

@@ -132,7 +132,7 @@ unfolding sumTo
 sum-first f zero = omega arith
 sum-first f (suc n) = omega (arith, sum-first f n)
 
-sum-total : (l : Lane) (n : ℕ) → length l ≤ n → sumTo (λ (x : ℕ). pop (maskIn l x)) n ≡ total l
+pub sum-total : (l : Lane) (n : ℕ) → length l ≤ n → sumTo (λ (x : ℕ). pop (maskIn l x)) n ≡ total l
 unfolding sumTo maskIn total
 sum-total [] zero h = refl
 sum-total [] (suc n) h = omega (arith, sum-total [] n (omega arith), pop-zero)
