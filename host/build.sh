@@ -5,7 +5,7 @@
 crate() {
     local name=$1 file=$2
     shift 2
-    "$RUSTC" "${RUSTC_FLAGS[@]}" --edition 2021 -O --crate-type rlib --crate-name "$name" \
+    "$RUSTC" ${RUSTC_FLAGS[@]+"${RUSTC_FLAGS[@]}"} --edition 2021 -O --crate-type rlib --crate-name "$name" \
         -L "$OUT" "$@" -o "$OUT/lib$name.rlib" "$file"
 }
 
@@ -13,7 +13,7 @@ crate() {
 program() {
     local name=$1 file=$2
     shift 2
-    "$RUSTC" "${RUSTC_FLAGS[@]}" --edition 2021 -O --crate-name "$name" \
+    "$RUSTC" ${RUSTC_FLAGS[@]+"${RUSTC_FLAGS[@]}"} --edition 2021 -O --crate-name "$name" \
         -L "$OUT" "$@" -o "$OUT/$name" "$file"
 }
 
@@ -67,13 +67,15 @@ build_oracle() {
 build_plain() {
     crate random "$HOST/random/src/lib.rs"
     crate plan "$HOST/plan/src/lib.rs"
+    extern random
+    crate filter "$HOST/filter/src/lib.rs" "${EXTERN[@]}"
 }
 
 # make_plans: the designs through GEM.
 build_make_plans() {
-    extern netlistdb random
+    extern netlistdb random filter
     crate netlists "$HOST/netlists/src/lib.rs" "${EXTERN[@]}"
-    extern oracle netlists plan random
+    extern oracle netlists netlistdb plan random
     crate from_gem "$HOST/plan/from_gem.rs" "${EXTERN[@]}"
     extern from_gem netlists plan
     program make_plans "$HOST/oracle/bin/make_plans.rs" "${EXTERN[@]}"
@@ -86,12 +88,12 @@ build_gem() {
     build_make_plans
 }
 
-# find_functions MAKER: sets HAS (an array) to the groups of functions that there are, of listing, plans and run. The
-# model has all; the archive is asked for their symbols.
+# find_functions MAKER: sets HAS (an array) to the groups of functions that there are, of listing, plans, run and value.
+# The model has all; the archive is asked for their symbols.
 find_functions() {
     local group
     HAS=()
-    for group in listing:juolgesot_list plans:juolgesot_build run:juolgesot_run; do
+    for group in listing:juolgesot_list plans:juolgesot_build run:juolgesot_run value:juolgesot_value; do
         if [ "$1" = model ] || grep -aqw "${group#*:}" "$ARCHIVE/libcapi.a"; then
             HAS+=("${group%:*}")
         fi
