@@ -71,14 +71,15 @@ build_plain() {
     crate filter "$HOST/filter/src/lib.rs" "${EXTERN[@]}"
 }
 
-# make_plans: the designs through GEM.
+# make_plans and make_filter: the designs, and the replay's filter, through GEM.
 build_make_plans() {
     extern netlistdb random filter
     crate netlists "$HOST/netlists/src/lib.rs" "${EXTERN[@]}"
     extern oracle netlists netlistdb plan random
     crate from_gem "$HOST/plan/from_gem.rs" "${EXTERN[@]}"
-    extern from_gem netlists plan
+    extern from_gem netlists plan filter
     program make_plans "$HOST/oracle/bin/make_plans.rs" "${EXTERN[@]}"
+    program make_filter "$HOST/oracle/bin/make_filter.rs" "${EXTERN[@]}"
 }
 
 # build_gem FROM: all that is made of GEM's sources.
@@ -121,9 +122,10 @@ build_wrapper() {
     crate juolgesot "$HOST/juolgesot/src/lib.rs" ${flags[@]+"${flags[@]}"} "${EXTERN[@]}"
 }
 
-# build_programs REFERENCE: the comparison programs, against gem or against model, of the functions that there are.
+# build_programs REFERENCE: the comparison programs and `juolgesot`, against gem or against model, of the functions that
+# there are.
 build_programs() {
-    local name flags=()
+    local name flags=() crates=(juolgesot model reference random plan filter)
     extern model plan
     if [ "$1" = gem ]; then
         extern oracle plan indexmap
@@ -132,14 +134,28 @@ build_programs() {
     for name in ${HAS[@]+"${HAS[@]}"}; do
         flags+=(--cfg "has_$name")
     done
-    extern juolgesot model reference random plan
+    extern "${crates[@]}"
     crate compare "$HOST/compare/src/lib.rs" ${flags[@]+"${flags[@]}"} "${EXTERN[@]}"
-    extern juolgesot model reference random plan compare
-    PROGRAMS=(replay_answers make_answers compare_rounds)
+    crates+=(compare)
+    extern "${crates[@]}"
+    PROGRAMS=(replay_answers make_answers compare_rounds fuzz)
     ! has listing || PROGRAMS+=(compare_listing)
     ! has plans || PROGRAMS+=(compare_plans)
     ! has run || PROGRAMS+=(compare_run)
+    ! has value || PROGRAMS+=(compare_value)
     for name in "${PROGRAMS[@]}"; do
-        program "$name" "$HOST/compare/src/bin/$name.rs" "${EXTERN[@]}"
+        program "$name" "$HOST/compare/src/bin/$name.rs" ${flags[@]+"${flags[@]}"} "${EXTERN[@]}"
     done
+    if has plans && has run; then
+        crate replay "$HOST/replay/src/lib.rs" "${EXTERN[@]}"
+        crates+=(replay)
+    fi
+    if [ "$1" = gem ]; then
+        flags+=(--cfg has_gem)
+        crates+=(from_gem netlists)
+    fi
+    extern "${crates[@]}"
+    # Its crate has a name of its own: the library is called juolgesot too.
+    program juolgesot_program "$HOST/program/src/main.rs" ${flags[@]+"${flags[@]}"} "${EXTERN[@]}"
+    mv "$OUT/juolgesot_program" "$OUT/juolgesot"
 }

@@ -32,7 +32,7 @@ pub use plans::{build, build_into, plan_sizes, plan_sizes_into, Script, Sizes};
 pub use refusal::Refusal;
 pub use rounds::{read_rounds, read_rounds_into, ReadRounds, LANES, ROUND_WORDS, SET_ROOM};
 #[cfg(has_run)]
-pub use run::{run, run_into, BLOCK_ROOM};
+pub use run::{finishing_turns, run, run_into, BLOCK_ROOM};
 pub use units::{InvertedPin, LocalPosition, Pin, StatePosition};
 #[cfg(has_value)]
 pub use value::{value, value_into};

@@ -4,7 +4,7 @@
 //! output where its input is stored, so the new state of a cycle is the old state of the next once the next inputs are
 //! put in. Staged bits are read from the new state, and only where an earlier major stage of the cycle stored them.
 
-use juolgesot::{run_into, Refusal, Script, BLOCK_ROOM};
+use juolgesot::{finishing_turns, run_into, Refusal, Script, BLOCK_ROOM};
 
 pub struct Machine {
     script: Script,
@@ -37,7 +37,7 @@ impl Machine {
     pub fn new(script: Script, blocks: usize) -> Self {
         let stages = (script.starts.len() - 1) / blocks;
         let turns = (0..stages)
-            .map(|stage| turns(&script.words, &script.starts[stage * blocks..(stage + 1) * blocks + 1]))
+            .map(|stage| finishing_turns(&script.words, &script.starts[stage * blocks..(stage + 1) * blocks + 1]))
             .collect();
         let state = vec![0; script.state_words as usize];
         Machine { blocks, turns, old: state.clone(), new: state, room: vec![0; BLOCK_ROOM * blocks], script }
@@ -62,22 +62,4 @@ impl Machine {
         std::mem::swap(&mut self.old, &mut self.new);
         Ok(())
     }
-}
-
-/// Turns that finish these blocks: a part takes its stages and two more. (Words 0 and 6 of a part are its stages and
-/// rounds; an empty block has 0 stages.)
-pub fn turns(words: &[u32], starts: &[u64]) -> Vec<u32> {
-    let of_block = |range: &[u64]| {
-        let (mut at, mut turns) = (range[0] as usize, 0);
-        while at < range[1] as usize && words[at] != 0 {
-            let (stages, rounds) = (words[at] as usize, words[at + 6] as usize);
-            turns += stages + 2;
-            at += 10496 + 512 * rounds + 5120 * stages;
-        }
-        turns
-    };
-    let counts: Vec<usize> = starts.windows(2).map(of_block).collect();
-    let most = counts.iter().copied().max().unwrap_or(0);
-    let round = |turn: usize| (0..counts.len()).filter(move |&block| turn < counts[block]).map(|block| block as u32);
-    (0..most).flat_map(|turn| round(turn).collect::<Vec<u32>>()).collect()
 }
