@@ -138,7 +138,7 @@ build_programs() {
     crate compare "$HOST/compare/src/lib.rs" ${flags[@]+"${flags[@]}"} "${EXTERN[@]}"
     crates+=(compare)
     extern "${crates[@]}"
-    PROGRAMS=(replay_answers make_answers compare_rounds fuzz)
+    PROGRAMS=(replay_answers make_answers compare_rounds fuzz m10)
     ! has listing || PROGRAMS+=(compare_listing)
     ! has plans || PROGRAMS+=(compare_plans)
     ! has run || PROGRAMS+=(compare_run)
@@ -158,4 +158,19 @@ build_programs() {
     # Its crate has a name of its own: the library is called juolgesot too.
     program juolgesot_program "$HOST/program/src/main.rs" ${flags[@]+"${flags[@]}"} "${EXTERN[@]}"
     mv "$OUT/juolgesot_program" "$OUT/juolgesot"
+}
+
+# build_c MAKER: the C program over the header, linked with the archive or with the model behind the same functions.
+build_c() {
+    local group flags=(-std=c99 -O1 -Wall -Wextra -Werror) library=$ARCHIVE/libcapi.a
+    for group in ${HAS[@]+"${HAS[@]}"}; do
+        flags+=("-DHAS_${group^^}")
+    done
+    if [ "$1" = model ]; then
+        library=$OUT/libmodel_c.a
+        extern model
+        "$RUSTC" ${RUSTC_FLAGS[@]+"${RUSTC_FLAGS[@]}"} --edition 2021 -O --crate-type staticlib --crate-name model_c \
+            -L "$OUT" "${EXTERN[@]}" -o "$library" "$HOST/model/capi.rs"
+    fi
+    "$CC" "${flags[@]}" -o "$OUT/guarded" "$HOST/c/guarded.c" "$library" -lpthread -ldl -lm
 }

@@ -10,6 +10,7 @@ pub mod explain;
 pub mod lent;
 #[cfg(has_listing)]
 pub mod list_checker;
+pub mod marked;
 pub mod pages;
 pub mod plan_changes;
 #[cfg(has_plans)]

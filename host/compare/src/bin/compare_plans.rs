@@ -3,10 +3,11 @@
 //! compare_plans [SEED]    stops at the first difference. The designs are compared by `juolgesot compare`.
 
 use compare::came::Came;
+use compare::marked::{m10, m6, m8, plain_part};
 use compare::plan_checker::{Expected, More, PlanChecker};
 use compare::plan_damage::{self, Change};
 use compare::plans::{self, Size};
-use plan::{Endpoint, Part, Plan, Position, Stage, Tables, EMPTY, LEVEL_0};
+use plan::{Endpoint, Part, Plan, Position, Stage, EMPTY, LEVEL_0};
 use random::Random;
 use std::time::Instant;
 
@@ -57,49 +58,6 @@ fn check_both(checker: &mut PlanChecker, kind: &str, plan: &Plan) -> u32 {
     let number = checker.check_expected(kind, &record, &expected, More::default());
     checker.kinds.count_timed(kind, start.elapsed());
     number
-}
-
-/// A part that reads pin 1, with these stages' locations.
-fn plain_part(locations: &[&[u32]]) -> Part {
-    let stages = locations
-        .iter()
-        .map(|locations| {
-            let mut stage = Stage::empty();
-            stage.slots[LEVEL_0] = 1;
-            stage.slots[4096] = 1;
-            stage.locations = locations.to_vec();
-            stage
-        })
-        .collect();
-    Part { endpoints: Vec::new(), stages, tables: Tables::zeros() }
-}
-
-fn m6() -> Plan {
-    Plan { blocks: 1, layout: vec![1], stages: vec![vec![plain_part(&[&[1, 2], &[3]])]], ..Plan::default() }
-}
-
-fn m8() -> Plan {
-    let mut layout = vec![EMPTY; 40];
-    layout[7] = 1;
-    let parts = [4, 2, 1, 1].iter().map(|&stages| {
-        let mut locations: Vec<&[u32]> = vec![&[]; stages];
-        locations[0] = &[128];
-        plain_part(&locations)
-    });
-    Plan { blocks: 2, layout, stages: vec![parts.collect()], ..Plan::default() }
-}
-
-fn m10() -> Plan {
-    let mut part = plain_part(&[&[128]]);
-    part.stages[0].slots[LEVEL_0 + 4096] = 2;
-    part.stages[0].slots[4096] = 3;
-    Plan {
-        blocks: 1,
-        gates: vec![plan::Gate { pin: 3, first: 2, second: 5 }],
-        layout: vec![1, 2],
-        stages: vec![vec![part]],
-        ..Plan::default()
-    }
 }
 
 const SMALL: Size = Size { majors: 3, parts: 2, stages: 3, inputs: 300, wide: false };

@@ -2,11 +2,12 @@
 //!
 //! compare_value [SEED]    stops at the first difference
 
+use compare::marked::m10;
 use compare::plan_damage;
 use compare::plans::{self, Size};
 use compare::run_damage::state;
 use compare::value_checker::{few_paths, Question, ValueChecker};
-use plan::{Gate, Part, Plan, Stage, Tables, EMPTY};
+use plan::{Plan, EMPTY};
 use random::Random;
 use std::time::Instant;
 
@@ -37,20 +38,7 @@ fn main() {
 
 /// M10's pins, for every old word of two bits.
 fn marked(checker: &mut ValueChecker) {
-    let mut stage = Stage::empty();
-    stage.slots[8192] = 1;
-    stage.slots[8192 + 4096] = 2;
-    stage.slots[4096] = 3;
-    stage.locations = vec![128];
-    let part = Part { endpoints: Vec::new(), stages: vec![stage], tables: Tables::zeros() };
-    let plan = Plan {
-        blocks: 1,
-        gates: vec![Gate { pin: 3, first: 2, second: 5 }],
-        layout: vec![1, 2],
-        stages: vec![vec![part]],
-        ..Plan::default()
-    };
-    let record = plan.record();
+    let record = m10().record();
     for old in 0..4 {
         for pin in 0..5 {
             for part in [0, 1, u64::MAX] {
@@ -105,8 +93,8 @@ fn values_of(checker: &mut ValueChecker, random: &mut Random, kind: &str, plan: 
 fn damaged(checker: &mut ValueChecker, random: &mut Random) {
     for (number, name, change) in &plan_damage::damages() {
         let mut came = 0;
-        for _ in 0..12 {
-            let plan = plans::any(random, Size { majors: 2, parts: 2, stages: 2, ..SIZE });
+        for _ in 0..60 {
+            let plan = plans::any(random, Size { majors: 2, parts: 1, stages: 1, inputs: 60, ..SIZE });
             if let Some((record, _)) = plan_damage::apply(random, &plan, change) {
                 let old = state(random, 20);
                 let part = random.below(2) as u64;
