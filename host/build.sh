@@ -107,7 +107,6 @@ has() {
 
 # build_wrapper MAKER: the crate juolgesot over the archive (MAKER archive) or over the model.
 build_wrapper() {
-    local group flags=()
     extern model
     crate model "$HOST/model/src/lib.rs"
     if [ "$1" = model ]; then
@@ -115,38 +114,52 @@ build_wrapper() {
     else
         crate archive "$HOST/juolgesot/archive.rs" -L native="$ARCHIVE"
     fi
-    for group in ${HAS[@]+"${HAS[@]}"}; do
-        flags+=(--cfg "has_$group")
-    done
+    function_flags
     extern archive
-    crate juolgesot "$HOST/juolgesot/src/lib.rs" ${flags[@]+"${flags[@]}"} "${EXTERN[@]}"
+    crate juolgesot "$HOST/juolgesot/src/lib.rs" ${FLAGS[@]+"${FLAGS[@]}"} "${EXTERN[@]}"
 }
 
-# build_programs REFERENCE: the comparison programs and `juolgesot`, against gem or against model, of the functions that
-# there are.
-build_programs() {
-    local name flags=() crates=(juolgesot model reference random plan filter)
+# The words that tell a crate which functions there are, in the array FLAGS.
+function_flags() {
+    local group
+    FLAGS=()
+    for group in ${HAS[@]+"${HAS[@]}"}; do
+        FLAGS+=(--cfg "has_$group")
+    done
+}
+
+# build_shared REFERENCE: what the programs share; comparisons are with gem or with model.
+build_shared() {
     extern model plan
     if [ "$1" = gem ]; then
         extern oracle plan indexmap
     fi
     crate reference "$HOST/compare/reference/$1.rs" "${EXTERN[@]}"
-    for name in ${HAS[@]+"${HAS[@]}"}; do
-        flags+=(--cfg "has_$name")
+    function_flags
+    SHARED=(juolgesot model reference random plan filter)
+    extern "${SHARED[@]}"
+    crate compare "$HOST/compare/src/lib.rs" ${FLAGS[@]+"${FLAGS[@]}"} "${EXTERN[@]}"
+    SHARED+=(compare)
+}
+
+# The comparison programs of the functions that there are.
+build_comparisons() {
+    local name programs=(replay_answers make_answers compare_rounds fuzz m10)
+    ! has listing || programs+=(compare_listing)
+    ! has plans || programs+=(compare_plans)
+    ! has run || programs+=(compare_run)
+    ! has value || programs+=(compare_value)
+    extern "${SHARED[@]}"
+    for name in "${programs[@]}"; do
+        program "$name" "$HOST/compare/src/bin/$name.rs" ${FLAGS[@]+"${FLAGS[@]}"} "${EXTERN[@]}"
     done
-    extern "${crates[@]}"
-    crate compare "$HOST/compare/src/lib.rs" ${flags[@]+"${flags[@]}"} "${EXTERN[@]}"
-    crates+=(compare)
-    extern "${crates[@]}"
-    PROGRAMS=(replay_answers make_answers compare_rounds fuzz m10)
-    ! has listing || PROGRAMS+=(compare_listing)
-    ! has plans || PROGRAMS+=(compare_plans)
-    ! has run || PROGRAMS+=(compare_run)
-    ! has value || PROGRAMS+=(compare_value)
-    for name in "${PROGRAMS[@]}"; do
-        program "$name" "$HOST/compare/src/bin/$name.rs" ${flags[@]+"${flags[@]}"} "${EXTERN[@]}"
-    done
+}
+
+# build_juolgesot REFERENCE: the program juolgesot. Its crate has a name of its own, as the library has that one.
+build_juolgesot() {
+    local flags=(${FLAGS[@]+"${FLAGS[@]}"}) crates=("${SHARED[@]}")
     if has plans && has run; then
+        extern "${SHARED[@]}"
         crate replay "$HOST/replay/src/lib.rs" "${EXTERN[@]}"
         crates+=(replay)
     fi
@@ -155,9 +168,15 @@ build_programs() {
         crates+=(from_gem netlists)
     fi
     extern "${crates[@]}"
-    # Its crate has a name of its own: the library is called juolgesot too.
     program juolgesot_program "$HOST/program/src/main.rs" ${flags[@]+"${flags[@]}"} "${EXTERN[@]}"
     mv "$OUT/juolgesot_program" "$OUT/juolgesot"
+}
+
+# build_programs REFERENCE: all of them.
+build_programs() {
+    build_shared "$1"
+    build_comparisons
+    build_juolgesot "$1"
 }
 
 # build_c MAKER: the C program over the header, linked with the archive or with the model behind the same functions.
