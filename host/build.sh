@@ -17,6 +17,21 @@ program() {
         -L "$OUT" "$@" -o "$OUT/$name" "$file"
 }
 
+# at_once WORDS..: begins a command beside others, as many as there are processors. all_done waits for the last of them.
+# A command that fails ends the script.
+at_once() {
+    while [ "$(jobs -rp | wc -l)" -ge "$(nproc)" ]; do
+        wait -n
+    done
+    "$@" &
+}
+
+all_done() {
+    while [ -n "$(jobs -p)" ]; do
+        wait -n
+    done
+}
+
 # extern NAME..: the words that let a crate name these crates, in the array EXTERN.
 extern() {
     local name
@@ -51,8 +66,9 @@ copy_oracle() {
 build_oracle() {
     local stand_ins=$HOST/oracle/stand-ins name
     for name in indexmap ulib clilog compact_str sverilogparse rayon; do
-        crate "$name" "$stand_ins/$name.rs"
+        at_once crate "$name" "$stand_ins/$name.rs"
     done
+    all_done
     extern compact_str sverilogparse
     crate netlistdb "$stand_ins/netlistdb.rs" "${EXTERN[@]}"
     # Derives run inside the compiler, so on its own machine.
@@ -78,8 +94,9 @@ build_make_plans() {
     extern oracle netlists netlistdb plan random
     crate from_gem "$HOST/plan/from_gem.rs" "${EXTERN[@]}"
     extern from_gem netlists plan filter
-    program make_plans "$HOST/oracle/bin/make_plans.rs" "${EXTERN[@]}"
-    program make_filter "$HOST/oracle/bin/make_filter.rs" "${EXTERN[@]}"
+    at_once program make_plans "$HOST/oracle/bin/make_plans.rs" "${EXTERN[@]}"
+    at_once program make_filter "$HOST/oracle/bin/make_filter.rs" "${EXTERN[@]}"
+    all_done
 }
 
 # build_gem FROM: all that is made of GEM's sources.
@@ -151,8 +168,9 @@ build_comparisons() {
     ! has value || programs+=(compare_value)
     extern "${SHARED[@]}"
     for name in "${programs[@]}"; do
-        program "$name" "$HOST/compare/src/bin/$name.rs" ${FLAGS[@]+"${FLAGS[@]}"} "${EXTERN[@]}"
+        at_once program "$name" "$HOST/compare/src/bin/$name.rs" ${FLAGS[@]+"${FLAGS[@]}"} "${EXTERN[@]}"
     done
+    all_done
 }
 
 # build_juolgesot REFERENCE: the program juolgesot. Its crate has a name of its own, as the library has that one.

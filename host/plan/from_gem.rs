@@ -94,7 +94,9 @@ fn ports(aig: &AIG, design: &Design, script: &FlattenedScriptV1) -> Ports {
             }
         }
     }
-    ports.registers.extend(aig.dffs.values().map(|register| place(register.q).expect("every register has its bit")));
+    ports
+        .registers
+        .extend(aig.dffs.values().map(|register| place(register.q).expect("every register has its bit")));
     ports
 }
 

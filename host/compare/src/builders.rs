@@ -28,7 +28,9 @@ pub fn design(checker: &mut PlanChecker, case: &Case) -> Line {
     let outcome = match &expected.answer {
         Ok(made) => same(made, &case.script, &case.record),
         Err(found) if case.staged_duplicate && found.number == 12 => Outcome::Refused(12),
-        Err(found) => Outcome::Differs(format!("refused {} at part {}, item {}", found.number, found.part, found.item)),
+        Err(found) => {
+            Outcome::Differs(format!("refused {} at part {}, item {}", found.number, found.part, found.item))
+        }
     };
     finish(checker, &case.record, &expected, outcome)
 }
@@ -107,7 +109,11 @@ pub fn plain(plan: &record::Plan<'_>) -> Plan {
     let stages = plan.major_parts.iter().map(|&count| parts.by_ref().take(count).collect()).collect();
     Plan {
         blocks: plan.blocks as u32,
-        gates: plan.gates.chunks(3).map(|gate| Gate { pin: gate[0], first: gate[1], second: gate[2] }).collect(),
+        gates: plan
+            .gates
+            .chunks(3)
+            .map(|gate| Gate { pin: gate[0], first: gate[1], second: gate[2] })
+            .collect(),
         layout: plan.layout.to_vec(),
         positions: plan
             .positions
@@ -125,7 +131,8 @@ fn plain_part(part: &record::Part<'_>) -> Part {
         slots.extend(stage.level_0());
         Stage { slots, locations: stage.locations.to_vec() }
     };
-    let list = |table: &[u32], list: usize| table[plan::ENTRIES + plan::LANES * list..][..plan::LANES].to_vec();
+    let list =
+        |table: &[u32], list: usize| table[plan::ENTRIES + plan::LANES * list..][..plan::LANES].to_vec();
     let (sram, enable) = (part.sram_table, part.enable_table);
     Part {
         endpoints: part

@@ -73,6 +73,10 @@ impl<T: Item> Lent<T> {
         if let Some(index) = (first.len()..items.len()).find(|&index| items[index] != rest(index)) {
             return Some((index as isize, items[index], rest(index)));
         }
+        self.touched_guard()
+    }
+
+    fn touched_guard(&self) -> Option<(isize, T, T)> {
         let touched = self.guards.clone().find(|&index| self.items()[index] != self.guard)?;
         Some((touched as isize - self.place.start as isize, self.items()[touched], self.guard))
     }
@@ -147,6 +151,12 @@ impl Room {
     /// It holds zeros, or after refusal 32 what it held before.
     pub fn check(&self, code: u32) -> Result<(), String> {
         let held = if code == 32 { self.before } else { 0 };
+        // Rooms are long: a loop with no way out of it is quicker.
+        let words = &self.words.items()[self.words.place.clone()];
+        let all_held = words.iter().fold(0, |seen, word| seen | (word ^ held)) == 0;
+        if all_held && self.words.touched_guard().is_none() {
+            return Ok(());
+        }
         self.words.check("room word", &[], |_| held)
     }
 }

@@ -6,7 +6,14 @@ use std::collections::HashMap;
 use std::os::raw::{c_int, c_long, c_void};
 
 extern "C" {
-    fn mmap(at: *mut c_void, bytes: usize, protection: c_int, flags: c_int, file: c_int, offset: i64) -> *mut c_void;
+    fn mmap(
+        at: *mut c_void,
+        bytes: usize,
+        protection: c_int,
+        flags: c_int,
+        file: c_int,
+        offset: i64,
+    ) -> *mut c_void;
     fn mprotect(at: *mut c_void, bytes: usize, protection: c_int) -> c_int;
     fn munmap(at: *mut c_void, bytes: usize) -> c_int;
     fn sysconf(name: c_int) -> c_long;
@@ -48,8 +55,8 @@ impl Pages {
     fn map(bytes: usize) -> Self {
         let page = page_bytes();
         let first = unsafe {
-            let all =
-                mmap(std::ptr::null_mut(), bytes + 2 * page, PROT_NONE, MAP_PRIVATE_ANONYMOUS, -1, 0) as *mut u8;
+            let all = mmap(std::ptr::null_mut(), bytes + 2 * page, PROT_NONE, MAP_PRIVATE_ANONYMOUS, -1, 0)
+                as *mut u8;
             assert!(all as isize != -1, "no memory for {} bytes", bytes);
             let first = all.add(page);
             assert_eq!(mprotect(first as *mut c_void, bytes, PROT_READ_WRITE), 0);

@@ -59,7 +59,9 @@ impl Refusal {
             3 | 4 if part > 0 => format!("part {}", part),
             6 => format!("gate {} of the gate list", item),
             7 => format!("part {}, location {}", part, item),
-            9 => format!("part {}, stage {}, {} or slot {} of level 0", part, stage, position(within), within),
+            9 => {
+                format!("part {}, stage {}, {} or slot {} of level 0", part, stage, position(within), within)
+            }
             11 => format!("part {}, stage {}, {}", part, stage, position(within)),
             10 | 12 => format!("part {}, stage {}, slot {} of level 0", part, stage, within),
             13 if item < SLOTS => format!("part {}, entry {} of the SRAM table", part, item),

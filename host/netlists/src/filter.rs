@@ -30,10 +30,8 @@ fn netlist(b: &mut Builder) {
     let keys: Vec<(Net, Vec<Net>)> = (0..PORTS).map(|_| (b.input(), inputs(b, KEY_BITS))).collect();
     let array = registers(b, clock, REGISTERS);
     let hashes = filter::hashes();
-    let indices: Vec<Vec<Vec<Net>>> = keys
-        .iter()
-        .map(|(_, key)| hashes.iter().map(|hash| hash_nets(b, hash, key)).collect())
-        .collect();
+    let indices: Vec<Vec<Vec<Net>>> =
+        keys.iter().map(|(_, key)| hashes.iter().map(|hash| hash_nets(b, hash, key)).collect()).collect();
 
     let lines: Vec<Vec<Net>> = indices[0].iter().map(|index| decode(b, index)).collect();
     let keep = b.not(clear);
@@ -59,7 +57,8 @@ fn netlist(b: &mut Builder) {
 fn hash_nets(b: &mut Builder, hash: &Hash, key: &[Net]) -> Vec<Net> {
     hash.iter()
         .map(|HashBit { taps, both: [one, other] }| {
-            let mut nets: Vec<Net> = (0..KEY_BITS).filter(|bit| taps >> bit & 1 == 1).map(|bit| key[bit]).collect();
+            let mut nets: Vec<Net> =
+                (0..KEY_BITS).filter(|bit| taps >> bit & 1 == 1).map(|bit| key[bit]).collect();
             nets.push(b.and(key[*one as usize], key[*other as usize]));
             xor_all(b, &nets)
         })

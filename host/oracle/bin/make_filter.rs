@@ -38,7 +38,8 @@ fn ports(ports: &from_gem::Ports) -> String {
         names.push(format!("look {}", port));
         names.extend((0..KEY_BITS).map(|bit| format!("key {} {}", port, bit)));
     }
-    let mut text = "# host/replay: name, pin (twice its number, plus 1 where inverted), state position\n".to_string();
+    let mut text =
+        "# host/replay: name, pin (twice its number, plus 1 where inverted), state position\n".to_string();
     assert_eq!(names.len(), ports.inputs.len());
     for (name, input) in names.iter().zip(&ports.inputs) {
         let (pin, position) = input.expect("every input is in the layout");

@@ -11,7 +11,8 @@ const EQUAL: usize = 3;
 /// The words, packed.
 pub fn pack(words: &[u32]) -> Vec<u8> {
     let before = [0].into_iter().chain(words.iter().copied());
-    let differences: Vec<u32> = words.iter().zip(before).map(|(word, before)| word.wrapping_sub(before)).collect();
+    let differences: Vec<u32> =
+        words.iter().zip(before).map(|(word, before)| word.wrapping_sub(before)).collect();
     let equal = |at: usize| differences[at..].iter().take_while(|&&d| d == differences[at]).count();
     let mut bytes = Vec::new();
     let mut at = 0;

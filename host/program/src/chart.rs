@@ -20,11 +20,16 @@ pub fn ratios(rows: &[Row]) -> String {
     );
     let mut line = |text: String| svg += &(text + "\n");
     line(format!("<rect width=\"100%\" height=\"100%\" fill=\"white\"/>"));
-    line(format!("<text x=\"10\" y=\"20\">Our time to plain Rust's (1 = as fast; shorter bars are better)</text>"));
+    line(format!(
+        "<text x=\"10\" y=\"20\">Our time to plain Rust's (1 = as fast; shorter bars are better)</text>"
+    ));
     for exponent in low as i32..=high as i32 {
         let at = x(2f64.powi(exponent));
         let stroke = if exponent == 0 { "black" } else { "#ccc" };
-        line(format!("<line x1=\"{at:.0}\" y1=\"34\" x2=\"{at:.0}\" y2=\"{:.0}\" stroke=\"{stroke}\"/>", height - 20.0));
+        line(format!(
+            "<line x1=\"{at:.0}\" y1=\"34\" x2=\"{at:.0}\" y2=\"{:.0}\" stroke=\"{stroke}\"/>",
+            height - 20.0
+        ));
         let label = if exponent < 0 { format!("1/{}", 1 << -exponent) } else { (1 << exponent).to_string() };
         line(format!("<text x=\"{at:.0}\" y=\"{:.0}\" text-anchor=\"middle\">{label}</text>", height - 5.0));
     }
@@ -32,8 +37,18 @@ pub fn ratios(rows: &[Row]) -> String {
         let y = 40.0 + BAR * index as f64;
         let (from, to) = (x(1.0).min(x(row.ratio())), x(1.0).max(x(row.ratio())));
         let fill = if row.ratio() <= 1.0 { "#3a7" } else { "#c75" };
-        line(format!("<text x=\"{:.0}\" y=\"{:.0}\" text-anchor=\"end\">{}: {}</text>", LEFT - 8.0, y + 13.0, row.group, row.name));
-        line(format!("<rect x=\"{from:.1}\" y=\"{y:.0}\" width=\"{:.1}\" height=\"{:.0}\" fill=\"{fill}\"/>", to - from, BAR - 6.0));
+        line(format!(
+            "<text x=\"{:.0}\" y=\"{:.0}\" text-anchor=\"end\">{}: {}</text>",
+            LEFT - 8.0,
+            y + 13.0,
+            row.group,
+            row.name
+        ));
+        line(format!(
+            "<rect x=\"{from:.1}\" y=\"{y:.0}\" width=\"{:.1}\" height=\"{:.0}\" fill=\"{fill}\"/>",
+            to - from,
+            BAR - 6.0
+        ));
         line(format!("<text x=\"{:.0}\" y=\"{:.0}\">{:.2}</text>", to + 5.0, y + 13.0, row.ratio()));
     }
     let _ = write!(svg, "</svg>\n");

@@ -41,7 +41,8 @@ pub fn call(words: &[String]) -> Outcome {
 fn designs(table: &mut Table) -> Outcome {
     use netlists::designs;
     let mut progress = crate::progress::Progress::of("netlists through GEM");
-    let all: Vec<designs::Design> = designs::forty().into_iter().chain(designs::staged_duplicates()).collect();
+    let all: Vec<designs::Design> =
+        designs::forty().into_iter().chain(designs::staged_duplicates()).collect();
     for (index, design) in all.iter().enumerate() {
         let made = from_gem::make(design);
         progress.tell(index as u64, all.len() as u64);
@@ -59,7 +60,10 @@ fn designs(table: &mut Table) -> Outcome {
 
 #[cfg(all(has_plans, not(has_gem)))]
 fn designs(_: &mut Table) -> Outcome {
-    Err(Failure::Failed("GEM's sources were missing when this was built, so there are no netlists: give plan records".to_string()))
+    Err(Failure::Failed(
+        "GEM's sources were missing when this was built, so there are no netlists: give plan records"
+            .to_string(),
+    ))
 }
 
 /// The lines so far.
@@ -77,7 +81,13 @@ impl Table {
     fn new() -> Self {
         let progress = crate::progress::Progress::of("plans");
         println!("builders: juolgesot and {}", reference::NAME);
-        Table { checker: ::compare::plan_checker::PlanChecker::new(), progress, equal: 0, refused: 0, different: 0 }
+        Table {
+            checker: ::compare::plan_checker::PlanChecker::new(),
+            progress,
+            equal: 0,
+            refused: 0,
+            different: 0,
+        }
     }
 
     fn add(&mut self, name: &str, line: ::compare::builders::Line) {

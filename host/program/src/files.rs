@@ -14,7 +14,8 @@ pub fn read(path: &str) -> Result<Vec<u8>, Failure> {
 }
 
 pub fn write(path: &str, bytes: &[u8]) -> Result<(), Failure> {
-    std::fs::write(path, bytes).map_err(|error| Failure::Failed(format!("{} cannot be written: {}", path, error)))
+    std::fs::write(path, bytes)
+        .map_err(|error| Failure::Failed(format!("{} cannot be written: {}", path, error)))
 }
 
 #[cfg(any(has_plans, has_run))]

@@ -38,11 +38,26 @@ struct Verb {
 }
 
 const VERBS: [Verb; 6] = [
-    Verb { name: "compare", summary: "both builders on the same plans, a line each", help: compare::HELP, call: compare::call },
+    Verb {
+        name: "compare",
+        summary: "both builders on the same plans, a line each",
+        help: compare::HELP,
+        call: compare::call,
+    },
     Verb { name: "build", summary: "a plan record into a script", help: build::HELP, call: build::call },
     Verb { name: "run", summary: "a script on a state", help: run::HELP, call: run::call },
-    Verb { name: "list", summary: "lanes and rounds of requested positions", help: list::HELP, call: list::call },
-    Verb { name: "replay", summary: "traffic through a Bloom filter's gates", help: replay::HELP, call: replay::call },
+    Verb {
+        name: "list",
+        summary: "lanes and rounds of requested positions",
+        help: list::HELP,
+        call: list::call,
+    },
+    Verb {
+        name: "replay",
+        summary: "traffic through a Bloom filter's gates",
+        help: replay::HELP,
+        call: replay::call,
+    },
     Verb { name: "bench", summary: "times, as ratios to plain Rust", help: bench::HELP, call: bench::call },
 ];
 

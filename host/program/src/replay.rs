@@ -38,7 +38,8 @@ pub fn call(words: &[String]) -> Outcome {
     };
     let mut cycles = traffic::cycles(&events.map_err(Failure::Failed)?);
     if let Some(most) = words.number("--lookups")? {
-        let looks_up = |cycle: &filter::Cycle| cycle.ports.iter().filter(|(_, looks_up)| *looks_up).count() as u64;
+        let looks_up =
+            |cycle: &filter::Cycle| cycle.ports.iter().filter(|(_, looks_up)| *looks_up).count() as u64;
         let mut so_far = 0;
         let end = cycles.iter().position(|cycle| {
             so_far += looks_up(cycle);
@@ -60,8 +61,14 @@ pub fn call(words: &[String]) -> Outcome {
     println!("inserted     {:8}", counts.inserts);
     println!("looked up    {:8}", counts.looked_up);
     println!("no           {:8}   none of them is in flash", counts.no);
-    println!("maybe        {:8}   each of them went on to flash ({} reads)", counts.maybe, counts.flash_reads);
-    println!("false maybe  {:8}   flash did not hold the key ({} found)", counts.false_maybe, counts.found_in_flash);
+    println!(
+        "maybe        {:8}   each of them went on to flash ({} reads)",
+        counts.maybe, counts.flash_reads
+    );
+    println!(
+        "false maybe  {:8}   flash did not hold the key ({} found)",
+        counts.false_maybe, counts.found_in_flash
+    );
     println!("no difference from the software model in any answer or register, {:.1} s", progress.seconds());
     Ok(())
 }

@@ -28,7 +28,11 @@ pub fn call(words: &[String]) -> Outcome {
     };
     let blocks = built.blocks as usize;
     if blocks == 0 || built.starts.len() % blocks != 1 % blocks {
-        return Err(Failure::Failed(format!("{} starts are not those of {} blocks", built.starts.len(), blocks)));
+        return Err(Failure::Failed(format!(
+            "{} starts are not those of {} blocks",
+            built.starts.len(),
+            blocks
+        )));
     }
     let all = (built.starts.len() - 1) / blocks;
     let stages = match words.number("--stage")? {

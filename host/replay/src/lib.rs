@@ -35,7 +35,9 @@ impl Netlist {
 
     /// The plan's number of blocks.
     fn blocks(&self) -> usize {
-        self.record.get(..4).map_or(0, |bytes| u32::from_le_bytes([bytes[0], bytes[1], bytes[2], bytes[3]]) as usize)
+        self.record
+            .get(..4)
+            .map_or(0, |bytes| u32::from_le_bytes([bytes[0], bytes[1], bytes[2], bytes[3]]) as usize)
     }
 }
 

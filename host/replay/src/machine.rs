@@ -27,7 +27,9 @@ impl std::fmt::Display for Trouble {
     fn fmt(&self, f: &mut std::fmt::Formatter<'_>) -> std::fmt::Result {
         match self {
             Trouble::Refused { stage, refusal } => write!(f, "major stage {}: {}", stage, refusal),
-            Trouble::TurnsLeft { stage, turns } => write!(f, "major stage {}: {} turns are left", stage, turns),
+            Trouble::TurnsLeft { stage, turns } => {
+                write!(f, "major stage {}: {} turns are left", stage, turns)
+            }
         }
     }
 }
@@ -37,7 +39,9 @@ impl Machine {
     pub fn new(script: Script, blocks: usize) -> Self {
         let stages = (script.starts.len() - 1) / blocks;
         let turns = (0..stages)
-            .map(|stage| finishing_turns(&script.words, &script.starts[stage * blocks..(stage + 1) * blocks + 1]))
+            .map(|stage| {
+                finishing_turns(&script.words, &script.starts[stage * blocks..(stage + 1) * blocks + 1])
+            })
             .collect();
         let state = vec![0; script.state_words as usize];
         Machine { blocks, turns, old: state.clone(), new: state, room: vec![0; BLOCK_ROOM * blocks], script }

@@ -39,7 +39,8 @@ impl Ports {
         for (number, line) in text.lines().enumerate() {
             let line = line.split('#').next().unwrap_or("").trim();
             if !line.is_empty() {
-                let (name, place) = place(line).ok_or_else(|| format!("line {}: not NAME: PIN POSITION", number + 1))?;
+                let (name, place) =
+                    place(line).ok_or_else(|| format!("line {}: not NAME: PIN POSITION", number + 1))?;
                 if place.position.word() >= state_words {
                     return Err(format!("line {}: {} is outside the state", number + 1, place.position));
                 }
@@ -50,7 +51,9 @@ impl Ports {
         let port = |port: usize| {
             Ok(PortPlaces {
                 look: find(format!("in look {}", port))?,
-                key: (0..KEY_BITS).map(|bit| find(format!("in key {} {}", port, bit))).collect::<Result<_, String>>()?,
+                key: (0..KEY_BITS)
+                    .map(|bit| find(format!("in key {} {}", port, bit)))
+                    .collect::<Result<_, String>>()?,
                 maybe: find(format!("out maybe {}", port))?,
             })
         };
@@ -59,7 +62,9 @@ impl Ports {
             clear: find("in clear".to_string())?,
             insert: find("in insert".to_string())?,
             ports: (0..PORTS).map(port).collect::<Result<_, String>>()?,
-            registers: (0..REGISTERS).map(|register| find(format!("register {}", register))).collect::<Result<_, _>>()?,
+            registers: (0..REGISTERS)
+                .map(|register| find(format!("register {}", register)))
+                .collect::<Result<_, _>>()?,
         })
     }
 

@@ -61,7 +61,8 @@ fn marked(checker: &mut ValueChecker) {
 fn values_of(checker: &mut ValueChecker, random: &mut Random, kind: &str, plan: &Plan, record: &[u8]) {
     let parts = plan.parts().count() as u64;
     let words = model::record::words(record);
-    let state_words = model::build::accept(record.len(), &words).map_or(20, |plan| plan.sizes().state_words as usize);
+    let state_words =
+        model::build::accept(record.len(), &words).map_or(20, |plan| plan.sizes().state_words as usize);
     for part in [random.below(parts as usize + 1) as u64, random.pick(&[0, parts, u64::MAX])] {
         let (old_words, new_words) = if random.chance(4) {
             (random.below(state_words + 1), random.below(state_words + 1))
@@ -82,9 +83,14 @@ fn values_of(checker: &mut ValueChecker, random: &mut Random, kind: &str, plan: 
         let mut pins: Vec<u64> = few_paths(record, part, &pins).into_iter().map(u64::from).collect();
         pins.extend([0, EMPTY.into(), 1 << 30, (1 << 30) + 1, 1 << 32, u64::MAX]);
         for pin in pins {
-            let more_room = if random.chance(12) { random.pick(&[-1, -16, -1_000_000]) } else { random.pick(&[0, 0, 1, 99]) };
+            let more_room = if random.chance(12) {
+                random.pick(&[-1, -16, -1_000_000])
+            } else {
+                random.pick(&[0, 0, 1, 99])
+            };
             let room_is_zero = random.chance(2);
-            checker.check(kind, Question { record, part, pin, old: &old, new: &new, more_room, room_is_zero });
+            checker
+                .check(kind, Question { record, part, pin, old: &old, new: &new, more_room, room_is_zero });
         }
     }
 }
@@ -101,8 +107,15 @@ fn damaged(checker: &mut ValueChecker, random: &mut Random) {
                 let pins = [random.below(400) as u32, plan.gates.last().map_or(1, |gate| gate.pin)];
                 for pin in few_paths(&record, part, &pins) {
                     let (pin, new) = (pin.into(), &old[..]);
-                    let question =
-                        Question { record: &record, part, pin, old: &old, new, more_room: 0, room_is_zero: false };
+                    let question = Question {
+                        record: &record,
+                        part,
+                        pin,
+                        old: &old,
+                        new,
+                        more_room: 0,
+                        room_is_zero: false,
+                    };
                     came += (checker.check("damaged", question) == *number) as u32;
                 }
                 if came > 0 || !matches!(number, 5 | 6) {

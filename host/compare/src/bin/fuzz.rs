@@ -152,7 +152,8 @@ impl Fuzz {
         if !random.chance(4) {
             damage_words(random, &mut set);
         }
-        let room = if random.chance(12) { random.below(16_384) } else { 16_384 + random.pick(&[0, 0, 1, 77]) };
+        let room =
+            if random.chance(12) { random.below(16_384) } else { 16_384 + random.pick(&[0, 0, 1, 77]) };
         let out = match random.below(4) {
             0 => OutLength::Exactly(random.below(600)),
             1 => OutLength::Short(random.below(3)),
@@ -257,7 +258,8 @@ impl Fuzz {
             2 => damage_words(random, &mut case.turns),
             3 => {
                 let start = random.below(case.starts.len());
-                case.starts[start] = random.pick(&[0, 1, 256, case.words.len() as u64, case.starts[0] + 1, u64::MAX]);
+                case.starts[start] =
+                    random.pick(&[0, 1, 256, case.words.len() as u64, case.starts[0] + 1, u64::MAX]);
             }
             4 => {
                 let state = if random.chance(2) { &mut case.old } else { &mut case.new };
@@ -274,7 +276,9 @@ impl Fuzz {
     fn value(&mut self) -> &'static str {
         let record = self.record();
         let random = &mut self.random;
-        let state: Vec<u32> = (0..random.below(40)).map(|_| random.word()).collect();
+        // Many ones: gates are 1 where both fan-ins are.
+        let state: Vec<u32> =
+            (0..random.below(400)).map(|_| random.word() | random.word() | random.word()).collect();
         let (old, new) = state.split_at(random.below(state.len() + 1));
         let part = random.pick(&[0, 0, 0, 1, 2, 3, u64::MAX]);
         let pin = match random_pin(random, &record) {
@@ -284,7 +288,8 @@ impl Fuzz {
         let (more_room, room_is_zero) = (if random.chance(12) { -1 } else { 0 }, random.chance(2));
         for pin in few_paths(&record, part, &[pin]) {
             let pin = if random.chance(20) { u64::MAX - u64::from(pin) } else { pin.into() };
-            self.values.check("fuzz", Question { record: &record, part, pin, old, new, more_room, room_is_zero });
+            self.values
+                .check("fuzz", Question { record: &record, part, pin, old, new, more_room, room_is_zero });
         }
         "value"
     }
@@ -297,7 +302,7 @@ fn random_pin(random: &mut Random, record: &[u8]) -> u32 {
     if words == 0 {
         return 7;
     }
-    let at = 4 * random.below(words.min(600));
+    let at = 4 * random.below(words.min(random.pick(&[60, 600, 6000])));
     u32::from_le_bytes([record[at], record[at + 1], record[at + 2], record[at + 3]])
 }
 
@@ -305,7 +310,16 @@ fn random_pin(random: &mut Random, record: &[u8]) -> u32 {
 fn any_word(random: &mut Random) -> u32 {
     match random.below(4) {
         0 => random.pick(&[0, 1, 2, 31, 32, 255, 256, 257, 1024, 4096, 8191, 8192, 8193, 0xFFFF, 0x1_0000]),
-        1 => random.pick(&[1 << 20, (1 << 27) - 1, 1 << 27, 1 << 30, (1 << 30) + 1, 1 << 31, u32::MAX - 1, u32::MAX]),
+        1 => random.pick(&[
+            1 << 20,
+            (1 << 27) - 1,
+            1 << 27,
+            1 << 30,
+            (1 << 30) + 1,
+            1 << 31,
+            u32::MAX - 1,
+            u32::MAX,
+        ]),
         2 => random.below(400) as u32,
         _ => random.word(),
     }
