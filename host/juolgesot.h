@@ -54,7 +54,7 @@ uint32_t juolgesot_run(const uint32_t *words, size_t words_len, const uint64_t *
  * 0: *first is the bit. Refused by 32, 5, 6. */
 uint32_t juolgesot_value(const uint8_t *plan, size_t plan_len, uint32_t *room, size_t room_len,
                          const uint32_t *old, size_t old_len, const uint32_t *new_, size_t new_len,
-                         uint64_t part, uint64_t pin, uint64_t *first, uint64_t *second);
+                         uint32_t part, uint32_t pin, uint64_t *first, uint64_t *second);
 
 #ifdef __cplusplus
 }

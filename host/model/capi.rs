@@ -204,8 +204,8 @@ pub unsafe extern "C" fn juolgesot_value(
     old_len: usize,
     new: *const u32,
     new_len: usize,
-    part: u64,
-    pin: u64,
+    part: u32,
+    pin: u32,
     first: &mut u64,
     second: &mut u64,
 ) -> u32 {

@@ -18,8 +18,8 @@ const MOST_ROOM: i64 = 70_000 + 16 * 8192;
 #[derive(Debug, Clone, Copy)]
 pub struct Question<'a> {
     pub record: &'a [u8],
-    pub part: u64,
-    pub pin: u64,
+    pub part: u32,
+    pub pin: u32,
     pub old: &'a [u32],
     pub new: &'a [u32],
     /// Words of room more than are needed.
@@ -84,7 +84,7 @@ pub fn difference(question: &Question<'_>) -> Result<Answer, String> {
 }
 
 /// The pins of a plan that have few enough ways down in a part; all where the record is no plan.
-pub fn few_paths(record_bytes: &[u8], part: u64, pins: &[u32]) -> Vec<u32> {
+pub fn few_paths(record_bytes: &[u8], part: u32, pins: &[u32]) -> Vec<u32> {
     let words = record::words(record_bytes);
     let plan = match record::plan(record_bytes.len(), &words) {
         Some(plan) if model::plan::gate_fault(&plan).is_none() => plan,

@@ -86,8 +86,8 @@ extern "C" {
         old_len: usize,
         new: *const u32,
         new_len: usize,
-        part: u64,
-        pin: u64,
+        part: u32,
+        pin: u32,
         first: *mut u64,
         second: *mut u64,
     ) -> u32;
@@ -224,7 +224,7 @@ pub fn run(
 
 /// Code 0: `first` is the bit, `second` 0.
 #[cfg(has_value)]
-pub fn value(plan: &[u8], room: &mut [u32], old: &[u32], new: &[u32], part: u64, pin: u64) -> Answer {
+pub fn value(plan: &[u8], room: &mut [u32], old: &[u32], new: &[u32], part: u32, pin: u32) -> Answer {
     let (mut first, mut second) = (0, 0);
     let code = unsafe {
         juolgesot_value(

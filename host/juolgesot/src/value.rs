@@ -7,7 +7,7 @@ use crate::units::Pin;
 
 /// The value of a pin in a part (counted on through the major stages), between the old state and the new one. A part
 /// past the plan reads nothing; what lies behind a state is 0.
-pub fn value(plan: &[u8], part: u64, pin: Pin, old: &[u32], new: &[u32]) -> Result<bool, Refusal> {
+pub fn value(plan: &[u8], part: u32, pin: Pin, old: &[u32], new: &[u32]) -> Result<bool, Refusal> {
     value_into(plan, part, pin, old, new, &mut room_for(plan))
 }
 
@@ -15,11 +15,11 @@ pub fn value(plan: &[u8], part: u64, pin: Pin, old: &[u32], new: &[u32]) -> Resu
 /// changes nothing.
 pub fn value_into(
     plan: &[u8],
-    part: u64,
+    part: u32,
     pin: Pin,
     old: &[u32],
     new: &[u32],
     room: &mut [u32],
 ) -> Result<bool, Refusal> {
-    Refusal::check(ffi::value(plan, room, old, new, part, pin.0.into())).map(|bit| bit == 1)
+    Refusal::check(ffi::value(plan, room, old, new, part, pin.0)).map(|bit| bit == 1)
 }

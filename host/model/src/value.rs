@@ -67,8 +67,8 @@ impl<'a> Values<'a> {
 pub fn answer(
     record_bytes: usize,
     words: &[u32],
-    part: u64,
-    pin: u64,
+    part: u32,
+    pin: u32,
     old: &[u32],
     new: &[u32],
 ) -> Result<bool, Refused> {
@@ -77,9 +77,9 @@ pub fn answer(
         return Err(fault);
     }
     let gates = Gates::of(&plan);
-    let mut values = match plan.parts.get(part.min(1 << 40) as usize) {
+    let mut values = match plan.parts.get(part as usize) {
         Some(part) => Values::of(part, &gates, &Found::of(&plan), old, new),
         None => Values::of_nothing_read(&gates),
     };
-    Ok(pin < EMPTY.into() && values.value(pin as u32))
+    Ok(pin != EMPTY && values.value(pin))
 }

@@ -41,7 +41,7 @@ fn marked(checker: &mut ValueChecker) {
     let record = m10().record();
     for old in 0..4 {
         for pin in 0..5 {
-            for part in [0, 1, u64::MAX] {
+            for part in [0, 1, u32::MAX] {
                 let question = Question {
                     record: &record,
                     part,
@@ -59,11 +59,11 @@ fn marked(checker: &mut ValueChecker) {
 
 /// Pins of every kind in parts of the plan, and past it.
 fn values_of(checker: &mut ValueChecker, random: &mut Random, kind: &str, plan: &Plan, record: &[u8]) {
-    let parts = plan.parts().count() as u64;
+    let parts = plan.parts().count() as u32;
     let words = model::record::words(record);
     let state_words =
         model::build::accept(record.len(), &words).map_or(20, |plan| plan.sizes().state_words as usize);
-    for part in [random.below(parts as usize + 1) as u64, random.pick(&[0, parts, u64::MAX])] {
+    for part in [random.below(parts as usize + 1) as u32, random.pick(&[0, parts, u32::MAX])] {
         let (old_words, new_words) = if random.chance(4) {
             (random.below(state_words + 1), random.below(state_words + 1))
         } else {
@@ -80,8 +80,8 @@ fn values_of(checker: &mut ValueChecker, random: &mut Random, kind: &str, plan: 
             }
             pins.push(random.below(1 << 30) as u32);
         }
-        let mut pins: Vec<u64> = few_paths(record, part, &pins).into_iter().map(u64::from).collect();
-        pins.extend([0, EMPTY.into(), 1 << 30, (1 << 30) + 1, 1 << 32, u64::MAX]);
+        let mut pins = few_paths(record, part, &pins);
+        pins.extend([0, 1 << 30, (1 << 30) + 1, EMPTY - 1, EMPTY]);
         for pin in pins {
             let more_room = if random.chance(12) {
                 random.pick(&[-1, -16, -1_000_000])
@@ -103,16 +103,15 @@ fn damaged(checker: &mut ValueChecker, random: &mut Random) {
             let plan = plans::any(random, Size { majors: 2, parts: 1, stages: 1, inputs: 60, ..SIZE });
             if let Some((record, _)) = plan_damage::apply(random, &plan, change) {
                 let old = state(random, 20);
-                let part = random.below(2) as u64;
+                let part = random.below(2) as u32;
                 let pins = [random.below(400) as u32, plan.gates.last().map_or(1, |gate| gate.pin)];
                 for pin in few_paths(&record, part, &pins) {
-                    let (pin, new) = (pin.into(), &old[..]);
                     let question = Question {
                         record: &record,
                         part,
                         pin,
                         old: &old,
-                        new,
+                        new: &old,
                         more_room: 0,
                         room_is_zero: false,
                     };
