@@ -3,6 +3,8 @@
 use Prim.Native.Nat.{ℕ}
 use Rattle.reads.specs.Search.{longest}
 use Rattle.reads.specs.Outcome.{Outcome, placed, refused}
+use Rattle.values.specs.Values.{Outcome as Valued, bit, refused as unvalued}
+use Rattle.machine.specs.Run.{Ran, ran, refused as notRun}
 use Rattle.listing.specs.declared.Listed.{Listed}
 use Rattle.listing.specs.declared.Listed.the-variants.{Text, Refused}
 
@@ -31,3 +33,29 @@ listedFirst (Refused r) = r .part
 abbrev pub listedSecond : Listed → ℕ
 listedSecond (Text n) = 0
 listedSecond (Refused r) = r .item
+
+-- of a pin: 0 with its bit and 0; or the number with part 0 and the item
+abbrev pub valueNumber : Valued → ℕ
+valueNumber (bit v) = 0
+valueNumber (unvalued n i) = n
+
+abbrev pub valueFirst : Valued → ℕ
+valueFirst (bit v) = v
+valueFirst (unvalued n i) = 0
+
+abbrev pub valueSecond : Valued → ℕ
+valueSecond (bit v) = 0
+valueSecond (unvalued n i) = i
+
+-- of a run: 0 with the turns left and 0; or the number with part 0 and the item
+abbrev pub ranNumber : Ran → ℕ
+ranNumber (ran k new) = 0
+ranNumber (notRun n i) = n
+
+abbrev pub ranFirst : Ran → ℕ
+ranFirst (ran k new) = k
+ranFirst (notRun n i) = 0
+
+abbrev pub ranSecond : Ran → ℕ
+ranSecond (ran k new) = 0
+ranSecond (notRun n i) = i

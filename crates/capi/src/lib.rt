@@ -4,9 +4,14 @@ ghost use mathlib.Core.Path.{_≡_};
 ghost use lib.ListN.{length};
 ghost use Rattle.reads.specs.Outcome.{outcome, resultAfter, roomAfter};
 ghost use Rattle.listing.specs.Listing.{listed, textAfter};
-ghost use Rattle.capi.specs.Answers.{roundsNumber, roundsFirst, roundsSecond, listedNumber, listedFirst, listedSecond};
+ghost use Rattle.values.specs.Values.{outcome as valued, roomAfter as planRoomAfter};
+ghost use Rattle.machine.specs.Run.{outcome as ranAs, newAfter, roomAfter as runRoomAfter};
+ghost use Rattle.capi.specs.Answers.{roundsNumber, roundsFirst, roundsSecond, listedNumber, listedFirst, listedSecond, valueNumber, valueFirst, valueSecond, ranNumber, ranFirst, ranSecond};
 use listing::Listed;
 use rounds::Rounds;
+use run::Ran;
+use values::Answer;
+use words::units::Pin;
 
 // A read set's rounds: `first` is their number, or the refusal's part; `second` is 0, or its item.
 #[no_mangle]
@@ -59,6 +64,69 @@ pub extern "C" fn juolgesot_list(
             0
         }
         Listed::Refused(refusal) => {
+            *first = refusal.part as u64;
+            *second = refusal.item;
+            refusal.number
+        }
+    }
+}
+
+// The value of a pin in a part of a plan, between two states: `first` is the bit, or the refusal's part; `second` is 0, or its item.
+#[no_mangle]
+pub extern "C" fn juolgesot_value(
+    plan: &[u8],
+    room: &mut [u32],
+    old: &[u32],
+    new: &[u32],
+    part: u32,
+    pin: u32,
+    first: &mut u64,
+    second: &mut u64,
+) -> u32
+    ensures { λ r. ⌜ r ≡ valueNumber (valued (now (plan .entry)) part (now (old .entry)) (now (new .entry)) (length (now (room .entry))) pin) ⌝ }
+    ensures { λ r. ⌜ now (first .exit) ≡ valueFirst (valued (now (plan .entry)) part (now (old .entry)) (now (new .entry)) (length (now (room .entry))) pin) ⌝ }
+    ensures { λ r. ⌜ now (second .exit) ≡ valueSecond (valued (now (plan .entry)) part (now (old .entry)) (now (new .entry)) (length (now (room .entry))) pin) ⌝ }
+    ensures { λ r. ⌜ now (room .exit) ≡ planRoomAfter (now (plan .entry)) (now (room .entry)) ⌝ }
+{
+    match values::value(plan, part, old, new, room, Pin(pin)) {
+        Answer::Bit(b) => {
+            *first = b as u64;
+            *second = 0;
+            0
+        }
+        Answer::Refused(refusal) => {
+            *first = refusal.part as u64;
+            *second = refusal.item;
+            refusal.number
+        }
+    }
+}
+
+// A run of one major stage: `first` is the turns left, or the refusal's part; `second` is 0, or its item.
+#[no_mangle]
+pub extern "C" fn juolgesot_run(
+    words: &[u32],
+    starts: &[u64],
+    turns: &[u32],
+    old: &[u32],
+    new: &mut [u32],
+    room: &mut [u32],
+    first: &mut u64,
+    second: &mut u64,
+) -> u32
+    ensures { λ r. ⌜ r ≡ ranNumber (ranAs 256 13 (now (words .entry)) (now (starts .entry)) (now (turns .entry)) (now (old .entry)) (now (new .entry)) (length (now (room .entry)))) ⌝ }
+    ensures { λ r. ⌜ now (first .exit) ≡ ranFirst (ranAs 256 13 (now (words .entry)) (now (starts .entry)) (now (turns .entry)) (now (old .entry)) (now (new .entry)) (length (now (room .entry)))) ⌝ }
+    ensures { λ r. ⌜ now (second .exit) ≡ ranSecond (ranAs 256 13 (now (words .entry)) (now (starts .entry)) (now (turns .entry)) (now (old .entry)) (now (new .entry)) (length (now (room .entry)))) ⌝ }
+    ensures { λ r. ⌜ now (new .exit) ≡ newAfter (ranAs 256 13 (now (words .entry)) (now (starts .entry)) (now (turns .entry)) (now (old .entry)) (now (new .entry)) (length (now (room .entry)))) (now (new .entry)) ⌝ }
+    ensures { λ r. ⌜ now (room .exit) ≡ runRoomAfter (now (starts .entry)) (now (room .entry)) ⌝ }
+{
+    match run::run(words, starts, turns, old, new, room) {
+        Ran::Left(n) => {
+            *first = n;
+            *second = 0;
+            0
+        }
+        Ran::Refused(refusal) => {
             *first = refusal.part as u64;
             *second = refusal.item;
             refusal.number

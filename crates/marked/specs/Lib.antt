@@ -1,3 +1,4 @@
 pub mod Reads
 pub mod Plans
+pub mod Scripts
 pub mod Marked

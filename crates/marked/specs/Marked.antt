@@ -13,7 +13,15 @@ use Rattle.words.specs.Section.{listOf}
 use Rattle.counts.specs.Counts.{activationsOf, isIn, different, duplicatesIn}
 use Rattle.blocks.specs.Blocks.{leastTo, blockFor, costsAfter, blockIn, comesBefore, takenBefore}
 use Rattle.marked.specs.Reads.{same, ask, positions, seen, readRounds}
+use Rattle.words.specs.Section.{entryOf}
 use Rattle.marked.specs.Plans.{duplicateWords, stagesIn, blocksOfParts, startsOfParts}
+use Rattle.words.specs.Bit.{bit, bitAt, wordOf}
+use Rattle.words.specs.Section.{placeOf, halfOf}
+use Rattle.reads.specs.ReadTurn.{appended, laneWord}
+use Rattle.machine.specs.Part.{normalAt, endAt, locationIn, readWordAt, readMaskAt, sectionAt, entryAt, laneWordAt}
+use Rattle.machine.specs.Turn.{stateWord, readRow, gate, gateAt, levelBit, positionBit, stageRow, captured, begins, ended, afterRead, afterStage, afterStore, stored, turned, written}
+use Rattle.machine.specs.Run.{blocksFrom, step, runFrom, turnsFrom, turnsAfter, turnsLeft, allLeft}
+use Rattle.marked.specs.Scripts.{entrySeen, gateThree, gateRun}
 
 -- what the definitions give, and what document 01 says
 pub record Example : Type 0 where
@@ -43,6 +51,11 @@ marked =
     -- M8 two blocks, stages 4, 2, 1, 1: blocks (0,3), (1,2); with 40 inputs and one word each, starts 2, 4, 5, 3 by part
     ∷ record { got = blocksOfParts; said = 0 ∷ 1 ∷ 1 ∷ 0 ∷ [] }
     ∷ record { got = startsOfParts; said = 2 ∷ 4 ∷ 5 ∷ 3 ∷ [] }
+    -- M9 entry 33: word 4, high half
+    ∷ record { got = entrySeen; said = 4 ∷ 1 ∷ 33 ∷ [] }
+    -- M10 pins 1, 2 at state 0, 1; gate 3 = 1 and not 2 at level 1 slot 0, location 128: old word 1 stores 1, old word 3 stores 0xFFFFFFFE
+    ∷ record { got = gateRun 1; said = 0 ∷ 0 ∷ 1 ∷ [] }
+    ∷ record { got = gateRun 3; said = 0 ∷ 0 ∷ 0xFFFFFFFE ∷ [] }
     ∷ []
 
 unfoldable pub given : List Example → List (List ℕ)
@@ -54,5 +67,5 @@ told [] = []
 told (e ∷ es) = e .said ∷ told es
 
 pub marked-right : given marked ≡ told marked
-unfolding sumTo listOf activationsOf isIn different duplicatesIn leastTo blockFor costsAfter blockIn comesBefore takenBefore duplicateWords stagesIn blocksOfParts startsOfParts marked given told same positions seen popIn total pairsFrom pairForm brokenFrom piecesIn insertPiece ordered joined firstRoom tryFrom firstWin longest maskIn later localAt roundFrom spotFrom localOf packed readSet fitted outcome
+unfolding bit bitAt wordOf placeOf halfOf appended laneWord normalAt endAt locationIn readWordAt readMaskAt sectionAt entryAt laneWordAt stateWord readRow gate gateAt levelBit positionBit stageRow captured begins ended afterRead afterStage afterStore stored turned written blocksFrom step runFrom turnsFrom turnsAfter turnsLeft allLeft entryOf entrySeen gateThree gateRun sumTo listOf activationsOf isIn different duplicatesIn leastTo blockFor costsAfter blockIn comesBefore takenBefore duplicateWords stagesIn blocksOfParts startsOfParts marked given told same positions seen popIn total pairsFrom pairForm brokenFrom piecesIn insertPiece ordered joined firstRoom tryFrom firstWin longest maskIn later localAt roundFrom spotFrom localOf packed readSet fitted outcome
 marked-right = refl

@@ -8,22 +8,24 @@ use Prim.Native.Nat.{ℕ, zero, suc, _+_, _*_, _-_, _/_, _^_, _≤_, _<_}
 use native.Mathlib.Omega.{arith}
 use borrow.Author.Tests.{eq-eqb, ne-eqb, eqb-true, eqb-false}
 use lib.Dec.{ltb, eqb}
-use lib.ListN.{length, getD, take, drop, replicate, length-append, length-drop, length-replicate}
-use lib.Seq.{sets, length-take-le, drop-at}
+use lib.ListN.{length, getD, set, take, drop, replicate, length-append, take-append-drop}
+use lib.Seq.{sets, length-take-le, drop-at, getD-take, ext-getD}
 use Rattle.reads.specs.ReadSet.{Pair, pairsOf}
-use Rattle.reads.specs.Search.{Lane, lanesOf}
+use Rattle.reads.specs.Search.{Lane, lanesOf, longest}
 use Rattle.reads.specs.Outcome.{Outcome, placed, refused, packed}
 use Rattle.asks.proofs.StoreLaws.{take-front}
 use Rattle.rounds.specs.Rounds.{Solvable}
 use Rattle.record.specs.Record.{partsOf, bodyAt}
 use Rattle.record.specs.Tests.{Place, lowestFrom}
 use Rattle.record.proofs.TestLaws.{lowest-fault, lowest-next, lowest-end}
-use Rattle.partreads.specs.PartReads.{askedTo, readWords, partReads, badReads, refusedReads}
-use Rattle.partreads.specs.Ready.{AllNarrow, SetRoom, InForm}
+use Rattle.blocks.specs.Table.{cell}
+use Rattle.blocks.proofs.FillLaws.{put-more, put-long, put-low}
+use Rattle.partreads.specs.PartReads.{lanesIn, askedTo, readWords, partReads, badReads, refusedReads}
+use Rattle.partreads.specs.Ready.{AllNarrow, SetRoom, InForm, ClearRoom}
 use Rattle.partreads.specs.declared.searched.Reads.{Reads}
 use Rattle.partreads.specs.declared.searched.Reads.the-variants.{Nothing, NoRoom, Rounds}
 use Rattle.partreads.specs.declared.check.Checked.the-variants as checked
-use Rattle.partreads.specs.Answers.{readsOf, isNothing, earlierOf, fullAfter, checkedOf}
+use Rattle.partreads.specs.Answers.{readsOf, isNothing, earlierOf, fullAfter, checkedOf, roundsOf, roundsIn, partsUpTo, roundRows, searchedRoom}
 use Rattle.partreads.proofs.EntryLaws.{words-form}
 
 -- ---- one part
@@ -116,11 +118,13 @@ module _ (d : List ℕ) (parts at full p : ℕ) (count : parts ≡ partsOf d) (a
   here : p < partsOf d
   here = omega arith
 
-  pub passing-fault : (t : Bool) → t ≡ isNothing r → t ≡ true → checked.Nothing p ≡ checkedOf (refusedReads 256 3 d) (refusedReads 256 4 d)
-  passing-fault t e h =
+  pub passing-place : (t : Bool) → t ≡ isNothing r → t ≡ true → refusedReads 256 3 d ≡ some (record { part = p; item = 0 })
+  passing-place t e h =
       let found = nothing-bad (partReads 256 d p) (sym (ap isNothing is) ∙ (sym e ∙ h)) in
-      let q : refusedReads 256 3 d ≡ some (record { part = p; item = 0 }) = sym (pass .early) ∙ lowest-fault (bad 3 d) (partsOf d) p 0 here found in
-      rw q
+      sym (pass .early) ∙ lowest-fault (bad 3 d) (partsOf d) p 0 here found
+
+  pub passing-fault : (t : Bool) → t ≡ isNothing r → t ≡ true → checked.Nothing p ≡ checkedOf (refusedReads 256 3 d) (refusedReads 256 4 d)
+  passing-fault t e h = rw (passing-place t e h)
 
   module _ (t : Bool) (e : t ≡ isNothing r) (h : t ≡ false) where
     other : isNothing (readsOf (partReads 256 d p)) ≡ false
@@ -166,7 +170,7 @@ module _ (d : List ℕ) (parts at full p : ℕ) (count : parts ≡ partsOf d) (a
         }
 
 module _ (d : List ℕ) (parts at full p : ℕ) (count : parts ≡ partsOf d) (all : parts ≤ p) (pass : Passing d parts at full p) where
-  none-early : refusedReads 256 3 d ≡ none
+  pub none-early : refusedReads 256 3 d ≡ none
   none-early = sym (pass .early) ∙ lowest-end (bad 3 d) (partsOf d) p (omega arith)
 
   pub passed-fine : full ≡ parts → checked.Fine ≡ checkedOf (refusedReads 256 3 d) (refusedReads 256 4 d)
@@ -192,8 +196,54 @@ module _ (room part : List ℕ) (wide : 65536 ≤ length room) (kept : length pa
       ap (λ (l : List ℕ). l ++ drop 32768 (part ++ drop 32768 room)) (e ∙ ap (λ (n : ℕ). replicate n 0) (sym clear-size))
       ∙ ap (λ (l : List ℕ). replicate 32768 0 ++ l) (drop-at part (drop 32768 room) 32768 part-size)
 
-  pub clear-length : (z : List ℕ) → z ≡ replicate (length (take 32768 (part ++ drop 32768 room))) 0
-      → length (z ++ drop 32768 (part ++ drop 32768 room)) ≡ length room
-  clear-length z e =
-      ap length (clear-room z e)
-      ∙ omega (arith, length-append (replicate 32768 0) (drop 32768 room), length-replicate {A = ℕ} 32768 0, length-drop 32768 room)
+  pub clear-back : take 32768 room ≡ replicate 32768 0 → (z : List ℕ) → z ≡ replicate (length (take 32768 (part ++ drop 32768 room))) 0
+      → z ++ drop 32768 (part ++ drop 32768 room) ≡ room
+  clear-back c z e = clear-room z e ∙ (ap (λ (l : List ℕ). l ++ drop 32768 room) (sym c) ∙ take-append-drop 32768 room)
+
+pub roomy : (d room : List ℕ) → ClearRoom d room → 65536 ≤ length room
+roomy d room c = omega (arith, c .wide)
+
+-- ---- the rounds
+
+pub rounds-are : (o : Outcome) → roundsOf (readsOf o) ≡ longest (lanesIn o)
+unfolding longest
+rounds-are (placed lanes) = refl
+rounds-are (refused k i) = go (eqb k 3)
+  where
+    go : (b : Bool) → roundsOf (elim b [ true ↦ Nothing | false ↦ NoRoom ]) ≡ 0
+    go true = refl
+    go false = refl
+
+module _ (d room₀ room : List ℕ) (p : ℕ) (is : room ≡ roundRows d room₀ p) where
+  pub rows-long : length room ≡ length room₀
+  rows-long = ap length is ∙ put-long room₀ 10 (λ q. q) (roundsIn d) p
+
+  pub rows-clear : ClearRoom d room₀ → ClearRoom d room
+  rows-clear c = record { wide = omega (arith, rows-long, c .wide); clear = ap (take 32768) is ∙ (front ∙ c .clear) }
+    where
+      long : length (take 32768 (roundRows d room₀ p)) ≡ 32768
+      long = length-take-le 32768 (roundRows d room₀ p) (omega (arith, put-long room₀ 10 (λ q. q) (roundsIn d) p, c .wide))
+
+      front : take 32768 (roundRows d room₀ p) ≡ take 32768 room₀
+      front =
+          ext-getD 0 _ _ (long ∙ sym (length-take-le 32768 room₀ (omega (arith, c .wide))))
+          (λ i l.
+          let u : i < 32768 = omega (arith, long) in
+          getD-take 32768 (roundRows d room₀ p) i 0 u ∙ (put-low room₀ 10 (λ q. q) (roundsIn d) p i (omega arith) ∙ sym (getD-take 32768 room₀ i 0 u)))
+
+  pub row-inside : ClearRoom d room₀ → p < partsOf d → cell p 10 < length room
+  row-inside c l = omega (arith, rows-long, c .wide)
+
+  pub rows-more : (r : Reads) → r ≡ readsOf (partReads 256 d p) → (n : ℕ) → n ≡ roundsOf r → set room (cell p 10) n ≡ roundRows d room₀ (p + 1)
+  rows-more r e n f =
+      let m : n ≡ roundsIn d p = f ∙ (ap roundsOf e ∙ rounds-are (partReads 256 d p)) in
+      rw (is, m) (sym (put-more room₀ 10 (λ q. q) (roundsIn d) p))
+
+-- the parts that were searched, all of them or those before the first with nothing to read
+pub rows-fault : (d room₀ room : List ℕ) (p : ℕ) → room ≡ roundRows d room₀ p → refusedReads 256 3 d ≡ some (record { part = p; item = 0 }) → room ≡ searchedRoom d room₀
+unfolding searchedRoom
+rows-fault d room₀ room p is e = is ∙ ap (λ (o : Option Place). roundRows d room₀ (partsUpTo o (partsOf d))) (sym e)
+
+pub rows-all : (d room₀ room : List ℕ) (p : ℕ) → room ≡ roundRows d room₀ p → p ≡ partsOf d → refusedReads 256 3 d ≡ none → room ≡ searchedRoom d room₀
+unfolding searchedRoom
+rows-all d room₀ room p is n e = is ∙ (ap (roundRows d room₀) n ∙ ap (λ (o : Option Place). roundRows d room₀ (partsUpTo o (partsOf d))) (sym e))

@@ -52,7 +52,7 @@ words-small d p narrow = set-small (askedTo d p 8192) (λ i l. narrow i l .small
 
 -- ---- a slot's bit is asked for
 
-asked-in : (d : List ℕ) (p n j : ℕ) (y : Planned) → j < n → (slotAt d p 0 (8192 + j) ≡ empty → ⊥) → planned d (slotAt d p 0 (8192 + j)) ≡ some y
+pub asked-in : (d : List ℕ) (p n j : ℕ) (y : Planned) → j < n → (slotAt d p 0 (8192 + j) ≡ empty → ⊥) → planned d (slotAt d p 0 (8192 + j)) ≡ some y
     → (i : ℕ) × (i < length (askedTo d p n)) × (getD (askedTo d p n) i 0 ≡ bitNumber y)
 unfolding askedTo askedBy
 asked-in d p zero j y h full e = absurd (not-suc-le-zero h)

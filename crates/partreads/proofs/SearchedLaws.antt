@@ -75,7 +75,7 @@ stuck-reads L ws z e = rw (lt-ltb 0 (length (pairsOf ws)) (omega (arith, pairs-l
 
 -- ---- the table of pins
 
-reads-slot : (d : List ℕ) (p j : ℕ) → j < 8192 → readsPin d p (slotAt d p 0 (8192 + j)) ≡ true
+pub reads-slot : (d : List ℕ) (p j : ℕ) → j < 8192 → readsPin d p (slotAt d p 0 (8192 + j)) ≡ true
 unfolding readsPin
 reads-slot d p j h = some-at (λ i. eqb (slotAt d p 0 (8192 + i)) (slotAt d p 0 (8192 + j))) 8192 j h (eq-eqb (slotAt d p 0 (8192 + j)) _ refl)
 

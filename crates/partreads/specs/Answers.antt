@@ -2,11 +2,15 @@
 -- Assumes nothing.
 use mathlib.Core.Bool.{Bool, true, false}
 use mathlib.Core.Option.{Option, none, some}
+use mathlib.Core.List.{List}
 use Prim.Native.Nat.{ℕ}
 use lib.Dec.{eqb}
 use Rattle.reads.specs.Search.{longest}
 use Rattle.reads.specs.Outcome.{Outcome, placed, refused}
+use Rattle.record.specs.Record.{partsOf}
 use Rattle.record.specs.Tests.{Place}
+use Rattle.blocks.specs.Fill.{putCells}
+use Rattle.partreads.specs.PartReads.{partLanes, refusedReads}
 use Rattle.partreads.specs.declared.searched.Reads.{Reads}
 use Rattle.partreads.specs.declared.searched.Reads.the-variants.{Nothing, NoRoom, Rounds}
 use Rattle.partreads.specs.declared.check.Checked.{Checked}
@@ -36,3 +40,25 @@ abbrev pub checkedOf : Option Place → Option Place → Checked
 checkedOf (some x) o = checked.Nothing (x .part)
 checkedOf none (some x) = checked.NoRoom (x .part)
 checkedOf none none = checked.Fine
+
+-- the number of rounds as it is kept: 0 where there are none
+abbrev pub roundsOf : Reads → ℕ
+roundsOf Nothing = 0
+roundsOf NoRoom = 0
+roundsOf (Rounds n) = n
+
+abbrev pub roundsIn : List ℕ → ℕ → ℕ
+roundsIn d p = longest (partLanes 256 d p)
+
+-- the parts up to the first with nothing to read
+abbrev pub partsUpTo : Option Place → ℕ → ℕ
+partsUpTo none n = n
+partsUpTo (some x) n = x .part
+
+-- the room with the rounds of the first n parts: word 10 of their rows
+abbrev pub roundRows : List ℕ → List ℕ → ℕ → List ℕ
+roundRows d room n = putCells room 10 (λ p. p) (roundsIn d) n
+
+-- and after all parts were searched
+unfoldable pub searchedRoom : List ℕ → List ℕ → List ℕ
+searchedRoom d room = roundRows d room (partsUpTo (refusedReads 256 3 d) (partsOf d))

@@ -1,15 +1,16 @@
 -- What is known when a part's reads are gathered, searched and numbered.
 -- Assumes nothing.
 use mathlib.Core.Path.{_≡_}
+use mathlib.Core.Bool.{true}
 use mathlib.Core.Option.{Option, none, some}
 use mathlib.Core.List.{List}
-use Prim.Native.Nat.{ℕ, _+_, _%_, _^_, _≤_, _<_}
-use lib.ListN.{length, getD}
+use Prim.Native.Nat.{ℕ, _+_, _*_, _%_, _^_, _≤_, _<_}
+use lib.ListN.{length, getD, take, replicate}
 use Rattle.reads.specs.ReadSet.{pairsOf, broken}
 use Rattle.pinmap.specs.PinMap.{look, afterRenewals}
-use Rattle.record.specs.Record.{slotAt}
-use Rattle.record.specs.Form.{empty}
-use Rattle.positions.specs.Positions.{Planned, planned}
+use Rattle.record.specs.Record.{partsOf, slotAt}
+use Rattle.record.specs.Form.{empty, planForm}
+use Rattle.positions.specs.Positions.{Planned, planned, refusal12}
 use Rattle.positions.specs.Winners.{winner, plannedBy, winnerPuts}
 use Rattle.slots.specs.Puts.{readPuts, filled}
 use Rattle.partreads.specs.PartReads.{bitNumber}
@@ -59,3 +60,14 @@ wonPins n d p = afterRenewals (filled n (readPuts d p)) (winnerPuts d)
 pub record InForm (ws : List ℕ) : Type 0 where
   pub few : length ws ≤ 16384
   pub form : broken (pairsOf ws) ≡ none
+
+-- a room that has the part table, the first words of which are clear
+pub record ClearRoom (d room : List ℕ) : Type 0 where
+  pub wide : 65536 + 16 * partsOf d ≤ length room
+  pub clear : take 32768 room ≡ replicate 32768 0
+
+-- a plan that was refused neither by 5 nor by 12, with such a room
+pub record Searchable (d room : List ℕ) : Type 0 where
+  pub form : planForm d ≡ true
+  pub planned : refusal12 d ≡ none
+  pub cleared : ClearRoom d room

@@ -1,17 +1,13 @@
 // Refusals 3 and 4 over the whole plan.
 ghost use mathlib.Core.Path.{_≡_};
-ghost use mathlib.Core.Bool.{true};
-ghost use mathlib.Core.Option.{none};
-ghost use mathlib.Core.List.{_++_};
-ghost use Prim.Native.Nat.{_≤_, _<_};
-ghost use lib.ListN.{length, drop, replicate};
+ghost use Prim.Native.Nat.{_<_};
+ghost use lib.ListN.{length, set};
 ghost use Rattle.record.specs.Body.{BodyOf};
-ghost use Rattle.record.specs.Form.{planForm};
-ghost use Rattle.positions.specs.Positions.{refusal12};
+ghost use Rattle.blocks.specs.Table.{cell};
 ghost use Rattle.positions.specs.Winners.{Listed};
 ghost use Rattle.partreads.specs.PartReads.{partReads, refusedReads};
-ghost use Rattle.partreads.specs.Ready.{AllPlanned, SetRoom};
-ghost use Rattle.partreads.specs.Answers.{readsOf, isNothing, earlierOf, fullAfter, checkedOf};
+ghost use Rattle.partreads.specs.Ready.{AllPlanned, SetRoom, ClearRoom, Searchable};
+ghost use Rattle.partreads.specs.Answers.{readsOf, isNothing, earlierOf, fullAfter, checkedOf, roundsOf, searchedRoom};
 use crate::asked::part_set;
 use crate::searched::Reads;
 use crate::searched::fill_pins;
@@ -29,8 +25,8 @@ pub enum Checked {
     NoRoom(usize),
 }
 
-// The reads of part p. What the lent slices hold afterwards is left open.
-fn check_part(
+// The reads of part p, with its table of pins in a lent room. What the lent slices hold afterwards is left open.
+fn search_part(
     d: &[u8],
     p: usize,
     body: Body,
@@ -45,6 +41,25 @@ fn check_part(
     fill_pins(d, p, body, room);
     let n = part_set(d, p, body, room, keys, scratch, set);
     search_set(&set[..n], &mut room[..8192], keys, scratch, Edition::LANES)
+}
+
+// The same with the first words of a room, which are clear before and after.
+fn check_part(
+    d: &[u8],
+    p: usize,
+    body: Body,
+    room: &mut [u32],
+    keys: &mut [u64],
+    scratch: &mut [u64],
+    set: &mut [u32],
+) -> Reads
+    requires { ⌜ BodyOf (now d) p body × (0 < body .stages) × Listed (now d) × AllPlanned (now d) p × SetRoom (length (now keys)) (length (now scratch)) (length (now set)) × ClearRoom (now d) (now room) ⌝ }
+    ensures { λ r. ⌜ r ≡ readsOf (partReads 256 (now (d .entry)) p) ⌝ }
+    ensures { λ _. ⌜ now (room .exit) ≡ now (room .entry) ⌝ }
+{
+    let reads = search_part(d, p, body, &mut room[..32768], keys, scratch, set);
+    pinmap::clear(&mut room[..32768]);
+    reads
 }
 
 fn is_nothing(reads: Reads) -> bool
@@ -78,16 +93,37 @@ fn full_after(full: usize, parts: usize, p: usize, reads: Reads) -> usize
     }
 }
 
-// All parts. What the lent slices hold afterwards is left open.
-fn check_parts(
+// The number of rounds as it is kept.
+fn rounds_of(reads: Reads) -> u32
+    ensures { λ r. ⌜ r ≡ roundsOf reads ⌝ }
+{
+    match reads {
+        Reads::Nothing => 0,
+        Reads::NoRoom => 0,
+        Reads::Rounds(n) => n,
+    }
+}
+
+// Word 10 of the row of part p: its rounds.
+fn put_rounds(room: &mut [u32], p: usize, reads: Reads)
+    requires { ⌜ (p < 262144) × (cell p 10 < length (now room)) ⌝ }
+    ensures { λ _. ⌜ now (room .exit) ≡ set (now (room .entry)) (cell p 10) (roundsOf reads) ⌝ }
+{
+    room[65536 + 16 * p + 10] = rounds_of(reads);
+}
+
+// Refusals 3 and 4. Word 10 of each part's row then has its rounds; the first part with nothing to read ends it. What keys, scratch and set
+// hold afterwards is left open.
+pub fn check_reads(
     d: &[u8],
     room: &mut [u32],
     keys: &mut [u64],
     scratch: &mut [u64],
     set: &mut [u32],
 ) -> Checked
-    requires { ⌜ (planForm (now d) ≡ true) × (refusal12 (now d) ≡ none) × SetRoom (length (now keys)) (length (now scratch)) (length (now set)) × (length (now room) ≡ 32768) ⌝ }
+    requires { ⌜ Searchable (now d) (now room) × SetRoom (length (now keys)) (length (now scratch)) (length (now set)) ⌝ }
     ensures { λ r. ⌜ r ≡ checkedOf (refusedReads 256 3 (now (d .entry))) (refusedReads 256 4 (now (d .entry))) ⌝ }
+    ensures { λ _. ⌜ now (room .exit) ≡ searchedRoom (now (d .entry)) (now (room .entry)) ⌝ }
 {
     let parts = parts_of(d);
     let mut at = first_body(d);
@@ -100,6 +136,7 @@ fn check_parts(
             return Checked::Nothing(p);
         }
         full = full_after(full, parts, p, reads);
+        put_rounds(room, p, reads);
         at = body.end;
         p += 1;
     }
@@ -107,21 +144,4 @@ fn check_parts(
         return Checked::Fine;
     }
     Checked::NoRoom(full)
-}
-
-// Refusals 3 and 4. The first 32768 words of the room are zero afterwards, the others as they were.
-pub fn check_reads(
-    d: &[u8],
-    room: &mut [u32],
-    keys: &mut [u64],
-    scratch: &mut [u64],
-    set: &mut [u32],
-) -> Checked
-    requires { ⌜ (planForm (now d) ≡ true) × (refusal12 (now d) ≡ none) × SetRoom (length (now keys)) (length (now scratch)) (length (now set)) × (65536 ≤ length (now room)) ⌝ }
-    ensures { λ r. ⌜ r ≡ checkedOf (refusedReads 256 3 (now (d .entry))) (refusedReads 256 4 (now (d .entry))) ⌝ }
-    ensures { λ _. ⌜ now (room .exit) ≡ replicate 32768 0 ++ drop 32768 (now (room .entry)) ⌝ }
-{
-    let answer = check_parts(d, &mut room[..32768], keys, scratch, set);
-    pinmap::clear(&mut room[..32768]);
-    answer
 }

@@ -1,53 +1,44 @@
--- `partreads::check::check_part` meets its contract: the front of `set` is the part's read set.
+-- `partreads::check::check_part` meets its contract: the part of the room that was used is cleared.
 -- Assumes nothing.
-use mathlib.Core.Path.{sym, _∙_}
+use mathlib.Core.Path.{sym, ap}
 use native.Mathlib.Omega.{arith}
 use borrow.Author.Needs.{needs}
 use lib.ListN.{length}
 use lib.Seq.{length-take-le}
-use Rattle.partreads.proofs.SearchedLaws.{pins-are, pins-length}
-use Rattle.partreads.proofs.CheckLaws.{set-size, set-in-form, set-reads, part-solvable}
+use Rattle.partreads.proofs.CheckLaws.{roomy, clear-size, clear-back}
 use Rattle.partreads.proofs.check.check_part.Statement.{statement}
 use Rattle.partreads.proofs.check.check_part.Tie as tie
 
-fill-pins-requires : tie.Need-fill-pins-requires
-fill-pins-requires c κs = search needs
+slice-relend-prefix-search-part : tie.Need-slice-relend-prefix-search-part
+slice-relend-prefix-search-part c = search needs
 
-part-set-requires : tie.Need-part-set-requires
-part-set-requires c κs =
-    let s = c .before .before .before .before .before .before .before .before .before .before .before .before .before in
-    (s .pre .0, s .pre .1, pins-are _ _ (s .args .room .now) _ (c .before .before .before .before .before .before .fill-pins .ensures) (s .pre .5) (s .pre .3), s .pre .4)
+slice-aggregate-search-part : tie.Need-slice-aggregate-search-part
+slice-aggregate-search-part c =
+    let s = c .before .before .before .before .before .before in
+    sym (length-take-le 32768 (s .args .room .now) (omega (arith, roomy _ _ (s .pre .5))))
 
-slice-reshare-prefix-search-set : tie.Need-slice-reshare-prefix-search-set
-slice-reshare-prefix-search-set c = search needs
+search-part-requires : tie.Need-search-part-requires
+search-part-requires c κs =
+    let s = c .before .before .before .before .before .before .before .before .before in
+    (s .pre .0, s .pre .1, s .pre .2, s .pre .3, s .pre .4, length-take-le 32768 (s .args .room .now) (omega (arith, roomy _ _ (s .pre .5))))
 
-slice-aggregate-search-set : tie.Need-slice-aggregate-search-set
-slice-aggregate-search-set c =
-    let s = c .before .before .before .before .before .before .before .before .before .before .before .before .before .before .before .before .before .before .before .before .before in
-    let r = c .before .before .before .before .before .before .before .part-set in
-    set-size (s .args .d .now) (s .args .p) (s .args .set .now) _ _ (r .ensures .0) (r .ensures .1 .0) (s .pre .4 .set-room)
+slice-relend-prefix-clear : tie.Need-slice-relend-prefix-clear
+slice-relend-prefix-clear c = search needs
 
-slice-relend-prefix-search-set : tie.Need-slice-relend-prefix-search-set
-slice-relend-prefix-search-set c = search needs
+slice-aggregate-clear : tie.Need-slice-aggregate-clear
+slice-aggregate-clear c =
+    let s = c .before .before .before .before .before .before .before .before .before .before .before .before .before .before .before .before .before .before .before in
+    let k = c .before .before .before .before .before .before .before .before .before .search-part in
+    clear-size (s .args .room .now) (k .last .1 .1 .1 .0) (roomy _ _ (s .pre .5)) (k .kept .1 .1 .1 .0)
 
-slice-aggregate-search-set-2 : tie.Need-slice-aggregate-search-set-2
-slice-aggregate-search-set-2 c =
-    let s = c .before .before .before .before .before .before .before .before .before .before .before .before .before .before .before .before .before .before .before .before .before .before in
-    let f = c .before .before .before .before .before .before .before .before .before .before .before .before .before .before .before .fill-pins in
-    sym (length-take-le 8192 (f .last .1 .1 .1 .0) (omega (arith, pins-length (s .args .d .now) (s .args .p) (s .args .room .now) _ (f .ensures), s .pre .5)))
-
-search-set-requires : tie.Need-search-set-requires
-search-set-requires c κs =
-    let s = c .before .before .before .before .before .before .before .before .before .before .before .before .before .before .before .before .before .before .before .before .before .before .before .before in
-    let r = c .before .before .before .before .before .before .before .before .before .before .part-set in
-    let f = c .before .before .before .before .before .before .before .before .before .before .before .before .before .before .before .before .before .fill-pins in
-    let n = pins-length (s .args .d .now) (s .args .p) (s .args .room .now) _ (f .ensures) in (
-      set-in-form (s .args .d .now) (s .args .p) (s .args .set .now) _ _ (r .ensures .0) (r .ensures .1 .0) (s .pre .4 .set-room) (r .ensures .1 .1),
-      part-solvable (f .last .1 .1 .1 .0) (length (s .args .keys .now)) (length (s .args .scratch .now)) _ _ _ (n ∙ s .pre .5) (s .pre .4) (r .kept .1 .1 .1 .1 .0) (r .kept .1 .1 .1 .1 .1 .0),
-    )
+clear-requires : tie.Need-clear-requires
+clear-requires c κs = search needs
 
 same-length : tie.Need-same-length
-same-length c = search needs
+same-length c =
+    let s = c .before .before .before .before .before .before .before .before .before .before .before .before .before .before .before .before .before .before .before .before .before .before in
+    let k = c .before .before .before .before .before .before .before .before .before .before .before .before .search-part in
+    ap length (clear-back (s .args .room .now) (k .last .1 .1 .1 .0) (roomy _ _ (s .pre .5)) (k .kept .1 .1 .1 .0) (s .pre .5 .clear) _ (c .before .before .clear .ensures))
 
 same-length-2 : tie.Need-same-length-2
 same-length-2 c = search needs
@@ -60,21 +51,20 @@ same-length-4 c = search needs
 
 returns : tie.Need-returns
 returns c =
-    let s = c .before .before .before .before .before .before .before .before .before .before .before .before .before .before .before .before .before .before .before .before .before .before .before .before .before .before .before .before .before .before .before in
-    let r = c .before .before .before .before .before .before .before .before .before .before .before .before .before .before .before .before .before .part-set in
-    set-reads (s .args .d .now) (s .args .p) (s .args .set .now) _ _ (r .ensures .0) (r .ensures .1 .0) (s .pre .4 .set-room) _ (c .before .before .before .before .before .before .search-set .ensures .0)
+    let s = c .before .before .before .before .before .before .before .before .before .before .before .before .before .before .before .before .before .before .before .before .before .before in
+    let k = c .before .before .before .before .before .before .before .before .before .before .before .before .search-part in
+    (k .ensures, clear-back (s .args .room .now) (k .last .1 .1 .1 .0) (roomy _ _ (s .pre .5)) (k .kept .1 .1 .1 .0) (s .pre .5 .clear) _ (c .before .before .clear .ensures))
 
 pub check-part-spec : {M : Type 1} → statement M
 check-part-spec =
     tie.close
     (tie.spec
-    fill-pins-requires
-    part-set-requires
-    slice-reshare-prefix-search-set
-    slice-aggregate-search-set
-    slice-relend-prefix-search-set
-    slice-aggregate-search-set-2
-    search-set-requires
+    slice-relend-prefix-search-part
+    slice-aggregate-search-part
+    search-part-requires
+    slice-relend-prefix-clear
+    slice-aggregate-clear
+    clear-requires
     same-length
     same-length-2
     same-length-3

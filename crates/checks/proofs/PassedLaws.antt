@@ -1,0 +1,96 @@
+-- A plan that no refusal is given to has passed each one; and each of its parts has lanes.
+-- Assumes nothing.
+use mathlib.Core.Path.{_≡_, refl, sym, ap, _∙_}
+use mathlib.Core.Bool.{Bool, true, false}
+use mathlib.Core.Option.{Option, none, some}
+use mathlib.Core.List.{List}
+use Prim.Native.Nat.{ℕ, _<_}
+use native.Mathlib.Omega.{arith}
+use Rattle.reads.specs.ReadSet.{pairsOf}
+use Rattle.reads.specs.Search.{Lane}
+use Rattle.reads.specs.Outcome.{Outcome, placed, refused}
+use Rattle.record.specs.Record.{partsOf}
+use Rattle.record.specs.Tests.{Place}
+use Rattle.record.specs.Form.{planForm}
+use Rattle.record.proofs.TestLaws.{lowest-none}
+use Rattle.gates.specs.Gates.{badGate}
+use Rattle.counts.specs.Counts.{refusal7}
+use Rattle.blocks.specs.Blocks.{totalsFit}
+use Rattle.slots.specs.Slots.{refusal9, refusal10, refusal11}
+use Rattle.positions.specs.Positions.{refusal12, refusal13}
+use Rattle.partreads.specs.PartReads.{readWords, partReads, partLanes, badReads, refusedReads}
+use Rattle.partreads.proofs.CheckLaws.{Answered, three, four, rounds, answered}
+use Rattle.checks.specs.Refusals.{Refused, orElse, unless, gatePlace, planRefusal}
+
+pub record Passed (n : ℕ) (d : List ℕ) : Type 0 where
+  pub form : planForm d ≡ true
+  pub gates : badGate d ≡ none
+  pub counts : refusal7 d ≡ none
+  pub totals : totalsFit d ≡ true
+  pub nine : refusal9 d ≡ none
+  pub ten : refusal10 d ≡ none
+  pub eleven : refusal11 d ≡ none
+  pub twelve : refusal12 d ≡ none
+  pub thirteen : refusal13 d ≡ none
+  pub nothing : refusedReads n 3 d ≡ none
+  pub no-room : refusedReads n 4 d ≡ none
+
+pub some-none : {A B : Type 0} (x : A) → some x ≡ none → B
+some-none x e = let z : _≡_ {A = ℕ} 0 1 = cc in absurd (omega arith)
+
+-- a test that lets a plan pass
+pub past : (k : ℕ) (o : Option Place) (r : Option Refused) → orElse k o r ≡ none → (o ≡ none) × (r ≡ none)
+past k none r e = (refl, e)
+past k (some q) r e = some-none _ e
+
+pub past-unless : (k : ℕ) (b : Bool) (r : Option Refused) → unless k b r ≡ none → (b ≡ true) × (r ≡ none)
+past-unless k true r e = (refl, e)
+past-unless k false r e = some-none _ e
+
+pub no-gate : (o : Option ℕ) → gatePlace o ≡ none → o ≡ none
+no-gate none e = refl
+no-gate (some g) e = some-none _ e
+
+pub passed : (n : ℕ) (d : List ℕ) → planRefusal n d ≡ none → Passed n d
+unfolding planRefusal
+passed n d e =
+    let five = past-unless 5 _ _ e in
+    let six = past 6 _ _ (five .1) in
+    let seven = past 7 _ _ (six .1) in
+    let eight = past-unless 8 _ _ (seven .1) in
+    let nine = past 9 _ _ (eight .1) in
+    let ten = past 10 _ _ (nine .1) in
+    let eleven = past 11 _ _ (ten .1) in
+    let twelve = past 12 _ _ (eleven .1) in
+    let thirteen = past 13 _ _ (twelve .1) in
+    let three = past 3 _ _ (thirteen .1) in
+    let four = past 4 _ _ (three .1) in
+    record {
+      form = five .0;
+      gates = no-gate _ (six .0);
+      counts = seven .0;
+      totals = eight .0;
+      nine = nine .0;
+      ten = ten .0;
+      eleven = eleven .0;
+      twelve = twelve .0;
+      thirteen = thirteen .0;
+      nothing = three .0;
+      no-room = four .0;
+    }
+
+-- the search refuses with 3 or 4, if at all
+pub placed-part : (d : List ℕ) (p : ℕ) → badReads 3 (partReads 256 d p) ≡ none → badReads 4 (partReads 256 d p) ≡ none → partReads 256 d p ≡ placed (partLanes 256 d p)
+unfolding badReads partReads
+placed-part d p a b = go (answered 256 (pairsOf (readWords d p)))
+  where
+    go : Answered (partReads 256 d p) → partReads 256 d p ≡ placed (partLanes 256 d p)
+    go (three q) = some-none _ (rw (q, badReads) at a)
+    go (four q) = some-none _ (rw (q, badReads) at b)
+    go (rounds lanes q) = rw q
+
+pub placed-lanes : (d : List ℕ) → planRefusal 256 d ≡ none → (p : ℕ) → p < partsOf d → partReads 256 d p ≡ placed (partLanes 256 d p)
+unfolding refusedReads
+placed-lanes d e p h =
+    let s = passed 256 d e in
+    placed-part d p (lowest-none _ _ (s .nothing) p h) (lowest-none _ _ (s .no-room) p h)

@@ -1,0 +1,90 @@
+-- What an accepted plan gives of each of its parts: refusals 5, 7, 8, 12 and 13 excluded, and its reads packed.
+-- Assumes nothing.
+use mathlib.Core.Path.{_≡_, refl, sym, ap, subst, _∙_}
+use mathlib.Core.Bool.{Bool, true, false}
+use mathlib.Core.Option.{Option, none, some}
+use mathlib.Core.List.{List}
+use Prim.Native.Nat.{ℕ, zero, suc, _+_, _*_, _/_, _%_, _^_, _≤_, _<_}
+use native.Mathlib.Decide.{ℕ-discrete}
+use native.Mathlib.Numerals.{add-one}
+use native.Mathlib.Omega.{arith}
+use borrow.Author.Tests.{eq-eqb, ne-eqb}
+use lib.ListN.{length, getD}
+use Rattle.reads.specs.ReadSet.{pairsOf}
+use Rattle.reads.specs.Search.{Lane, lanesOf}
+use Rattle.reads.specs.Outcome.{Outcome, placed, refused}
+use Rattle.tries.specs.Table.{tableOf}
+use Rattle.tries.proofs.TableLaws.{table-length}
+use Rattle.rounds.specs.Rounds.{tableAfter}
+use Rattle.record.specs.Record.{partsOf, stagesOf, slotAt}
+use Rattle.record.specs.Form.{empty, planForm}
+use Rattle.record.proofs.FormLaws.{formed}
+use Rattle.record.proofs.TestLaws.{lowest-none}
+use Rattle.counts.specs.Counts.{refusal7}
+use Rattle.counts.proofs.PartLaws.{passed}
+use Rattle.blocks.specs.Blocks.{totalsFit}
+use Rattle.positions.specs.Positions.{planned, refusal12, refusal13}
+use Rattle.positions.proofs.PositionLaws.{sram-entry, enable-entry}
+use Rattle.partreads.specs.PartReads.{readWords, partReads, lanesIn, partLanes, localPosition, badReads, refusedReads}
+use Rattle.partreads.specs.Entries.{NumberedAt}
+use Rattle.partreads.proofs.EntryLaws.{part-found, part-numbered, all-planned}
+use Rattle.partreads.proofs.CheckLaws.{Answered, three, four, rounds, answered}
+use Rattle.script.specs.Script.{pinEntry, stageEntry}
+use Rattle.script.proofs.EntryLaws.{entry-small}
+use Rattle.decode.specs.Decodable.{Decodable}
+use Rattle.decode.proofs.InsideLaws.{solvable, narrow, part-sound}
+
+-- ---- 3 and 4 excluded
+
+pub part-placed : (d : List ℕ) → refusedReads 256 3 d ≡ none → refusedReads 256 4 d ≡ none → (p : ℕ) → p < partsOf d
+    → partReads 256 d p ≡ placed (partLanes 256 d p)
+unfolding refusedReads badReads partReads
+part-placed d no-three no-four p part = go (answered 256 (pairsOf (readWords d p)))
+  where
+    clash : {k : ℕ} → some k ≡ none → ⊥
+    clash {k} h = let z : _≡_ {A = ℕ} 0 1 = cc in omega arith
+
+    go : Answered (partReads 256 d p) → partReads 256 d p ≡ placed (partLanes 256 d p)
+    go (three e) = absurd (clash (sym (ap (badReads 3) e) ∙ lowest-none (λ q. badReads 3 (partReads 256 d q)) (partsOf d) no-three p part))
+    go (four e) = absurd (clash (sym (ap (badReads 4) e) ∙ lowest-none (λ q. badReads 4 (partReads 256 d q)) (partsOf d) no-four p part))
+    go (rounds lanes e) = e ∙ ap placed (sym (ap lanesIn e))
+
+module _ (d : List ℕ) (p : ℕ) (form : planForm d ≡ true) (seven : refusal7 d ≡ none) (fit : totalsFit d ≡ true) (twelve : refusal12 d ≡ none) (thirteen : refusal13 d ≡ none) (part : p < partsOf d) (found : partReads 256 d p ≡ placed (partLanes 256 d p)) where
+  abbrev lanes : List Lane
+  lanes = partLanes 256 d p
+
+  lanes-wide : length lanes ≡ 256
+  lanes-wide = part-sound d fit twelve p part found .packing .wide
+
+  -- the pin of a slot of stage 0 has its local position
+  numbered : (j : ℕ) → j < 8192 → (slotAt d p 0 (8192 + j) ≡ empty → ⊥) → localPosition lanes (planned d (slotAt d p 0 (8192 + j))) < 8192
+  numbered j h full =
+      let ws = readWords d p in
+      let few = narrow d fit twelve p part in
+      let is : tableOf lanes ≡ tableAfter 256 (lanesOf 256 (pairsOf ws)) = ap (tableAfter 256) (sym (part-found d p few solvable lanes found)) in
+      let at = part-numbered d p few solvable lanes found (tableOf lanes) ws is (table-length lanes ∙ ap (λ (n : ℕ). 32 * n) lanes-wide) (omega arith) (all-planned d twelve p part) j h full in
+      omega (arith, at .is, at .below)
+
+  first-small : (i : ℕ) → i < 8192 → stageEntry 256 d p 0 i ≤ 8191
+  unfolding stageEntry pinEntry
+  first-small i h = by (ℕ-discrete (slotAt d p 0 (8192 + i)) empty)
+    where
+      by : Dec (slotAt d p 0 (8192 + i) ≡ empty) → stageEntry 256 d p 0 i ≤ 8191
+      by (yes e) = rw (eq-eqb _ _ e, stageEntry) (omega arith)
+      by (no n) = rw (ne-eqb _ _ n, stageEntry, pinEntry) (omega (arith, numbered i h n))
+
+  stage-small : (k i : ℕ) → k < stagesOf d p → i < 8192 → stageEntry 256 d p k i ≤ 8191
+  stage-small zero i h l = first-small i l
+  stage-small (suc k) i h l = subst (λ (t : ℕ). stageEntry 256 d p t i ≤ 8191) (add-one k) (entry-small d p k i)
+
+  pub decodable : Decodable d p
+  decodable = record {
+    location = passed d seven p part .location;
+    locations = passed d seven p part .locations;
+    some-stages = formed d form .part p part .some-stages;
+    stages = formed d form .part p part .stages;
+    entry = stage-small;
+    sram = λ i h. sram-entry d thirteen p i part h;
+    enable = λ i h. enable-entry d thirteen p i part h;
+    wide = lanes-wide;
+  }

@@ -1,0 +1,26 @@
+-- M9 and M10: the place of an entry, and a run, with what the definitions of `words` and `machine` give for them.
+-- Assumes nothing.
+use mathlib.Core.List.{List, [], _∷_, _++_}
+use Prim.Native.Nat.{ℕ, _+_, _-_, _%_}
+use lib.ListN.{replicate}
+use Rattle.words.specs.Section.{placeOf, entryOf}
+use Rattle.machine.specs.Run.{runTurns, allLeft}
+
+-- M9: the word of entry 33 and its half, and the entry in the high half of that word
+unfoldable pub entrySeen : List ℕ
+entrySeen = placeOf 256 33 ∷ 33 % 2 ∷ entryOf 256 4 1 ∷ []
+
+-- M10: the script of its part. One stage, the last part of its block, one word at state start 1, one round; location 128 of stage 0; lane 0 reads the
+-- bits of pins 1 and 2 of word 0, which come to stand at local positions 1 and 0; entry 0 is that of pin 1, entry 4096 that of pin 2; at position 4096
+-- gate 3 takes its second fan-in inverted: bit 0 of lane 128's second word
+unfoldable pub gateThree : List ℕ
+gateThree =
+    (1 ∷ 1 ∷ 1 ∷ 1 ∷ 0 ∷ 0 ∷ 1 ∷ 0 ∷ replicate 120 0)
+    ++ ((0xFFFF0080 ∷ replicate 127 0xFFFFFFFF)
+    ++ ((0 ∷ 3 ∷ replicate 510 0) ++ ((1 ∷ replicate (4096 + 512) 0) ++ (1 ∷ replicate (5120 - 4096 - 512 - 2 + 10240) 0))))
+
+-- the turns left and the new state's word after read, stage and store, from an old word
+unfoldable pub gateRun : ℕ → List ℕ
+gateRun old =
+    let s = runTurns 256 13 gateThree (0 ∷ 16128 ∷ []) (0 ∷ 0 ∷ 0 ∷ []) (old ∷ 0 ∷ []) (0 ∷ 0 ∷ []) in
+    allLeft 256 gateThree (s .blocks) ∷ s .new

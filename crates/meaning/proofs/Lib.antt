@@ -1,0 +1,4 @@
+pub mod ReadLaws
+pub mod StageLaws
+pub mod ChainLaws
+pub mod MeaningLaws

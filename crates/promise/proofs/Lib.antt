@@ -1,0 +1,5 @@
+pub mod AcceptedLaws
+pub mod BlockLaws
+pub mod FormLaws
+pub mod ApartLaws
+pub mod PromiseLaws

@@ -1,0 +1,82 @@
+-- DEMAND 3. Order and frame are those of any run whose blocks are kept apart; the pins come from the part that stores the word.
+-- Assumes nothing.
+use mathlib.Core.Path.{_≡_, refl, sym, ap, _∙_}
+use mathlib.Core.List.{List}
+use Prim.Native.Nat.{ℕ, _+_, _*_, _-_, _≤_, _<_}
+use native.Mathlib.Omega.{arith}
+use lib.ListN.{length, getD}
+use Rattle.words.specs.Bit.{bit, bitAt}
+use Rattle.record.specs.Record.{blocksOf, majorsOf, countAt, partsBefore, locationsOf}
+use Rattle.blocks.specs.Blocks.{stateOf, stateStart, stateWords}
+use Rattle.values.specs.Values.{pinValue}
+use Rattle.assembly.specs.Steps.{partsIn, partStart}
+use Rattle.assembly.proofs.RankLaws.{part-found}
+use Rattle.machine.specs.Part.{startAt}
+use Rattle.machine.specs.Run.{runTurns}
+use Rattle.machine.proofs.StageLaws.{at-word}
+use Rattle.order.specs.Order.{oneAfterAnother, capturedBy}
+use Rattle.order.proofs.AloneLaws.{Laid}
+use Rattle.order.proofs.OrderLaws.{in-any-order, untouched, stored}
+use Rattle.meaning.proofs.MeaningLaws.{captured-pin}
+use Rattle.promise.specs.Promise.{assembled, startsOf, stageRun, carried, Carries, StoredBy, Kept, Done, Demand3}
+use Rattle.promise.proofs.AcceptedLaws.{part-there, some-blocks, sound}
+use Rattle.promise.proofs.BlockLaws.{starts-are}
+use Rattle.promise.proofs.FormLaws.{never-refused}
+use Rattle.promise.proofs.ApartLaws.{PlanPart, planned, run-part, number, back, stored-by, apart}
+
+module _ (d : List ℕ) (s : ℕ) (turns old new : List ℕ) (done : Done d s turns old new) where
+  abbrev W : List ℕ
+  W = assembled d
+
+  abbrev after : List ℕ
+  after = stageRun d s turns old new .new
+
+  laid : Laid 256 W (startsOf d s) (length old) (length new) new (stateOf d s)
+  laid = record {
+    form = never-refused d s (length old) (length new) (done .accepted) (done .stage) (omega (arith, done .old-size)) (omega (arith, done .new-size));
+    size = refl;
+    apart = apart d (done .accepted) s (done .stage);
+  }
+
+  any-order : after ≡ stageRun d s (oneAfterAnother 256 W (startsOf d s) (blocksOf d)) old new .new
+  any-order =
+      let many : length (startsOf d s) - 1 ≡ blocksOf d = omega (arith, starts-are d (done .accepted) s (done .stage)) in
+      in-any-order 256 13 W (startsOf d s) (length old) (length new) old new (stateOf d s) laid turns (done .named) (done .all)
+      ∙ ap (λ (m : ℕ). runTurns 256 13 W (startsOf d s) (oneAfterAnother 256 W (startsOf d s) m) old new .new) many
+
+  unchanged : (w : ℕ) → ((i : ℕ) → StoredBy d s i w → ⊥) → getD after w 0 ≡ getD new w 0
+  unchanged w free =
+      untouched 256 13 W (startsOf d s) (length old) (length new) old new (stateOf d s) laid turns (done .named) w
+      (λ b j o q h. free _ (stored-by d (done .accepted) s (done .stage) b j o w (planned d (done .accepted) s (done .stage) b j o q) h))
+
+  -- the stored bits of part i that carry a pin
+  abbrev Pin : ℕ → Type 0
+  Pin i = (l k : ℕ) → l < locationsOf d (partsBefore d s + i) → k < 32 → Carries d (partsBefore d s + i) l k
+      → bitAt after (32 * (stateStart d s i + l) + k) ≡ pinValue d (partsBefore d s + i) old new (carried d (partsBefore d s + i) l k)
+
+  part-pins : (b j : ℕ) → b < blocksOf d → j < length (partsIn d s b) → getD (partsIn d s b) j 0 < countAt d s → Pin (getD (partsIn d s b) j 0)
+  unfolding carried
+  part-pins b j h u there l k inside small carries =
+      let o : ℕ = partStart 256 d s b j in
+      let i : ℕ = getD (partsIn d s b) j 0 in
+      let q = run-part d (done .accepted) s (done .stage) b j h u in
+      let D = back d (done .accepted) s (done .stage) b j o (planned d (done .accepted) s (done .stage) b j o q) in
+      let p = part-there d s i (done .stage) there in
+      at-word after (stateStart d s i + l) k small
+      ∙ ap (λ (x : ℕ). bit (getD after (x + l) 0) k) (sym (D .start))
+      ∙ ap (λ (x : ℕ). bit x k)
+      (stored 256 13 W (startsOf d s) (length old) (length new) old new (stateOf d s) laid turns (done .named) (done .all) b j o l q (omega (arith, D .normal)))
+      ∙ captured-pin d _ _ _ _ W o old new (sound d (done .accepted) _ p) D l k inside small (carries .position) (carries .some-pin)
+
+  pins-held : (i : ℕ) → i < countAt d s → Pin i
+  pins-held i h =
+      let (b, j, block, inside, is) = part-found d s i h (some-blocks d (done .accepted)) in
+      rw (← is) (part-pins b j block inside (omega arith))
+
+-- DEMAND 3
+pub demand3 : Demand3
+demand3 d s turns old new done = record {
+  order = any-order d s turns old new done;
+  frame = unchanged d s turns old new done;
+  pins = λ i l k h. pins-held d s turns old new done i h l k;
+}

@@ -1,0 +1,117 @@
+-- The run that is not refused, put together from its steps, and one law for each way out.
+-- Assumes nothing.
+use mathlib.Core.Path.{_≡_, sym, ap, subst, _∙_}
+use mathlib.Core.Bool.{true, false}
+use mathlib.Core.Option.{Option, none, some}
+use mathlib.Core.List.{List}
+use Prim.Native.Nat.{ℕ, _+_, _*_, _-_, _/_, _≤_, _<_}
+use native.Mathlib.Omega.{arith}
+use borrow.Author.Tests.{le-leb, lt-leb, ltb-true}
+use lib.Dec.{leb}
+use lib.ListN.{length, getD, replicate}
+use Rattle.record.specs.Tests.{firstNot}
+use Rattle.record.proofs.TestLaws.{not-none}
+use Rattle.machine.specs.Turn.{Block}
+use Rattle.machine.specs.Run.{Running, blocksFrom, runFrom, runTurns, allLeft, badBlock, badTurn, blockForm, outcome, newAfter, roomAfter, refused}
+use Rattle.turns.specs.declared.refuse.Found.{Found}
+use Rattle.turns.specs.declared.refuse.Found.the-variants.{At, Nowhere}
+use Rattle.turns.specs.Found.{foundOf}
+use Rattle.turns.proofs.RefuseLaws.{blockGood, turnGood}
+use Rattle.run.specs.declared.Ran.{Ran}
+use Rattle.run.specs.declared.Ran.the-variants.{Left}
+use Rattle.run.specs.Answers.{ranOf}
+use Rattle.run.specs.States.{blocksIn, running}
+use Rattle.run.specs.Good.{Good, Goods, Accepted, Beginnings}
+use Rattle.run.proofs.StateLaws.{begun-at}
+use Rattle.run.proofs.GoodLaws.{BlockAt, block-at, begins-good}
+
+-- ---- a run that is not refused
+
+module _ (W starts turns : List ℕ) (s t : ℕ) (room : List ℕ) (a : Accepted W starts turns s t room) where
+  at : (b : ℕ) → b < length starts - 1 → BlockAt W s t (getD starts b 0) (getD starts (b + 1) 0)
+  at b l = block-at W s t (getD starts b 0) (getD starts (b + 1) 0) (a .blocks b l)
+
+  pub beginnings : (m : ℕ) → m ≡ length starts - 1 → Beginnings W starts m room
+  beginnings m e = record { count = omega arith; wide = omega (arith, a .wide); inside = λ b l. omega (arith, at b (omega arith) .order, at b (omega arith) .within) }
+
+  module _ (room₁ : List ℕ) (long : length room₁ ≡ length room) (m : ℕ) (e : m ≡ length starts - 1) (begun : blocksIn W room₁ m 0 ≡ blocksFrom W starts m 0) where
+    pub goods-begun : Goods W starts s t room₁
+    goods-begun = record {
+      wide = omega (arith, a .wide);
+      each = λ b l. subst (Good W s t (getD starts b 0) (getD starts (b + 1) 0)) (sym (begun-at W starts room₁ m begun b (omega arith)))
+          (begins-good W s t (getD starts b 0) (getD starts (b + 1) 0) (getD starts b 0) (omega (arith, at b l .order)) (at b l .within) (omega arith) (at b l .parts));
+    }
+
+    module _ (old new room₂ new₂ : List ℕ) (ran : running W (length starts - 1) room₂ new₂ ≡ runFrom 256 13 W old (running W (length starts - 1) room₁ new) turns) where
+      run-is : running W (length starts - 1) room₂ new₂ ≡ runTurns 256 13 W starts turns old new
+      run-is = ran ∙ ap (λ (bs : List Block). runFrom 256 13 W old (record { blocks = bs; new = new }) turns) (subst (λ (k : ℕ). blocksIn W room₁ k 0 ≡ blocksFrom W starts k 0) e begun)
+
+      pub run-left : (x : ℕ) → x ≡ allLeft 256 W (blocksIn W room₂ m 0) → x ≡ allLeft 256 W (runTurns 256 13 W starts turns old new .blocks)
+      run-left x h = h ∙ ap (λ (k : ℕ). allLeft 256 W (blocksIn W room₂ k 0)) e ∙ ap (λ (r : Running). allLeft 256 W (r .blocks)) run-is
+
+      pub run-new : new₂ ≡ runTurns 256 13 W starts turns old new .new
+      run-new = ap (λ (r : Running). r .new) run-is
+
+-- ---- a room that is cleared
+
+pub again : (n : ℕ) (u v : List ℕ) → v ≡ replicate (length u) 0 → length u ≡ n → v ≡ replicate n 0
+again n u v e l = e ∙ ap (λ (k : ℕ). replicate k 0) l
+
+-- ---- what the searches say
+
+pub found-none : (r : Found) (o : Option ℕ) → foundOf r ≡ o → r ≡ Nowhere → o ≡ none
+found-none r o h e = sym h ∙ ap foundOf e
+
+pub found-some : (r : Found) (o : Option ℕ) (i : ℕ) → foundOf r ≡ o → r ≡ At i → o ≡ some i
+found-some r o i h e = sym h ∙ ap foundOf e
+
+blocks-good : (W starts : List ℕ) (s t : ℕ) → badBlock 256 W starts s t ≡ none → (b : ℕ) → b < length starts - 1 → blockForm 256 W s t (getD starts b 0) (getD starts (b + 1) 0) ≡ true
+unfolding badBlock
+blocks-good W starts s t h b l = not-none (blockGood 256 W starts s t) (length starts - 1) (is ∙ h) b l
+  where
+    two : leb 2 (length starts) ≡ true
+    two = le-leb 2 (length starts) (omega arith)
+
+    is : firstNot (blockGood 256 W starts s t) (length starts - 1) ≡ badBlock 256 W starts s t
+    is = rw (two, badBlock)
+
+-- ---- the ways out
+
+module _ (W starts turns old new room : List ℕ) where
+  -- the answer, the new state and the room
+  abbrev pub Told : Ran → List ℕ → List ℕ → Type 0
+  Told r new′ room′ =
+      (r ≡ ranOf (outcome 256 13 W starts turns old new (length room)))
+      × ((new′ ≡ newAfter (outcome 256 13 W starts turns old new (length room)) new) × (room′ ≡ roomAfter starts room))
+
+  pub told-short : (m : ℕ) → m ≡ length starts - 1 → length room / 1024 < m → (r : Ran) → r ≡ ranOf (refused 32 0) → Told r new room
+  unfolding outcome newAfter roomAfter
+  told-short m few h r e =
+      let short : leb (1024 * (length starts - 1)) (length room) ≡ false = lt-leb (1024 * (length starts - 1)) (length room) (omega arith) in
+      (e ∙ rw (short, outcome), (rw (short, outcome), rw (short, roomAfter)))
+
+  module _ (m : ℕ) (few : m ≡ length starts - 1) (h : m ≤ length room / 1024) (room′ : List ℕ) (zeros : room′ ≡ replicate (length room) 0) where
+    fits : leb (1024 * (length starts - 1)) (length room) ≡ true
+    fits = le-leb (1024 * (length starts - 1)) (length room) (omega arith)
+
+    clear : room′ ≡ roomAfter starts room
+    unfolding roomAfter
+    clear = zeros ∙ rw (fits, roomAfter)
+
+    pub told-block : (i : ℕ) → badBlock 256 W starts (length old) (length new) ≡ some i → (r : Ran) → r ≡ ranOf (refused 15 i) → Told r new room′
+    unfolding outcome newAfter
+    told-block i b r e = (e ∙ rw (fits, b, outcome), (rw (fits, b, outcome), clear))
+
+    module _ (b : badBlock 256 W starts (length old) (length new) ≡ none) where
+      pub told-turn : (i : ℕ) → badTurn starts turns ≡ some i → (r : Ran) → r ≡ ranOf (refused 16 i) → Told r new room′
+      unfolding outcome newAfter
+      told-turn i n r e = (e ∙ rw (fits, b, n, outcome), (rw (fits, b, n, outcome), clear))
+
+      module _ (n : badTurn starts turns ≡ none) where
+        pub told-run : (x : ℕ) (new′ : List ℕ) → x ≡ allLeft 256 W (runTurns 256 13 W starts turns old new .blocks) → new′ ≡ runTurns 256 13 W starts turns old new .new → Told (Left x) new′ room′
+        unfolding outcome newAfter
+        told-run x new′ e f = (ap Left e ∙ rw (fits, b, n, outcome), (f ∙ rw (fits, b, n, outcome), clear))
+
+        pub accepted : (room₁ : List ℕ) → length room₁ ≡ length room → Accepted W starts turns (length old) (length new) room₁
+        unfolding badTurn
+        accepted room₁ long = record { wide = omega arith; blocks = blocks-good W starts (length old) (length new) b; named = λ i l. ltb-true _ _ (not-none (turnGood starts turns) (length turns) n i l) }

@@ -1,0 +1,222 @@
+-- How many turns are left: the walk over a block's parts and the sum over the blocks, and that both stay within the words.
+-- Assumes nothing.
+use mathlib.Core.Path.{_≡_, refl, sym, ap, _∙_}
+use mathlib.Core.Bool.{Bool, true, false}
+use mathlib.Core.List.{List}
+use Prim.Native.Nat.{ℕ, zero, suc, _+_, _-_, _≤_, _<_}
+use native.Mathlib.Nat.{zero-add, add-zero}
+use native.Mathlib.Omega.{arith}
+use borrow.Author.Tests.{eqb-false, eq-eqb, ne-eqb}
+use lib.Dec.{eqb}
+use lib.ListN.{length, getD}
+use Rattle.machine.specs.Part.{stagesAt, lastAt, endAt}
+use Rattle.machine.specs.Turn.{Block}
+use Rattle.machine.specs.Run.{turnsFrom, turnsAfter, turnsLeft, allLeft}
+use Rattle.turns.specs.Well.{PartIn}
+use Rattle.turns.specs.Block.{blockIn}
+use Rattle.turns.proofs.FormLaws.{InForm}
+use Rattle.run.specs.States.{partOf, phaseOf, stageOf, roomOf, blockOf, blocksIn}
+use Rattle.run.specs.Good.{Parts, PartsFrom, Good, GoodIn, Goods}
+use Rattle.run.proofs.GoodLaws.{parts-first, part-well, parts-rest, part-turns}
+
+-- ---- the parts after the one at o, f at most
+
+unfoldable pub restFrom : List ℕ → ℕ → ℕ → ℕ
+restFrom W f o = elim (eqb (lastAt W o) 1) [ true ↦ 0 | false ↦ turnsFrom 256 W f (endAt 256 W o) ]
+
+module _ (W : List ℕ) where
+  rest-all : (o : ℕ) → restFrom W (length W) o ≡ turnsAfter 256 W o
+  unfolding restFrom turnsAfter
+  rest-all o = refl
+
+  rest-last : (f o : ℕ) → lastAt W o ≡ 1 → restFrom W f o ≡ 0
+  unfolding restFrom
+  rest-last f o e = rw (eq-eqb _ _ e, restFrom)
+
+  rest-more : (f o : ℕ) → (lastAt W o ≡ 1 → ⊥) → restFrom W (suc f) o ≡ stagesAt W (endAt 256 W o) + 2 + restFrom W f (endAt 256 W o)
+  unfolding restFrom turnsFrom
+  rest-more f o d = rw (ne-eqb _ _ d, restFrom)
+
+  module _ (s t e : ℕ) (within : e ≤ length W) where
+    turns-bound : (f o : ℕ) → Parts W s t e o → turnsFrom 256 W f o + o ≤ e
+    unfolding turnsFrom
+    turns-bound zero o p = omega (arith, parts-first W s t e o p .header)
+    turns-bound (suc f) o p = go (eqb (lastAt W o) 1) refl (turns-bound f (endAt 256 W o))
+      where
+        go : (b : Bool) → eqb (lastAt W o) 1 ≡ b → (Parts W s t e (endAt 256 W o) → turnsFrom 256 W f (endAt 256 W o) + endAt 256 W o ≤ e) → turnsFrom 256 W (suc f) o + o ≤ e
+        go true q r = rw (q, turnsFrom) (omega (arith, part-turns W o, parts-first W s t e o p .ends))
+        go false q r = rw (q, turnsFrom) (omega (arith, part-turns W o, r (parts-rest W s t e o p within (eqb-false _ _ q))))
+
+    rest-bound : (f o : ℕ) → Parts W s t e o → restFrom W f o + endAt 256 W o ≤ e
+    unfolding restFrom
+    rest-bound f o p = go (eqb (lastAt W o) 1) refl
+      where
+        go : (b : Bool) → eqb (lastAt W o) 1 ≡ b → restFrom W f o + endAt 256 W o ≤ e
+        go true q = rw (q, restFrom) (omega (arith, parts-first W s t e o p .ends))
+        go false q = rw (q, restFrom) (turns-bound f (endAt 256 W o) (parts-rest W s t e o p within (eqb-false _ _ q)))
+
+    pub after-bound : (o : ℕ) → Parts W s t e o → turnsAfter 256 W o + endAt 256 W o ≤ e
+    after-bound o p = rw (sym (rest-all o)) (rest-bound (length W) o p)
+
+  -- ---- the walk: o is the part it stands at, and sum the turns of those after the first
+
+  pub record Walking (at o sum : ℕ) : Type 0 where
+    pub from : PartsFrom W o
+    pub f : ℕ
+    pub enough : from .e - o ≤ f
+    pub same : sum + restFrom W f o ≡ turnsAfter 256 W at
+
+  pub walk-start : (at : ℕ) → PartsFrom W at → Walking at at 0
+  walk-start at p = record { from = p; f = length W; enough = omega (arith, p .within); same = ap (λ (n : ℕ). 0 + n) (rest-all at) ∙ zero-add _ }
+
+  pub walk-inside : (at o sum : ℕ) → Walking at o sum → (o < endAt 256 W o) × (o + 256 ≤ length W)
+  walk-inside at o sum w =
+      let p = w .from in
+      let first = parts-first W (p .s) (p .t) (p .e) o (p .parts) in
+      (omega (arith, part-turns W o), omega (arith, first .header, p .within))
+
+  pub walk-part : (at o sum : ℕ) → Walking at o sum → PartIn 256 W o
+  walk-part at o sum w = let p = w .from in part-well W (p .s) (p .t) (p .e) o (p .parts) (p .within) .part
+
+  module _ (at o sum : ℕ) (w : Walking at o sum) (d : lastAt W o ≡ 1 → ⊥) where
+    -- where the next part begins
+    pub walk-after : (o′ : ℕ) → o′ ≡ endAt 256 W o → o′ < length W
+    walk-after o′ e = let p = w .from in omega (arith, e, parts-first W (p .s) (p .t) (p .e) (endAt 256 W o) (parts-rest W (p .s) (p .t) (p .e) o (p .parts) (p .within) d) .header, p .within)
+
+    abbrev walk-on : PartsFrom W (endAt 256 W o)
+    walk-on = let p = w .from in record { s = p .s; t = p .t; e = p .e; within = p .within; parts = parts-rest W (p .s) (p .t) (p .e) o (p .parts) (p .within) d }
+
+    pub walk-next : (o′ x : ℕ) → o′ ≡ endAt 256 W o → x ≡ stagesAt W o′ → Walking at o′ (sum + (x + 2))
+    walk-next o′ x e g = rw (g, e) (next (w .f) (w .enough) (w .same))
+      where
+        first : InForm 256 W (w .from .s) (w .from .t) o (w .from .e)
+        first = parts-first W (w .from .s) (w .from .t) (w .from .e) o (w .from .parts)
+
+        next : (f : ℕ) → w .from .e - o ≤ f → sum + restFrom W f o ≡ turnsAfter 256 W at → Walking at (endAt 256 W o) (sum + (stagesAt W (endAt 256 W o) + 2))
+        next zero k q = absurd (omega (arith, first .header))
+        next (suc f) k q = record { from = walk-on; f = f; enough = omega (arith, part-turns W o); same = omega (arith, q, rest-more f o d) }
+
+  pub walk-bound : (at o sum : ℕ) → PartsFrom W at → Walking at o sum → sum ≤ length W
+  walk-bound at o sum p w = omega (arith, after-bound (p .s) (p .t) (p .e) (p .within) at (p .parts), p .within, w .same)
+
+  pub walk-end : (at o sum : ℕ) → Walking at o sum → lastAt W o ≡ 1 → sum ≡ turnsAfter 256 W at
+  walk-end at o sum w e = omega (arith, w .same, rest-last (w .f) o e)
+
+-- ---- a block
+
+module _ (W : List ℕ) (s t lo hi : ℕ) (b : Block) (g : Good W s t lo hi b) where
+  after-fits : b .phase < 3 → turnsAfter 256 W (b .part) + stagesAt W (b .part) + 2 + lo ≤ hi
+  after-fits h = omega (arith, g .from h, part-turns W (b .part), after-bound W s t hi (g .within) (b .part) (g .parts h))
+
+  pub left-bound : (f : ℕ) → b .phase ≡ f → turnsLeft 256 W f b + lo ≤ hi
+  unfolding turnsLeft
+  left-bound zero e = omega (arith, after-fits (omega arith))
+  left-bound (suc zero) e = omega (arith, after-fits (omega arith))
+  left-bound (suc (suc zero)) e = omega (arith, after-fits (omega arith))
+  left-bound (suc (suc (suc f))) e = omega (arith, g .order)
+
+none-left : (W : List ℕ) (f : ℕ) (b : Block) → 2 < f → 0 ≡ turnsLeft 256 W f b
+unfolding turnsLeft
+none-left W zero b h = absurd (omega arith)
+none-left W (suc zero) b h = absurd (omega arith)
+none-left W (suc (suc zero)) b h = absurd (omega arith)
+none-left W (suc (suc (suc f))) b h = refl
+
+module _ (W r : List ℕ) (p f k : ℕ) (part : p ≡ partOf r) (phase : f ≡ phaseOf r) (stage : k ≡ stageOf r) where
+  left-is : turnsLeft 256 W f (blockIn 256 W p f k r) ≡ turnsLeft 256 W (phaseOf r) (blockOf W r)
+  unfolding blockOf
+  left-is = rw (part, phase, stage)
+
+  pub left-done : 2 < f → 0 ≡ turnsLeft 256 W (phaseOf r) (blockOf W r)
+  left-done h = none-left W f (blockIn 256 W p f k r) h ∙ left-is
+
+  module _ (a : ℕ) (after : a ≡ turnsAfter 256 W p) where
+    pub left-read : (x : ℕ) → x ≡ stagesAt W p → f ≡ 0 → x + 2 + a ≡ turnsLeft 256 W (phaseOf r) (blockOf W r)
+    unfolding turnsLeft blockIn
+    left-read x stages e = rw (stages, after) (sym (ap (λ (y : ℕ). turnsLeft 256 W y (blockIn 256 W p f k r)) e)) ∙ left-is
+
+    pub left-stage : (x : ℕ) → x ≡ stagesAt W p → f ≡ 1 → x - k + 1 + a ≡ turnsLeft 256 W (phaseOf r) (blockOf W r)
+    unfolding turnsLeft blockIn
+    left-stage x stages e = rw (stages, after) (sym (ap (λ (y : ℕ). turnsLeft 256 W y (blockIn 256 W p f k r)) e)) ∙ left-is
+
+    pub left-store : f ≤ 2 → (f ≡ 0 → ⊥) → (f ≡ 1 → ⊥) → 1 + a ≡ turnsLeft 256 W (phaseOf r) (blockOf W r)
+    unfolding turnsLeft blockIn
+    left-store d z o = rw after (sym (ap (λ (y : ℕ). turnsLeft 256 W y (blockIn 256 W p f k r)) two)) ∙ left-is
+      where
+        two-of : (x : ℕ) → x ≤ 2 → (x ≡ 0 → ⊥) → (x ≡ 1 → ⊥) → x ≡ 2
+        two-of zero d z o = absurd (z refl)
+        two-of (suc zero) d z o = absurd (o refl)
+        two-of (suc (suc zero)) d z o = refl
+        two-of (suc (suc (suc x))) d z o = absurd (omega arith)
+
+        two : f ≡ 2
+        two = two-of f d z o
+
+-- what the code asks of a block that is not finished
+module _ (W : List ℕ) (s t : ℕ) (r : List ℕ) (g : GoodIn W s t r) (p f k : ℕ) (part : p ≡ partOf r) (phase : f ≡ phaseOf r) (stage : k ≡ stageOf r) (going : f ≤ 2) where
+  here : Good W s t (g .lo) (g .hi) (blockIn 256 W p f k r)
+  unfolding blockOf
+  here = rw (part, phase, stage) (g .good)
+
+  pub left-parts : PartsFrom W p
+  unfolding blockIn
+  left-parts = record { s = s; t = t; e = g .hi; within = here .within; parts = here .parts (omega arith) }
+
+  pub left-fits : turnsAfter 256 W p + stagesAt W p + 2 ≤ length W
+  unfolding blockIn
+  left-fits = omega (arith, after-fits W s t (g .lo) (g .hi) (blockIn 256 W p f k r) here (omega arith), here .within)
+
+  pub left-inside : p < length W
+  left-inside = let q = left-parts in omega (arith, parts-first W (q .s) (q .t) (q .e) p (q .parts) .header, q .within)
+
+  pub left-stage-in : f ≡ 1 → k ≤ stagesAt W p
+  unfolding blockIn
+  left-stage-in e = omega (arith, here .stage e)
+
+-- ---- all blocks
+
+module _ (W room : List ℕ) where
+  left-one : (m i : ℕ) → allLeft 256 W (blocksIn W room (suc m) i) ≡ turnsLeft 256 W (phaseOf (roomOf room i)) (blockOf W (roomOf room i)) + allLeft 256 W (blocksIn W room m (i + 1))
+  unfolding allLeft blocksIn blockOf blockIn
+  left-one m i = refl
+
+  left-none : (i : ℕ) → allLeft 256 W (blocksIn W room 0 i) ≡ 0
+  unfolding allLeft blocksIn
+  left-none i = refl
+
+  pub left-next : (m i sum x goal : ℕ) → i < m → x ≡ turnsLeft 256 W (phaseOf (roomOf room i)) (blockOf W (roomOf room i))
+      → sum + allLeft 256 W (blocksIn W room (m - i) i) ≡ goal → sum + x + allLeft 256 W (blocksIn W room (m - (i + 1)) (i + 1)) ≡ goal
+  left-next m i sum x goal l e q =
+      let n : m - i ≡ suc (m - (i + 1)) = omega arith in
+      let a : allLeft 256 W (blocksIn W room (m - i) i) ≡ x + allLeft 256 W (blocksIn W room (m - (i + 1)) (i + 1)) = ap (λ (y : ℕ). allLeft 256 W (blocksIn W room y i)) n ∙ left-one (m - (i + 1)) i ∙ ap (λ (y : ℕ). y + allLeft 256 W (blocksIn W room (m - (i + 1)) (i + 1))) (sym e) in
+      omega (arith, a, q)
+
+  pub left-all : (m i sum goal : ℕ) → m ≤ i → sum + allLeft 256 W (blocksIn W room (m - i) i) ≡ goal → sum ≡ goal
+  left-all m i sum goal l q =
+      let n : m - i ≡ 0 = omega arith in
+      let a : allLeft 256 W (blocksIn W room (m - i) i) ≡ 0 = ap (λ (y : ℕ). allLeft 256 W (blocksIn W room y i)) n ∙ left-none i in
+      omega (arith, a, q)
+
+  module _ (starts : List ℕ) (s t : ℕ) (g : Goods W starts s t room) where
+    -- no more than the words of the blocks
+    range-bound : (m i : ℕ) → i + m ≤ length starts - 1 → allLeft 256 W (blocksIn W room m i) + getD starts i 0 ≤ getD starts (i + m) 0
+    unfolding blockOf blockIn
+    range-bound zero i h = omega (arith, left-none i, ap (λ (x : ℕ). getD starts x 0) (add-zero i))
+    range-bound (suc m) i h =
+        let there : i + 1 + m ≡ i + suc m = omega arith in
+        omega (
+          arith,
+          left-one m i,
+          left-bound W s t (getD starts i 0) (getD starts (i + 1) 0) (blockOf W (roomOf room i)) (g .each i (omega arith)) (phaseOf (roomOf room i)) refl,
+          range-bound m (i + 1) (omega arith),
+          ap (λ (x : ℕ). getD starts x 0) there,
+        )
+
+    pub all-bound : allLeft 256 W (blocksIn W room (length starts - 1) 0) ≤ length W
+    all-bound = by (length starts - 1) refl
+      where
+        by : (m : ℕ) → length starts - 1 ≡ m → allLeft 256 W (blocksIn W room m 0) ≤ length W
+        by zero e = omega (arith, left-none 0)
+        by (suc m) e =
+            let last : 0 + suc m ≡ m + 1 = omega arith in
+            omega (arith, range-bound (suc m) 0 (omega arith), ap (λ (x : ℕ). getD starts x 0) last, g .each m (omega arith) .within)

@@ -1,0 +1,59 @@
+// How many turns are left: a part takes stages + 2, read, each stage, store.
+ghost use mathlib.Core.Path.{_≡_};
+ghost use mathlib.Core.List.{List};
+ghost use Prim.Native.Nat.{ℕ, _-_};
+ghost use lib.ListN.{length};
+ghost use Rattle.machine.specs.Run.{turnsAfter, turnsLeft, allLeft};
+ghost use Rattle.run.specs.States.{phaseOf, blockOf, blocksIn};
+ghost use Rattle.run.specs.Good.{PartsFrom, GoodIn, Goods};
+use crate::states::load_state;
+use turns::part;
+
+// The turns of the parts of a block after the one at word `at`.
+fn turns_after(words: &[u32], at: usize) -> usize
+    requires { ⌜ PartsFrom (now words) at ⌝ }
+    ensures { λ r. ⌜ r ≡ turnsAfter 256 (now (words .entry)) at ⌝ }
+{
+    let mut o = at;
+    let mut sum: usize = 0;
+    while part::last(words, o) != 1 {
+        o = part::part_end(words, o);
+        sum += part::stages(words, o) + 2;
+    }
+    sum
+}
+
+// Those of the block in `room`.
+fn block_left(words: &[u32], room: &[u32]) -> usize
+    requires { ⌜ ((s : ℕ) × (t : ℕ) × GoodIn (now words) s t (now room)) ⌝ }
+    ensures { λ r. ⌜ r ≡ turnsLeft 256 (now (words .entry)) (phaseOf (now (room .entry))) (blockOf (now (words .entry)) (now (room .entry))) ⌝ }
+{
+    let state = load_state(room);
+    let phase = state.phase;
+    let at = state.part;
+    if 2 < phase {
+        return 0;
+    }
+    let after = turns_after(words, at);
+    if phase == 0 {
+        return part::stages(words, at) + 2 + after;
+    }
+    if phase == 1 {
+        return part::stages(words, at) - state.stage + 1 + after;
+    }
+    1 + after
+}
+
+// Those of all blocks.
+pub fn turns_left(words: &[u32], blocks: usize, room: &[u32]) -> usize
+    requires { ⌜ ((starts : List ℕ) × (s : ℕ) × (t : ℕ) × (blocks ≡ length starts - 1) × Goods (now words) starts s t (now room)) ⌝ }
+    ensures { λ r. ⌜ r ≡ allLeft 256 (now (words .entry)) (blocksIn (now (words .entry)) (now (room .entry)) blocks 0) ⌝ }
+{
+    let mut sum: usize = 0;
+    let mut b = 0;
+    while b < blocks {
+        sum += block_left(words, &room[1024 * b..1024 * b + 1024]);
+        b += 1;
+    }
+    sum
+}

@@ -1,0 +1,97 @@
+// The run of one major stage, for any arguments: document 01, "The run", and refusals 32, 15 and 16.
+pub mod left;
+pub mod states;
+pub mod taking;
+
+ghost use mathlib.Core.Path.{_≡_};
+ghost use Prim.Native.Nat.{_-_};
+ghost use lib.ListN.{length, replicate};
+ghost use Rattle.machine.specs.Run.{refused, runTurns, allLeft, outcome, newAfter, roomAfter};
+ghost use Rattle.run.specs.Good.{Accepted};
+ghost use Rattle.run.specs.Answers.{ranOf};
+use left::turns_left;
+use states::begin_blocks;
+use taking::take_turns;
+use turns::refuse::Found;
+use turns::refuse::bad_block;
+use turns::refuse::bad_turn;
+use turns::store::clear;
+use words::refusals::ROOM_SHORT;
+use words::refusals::Refusal;
+use words::refusals::SCRIPT_FORM;
+use words::refusals::TURN;
+
+// How many turns are left, or the refusal.
+pub enum Ran {
+    Left(u64),
+    Refused(Refusal),
+}
+
+// How many blocks the starts tell.
+fn blocks_of(starts: &[u64]) -> usize
+    ensures { λ r. ⌜ r ≡ length (now (starts .entry)) - 1 ⌝ }
+{
+    if starts.len() < 1 {
+        return 0;
+    }
+    starts.len() - 1
+}
+
+// A run that is not refused; how many turns are left. The room is clear after it.
+fn run_well(
+    words: &[u32],
+    starts: &[u64],
+    turns: &[u32],
+    old: &[u32],
+    new: &mut [u32],
+    room: &mut [u32],
+) -> u64
+    requires { ⌜ Accepted (now words) (now starts) (now turns) (length (now old)) (length (now new)) (now room) ⌝ }
+    ensures left { λ r. ⌜ r ≡ allLeft 256 (now (words .entry)) (runTurns 256 13 (now (words .entry)) (now (starts .entry)) (now (turns .entry)) (now (old .entry)) (now (new .entry)) .blocks) ⌝ }
+    ensures state { λ _. ⌜ now (new .exit) ≡ runTurns 256 13 (now (words .entry)) (now (starts .entry)) (now (turns .entry)) (now (old .entry)) (now (new .entry)) .new ⌝ }
+    ensures room { λ _. ⌜ now (room .exit) ≡ replicate (length (now (room .entry))) 0 ⌝ }
+{
+    let blocks = blocks_of(starts);
+    begin_blocks(words, starts, blocks, room);
+    take_turns(words, turns, old, new, room);
+    let left = turns_left(words, blocks, room);
+    clear(room);
+    left as u64
+}
+
+// A refusal, which no part is told with.
+fn refuse(number: u32, item: usize) -> Ran
+    ensures { λ r. ⌜ r ≡ ranOf (refused number item) ⌝ }
+{
+    Ran::Refused(Refusal {
+        number: number,
+        part: 0,
+        item: item as u64,
+    })
+}
+
+// Each block at its first turn, then the turns in their order: the number of each is that of the block that takes it.
+pub fn run(
+    words: &[u32],
+    starts: &[u64],
+    turns: &[u32],
+    old: &[u32],
+    new: &mut [u32],
+    room: &mut [u32],
+) -> Ran
+    ensures answer { λ r. ⌜ r ≡ ranOf (outcome 256 13 (now (words .entry)) (now (starts .entry)) (now (turns .entry)) (now (old .entry)) (now (new .entry)) (length (now (room .entry)))) ⌝ }
+    ensures state { λ _. ⌜ now (new .exit) ≡ newAfter (outcome 256 13 (now (words .entry)) (now (starts .entry)) (now (turns .entry)) (now (old .entry)) (now (new .entry)) (length (now (room .entry)))) (now (new .entry)) ⌝ }
+    ensures room { λ _. ⌜ now (room .exit) ≡ roomAfter (now (starts .entry)) (now (room .entry)) ⌝ }
+{
+    if room.len() / 1024 < blocks_of(starts) {
+        return refuse(ROOM_SHORT, 0);
+    }
+    clear(room);
+    match bad_block(words, starts, old.len(), new.len()) {
+        Found::At(i) => refuse(SCRIPT_FORM, i),
+        Found::Nowhere => match bad_turn(starts, turns) {
+            Found::At(i) => refuse(TURN, i),
+            Found::Nowhere => Ran::Left(run_well(words, starts, turns, old, new, room)),
+        },
+    }
+}

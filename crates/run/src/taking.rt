@@ -1,0 +1,35 @@
+// The turns, one after the other.
+ghost use mathlib.Core.Path.{_≡_};
+ghost use mathlib.Core.List.{List};
+ghost use Prim.Native.Nat.{ℕ, _-_};
+ghost use lib.ListN.{length};
+ghost use Rattle.machine.specs.Turn.{turned, written};
+ghost use Rattle.machine.specs.Run.{runFrom};
+ghost use Rattle.run.specs.States.{phaseOf, blockOf, running};
+ghost use Rattle.run.specs.Good.{GoodIn, Goods, Named};
+use crate::states::load_state;
+use crate::states::store_state;
+
+// One turn of the block in `room`.
+fn one_turn(words: &[u32], old: &[u32], new: &mut [u32], room: &mut [u32])
+    requires { ⌜ GoodIn (now words) (length (now old)) (length (now new)) (now room) ⌝ }
+    ensures block { λ _. ⌜ blockOf (now (words .entry)) (now (room .exit)) ≡ turned 256 13 (now (words .entry)) (now (old .entry)) (phaseOf (now (room .entry))) (blockOf (now (words .entry)) (now (room .entry))) (now (new .entry)) ⌝ }
+    ensures state { λ _. ⌜ now (new .exit) ≡ written (now (words .entry)) (phaseOf (now (room .entry))) (blockOf (now (words .entry)) (now (room .entry))) (now (new .entry)) ⌝ }
+{
+    let state = load_state(room).turn(words, old, new, room);
+    store_state(room, state);
+}
+
+// All turns, in their order.
+pub fn take_turns(words: &[u32], turns: &[u32], old: &[u32], new: &mut [u32], room: &mut [u32])
+    requires { ⌜ ((starts : List ℕ) × Goods (now words) starts (length (now old)) (length (now new)) (now room) × Named starts (now turns)) ⌝ }
+    ensures good { λ _. ⌜ ((starts : List ℕ) → Goods (now (words .entry)) starts (length (now (old .entry))) (length (now (new .entry))) (now (room .entry)) → Named starts (now (turns .entry)) → Goods (now (words .entry)) starts (length (now (old .entry))) (length (now (new .entry))) (now (room .exit))) ⌝ }
+    ensures run { λ _. ⌜ ((starts : List ℕ) → Goods (now (words .entry)) starts (length (now (old .entry))) (length (now (new .entry))) (now (room .entry)) → Named starts (now (turns .entry)) → running (now (words .entry)) (length starts - 1) (now (room .exit)) (now (new .exit)) ≡ runFrom 256 13 (now (words .entry)) (now (old .entry)) (running (now (words .entry)) (length starts - 1) (now (room .entry)) (now (new .entry))) (now (turns .entry))) ⌝ }
+{
+    let mut i = 0;
+    while i < turns.len() {
+        let b = turns[i] as usize;
+        one_turn(words, old, new, &mut room[1024 * b..1024 * b + 1024]);
+        i += 1;
+    }
+}
