@@ -21,7 +21,7 @@ pub fn ratios(rows: &[Row]) -> String {
     let mut line = |text: String| svg += &(text + "\n");
     line(format!("<rect width=\"100%\" height=\"100%\" fill=\"white\"/>"));
     line(format!(
-        "<text x=\"10\" y=\"20\">Our time to plain Rust's (1 = as fast; shorter bars are better)</text>"
+        "<text x=\"10\" y=\"20\">Our time to plain Rust's on the same inputs (1: as fast; left of it: faster)</text>"
     ));
     for exponent in low as i32..=high as i32 {
         let at = x(2f64.powi(exponent));

@@ -1,6 +1,9 @@
 //! `juolgesot`: the library from a shell, and what is shown with it.
 
+#![cfg_attr(not(all(has_plans, has_run)), allow(dead_code))]
+
 mod files;
+#[cfg(has_plans)]
 mod progress;
 
 #[cfg(has_plans)]

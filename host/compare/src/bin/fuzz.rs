@@ -301,7 +301,8 @@ fn random_pin(random: &mut Random, record: &[u8]) -> u32 {
     if words == 0 {
         return 7;
     }
-    let at = 4 * random.below(words.min(random.pick(&[60, 600, 6000])));
+    let among = words.min(random.pick(&[60, 600, 6000]));
+    let at = 4 * random.below(among);
     u32::from_le_bytes([record[at], record[at + 1], record[at + 2], record[at + 3]])
 }
 
