@@ -176,7 +176,7 @@ build_comparisons() {
 # build_juolgesot REFERENCE: the program juolgesot. Its crate has a name of its own, as the library has that one.
 build_juolgesot() {
     local flags=(${FLAGS[@]+"${FLAGS[@]}"}) crates=("${SHARED[@]}")
-    if has plans && has run; then
+    if has run; then
         extern "${SHARED[@]}"
         crate replay "$HOST/replay/src/lib.rs" "${EXTERN[@]}"
         crates+=(replay)

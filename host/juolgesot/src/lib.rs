@@ -19,6 +19,7 @@ mod refusal;
 mod rounds;
 #[cfg(has_run)]
 mod run;
+mod script;
 mod units;
 #[cfg(has_value)]
 mod value;
@@ -28,11 +29,12 @@ pub use listing::{list, list_into, LIST_ROOM, LIST_TEXT};
 #[cfg(any(has_plans, has_value))]
 pub use plan_room::plan_room;
 #[cfg(has_plans)]
-pub use plans::{build, build_into, plan_sizes, plan_sizes_into, Script, Sizes};
+pub use plans::{build, build_into, plan_sizes, plan_sizes_into, Sizes};
 pub use refusal::Refusal;
 pub use rounds::{read_rounds, read_rounds_into, ReadRounds, LANES, ROUND_WORDS, SET_ROOM};
 #[cfg(has_run)]
 pub use run::{finishing_turns, run, run_into, BLOCK_ROOM};
+pub use script::Script;
 pub use units::{InvertedPin, LocalPosition, Pin, StatePosition};
 #[cfg(has_value)]
 pub use value::{value, value_into};

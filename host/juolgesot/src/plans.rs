@@ -3,21 +3,13 @@
 use crate::ffi::{self, PlanAnswer};
 use crate::plan_room::room_for;
 use crate::refusal::Refusal;
+use crate::script::Script;
 
 /// How much result room a plan needs, and how large its state and SRAM are.
 #[derive(Debug, Clone, Copy, PartialEq, Eq)]
 pub struct Sizes {
     pub starts: usize,
     pub words: usize,
-    pub state_words: u64,
-    pub sram_words: u64,
-}
-
-#[derive(Debug, Clone, PartialEq, Eq)]
-pub struct Script {
-    /// Where each block of each major stage begins, and the end.
-    pub starts: Vec<u64>,
-    pub words: Vec<u32>,
     pub state_words: u64,
     pub sram_words: u64,
 }

@@ -1,16 +1,17 @@
-//! Takes the replay's Bloom filter through GEM and writes what the replay needs of it: make_filter PLAN PORTS.
-//! PLAN is the plan record, packed (host/plan/src/packed.rs); PORTS says where each port's bit is in the state.
+//! Takes the replay's Bloom filter through GEM and writes what the replay needs of it: make_filter PACKED PORTS PLAN
+//! SCRIPT. PACKED is the plan record, packed (host/plan/src/packed.rs); PORTS says where each port's bit is in the state;
+//! PLAN is the record as it is, and SCRIPT the script that GEM made.
 
 use filter::{KEY_BITS, PORTS};
 use netlists::designs::Clusters;
-use plan::packed;
+use plan::{packed, script_file};
 use std::fmt::Write;
 
 fn main() {
     let paths: Vec<String> = std::env::args().skip(1).collect();
-    let (plan_path, ports_path) = match &paths[..] {
-        [plan, ports] => (plan, ports),
-        _ => panic!("usage: make_filter PLAN PORTS"),
+    let [packed_path, ports_path, plan_path, script_path] = match &paths[..] {
+        [packed, ports, plan, script] => [packed, ports, plan, script],
+        _ => panic!("usage: make_filter PACKED PORTS PLAN SCRIPT"),
     };
     // Hashes in the first major stage, the array in the second; a block of each stays empty.
     let design = netlists::filter::design(&[7], Clusters::Apart(600), 2);
@@ -19,8 +20,11 @@ fn main() {
     let words = made.plan.words();
     let bytes = packed::pack(&words);
     assert_eq!(packed::unpack(&bytes, words.len()).as_ref(), Some(&words));
-    std::fs::write(plan_path, &bytes).expect("the plan can be written");
+    let script = script_file::bytes(made.plan.blocks.into(), &made.script);
+    std::fs::write(packed_path, &bytes).expect("the packed plan can be written");
     std::fs::write(ports_path, ports(&made.ports)).expect("the ports can be written");
+    std::fs::write(plan_path, made.plan.record()).expect("the plan can be written");
+    std::fs::write(script_path, script).expect("the script can be written");
     println!(
         "make_filter: {}: {} gates, {} parts, a record of {} bytes, {} packed",
         design.name,

@@ -6,12 +6,12 @@ pub const HELP: &str = "
 usage: juolgesot build PLAN OUT
 
 Builds the script of the plan record in the file PLAN and writes it to OUT. A plan that is refused is told with the
-refusal's number and place. Formats: host/program/src/files.rs.
+refusal's number and place. The files' forms are in host/README.md.
 ";
 
 #[cfg(has_plans)]
 pub fn call(words: &[String]) -> Outcome {
-    use crate::files::{self, script::Stored};
+    use crate::files;
     let words = crate::Words::read(words, &[])?;
     let (plan, out) = match &words.plain[..] {
         [plan, out] => (plan, out),
@@ -30,7 +30,8 @@ pub fn call(words: &[String]) -> Outcome {
         script.sram_words
     );
     let juolgesot::Script { starts, words, state_words, sram_words } = script;
-    files::write(out, &Stored { blocks: blocks.into(), starts, words, state_words, sram_words }.bytes())
+    let script = plan::Script { starts, words, state_words, sram_words };
+    files::write(out, &plan::script_file::bytes(blocks.into(), &script))
 }
 
 #[cfg(not(has_plans))]

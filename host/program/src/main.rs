@@ -3,7 +3,7 @@
 #![cfg_attr(not(all(has_plans, has_run)), allow(dead_code))]
 
 mod files;
-#[cfg(has_plans)]
+#[cfg(any(has_plans, has_run))]
 mod progress;
 
 #[cfg(has_plans)]

@@ -3,7 +3,7 @@
 use crate::{Failure, Outcome};
 
 pub const HELP: &str = "
-usage: juolgesot replay [--traffic FILE] [--plan FILE --ports FILE] [--lookups N]
+usage: juolgesot replay [--traffic FILE] [--plan FILE --ports FILE] [--script FILE] [--lookups N]
 
 Builds the script of a Bloom filter (128 registers, 3 hashes, 8 look-up ports) and replays traffic through the run,
 cycle by cycle. Each answer of the gates, and each register, is held to a plain software model of the filter. A no must
@@ -13,16 +13,17 @@ first difference with the cycle and the pin.
 --traffic  lines `insert KEY [COUNT [STEP]]`, `lookup KEY [COUNT [STEP]]`, `clear` (host/replay/src/traffic.rs);
            default: the traffic that comes with it, 102,707 look-ups
 --plan     a plan record in the place of the one that comes with it, --ports where its ports are
+--script   a script of that plan that is built already (`juolgesot build`, or GEM's by make_filter)
 --lookups  stop after so many
 ";
 
-#[cfg(all(has_plans, has_run))]
+#[cfg(has_run)]
 pub fn call(words: &[String]) -> Outcome {
     use crate::files;
     use crate::progress::Progress;
     use ::replay::{traffic, Netlist, Replay, TRAFFIC};
 
-    let words = crate::Words::read(words, &["--traffic", "--plan", "--ports", "--lookups"])?;
+    let words = crate::Words::read(words, &["--traffic", "--plan", "--ports", "--script", "--lookups"])?;
     if !words.plain.is_empty() {
         return Err(Failure::Usage(format!("what is '{}'?", words.plain[0])));
     }
@@ -48,8 +49,14 @@ pub fn call(words: &[String]) -> Outcome {
         cycles.truncate(end.map_or(cycles.len(), |end| end + 1));
     }
 
-    let script = juolgesot::build(&netlist.record)?;
-    println!("filter: built a script of {} words, {} state words", script.words.len(), script.state_words);
+    let script = match words.option("--script") {
+        Some(path) => {
+            let (_, plan::Script { starts, words, state_words, sram_words }) = files::script(path)?;
+            juolgesot::Script { starts, words, state_words, sram_words }
+        }
+        None => built(&netlist.record)?,
+    };
+    println!("filter: a script of {} words, {} state words", script.words.len(), script.state_words);
     let mut replay = Replay::new(&netlist, script).map_err(Failure::Failed)?;
     let mut progress = Progress::of("cycles");
     for (number, cycle) in cycles.iter().enumerate() {
@@ -73,7 +80,17 @@ pub fn call(words: &[String]) -> Outcome {
     Ok(())
 }
 
-#[cfg(not(all(has_plans, has_run)))]
+#[cfg(all(has_plans, has_run))]
+fn built(record: &[u8]) -> Result<juolgesot::Script, Failure> {
+    Ok(juolgesot::build(record)?)
+}
+
+#[cfg(all(not(has_plans), has_run))]
+fn built(_: &[u8]) -> Result<juolgesot::Script, Failure> {
+    Err(Failure::Lacking("build"))
+}
+
+#[cfg(not(has_run))]
 pub fn call(_: &[String]) -> Outcome {
-    Err(Failure::Lacking("build and run"))
+    Err(Failure::Lacking("run"))
 }

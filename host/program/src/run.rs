@@ -13,27 +13,20 @@ what `juolgesot build` wrote. Prints the turns left of each major stage; exit st
 
 #[cfg(has_run)]
 pub fn call(words: &[String]) -> Outcome {
-    use crate::files::{self, script};
+    use crate::files;
+    use plan::script_file::words_of;
     let words = crate::Words::read(words, &["--new", "--stage", "--turns"])?;
     let (script_path, old_path, out) = match &words.plain[..] {
         [script, old, out] => (script, old, out),
         _ => return Err(Failure::Usage("a script, an old state and an output file are needed".to_string())),
     };
-    let built = script::Stored::read(&files::read(script_path)?)
-        .ok_or_else(|| Failure::Failed(format!("{} is no script file", script_path)))?;
-    let old = script::words_of(&files::read(old_path)?);
+    let (blocks, built) = files::script(script_path)?;
+    let blocks = blocks as usize;
+    let old = words_of(&files::read(old_path)?);
     let mut new = match words.option("--new") {
-        Some(path) => script::words_of(&files::read(path)?),
+        Some(path) => words_of(&files::read(path)?),
         None => vec![0; (built.state_words as usize).max(old.len())],
     };
-    let blocks = built.blocks as usize;
-    if blocks == 0 || built.starts.len() % blocks != 1 % blocks {
-        return Err(Failure::Failed(format!(
-            "{} starts are not those of {} blocks",
-            built.starts.len(),
-            blocks
-        )));
-    }
     let all = (built.starts.len() - 1) / blocks;
     let stages = match words.number("--stage")? {
         Some(stage) if (stage as usize) < all => stage as usize..stage as usize + 1,

@@ -12,7 +12,7 @@ use ports::Ports;
 use std::collections::HashSet;
 
 /// The filter that comes with the replay, as GEM staged and placed it (host/oracle/bin/make_filter.rs).
-const FILTER_PLAN: &[u8] = include_bytes!("../stored/filter.plan");
+const FILTER_PLAN: &[u8] = include_bytes!("../stored/filter.packed");
 const FILTER_PORTS: &str = include_str!("../stored/filter.ports");
 /// The traffic that comes with it.
 pub const TRAFFIC: &str = include_str!("../stored/traffic.txt");
@@ -65,6 +65,7 @@ pub struct Replay {
 }
 
 impl Replay {
+    /// `script` is that of the netlist's plan.
     pub fn new(netlist: &Netlist, script: Script) -> Result<Self, String> {
         let ports = Ports::read(&netlist.ports, script.state_words as usize)?;
         let machine = Machine::new(script, netlist.blocks());
