@@ -115,7 +115,7 @@ static void list(void)
 }
 #endif
 
-#if defined(HAS_PLANS) || defined(HAS_RUN) || defined(HAS_VALUE)
+#if defined(HAS_PLANS) || defined(HAS_VALUE)
 /* M10's plan: pins 1 and 2 at state 0 and 1; gate 3 = 1 and not 2 at level 1 slot 0, location 128. */
 enum { SLOTS = 16383, TABLES = 2 * 8192 + 5 * 256, HEAD = 5 + 1 + 3 + 2 + 2, PLAN_WORDS = HEAD + 1 + SLOTS + 1 + TABLES };
 static uint32_t m10[PLAN_WORDS];
@@ -134,10 +134,28 @@ static void make_m10(void)
 }
 #endif
 
-#ifdef HAS_PLANS
-enum { STARTS = 2, WORDS = 10496 + 512 + 5120 + 2048, ROOM = JUOLGESOT_PLAN_ROOM + JUOLGESOT_PART_ROOM };
-static uint64_t m10_starts[STARTS];
+#if defined(HAS_PLANS) || defined(HAS_RUN)
+/* M10's script, word by word. */
+enum { STARTS = 2, WORDS = 10496 + 512 + 5120 + 2048, STAGE = 256 + 512 };
+static const uint64_t m10_starts[STARTS] = {0, WORDS - 2048};
 static uint32_t m10_words[WORDS];
+
+static void make_m10_script(void)
+{
+    /* stages, last, write-outs, state start, SRAMs, SRAM start, rounds, duplicates */
+    static const uint32_t head[8] = {1, 1, 1, 1, 0, 0, 1, 0};
+    memset(m10_words, 0, sizeof m10_words);
+    memcpy(m10_words, head, sizeof head);
+    memset(m10_words + 128, 0xFF, 4 * 128);
+    m10_words[128] = 0xFFFF0080u;
+    m10_words[256 + 1] = 3;                        /* lane 0 reads bits 0 and 1 of word 0 */
+    m10_words[STAGE] = 1;                          /* slot 0 is pin 1, at local position 1; slot 4096 is pin 2, at 0 */
+    m10_words[STAGE + 4096 + 4 * 128 + 1] = 1;     /* xorb of position 4096 */
+}
+#endif
+
+#ifdef HAS_PLANS
+enum { ROOM = JUOLGESOT_PLAN_ROOM + JUOLGESOT_PART_ROOM };
 
 static void build(void)
 {
@@ -154,11 +172,8 @@ static void build(void)
     uint32_t *words = between_pages(sizeof m10_words, NULL);
     is("build", juolgesot_build(plan, sizeof m10, room, ROOM, starts, STARTS, words, WORDS, first, second, third, fourth), 0);
     is_zero(room, ROOM);
-    is("first start", starts[0], 0);
-    is("end", starts[1], WORDS - 2048);
-    is("location", words[128], 0xFFFF0080u);
-    memcpy(m10_starts, starts, sizeof m10_starts);
-    memcpy(m10_words, words, sizeof m10_words);
+    if (memcmp(starts, m10_starts, sizeof m10_starts) != 0 || memcmp(words, m10_words, sizeof m10_words) != 0)
+        fail("M10's script");
     is("short words",
        juolgesot_build(plan, sizeof m10, room, ROOM, starts, STARTS, words, WORDS - 1, first, second, third, fourth), 14);
     is("cut plan", juolgesot_plan_sizes(plan, sizeof m10 - 1, room, ROOM, first, second, third, fourth), 5);
@@ -167,7 +182,7 @@ static void build(void)
 }
 #endif
 
-#if defined(HAS_PLANS) && defined(HAS_RUN)
+#ifdef HAS_RUN
 static void run(void)
 {
     static const uint32_t three_turns[] = {0, 0, 0};
@@ -216,13 +231,16 @@ int main(void)
 #ifdef HAS_LISTING
         list();
 #endif
-#if defined(HAS_PLANS) || defined(HAS_RUN) || defined(HAS_VALUE)
+#if defined(HAS_PLANS) || defined(HAS_VALUE)
         make_m10();
+#endif
+#if defined(HAS_PLANS) || defined(HAS_RUN)
+        make_m10_script();
 #endif
 #ifdef HAS_PLANS
         build();
 #endif
-#if defined(HAS_PLANS) && defined(HAS_RUN)
+#ifdef HAS_RUN
         run();
 #endif
 #ifdef HAS_VALUE

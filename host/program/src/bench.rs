@@ -47,7 +47,7 @@ pub fn call(words: &[String]) -> Outcome {
     read_rounds(&mut table, &mut random, time)?;
     #[cfg(has_plans)]
     crate::bench_plans::rows(&mut table, &mut random, time)?;
-    #[cfg(all(has_plans, has_run))]
+    #[cfg(has_run)]
     crate::bench_run::rows(&mut table, &mut random, time)?;
     if let Some(path) = words.option("--svg") {
         crate::files::write(path, chart::ratios(&table.rows).as_bytes())?;
@@ -63,6 +63,24 @@ fn lacking() -> &'static str {
         (false, false) => "build and run",
         (false, true) => "build",
         _ => "run",
+    }
+}
+
+/// A plan in order of so many parts in one major stage, on two blocks.
+#[cfg(any(has_plans, has_run))]
+pub fn plan_of(random: &mut Random, parts: usize) -> plan::Plan {
+    use ::compare::plans::{self, Size};
+    loop {
+        let size = Size { majors: 1, parts: 2 * parts, stages: 3, inputs: 3000, wide: false };
+        let mut plan = plans::any(random, size);
+        if plan.stages[0].len() >= parts {
+            plan.stages[0].truncate(parts);
+            plan.blocks = 2;
+            let record = plan.record();
+            if model::build::accept(record.len(), &model::record::words(&record)).is_ok() {
+                return plan;
+            }
+        }
     }
 }
 

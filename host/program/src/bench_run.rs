@@ -1,6 +1,6 @@
 //! Times of the run, beside host/model's.
 
-use crate::bench::{time_both, Row, Table};
+use crate::bench::{plan_of, time_both, Row, Table};
 use crate::Outcome;
 use ::compare::run_damage::{case_of, Case};
 use random::Random;
@@ -9,7 +9,7 @@ use std::time::Duration;
 pub fn rows(table: &mut Table, random: &mut Random, time: Duration) -> Outcome {
     for parts in [1, 2, 4, 8, 16] {
         let case = loop {
-            let (plan, _) = crate::bench_plans::plan_of(random, parts);
+            let plan = plan_of(random, parts);
             if let Some(case) = case_of(random, &plan) {
                 break case;
             }

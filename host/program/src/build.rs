@@ -12,13 +12,14 @@ refusal's number and place. The files' forms are in host/README.md.
 #[cfg(has_plans)]
 pub fn call(words: &[String]) -> Outcome {
     use crate::files;
+    use crate::progress::while_working;
     let words = crate::Words::read(words, &[])?;
     let (plan, out) = match &words.plain[..] {
         [plan, out] => (plan, out),
         _ => return Err(Failure::Usage("a plan and an output file are needed".to_string())),
     };
     let record = files::read(plan)?;
-    let script = juolgesot::build(&record)?;
+    let script = while_working("building", || juolgesot::build(&record))?;
     let blocks = u32::from_le_bytes([record[0], record[1], record[2], record[3]]);
     println!(
         "{}: {} blocks, {} starts, {} words, {} state words, {} SRAM words",

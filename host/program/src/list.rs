@@ -25,7 +25,7 @@ pub fn call(words: &[String]) -> Outcome {
         }
         _ => return Err(Failure::Usage("one file at most".to_string())),
     };
-    let text = juolgesot::list(&records)?;
+    let text = crate::progress::while_working("listing", || juolgesot::list(&records))?;
     std::io::stdout().write_all(&text).map_err(|error| Failure::Failed(error.to_string()))?;
     if text.starts_with(b"refused") {
         return Err(Failure::Failed("the records were refused".to_string()));

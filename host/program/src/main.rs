@@ -3,12 +3,11 @@
 #![cfg_attr(not(all(has_plans, has_run)), allow(dead_code))]
 
 mod files;
-#[cfg(any(has_plans, has_run))]
 mod progress;
 
 #[cfg(has_plans)]
 mod bench_plans;
-#[cfg(all(has_plans, has_run))]
+#[cfg(has_run)]
 mod bench_run;
 
 mod bench;

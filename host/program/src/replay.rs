@@ -82,7 +82,7 @@ pub fn call(words: &[String]) -> Outcome {
 
 #[cfg(all(has_plans, has_run))]
 fn built(record: &[u8]) -> Result<juolgesot::Script, Failure> {
-    Ok(juolgesot::build(record)?)
+    Ok(crate::progress::while_working("building", || juolgesot::build(record))?)
 }
 
 #[cfg(all(not(has_plans), has_run))]

@@ -14,6 +14,7 @@ what `juolgesot build` wrote. Prints the turns left of each major stage; exit st
 #[cfg(has_run)]
 pub fn call(words: &[String]) -> Outcome {
     use crate::files;
+    use crate::progress::while_working;
     use plan::script_file::words_of;
     let words = crate::Words::read(words, &["--new", "--stage", "--turns"])?;
     let (script_path, old_path, out) = match &words.plain[..] {
@@ -45,7 +46,7 @@ pub fn call(words: &[String]) -> Outcome {
             Some(turns) => turns.clone(),
             None => juolgesot::finishing_turns(&built.words, starts),
         };
-        let left = juolgesot::run(&built.words, starts, &turns, &old, &mut new)?;
+        let left = while_working("running", || juolgesot::run(&built.words, starts, &turns, &old, &mut new))?;
         println!("major stage {}: {} turns given, {} left", stage, turns.len(), left);
         left_over += left;
     }
