@@ -1,1 +1,5 @@
 pub mod PassedLaws
+pub mod VerdictLaws
+pub mod PlaceLaws
+pub mod StepLaws
+pub mod RoomLaws

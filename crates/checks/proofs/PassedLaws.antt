@@ -35,19 +35,19 @@ pub record Passed (n : ℕ) (d : List ℕ) : Type 0 where
   pub nothing : refusedReads n 3 d ≡ none
   pub no-room : refusedReads n 4 d ≡ none
 
-some-none : {A B : Type 0} (x : A) → some x ≡ none → B
+pub some-none : {A B : Type 0} (x : A) → some x ≡ none → B
 some-none x e = let z : _≡_ {A = ℕ} 0 1 = cc in absurd (omega arith)
 
 -- a test that lets a plan pass
-past : (k : ℕ) (o : Option Place) (r : Option Refused) → orElse k o r ≡ none → (o ≡ none) × (r ≡ none)
+pub past : (k : ℕ) (o : Option Place) (r : Option Refused) → orElse k o r ≡ none → (o ≡ none) × (r ≡ none)
 past k none r e = (refl, e)
 past k (some q) r e = some-none _ e
 
-past-unless : (k : ℕ) (b : Bool) (r : Option Refused) → unless k b r ≡ none → (b ≡ true) × (r ≡ none)
+pub past-unless : (k : ℕ) (b : Bool) (r : Option Refused) → unless k b r ≡ none → (b ≡ true) × (r ≡ none)
 past-unless k true r e = (refl, e)
 past-unless k false r e = some-none _ e
 
-no-gate : (o : Option ℕ) → gatePlace o ≡ none → o ≡ none
+pub no-gate : (o : Option ℕ) → gatePlace o ≡ none → o ≡ none
 no-gate none e = refl
 no-gate (some g) e = some-none _ e
 

@@ -1,1 +1,4 @@
 pub mod Refusals
+pub mod Steps
+pub mod Verdicts
+pub mod Ready
