@@ -1,0 +1,3 @@
+pub mod StoreLaws
+pub mod RowLaws
+pub mod PlacedLaws

@@ -9,7 +9,7 @@ use Rattle.record.specs.Record.{blocksOf, majorsOf, partsOf, partsBefore}
 use Rattle.blocks.specs.Table.{cell}
 use Rattle.script.specs.Script.{partScript}
 use Rattle.checks.specs.Refusals.{planRefusal}
-use Rattle.layout.specs.Ready.{Ready}
+use Rattle.checks.specs.Ready.{Ready}
 use Rattle.assembly.specs.Assembly.{blockWords, stageWords, majorWords, majorStarts, scriptWords, scriptStarts}
 use Rattle.assembly.specs.Steps.{lengthOf, partsIn, firstRank}
 use Rattle.layout.specs.declared.placed.Next.{Next}

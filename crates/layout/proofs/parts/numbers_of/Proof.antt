@@ -1,96 +1,79 @@
+-- TODO
+-- Assumes nothing.
+use mathlib.Core.Path.{_≡_, refl, sym, ap, _∙_}
+use Prim.Native.Nat.{ℕ, _+_, _*_, _-_, _≤_, _<_}
+use native.Mathlib.Omega.{arith}
+use lib.ListN.{length}
+use lib.Seq.{sets}
 use borrow.Author.Needs.{needs}
 use Rattle.layout.proofs.parts.numbers_of.Statement.{statement}
 use Rattle.layout.proofs.parts.numbers_of.Tie as tie
-use Rattle.layout.proofs.parts.numbers_of.Reads as reads
-use Rattle.layout.proofs.parts.numbers_of.Lts as lts
 
--- src/parts.rt:34:23
 mul-row : tie.Need-mul-row
 mul-row c = search needs
 
--- src/parts.rt:34:15
 add-row : tie.Need-add-row
 add-row c = search needs
 
--- src/parts.rt:36:17
 cast-t8 : tie.Need-cast-t8
 cast-t8 c = search needs
 
--- src/parts.rt:38:25
 add-t7 : tie.Need-add-t7
 add-t7 c = search needs
 
--- src/parts.rt:38:20
 mul-t9 : tie.Need-mul-t9
 mul-t9 c = search needs
 
--- src/parts.rt:38:20
 shared-slice-read-t11 : tie.Need-shared-slice-read-t11
 shared-slice-read-t11 c = search needs
 
--- src/parts.rt:39:21
 add-t12 : tie.Need-add-t12
 add-t12 c = search needs
 
--- src/parts.rt:39:16
 mul-t13 : tie.Need-mul-t13
 mul-t13 c = search needs
 
--- src/parts.rt:39:16
 shared-slice-read-t15 : tie.Need-shared-slice-read-t15
 shared-slice-read-t15 c = search needs
 
--- src/parts.rt:40:21
 add-t16 : tie.Need-add-t16
 add-t16 c = search needs
 
--- src/parts.rt:40:16
 mul-t17 : tie.Need-mul-t17
 mul-t17 c = search needs
 
--- src/parts.rt:40:16
 shared-slice-read-t19 : tie.Need-shared-slice-read-t19
 shared-slice-read-t19 c = search needs
 
--- src/parts.rt:41:20
 add-t20 : tie.Need-add-t20
 add-t20 c = search needs
 
--- src/parts.rt:41:15
 mul-t21 : tie.Need-mul-t21
 mul-t21 c = search needs
 
--- src/parts.rt:41:15
 shared-slice-read-t23 : tie.Need-shared-slice-read-t23
 shared-slice-read-t23 c = search needs
 
--- src/parts.rt:42:22
 add-t24 : tie.Need-add-t24
 add-t24 c = search needs
 
--- src/parts.rt:42:17
 mul-t25 : tie.Need-mul-t25
 mul-t25 c = search needs
 
--- src/parts.rt:42:17
 shared-slice-read-t27 : tie.Need-shared-slice-read-t27
 shared-slice-read-t27 c = search needs
 
--- src/parts.rt:43:26
 add-t28 : tie.Need-add-t28
 add-t28 c = search needs
 
--- src/parts.rt:43:21
 mul-t29 : tie.Need-mul-t29
 mul-t29 c = search needs
 
--- src/parts.rt:43:21
 shared-slice-read-t31 : tie.Need-shared-slice-read-t31
 shared-slice-read-t31 c = search needs
 
--- src/parts.rt:29:1
 returns : tie.Need-returns
-returns c = search needs
+returns c = ?
 
 pub numbers-of-spec : {M : Type 1} → statement M
 numbers-of-spec =
