@@ -6,7 +6,8 @@ use mathlib.Core.List.{List, _∷_, _++_}
 use Prim.Native.Nat.{ℕ, suc, _+_, _-_, _≤_, _<_}
 use native.Mathlib.Numerals.{add-one}
 use native.Mathlib.Omega.{arith}
-use lib.ListN.{length, getD, set, replicate, length-append}
+use borrow.Rule.Slice.PartMut.{putMid, mid-len}
+use lib.ListN.{length, getD, set, take, drop, replicate, length-append}
 use lib.Seq.{sets}
 use Rattle.words.proofs.BitLaws.{lt-or-ge}
 use Rattle.record.specs.Record.{blocksOf, majorsOf, countAt, partsBefore, partsOf}
@@ -21,9 +22,12 @@ use Rattle.assembly.proofs.GrowLaws.{grown-le}
 use Rattle.assembly.proofs.StepLaws as step
 use Rattle.assembly.proofs.RankLaws.{part-at, first-more, first-le, first-none, first-in, rank-found, row-at, rank-inside, rank-outside}
 use Rattle.assembly.proofs.LengthLaws.{part-length, empty-length}
-use Rattle.layout.specs.Layout.{Sound, rowScript, PartRoom, BlockAt, BlockRoom}
-use Rattle.layout.proofs.StoreLaws.{sets-next}
-use Rattle.layout.proofs.RowLaws.{parts-few}
+use Rattle.layout.specs.Layout.{rowScript, emptyWords, PartRoom, BlockAt, BlockRoom}
+use Rattle.layout.proofs.StoreLaws.{sets-next, put-sets, stored-length}
+
+pub empty-made : (l : List ℕ) (m : ℕ) → m ≡ 256 → l ≡ replicate m 0 → set l 1 1 ≡ emptyWords
+unfolding emptyWords
+empty-made l m k e = ap (λ (x : List ℕ). set x 1 1) (e ∙ ap (λ (n : ℕ). replicate n 0) k)
 
 module _ (d room : List ℕ) (s b from : ℕ) (q : BlockAt d room s b from) where
   abbrev to : ℕ
@@ -111,7 +115,7 @@ module _ (d room : List ℕ) (s b from : ℕ) (q : BlockAt d room s b from) wher
 
       -- the words after one part more
       module _ (at next : ℕ) (is : next ≡ at + length (partsWords 256 d s xs j)) where
-        pub part-next : next + lengthOf 256 d (rankedAt room k) ≡ at + length (partsWords 256 d s xs (k + 1 - from))
+        part-next : next + lengthOf 256 d (rankedAt room k) ≡ at + length (partsWords 256 d s xs (k + 1 - from))
         part-next =
             omega (
               arith,
@@ -121,14 +125,14 @@ module _ (d room : List ℕ) (s b from : ℕ) (q : BlockAt d room s b from) wher
               ap (lengthOf 256 d) part-row,
             )
 
-        pub part-stored : (l l₁ l₂ : List ℕ) (p mark : ℕ) → p ≡ rankedAt room k → mark ≡ lastMark to k → l₁ ≡ sets l at (partsWords 256 d s xs j)
+        part-stored : (l l₁ l₂ : List ℕ) (p mark : ℕ) → p ≡ rankedAt room k → mark ≡ lastMark to k → l₁ ≡ sets l at (partsWords 256 d s xs j)
             → l₂ ≡ sets l₁ next (rowScript d room p mark) → l₂ ≡ sets l at (partsWords 256 d s xs (k + 1 - from))
         part-stored l l₁ l₂ p mark e m a c =
             sets-next l l₁ l₂ (partsWords 256 d s xs j) (wordsOfPart 256 d s i (lastMark (length xs) j)) at next a is
             (c ∙ ap (sets l₁ next) (ap₂ (rowScript d room) e m ∙ part-words))
             ∙ ap (sets l at) (sym words-more)
 
-        pub part-room : (m : ℕ) → at + length (blockWords 256 d s xs) ≤ m → PartRoom d room (rankedAt room k) next m
+        part-room : (m : ℕ) → at + length (blockWords 256 d s xs) ≤ m → PartRoom d room (rankedAt room k) next m
         part-room m fits =
             let few : k + 1 - from ≤ length xs = omega (arith, parts-are) in
             let most : length (partsWords 256 d s xs (k + 1 - from)) ≤ length (partsWords 256 d s xs (length xs)) =
@@ -140,6 +144,19 @@ module _ (d room : List ℕ) (s b from : ℕ) (q : BlockAt d room s b from) wher
               part = part-in;
               fits = omega (arith, part-next, most, ap length (step.parts-all 256 d s xs (omega (arith, j-lt))));
             }
+
+        -- the same, in a room that is as it was
+        module _ (room₁ : List ℕ) (same : room₁ ≡ room) (old new : List ℕ) (stored : new ≡ sets old at (partsWords 256 d s xs j)) where
+          pub turn-room : at + length (blockWords 256 d s xs) ≤ length old → PartRoom d room₁ (rankedAt room₁ k) next (length new)
+          turn-room fits = rw same (part-room (length new) (omega (arith, stored-length old new at _ stored)))
+
+          pub turn-next : (end : ℕ) → end ≡ next + lengthOf 256 d (rankedAt room₁ k) → end ≡ at + length (partsWords 256 d s xs (k + 1 - from))
+          turn-next end e = e ∙ ap (λ (r : List ℕ). next + lengthOf 256 d (rankedAt r k)) same ∙ part-next
+
+          pub turn-stored : (l₂ : List ℕ) (mark : ℕ) → mark ≡ lastMark to k → l₂ ≡ sets new next (rowScript d room₁ (rankedAt room₁ k) mark)
+              → l₂ ≡ sets old at (partsWords 256 d s xs (k + 1 - from))
+          turn-stored l₂ mark m e =
+              part-stored old new l₂ (rankedAt room k) mark refl m stored (e ∙ ap (λ (r : List ℕ). sets new next (rowScript d r (rankedAt r k) mark)) same)
 
   -- before the first part, and after the last
   pub none-stored : (l : List ℕ) (at : ℕ) → l ≡ sets l at (partsWords 256 d s xs (from - from))
@@ -159,8 +176,23 @@ module _ (d room : List ℕ) (s b from : ℕ) (q : BlockAt d room s b from) wher
 
   -- a block without parts
   module _ (u : to ≤ from) where
-    pub empty-words : blockWords 256 d s xs ≡ 0 ∷ 1 ∷ replicate 254 0
+    empty-words : blockWords 256 d s xs ≡ emptyWords
+    unfolding emptyWords
     empty-words = step.block-none 256 d s xs (omega (arith, parts-are))
 
-    pub empty-long : length (blockWords 256 d s xs) ≡ 256
+    empty-long : length (blockWords 256 d s xs) ≡ 256
     empty-long = empty-length 256 d (omega arith) refl s xs (omega (arith, parts-are))
+
+    module _ (at : ℕ) (l : List ℕ) (fits : at + length (blockWords 256 d s xs) ≤ length l) where
+      pub empty-next : at + 256 ≡ at + length (blockWords 256 d s xs)
+      empty-next = omega (arith, empty-long)
+
+      pub empty-in : at + 256 ≤ length l
+      empty-in = omega (arith, empty-next)
+
+      pub empty-lent : length (take (at + 256 - at) (drop at l)) ≡ 256
+      empty-lent = mid-len at (at + 256) l empty-in ∙ omega arith
+
+      pub empty-stored : (z : List ℕ) → length z ≡ length (take (at + 256 - at) (drop at l)) → z ≡ emptyWords → putMid at (at + 256 - at) l z ≡ sets l at (blockWords 256 d s xs)
+      empty-stored z kept e =
+          put-sets l at (at + 256) z (omega arith) empty-in (kept ∙ mid-len at (at + 256) l empty-in) ∙ ap (sets l at) (e ∙ sym empty-words)

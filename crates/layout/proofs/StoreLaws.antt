@@ -13,6 +13,9 @@ use Rattle.readout.proofs.ReadoutLaws.{sets-append}
 pub sets-next : (l l₁ l₂ xs ys : List ℕ) (at next : ℕ) → l₁ ≡ sets l at xs → next ≡ at + length xs → l₂ ≡ sets l₁ next ys → l₂ ≡ sets l at (xs ++ ys)
 sets-next l l₁ l₂ xs ys at next a b c = c ∙ ap₂ (λ (x : List ℕ) (n : ℕ). sets x n ys) a b ∙ sym (sets-append l at xs ys)
 
+pub sets-behind : (l l₁ l₂ xs ys : List ℕ) (next : ℕ) → l₁ ≡ sets l 0 xs → next ≡ length xs → l₂ ≡ sets l₁ next ys → l₂ ≡ sets l 0 (xs ++ ys)
+sets-behind l l₁ l₂ xs ys next a b c = sets-next l l₁ l₂ xs ys 0 next a (omega arith) c
+
 -- the words from a up to e, lent and written
 pub put-sets : (l : List ℕ) (a e : ℕ) (vs : List ℕ) → a ≤ e → e ≤ length l → length vs ≡ e - a → putMid a (e - a) l vs ≡ sets l a vs
 put-sets l a e vs h g k =

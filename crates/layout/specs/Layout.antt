@@ -2,9 +2,9 @@
 -- Assumes nothing.
 use mathlib.Core.Path.{_≡_}
 use mathlib.Core.Option.{none}
-use mathlib.Core.List.{List}
+use mathlib.Core.List.{List, _∷_}
 use Prim.Native.Nat.{ℕ, _+_, _≤_, _<_}
-use lib.ListN.{length, getD}
+use lib.ListN.{length, getD, replicate}
 use Rattle.record.specs.Record.{blocksOf, majorsOf, partsOf, partsBefore}
 use Rattle.blocks.specs.Table.{cell}
 use Rattle.script.specs.Script.{partScript}
@@ -28,6 +28,10 @@ pub record PartRoom (d room : List ℕ) (p at m : ℕ) : Type 0 where
   pub sound : Sound d room
   pub part : p < partsOf d
   pub fits : at + lengthOf 256 d p ≤ m
+
+-- "an empty block is 256 words, zero but word 1 = 1"
+unfoldable pub emptyWords : List ℕ
+emptyWords = 0 ∷ 1 ∷ replicate 254 0
 
 -- block b of major stage s, whose first rank is `from`
 pub record BlockAt (d room : List ℕ) (s b from : ℕ) : Type 0 where

@@ -1,12 +1,11 @@
 // The words of one block: those of its parts in the order of their ranks, or those of an empty block.
 ghost use mathlib.Core.Path.{_≡_};
-ghost use mathlib.Core.List.{_∷_};
 ghost use Prim.Native.Nat.{_+_, _<_};
-ghost use lib.ListN.{length, replicate};
+ghost use lib.ListN.{length};
 ghost use lib.Seq.{sets};
 ghost use Rattle.assembly.specs.Assembly.{blockWords};
 ghost use Rattle.assembly.specs.Steps.{lastMark, partsIn, firstRank};
-ghost use Rattle.layout.specs.Layout.{BlockAt, BlockRoom};
+ghost use Rattle.layout.specs.Layout.{emptyWords, BlockAt, BlockRoom};
 use crate::parts::write_part;
 use record::places::parts_before;
 
@@ -70,7 +69,7 @@ fn write_parts(
 // Writes an empty block.
 fn write_empty(out: &mut [u32])
     requires { ⌜ length (now out) ≡ 256 ⌝ }
-    ensures { λ _. ⌜ now (out .exit) ≡ 0 ∷ 1 ∷ replicate 254 0 ⌝ }
+    ensures { λ _. ⌜ now (out .exit) ≡ emptyWords ⌝ }
 {
     pinmap::clear(out);
     out[1] = 1;

@@ -5,6 +5,7 @@ use Prim.Native.Nat.{ℕ, _+_, _*_, _-_, _≤_, _<_}
 use native.Mathlib.Omega.{arith}
 use lib.ListN.{length}
 use lib.Seq.{sets}
+use Rattle.layout.proofs.RowLaws.{body-there}
 use borrow.Author.Needs.{needs}
 use Rattle.layout.proofs.parts.body_of.Statement.{statement}
 use Rattle.layout.proofs.parts.body_of.Tie as tie
@@ -22,7 +23,7 @@ shared-slice-read-low : tie.Need-shared-slice-read-low
 shared-slice-read-low c = search needs
 
 cast-low : tie.Need-cast-low
-cast-low c = ?
+cast-low c = omega (arith, c .shared-slice-known3 .given (65536 + 16 * c .before .before .before .args .p))
 
 mul-high : tie.Need-mul-high
 mul-high c = search needs
@@ -40,16 +41,16 @@ shared-slice-read-high : tie.Need-shared-slice-read-high
 shared-slice-read-high c = search needs
 
 cast-high : tie.Need-cast-high
-cast-high c = ?
+cast-high c = omega (arith, c .shared-slice-known4 .given (65536 + 16 * c .before .before .before .before .args .p + 1))
 
 mul-body-at : tie.Need-mul-body-at
-mul-body-at c = ?
+mul-body-at c = omega (arith, c .shared-slice-known4 .given (65536 + 16 * c .before .before .before .before .args .p + 1))
 
 add-body-at : tie.Need-add-body-at
-add-body-at c = ?
+add-body-at c = omega (arith, c .shared-slice-known4 .given (65536 + 16 * c .before .before .before .before .args .p), c .shared-slice-known4 .given (65536 + 16 * c .before .before .before .before .args .p + 1))
 
 body-at-requires : tie.Need-body-at-requires
-body-at-requires c κs = ?
+body-at-requires c κs = body-there (c .before .before .before .before .args .d .now) (c .before .before .before .before .args .room .now) (c .before .before .before .before .pre .0) (c .before .before .before .before .args .p) (c .before .before .before .before .pre .1) _ refl
 
 returns : tie.Need-returns
 returns c = search needs

@@ -5,6 +5,7 @@ use Prim.Native.Nat.{ℕ, _+_, _*_, _-_, _≤_, _<_}
 use native.Mathlib.Omega.{arith}
 use lib.ListN.{length}
 use lib.Seq.{sets}
+use Rattle.layout.proofs.RowLaws.{row-numbers}
 use borrow.Author.Needs.{needs}
 use Rattle.layout.proofs.parts.numbers_of.Statement.{statement}
 use Rattle.layout.proofs.parts.numbers_of.Tie as tie
@@ -73,7 +74,7 @@ shared-slice-read-t31 : tie.Need-shared-slice-read-t31
 shared-slice-read-t31 c = search needs
 
 returns : tie.Need-returns
-returns c = ?
+returns c = let a = c .before .before .before .before .before .before .before in (row-numbers (a .args .d .now) (a .args .room .now) (a .pre .0) (a .args .p) (a .pre .1) (a .args .body) (a .pre .2) _ refl refl refl refl refl, (refl, refl, refl))
 
 pub numbers-of-spec : {M : Type 1} → statement M
 numbers-of-spec =

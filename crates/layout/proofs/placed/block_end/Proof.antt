@@ -3,7 +3,7 @@
 use mathlib.Core.Path.{_≡_, refl, sym, ap, _∙_}
 use Prim.Native.Nat.{ℕ, _+_, _*_, _-_, _≤_, _<_}
 use native.Mathlib.Omega.{arith}
-use lib.ListN.{length}
+use lib.ListN.{getD}
 use lib.Seq.{sets}
 use Rattle.assembly.specs.Steps.{firstRank}
 use Rattle.layout.proofs.RowLaws.{plan-formed, row-in, parts-few}
@@ -19,13 +19,13 @@ abbrev μ-loop : tie.MeasureT-loop
 μ-loop d room s b from end k₀ k = end - k
 
 add-parts-before : tie.Need-add-parts-before Inv-loop μ-loop
-add-parts-before c = ?
+add-parts-before c = omega (arith, plan-formed _ _ (c .before .before .pre .sound) .head .majors, c .before .before .pre .stage)
 
 parts-before-requires : tie.Need-parts-before-requires Inv-loop μ-loop
-parts-before-requires c κs = ?
+parts-before-requires c κs = omega (arith, plan-formed _ _ (c .before .before .pre .sound) .head .majors, c .before .before .pre .stage)
 
 loop-holds : tie.Need-loop-holds Inv-loop μ-loop
-loop-holds c = ?
+loop-holds c = (omega arith, omega (arith, parts-are _ _ _ _ _ (c .before .before .before .pre)))
 
 mul-p : tie.Need-mul-p Inv-loop μ-loop
 mul-p c = search needs
@@ -40,31 +40,38 @@ mul-p-2 : tie.Need-mul-p-2 Inv-loop μ-loop
 mul-p-2 c = search needs
 
 shared-slice-read-p : tie.Need-shared-slice-read-p Inv-loop μ-loop
-shared-slice-read-p c = ?
+shared-slice-read-p c = omega (arith, end-in _ _ _ _ _ (c .before .before .before .before .before .before .pre), c .before .before .before .parts-before .ensures .0, c .before .before .before .before .before .before .pre .sound .ready .wide)
 
 cast-p : tie.Need-cast-p Inv-loop μ-loop
-cast-p c = ?
+cast-p c = omega (arith, c .shared-slice-known3 .given (65536 + 16 * c .before .before .loop .k + 9))
 
 mul-if1 : tie.Need-mul-if1 Inv-loop μ-loop
-mul-if1 c = ?
+mul-if1 c = omega (arith, c .shared-slice-known3 .given (65536 + 16 * c .before .before .loop .k + 9))
 
 add-if1 : tie.Need-add-if1 Inv-loop μ-loop
-add-if1 c = ?
+add-if1 c = omega (arith, c .shared-slice-known3 .given (65536 + 16 * c .before .before .loop .k + 9))
 
 add-if1-2 : tie.Need-add-if1-2 Inv-loop μ-loop
-add-if1-2 c = ?
+add-if1-2 c = omega (arith, c .shared-slice-known3 .given (65536 + 16 * c .before .before .loop .k + 9))
 
 mul-if1-2 : tie.Need-mul-if1-2 Inv-loop μ-loop
-mul-if1-2 c = ?
+mul-if1-2 c = omega (arith, c .shared-slice-known3 .given (65536 + 16 * c .before .before .loop .k + 9))
 
 shared-slice-read-if1 : tie.Need-shared-slice-read-if1 Inv-loop μ-loop
-shared-slice-read-if1 c = ?
+shared-slice-read-if1 c = 
+    let a = c .before .before .before .before .before .before .before in
+    let l = c .before .before .before .loop in
+    omega (arith, rank-in _ _ _ _ _ (a .pre) (l .k) (l .inv .0) (omega (arith, c .before .before .before .before .parts-before .ensures .0)), a .pre .sound .ready .wide)
 
 cast-if1 : tie.Need-cast-if1 Inv-loop μ-loop
-cast-if1 c = ?
+cast-if1 c = 
+    let l = c .before .before .before .loop in
+    omega (arith, c .shared-slice-known4 .given (65536 + 16 * getD (c .before .before .before .before .before .before .before .args .room .now) (65536 + 16 * l .k + 9) 0 + 6))
 
 returns : tie.Need-returns Inv-loop μ-loop
-returns c = ?
+returns c = 
+    let l = c .before .before .before .before .loop in
+    block-off _ _ _ _ _ (c .before .before .before .before .before .before .before .before .pre) (l .k) (l .inv .0) (l .inv .1) (c .if1 .taken)
 
 add-k : tie.Need-add-k Inv-loop μ-loop
 add-k c = search needs
@@ -73,10 +80,14 @@ loop-less : tie.Need-loop-less Inv-loop μ-loop
 loop-less c = search needs
 
 loop-again : tie.Need-loop-again Inv-loop μ-loop
-loop-again c = ?
+loop-again c = 
+    let l = c .before .before .before .before .loop in
+    (omega arith, block-on _ _ _ _ _ (c .before .before .before .before .before .before .before .before .pre) (l .k) (l .inv .0) (omega (arith, c .before .before .before .before .before .parts-before .ensures .0)) (c .if1 .left))
 
 returns-2 : tie.Need-returns-2 Inv-loop μ-loop
-returns-2 c = ?
+returns-2 c = 
+    let l = c .before .loop in
+    omega (arith, to-in _ _ _ _ _ (c .before .before .before .before .before .pre), c .before .before .parts-before .ensures .0, l .inv .1)
 
 pub block-end-spec : {M : Type 1} → statement M
 block-end-spec =
