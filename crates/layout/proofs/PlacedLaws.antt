@@ -148,7 +148,7 @@ module _ (d room : List ℕ) (s b from : ℕ) (q : BlockAt d room s b from) wher
         -- the same, in a room that is as it was
         module _ (room₁ : List ℕ) (same : room₁ ≡ room) (old new : List ℕ) (stored : new ≡ sets old at (partsWords 256 d s xs j)) where
           pub turn-room : at + length (blockWords 256 d s xs) ≤ length old → PartRoom d room₁ (rankedAt room₁ k) next (length new)
-          turn-room fits = rw same (part-room (length new) (omega (arith, stored-length old new at _ stored)))
+          turn-room fits = rw same (part-room (length new) (omega (arith, stored-length old new at (partsWords 256 d s xs j) stored)))
 
           pub turn-next : (end : ℕ) → end ≡ next + lengthOf 256 d (rankedAt room₁ k) → end ≡ at + length (partsWords 256 d s xs (k + 1 - from))
           turn-next end e = e ∙ ap (λ (r : List ℕ). next + lengthOf 256 d (rankedAt r k)) same ∙ part-next

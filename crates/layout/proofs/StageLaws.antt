@@ -167,7 +167,7 @@ module _ (d room : List ℕ) (m w : ℕ) (q : PlanRoom d room m w) where
     pub last-words : (l l₁ z : List ℕ) → length l ≡ w → l₁ ≡ sets l 0 (majorWords 256 d (majorsOf d)) → z ≡ replicate (length (take (end + 2048 - end) (drop end l₁))) 0
         → putMid end (end + 2048 - end) l₁ z ≡ sets l 0 (scriptWords 256 d)
     last-words l l₁ z long a c =
-        let n : length l₁ ≡ w = stored-length l l₁ 0 _ a ∙ long in
+        let n : length l₁ ≡ w = stored-length l l₁ 0 (majorWords 256 d (majorsOf d)) a ∙ long in
         let k : length (take (end + 2048 - end) (drop end l₁)) ≡ 8 * 256 = mid-len end (end + 2048) l₁ (omega (arith, end-fits)) ∙ omega arith in
         let zeros : z ≡ replicate (8 * 256) 0 = c ∙ ap (λ (i : ℕ). replicate i 0) k in
         let size : length z ≡ end + 2048 - end = omega (arith, ap length zeros ∙ length-replicate {A = ℕ} (8 * 256) 0) in

@@ -91,8 +91,8 @@ module _ (n L : ℕ) (W starts : List ℕ) (s t : ℕ) (old new : List ℕ) (B :
   ith b i h l = ⊎-elim
       (λ e. absurd (omega (arith, empty-parts b e)))
       (λ c.
-        let e = some-parts b (chain-formed (length W) (getD starts b 0) c .0 .stages) in
-        subst (λ os. Ith n W t os (length W) i) (sym e) (ith-part n W t (length W) (getD starts b 0) i c (subst (λ os. i < length os) e l)))
+      let e = some-parts b (chain-formed (length W) (getD starts b 0) c .0 .stages) in
+      subst (λ os. Ith n W t os (length W) i) (sym e) (ith-part n W t (length W) (getD starts b 0) i c (subst (λ os. i < length os) e l)))
       (form-chain n W starts s t b (laid .form) h)
 
   -- the i-th part of block b is its last, or there is a next one, at its end
@@ -110,10 +110,10 @@ module _ (n L : ℕ) (W starts : List ℕ) (s t : ℕ) (old new : List ℕ) (B :
         next = ⊎-elim
             (λ e. inl (e, I .ends e))
             (λ e.
-              let (more, at) = I .goes e in
-              let J = ith b (suc i) (q .block) more in
-              let split = turns-split n W t (J .fuel) (getD (partsOf b) (suc i) 0) (J .chain) (J .fewer) in
-              inr (e, record { block = q .block; inside = more; at = at }, after-more n W t _ e ∙ subst (λ x. turnsFrom n W (length W) x ≡ stagesAt W x + 2 + turnsAfter n W x) (sym at) split))
+            let (more, at) = I .goes e in
+            let J = ith b (suc i) (q .block) more in
+            let split = turns-split n W t (J .fuel) (getD (partsOf b) (suc i) 0) (J .chain) (J .fewer) in
+            inr (e, record { block = q .block; inside = more; at = at }, after-more n W t _ e ∙ subst (λ x. turnsFrom n W (length W) x ≡ stagesAt W x + 2 + turnsAfter n W x) (sym at) split))
             last;
       })
 
@@ -217,9 +217,9 @@ module _ (n L : ℕ) (W starts : List ℕ) (s t : ℕ) (old new : List ℕ) (B :
   put-held b i o k q S H j e l r h g = ⊎-elim
       (λ d. put-other o (startAt W e + l) k (λ st. omega (arith, laid .apart .apart b i o b j e _ q r st (record { from = omega arith; until = omega arith }) .1)) ∙ H j e l r d g)
       (λ d.
-        let is : j ≡ i = omega arith in
-        let at : e ≡ o = r .at ∙ ap (λ (x : ℕ). getD (partsOf b) x 0) is ∙ sym (q .at) in
-        subst (λ x. getD (put o k) (startAt W x + l) 0 ≡ getD (caps x) l 0) (sym at) (put-same b i o l k q (same-new k S) (subst (λ x. l < normalAt W x) at g)))
+      let is : j ≡ i = omega arith in
+      let at : e ≡ o = r .at ∙ ap (λ (x : ℕ). getD (partsOf b) x 0) is ∙ sym (q .at) in
+      subst (λ x. getD (put o k) (startAt W x + l) 0 ≡ getD (caps x) l 0) (sym at) (put-same b i o l k q (same-new k S) (subst (λ x. l < normalAt W x) at g)))
       (lt-or-ge j i)
 
   put-below : (b i o : ℕ) (k : List ℕ) → Part b i o → Same B k new → Same B (put o k) new
@@ -364,9 +364,9 @@ module _ (n L : ℕ) (W starts : List ℕ) (s t : ℕ) (old new : List ℕ) (B :
   start-now b h = ⊎-elim
       (λ e. rests (empty-phase n L W (getD starts b 0) e) (omega (arith, empty-parts b e)))
       (λ c.
-        let is = some-parts b (chain-formed (length W) (getD starts b 0) c .0 .stages) in
-        let (some, at) = part-first n W t (length W) (getD starts b 0) c in
-        reads (getD starts b 0) (record { block = h; inside = subst (λ os. 0 < length os) (sym is) some; at = subst (λ os. getD starts b 0 ≡ getD os 0 0) (sym is) at }) refl)
+      let is = some-parts b (chain-formed (length W) (getD starts b 0) c .0 .stages) in
+      let (some, at) = part-first n W t (length W) (getD starts b 0) c in
+      reads (getD starts b 0) (record { block = h; inside = subst (λ os. 0 < length os) (sym is) some; at = subst (λ os. getD starts b 0 ≡ getD os 0 0) (sym is) at }) refl)
       (form-chain n W starts s t b (laid .form) h)
 
   start-ok : (b : ℕ) → b < m → Ok b (getD (starting .0) b (ended 0)) (starting .1)

@@ -63,8 +63,8 @@ one-count n W starts (suc k) b h =
     ⊎-elim
     (λ l. omega (arith, both, one-count n W starts k b l))
     (λ l.
-      let e : b ≡ k = omega arith in
-      omega (arith, both, subst (λ x. blockTurns n W (getD starts x 0) ≡ count x (replicate (blockTurns n W (getD starts k 0)) k)) (sym e) (sym (count-replicate k _))))
+    let e : b ≡ k = omega arith in
+    omega (arith, both, subst (λ x. blockTurns n W (getD starts x 0) ≡ count x (replicate (blockTurns n W (getD starts k 0)) k)) (sym e) (sym (count-replicate k _))))
     (lt-or-ge b k)
 
 -- ---- the theorems
@@ -92,11 +92,11 @@ module _ (n L : ℕ) (W starts : List ℕ) (s t : ℕ) (old new : List ℕ) (B :
       → runTurns n L W starts ts old new .new ≡ runTurns n L W starts us old new .new
   one-end ts us a b f g = ext-getD 0 _ _ (same-length ts a ∙ sym (same-length us b)) (λ w h. ⊎-elim
       (λ q.
-        let l = w - startAt W (q .o) in
-        let is : startAt W (q .o) + l ≡ w = omega (arith, q .stores .from) in
-        let fits : l < normalAt W (q .o) = omega (arith, q .stores .from, q .stores .until) in
-        subst (λ x. getD (runTurns n L W starts ts old new .new) x 0 ≡ getD (runTurns n L W starts us old new .new) x 0) is
-        (stored ts a f (q .b) (q .i) (q .o) l (q .part) fits ∙ sym (stored us b g (q .b) (q .i) (q .o) l (q .part) fits)))
+      let l = w - startAt W (q .o) in
+      let is : startAt W (q .o) + l ≡ w = omega (arith, q .stores .from) in
+      let fits : l < normalAt W (q .o) = omega (arith, q .stores .from, q .stores .until) in
+      subst (λ x. getD (runTurns n L W starts ts old new .new) x 0 ≡ getD (runTurns n L W starts us old new .new) x 0) is
+      (stored ts a f (q .b) (q .i) (q .o) l (q .part) fits ∙ sym (stored us b g (q .b) (q .i) (q .o) l (q .part) fits)))
       (λ free. untouched ts a w free ∙ sym (untouched us b w free))
       (storer n L W starts s t old new B laid w))
 
@@ -105,8 +105,8 @@ module _ (n L : ℕ) (W starts : List ℕ) (s t : ℕ) (old new : List ℕ) (B :
   one-done =
       let r = ran n L W starts s t old new B laid (oneAfterAnother n W starts (length starts - 1)) (one-names n W starts (length starts - 1) (length starts - 1) (omega arith)) in
       each-none n W _ (λ b h.
-        let l : b < length starts - 1 = omega (arith, r .blocks) in
-        omega (arith, r .turns-left b l, one-count n W starts (length starts - 1) b l))
+      let l : b < length starts - 1 = omega (arith, r .blocks) in
+      omega (arith, r .turns-left b l, one-count n W starts (length starts - 1) b l))
 
   -- any order makes the new state that the blocks make one after another
   pub in-any-order : (turns : List ℕ) → badTurn starts turns ≡ none → allLeft n W (runTurns n L W starts turns old new .blocks) ≡ 0

@@ -10,6 +10,7 @@ use Rattle.assembly.specs.Assembly.{blockStart, stageStarts, stageWords}
 use Rattle.assembly.specs.Steps.{firstRank}
 use Rattle.layout.proofs.StoreLaws.{stored-length}
 use Rattle.layout.proofs.StageLaws.{rank-first, at-first, words-first, starts-first, at-next, block-room, words-next, starts-next, stage-next}
+use Rattle.record.specs.Record.{blocksOf}
 use borrow.Author.Needs.{needs}
 use Rattle.layout.proofs.write_stage.Statement.{statement}
 use Rattle.layout.proofs.write_stage.Tie as tie
@@ -33,7 +34,9 @@ cast-blocks : tie.Need-cast-blocks Inv-loop μ-loop
 cast-blocks c = search needs
 
 loop-holds : tie.Need-loop-holds Inv-loop μ-loop
-loop-holds c = ?
+loop-holds c =
+    let a = c .before .before .before .before .before in
+    (omega arith, refl, rank-first (a .args .d .now) (a .args .room .now) _ _ _ _ _ (a .pre), at-first (a .args .d .now) (a .args .room .now) _ _ _ _ _ (a .pre), starts-first (a .args .d .now) (a .args .room .now) _ _ _ _ _ (a .pre) _, words-first (a .args .d .now) (a .args .room .now) _ _ _ _ _ (a .pre) _)
 
 add-starts : tie.Need-add-starts Inv-loop μ-loop
 add-starts c = search needs
@@ -42,10 +45,16 @@ mul-starts : tie.Need-mul-starts Inv-loop μ-loop
 mul-starts c = search needs
 
 slice-write-starts : tie.Need-slice-write-starts Inv-loop μ-loop
-slice-write-starts c = ?
+slice-write-starts c =
+    let a = c .before .before .before .before .before .before .before in
+    let l = c .before .loop in
+    omega (arith, a .pre .starts, c .before .before .word-at .ensures, stored-length (a .args .starts .now) (l .starts) (a .args .first) (stageStarts 256 (a .args .d .now) (a .args .s) (l .b)) (l .inv .4))
 
 write-block-requires : tie.Need-write-block-requires Inv-loop μ-loop
-write-block-requires c κs = ?
+write-block-requires c κs =
+    let a = c .before .before .before .before .before .before .before .before .before in
+    let l = c .before .before .before .loop in
+    block-room (a .args .d .now) (a .args .room .now) _ _ _ _ _ (a .pre) (l .b) (omega (arith, c .before .before .before .before .word-at .ensures)) (l .next .rank) (l .next .at) (l .inv .2) (l .inv .3) (l .room) (l .inv .1) _ (stored-length (a .args .words .now) (l .words) (a .args .at .at) (stageWords 256 (a .args .d .now) (a .args .s) (l .b)) (l .inv .5))
 
 add-b : tie.Need-add-b Inv-loop μ-loop
 add-b c = search needs
@@ -54,19 +63,47 @@ loop-less : tie.Need-loop-less Inv-loop μ-loop
 loop-less c = search needs
 
 loop-again : tie.Need-loop-again Inv-loop μ-loop
-loop-again c = ?
+loop-again c =
+    let a = c .before .before .before .before .before .before .before .before .before .before .before .before .before .before in
+    let l = c .before .before .before .before .before .before .before .before .loop in
+    let w = c .before .before .before .before .write-block in (
+      omega arith,
+      w .ensures .1 .0 ∙ l .inv .1,
+      w .ensures .0 .0,
+      at-next (a .args .d .now) (a .args .room .now) _ _ _ _ _ (a .pre) (l .b) (omega (arith, c .before .before .before .before .before .before .before .before .before .word-at .ensures)) (l .next .rank) (l .next .at) (l .inv .2) (l .inv .3) _ (w .ensures .0 .1),
+      starts-next (a .args .d .now) (a .args .room .now) _ _ _ _ _ (a .pre) (l .b) (omega (arith, c .before .before .before .before .before .before .before .before .before .word-at .ensures)) (l .next .rank) (l .next .at) (l .inv .2) (l .inv .3) (a .args .starts .now) (l .starts) (l .inv .4),
+      words-next (a .args .d .now) (a .args .room .now) _ _ _ _ _ (a .pre) (l .b) (omega (arith, c .before .before .before .before .before .before .before .before .before .word-at .ensures)) (l .next .rank) (l .next .at) (l .inv .2) (l .inv .3) (a .args .words .now) (l .words) _ (l .inv .5) (w .ensures .1 .1),
+    )
 
 same-length : tie.Need-same-length Inv-loop μ-loop
 same-length c = search needs
 
 same-length-2 : tie.Need-same-length-2 Inv-loop μ-loop
-same-length-2 c = ?
+same-length-2 c =
+    let a = c .before .before .before .before .before .before .before in
+    let l = c .before .loop in
+    stored-length (a .args .starts .now) (l .starts) (a .args .first) (stageStarts 256 (a .args .d .now) (a .args .s) (l .b)) (l .inv .4)
 
 same-length-3 : tie.Need-same-length-3 Inv-loop μ-loop
-same-length-3 c = ?
+same-length-3 c =
+    let a = c .before .before .before .before .before .before .before in
+    let l = c .before .loop in
+    stored-length (a .args .words .now) (l .words) (a .args .at .at) (stageWords 256 (a .args .d .now) (a .args .s) (l .b)) (l .inv .5)
 
 returns : tie.Need-returns Inv-loop μ-loop
-returns c = ?
+returns c =
+    let a = c .before .before .before .before .before .before .before in
+    let l = c .before .loop in
+    let e : l .b ≡ blocksOf (a .args .d .now) = omega (arith, c .before .before .word-at .ensures) in (
+      stage-next (a .args .d .now) (a .args .room .now) _ _ _ _ _ (a .pre) (l .b) (l .next) e (l .inv .2) (l .inv .3),
+      (
+        l .inv .1,
+        (
+          l .inv .4 ∙ ap (λ (n : ℕ). sets (a .args .starts .now) (a .args .first) (stageStarts 256 (a .args .d .now) (a .args .s) n)) e,
+          l .inv .5 ∙ ap (λ (n : ℕ). sets (a .args .words .now) (a .args .at .at) (stageWords 256 (a .args .d .now) (a .args .s) n)) e,
+        ),
+      ),
+    )
 
 pub write-stage-spec : {M : Type 1} → statement M
 write-stage-spec =

@@ -20,12 +20,12 @@ part-words-requires : tie.Need-part-words-requires
 part-words-requires c κs = search needs
 
 add-next : tie.Need-add-next
-add-next c = 
+add-next c =
     let a = c .before .before .before .before .before .before .before .before in
     omega (arith, next-in (a .args .d .now) (a .args .room .now) (a .pre .sound) (a .args .p) (a .pre .part) (c .before .numbers-of .result) (c .before .numbers-of .ensures .0) (a .args .at) _ _ (a .args .words .now) (c .part-words .ensures) refl (a .pre .fits), a .good, a .fits)
 
 mul-build-script : tie.Need-mul-build-script
-mul-build-script c = 
+mul-build-script c =
     let a = c .before .before .before .before .before .before .before .before .before in
     omega (arith, a .pre .fits, a .good, a .fits)
 
@@ -36,12 +36,12 @@ part-build-script-start : tie.Need-part-build-script-start
 part-build-script-start c = search needs
 
 part-build-script-end : tie.Need-part-build-script-end
-part-build-script-end c = 
+part-build-script-end c =
     let a = c .before .before .before .before .before .before .before .before .before in
     next-in (a .args .d .now) (a .args .room .now) (a .pre .sound) (a .args .p) (a .pre .part) (c .before .before .numbers-of .result) (c .before .before .numbers-of .ensures .0) (a .args .at) _ _ (a .args .words .now) (c .before .part-words .ensures) refl (a .pre .fits)
 
 build-script-requires : tie.Need-build-script-requires
-build-script-requires c κs = 
+build-script-requires c κs =
     let a = c .before .before .before .before .before .before .before .before .before .before in
     let n = c .before .before .before .numbers-of in (
       buildable (a .args .d .now) (a .args .room .now) (a .pre .sound) (a .args .p) (a .pre .part) (c .before .before .before .before .before .body-of .result) (c .before .before .before .before .before .body-of .ensures),
@@ -57,14 +57,16 @@ same-length-2 : tie.Need-same-length-2
 same-length-2 c = search needs
 
 returns : tie.Need-returns
-returns c = 
+returns c =
     let a = c .before .before .before .before .before .before .before .before .before .before .before .before .before .before .before in
     let n = c .before .before .before .before .before .before .before .before .numbers-of in
     let w = c .before .before .before .before .before .before .before .part-words in
     let r = c .before .before .before .before .build-script in (
       next-is (a .args .d .now) (a .args .room .now) (a .pre .sound) (a .args .p) (a .pre .part) (n .result) (n .ensures .0) (a .args .at) _ _ (a .args .words .now) (w .ensures) refl (a .pre .fits),
-      (room-same (a .args .d .now) (a .args .room .now) (a .pre .sound) _ (r .ensures .1),
-      part-written (a .args .d .now) (a .args .room .now) (a .pre .sound) (a .args .p) (a .pre .part) (n .result) (n .ensures .0) (a .args .at) _ _ (a .args .words .now) (w .ensures) refl (a .pre .fits) (a .args .last) (n .ensures .1) _ (r .kept .1 .1 .1 .1 .1 .0) (r .ensures .0)),
+      (
+        room-same (a .args .d .now) (a .args .room .now) (a .pre .sound) _ (r .ensures .1),
+        part-written (a .args .d .now) (a .args .room .now) (a .pre .sound) (a .args .p) (a .pre .part) (n .result) (n .ensures .0) (a .args .at) _ _ (a .args .words .now) (w .ensures) refl (a .pre .fits) (a .args .last) (n .ensures .1) _ (r .kept .1 .1 .1 .1 .1 .0) (r .ensures .0),
+      ),
     )
 
 pub write-part-spec : {M : Type 1} → statement M

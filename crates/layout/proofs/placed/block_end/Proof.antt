@@ -58,18 +58,18 @@ mul-if1-2 : tie.Need-mul-if1-2 Inv-loop μ-loop
 mul-if1-2 c = omega (arith, c .shared-slice-known3 .given (65536 + 16 * c .before .before .loop .k + 9))
 
 shared-slice-read-if1 : tie.Need-shared-slice-read-if1 Inv-loop μ-loop
-shared-slice-read-if1 c = 
+shared-slice-read-if1 c =
     let a = c .before .before .before .before .before .before .before in
     let l = c .before .before .before .loop in
     omega (arith, rank-in _ _ _ _ _ (a .pre) (l .k) (l .inv .0) (omega (arith, c .before .before .before .before .parts-before .ensures .0)), a .pre .sound .ready .wide)
 
 cast-if1 : tie.Need-cast-if1 Inv-loop μ-loop
-cast-if1 c = 
+cast-if1 c =
     let l = c .before .before .before .loop in
     omega (arith, c .shared-slice-known4 .given (65536 + 16 * getD (c .before .before .before .before .before .before .before .args .room .now) (65536 + 16 * l .k + 9) 0 + 6))
 
 returns : tie.Need-returns Inv-loop μ-loop
-returns c = 
+returns c =
     let l = c .before .before .before .before .loop in
     block-off _ _ _ _ _ (c .before .before .before .before .before .before .before .before .pre) (l .k) (l .inv .0) (l .inv .1) (c .if1 .taken)
 
@@ -80,12 +80,12 @@ loop-less : tie.Need-loop-less Inv-loop μ-loop
 loop-less c = search needs
 
 loop-again : tie.Need-loop-again Inv-loop μ-loop
-loop-again c = 
+loop-again c =
     let l = c .before .before .before .before .loop in
     (omega arith, block-on _ _ _ _ _ (c .before .before .before .before .before .before .before .before .pre) (l .k) (l .inv .0) (omega (arith, c .before .before .before .before .before .parts-before .ensures .0)) (c .if1 .left))
 
 returns-2 : tie.Need-returns-2 Inv-loop μ-loop
-returns-2 c = 
+returns-2 c =
     let l = c .before .loop in
     omega (arith, to-in _ _ _ _ _ (c .before .before .before .before .before .pre), c .before .before .parts-before .ensures .0, l .inv .1)
 

@@ -39,7 +39,9 @@ part-write-empty-start : tie.Need-part-write-empty-start
 part-write-empty-start c = search needs
 
 part-write-empty-end : tie.Need-part-write-empty-end
-part-write-empty-end c = ?
+part-write-empty-end c =
+    let a = c .before .before .before .before .before .before in
+    empty-in (a .args .d .now) (a .args .room .now) _ _ _ (a .pre .place) (omega (arith, c .before .block-end .ensures)) (a .args .at) (a .args .words .now) (a .pre .fits)
 
 write-empty-requires : tie.Need-write-empty-requires
 write-empty-requires c κs = search needs
@@ -51,7 +53,13 @@ same-length-4 : tie.Need-same-length-4
 same-length-4 c = search needs
 
 returns-2 : tie.Need-returns-2
-returns-2 c = ?
+returns-2 c =
+    let a = c .before .before .before .before .before .before .before .before .before .before in
+    let e = c .before .before .before .before .before .block-end .ensures in
+    let w = c .before .before .write-empty in (
+      (e, empty-next (a .args .d .now) (a .args .room .now) _ _ _ (a .pre .place) (omega (arith, e, c .before .before .before .before .if1 .left)) (a .args .at) (a .args .words .now) (a .pre .fits)),
+      (refl, empty-stored (a .args .d .now) (a .args .room .now) _ _ _ (a .pre .place) (omega (arith, e, c .before .before .before .before .if1 .left)) (a .args .at) (a .args .words .now) (a .pre .fits) _ (w .kept .0) (w .ensures)),
+    )
 
 pub write-block-spec : {M : Type 1} → statement M
 write-block-spec =

@@ -63,7 +63,7 @@ last-mark-requires : tie.Need-last-mark-requires Inv-loop μ-loop
 last-mark-requires c κs = search needs
 
 write-part-requires : tie.Need-write-part-requires Inv-loop μ-loop
-write-part-requires c κs = 
+write-part-requires c κs =
     let a = c .before .before .before .before .before .before .before .before .before in
     let l = c .before .before .before .before .before .loop in
     turn-room (a .args .d .now) (a .args .room .now) _ _ _ (a .pre .0 .place) (l .k) (l .inv .0) (before-to (c .before .before .before .before)) (a .args .at) (l .next) (l .inv .3) (l .room) (l .inv .2) (a .args .words .now) (l .words) (l .inv .4) (a .pre .0 .fits)
@@ -75,7 +75,7 @@ loop-less : tie.Need-loop-less Inv-loop μ-loop
 loop-less c = search needs
 
 loop-again : tie.Need-loop-again Inv-loop μ-loop
-loop-again c = 
+loop-again c =
     let a = c .before .before .before .before .before .before .before .before .before .before .before .before .before .before in
     let l = c .before .before .before .before .before .before .before .before .before .before .loop in
     let w = c .before .before .before .before .write-part in (
@@ -83,17 +83,20 @@ loop-again c =
       omega arith,
       w .ensures .1 .0 ∙ l .inv .2,
       turn-next (a .args .d .now) (a .args .room .now) _ _ _ (a .pre .0 .place) (l .k) (l .inv .0) (before-to (c .before .before .before .before .before .before .before .before .before)) (a .args .at) (l .next) (l .inv .3) (l .room) (l .inv .2) (a .args .words .now) (l .words) (l .inv .4) _ (w .ensures .0),
-      turn-stored (a .args .d .now) (a .args .room .now) _ _ _ (a .pre .0 .place) (l .k) (l .inv .0) (before-to (c .before .before .before .before .before .before .before .before .before)) (a .args .at) (l .next) (l .inv .3) (l .room) (l .inv .2) (a .args .words .now) (l .words) (l .inv .4) _ _ (c .before .before .before .before .before .before .before .last-mark .ensures ∙ ap (λ (x : ℕ). lastMark x (l .k)) (a .pre .2)) (w .ensures .1 .1),
+      turn-stored (a .args .d .now) (a .args .room .now) _ _ _ (a .pre .0 .place) (l .k) (l .inv .0) (before-to (c .before .before .before .before .before .before .before .before .before)) (a .args .at) (l .next) (l .inv .3) (l .room) (l .inv .2) (a .args .words .now) (l .words) (l .inv .4) _ _ (c .before .before .before .before .before .before .last-mark .ensures ∙ ap (λ (x : ℕ). lastMark x (l .k)) (a .pre .2)) (w .ensures .1 .1),
     )
 
 same-length : tie.Need-same-length Inv-loop μ-loop
 same-length c = search needs
 
 same-length-2 : tie.Need-same-length-2 Inv-loop μ-loop
-same-length-2 c = stored-length (c .before .before .before .before .before .args .words .now) (c .before .loop .words) _ _ (c .before .loop .inv .4)
+same-length-2 c =
+    let a = c .before .before .before .before .before .args in
+    let l = c .before .loop in
+    stored-length (a .words .now) (l .words) (a .at) (partsWords 256 (a .d .now) (a .s) (partsIn (a .d .now) (a .s) (a .b)) (l .k - a .from)) (l .inv .4)
 
 returns : tie.Need-returns Inv-loop μ-loop
-returns c = 
+returns c =
     let a = c .before .before .before .before .before in
     let l = c .before .loop in
     let e = all-words (a .args .d .now) (a .args .room .now) _ _ _ (a .pre .0 .place) (l .k) (omega (arith, a .pre .2)) (omega (arith, a .pre .2)) in
