@@ -6,11 +6,12 @@ use mathlib.Core.Option.{Option, none, some}
 use mathlib.Core.List.{List}
 use Prim.Native.Nat.{ℕ, _+_, _*_, _≤_, _<_}
 use native.Mathlib.Omega.{arith}
-use borrow.Author.Tests.{leb-true}
+use borrow.Author.Tests.{leb-true, le-leb, lt-leb}
 use lib.Dec.{leb}
 use lib.ListN.{length, replicate}
 use lib.Seq.{sets}
 use Rattle.words.specs.declared.refusals.Refusal.{Refusal}
+use Rattle.record.specs.Record.{blocksOf, majorsOf}
 use Rattle.record.specs.Form.{roomWords}
 use Rattle.record.proofs.TestLaws.{and-true}
 use Rattle.checks.specs.Refusals.{Refused, nowhere, planRefusal, planVerdict}
@@ -30,7 +31,7 @@ use Rattle.flatten.specs.Flatten.{Build, built, refusal, sizesOf, sizing
 use Rattle.flatten.specs.Answers.{sizesIn, flattenedOf}
 
 -- the answer that a verdict gives, where it is a refusal
-told : Verdict → Flattened
+abbrev told : Verdict → Flattened
 told verdict.Accepted = flattened.Refused (record { number = 0; part = 0; item = 0 })
 told (verdict.Refused x) = flattened.Refused x
 
@@ -49,8 +50,10 @@ accepted-is (some q) e = no-verdict _ e
 
 module _ (d room : List ℕ) where
   -- what the room of a refused plan holds
-  room-refused : (b : Bool) (o : Option Refused) (z : List ℕ) (q : Refused) → elim b [ true ↦ o | false ↦ some (nowhere 32) ] ≡ some q
-      → elim b [ false ↦ room | true ↦ elim o [ some x ↦ replicate (length room) 0 | none ↦ z ] ] ≡ elim b [ false ↦ room | true ↦ replicate (length room) 0 ]
+  room-refused : (b : Bool) (o : Option Refused) (z : List ℕ) (q : Refused)
+      → _≡_ {A = Option Refused} (elim b [ true ↦ o | false ↦ some (nowhere 32) ]) (some q)
+      → _≡_ {A = List ℕ} (elim b [ false ↦ room | true ↦ elim o [ some x ↦ replicate (length room) 0 | none ↦ z ] ])
+      (elim b [ false ↦ room | true ↦ replicate (length room) 0 ])
   room-refused false o z q e = refl
   room-refused true (some x) z q e = refl
   room-refused true none z q e = some-none q (sym e)
@@ -62,16 +65,16 @@ module _ (d room : List ℕ) where
 
     pub refused-sizing : refusal q ≡ sizing 256 d (length room)
     unfolding sizing
-    refused-sizing = rw e
+    refused-sizing = rw (e, sizing)
 
     module _ (s w : ℕ) where
       pub refused-building : refusal q ≡ building 256 d (length room) s w
       unfolding building
-      refused-building = rw e
+      refused-building = rw (e, building)
 
   -- ---- an accepted plan
 
-  none-both : (b : Bool) (o : Option Refused) → elim b [ true ↦ o | false ↦ some (nowhere 32) ] ≡ none → (b ≡ true) × (o ≡ none)
+  none-both : (b : Bool) (o : Option Refused) → _≡_ {A = Option Refused} (elim b [ true ↦ o | false ↦ some (nowhere 32) ]) none → (b ≡ true) × (o ≡ none)
   none-both true o e = (refl, e)
   none-both false o e = some-none _ e
 
@@ -85,15 +88,15 @@ module _ (d room : List ℕ) where
 
     pub cleared-room : (after : List ℕ) (m : ℕ) → m ≡ length room → after ≡ replicate m 0 → after ≡ roomAfter d room
     unfolding roomAfter
-    cleared-room after m k z = z ∙ ap (λ (n : ℕ). replicate n 0) k ∙ (rw (accepted .0))
+    cleared-room after m k z = z ∙ ap (λ (n : ℕ). replicate n 0) k ∙ (rw (accepted .0, roomAfter))
 
     pub accepted-sizing : built (sizesOf 256 d) ≡ sizing 256 d (length room)
     unfolding sizing
-    accepted-sizing = rw e
+    accepted-sizing = rw (e, sizing)
 
     pub accepted-building : (s w : ℕ) → ifFits (fits (sizesOf 256 d) s w) (sizesOf 256 d) ≡ building 256 d (length room) s w
     unfolding building
-    accepted-building s w = rw e
+    accepted-building s w = rw (e, building)
 
 -- ---- refusal 14
 
@@ -114,8 +117,8 @@ module _ (d : List ℕ) (s w : ℕ) (x : Sizes) (are : x ≡ sizesIn (sizesOf 25
       let r = and-true (leb (sizesOf 256 d .starts) s) (leb (sizesOf 256 d .words) w) (fits-is ∙ e) in
       record {
         sound = h;
-        starts = omega (arith, leb-true _ _ (r .0), starts-length 256 d);
-        words = leb-true _ _ (r .1);
+        starts = omega (arith, leb-true (blocksOf d * majorsOf d + 1) s (r .0), starts-length 256 d);
+        words = leb-true (length (scriptWords 256 d)) w (r .1);
       }
 
 -- what a result slice then holds
@@ -126,3 +129,29 @@ laid-built o x e l before after a = a ∙ rw (e, laid)
 pub laid-refused : (o : Build) (q : Refused) → o ≡ refusal q → (l before : List ℕ) → before ≡ laid o l before
 unfolding laid
 laid-refused o q e l before = rw (e, laid)
+
+-- ---- a refused plan's answer, and its slices
+
+module _ (d room : List ℕ) (x : Refusal) (v : verdict.Refused x ≡ verdictOf (planVerdict 256 d (length room))) (after : List ℕ) (is : after ≡ roomLeft d room) where
+  pub refused-sized : (flattened.Refused x ≡ flattenedOf (sizing 256 d (length room))) × (after ≡ roomAfter d room)
+  refused-sized =
+      let (q, e, f) = refused-is (planVerdict 256 d (length room)) x v in
+      (f ∙ ap flattenedOf (refused-sizing d room q e), refused-room d room q e after is)
+
+  module _ (starts words : List ℕ) where
+    pub refused-built : flattened.Refused x ≡ flattenedOf (building 256 d (length room) (length starts) (length words))
+    refused-built =
+        let (q, e, f) = refused-is (planVerdict 256 d (length room)) x v in
+        f ∙ ap flattenedOf (refused-building d room q e (length starts) (length words))
+
+    pub refused-kept : (l before : List ℕ) → before ≡ laid (building 256 d (length room) (length starts) (length words)) l before
+    refused-kept l before =
+        let (q, e, f) = refused-is (planVerdict 256 d (length room)) x v in
+        laid-refused (building 256 d (length room) (length starts) (length words)) q (sym (refused-building d room q e (length starts) (length words))) l before
+
+-- one test, then the other
+pub test-on : (a b : ℕ) (c : Bool) → a ≤ b → c ≡ (leb a b && c)
+test-on a b c h = rw (le-leb a b h)
+
+pub test-off : (a b : ℕ) (c : Bool) → b < a → leb a b ≡ (leb a b && c)
+test-off a b c h = rw (lt-leb a b h)
