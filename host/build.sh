@@ -5,7 +5,7 @@
 crate() {
     local name=$1 file=$2
     shift 2
-    "$RUSTC" "${RUSTC_FLAGS[@]}" --edition 2021 -O --crate-type rlib --crate-name "$name" \
+    "$RUSTC" ${RUSTC_FLAGS[@]+"${RUSTC_FLAGS[@]}"} --edition 2021 -O --crate-type rlib --crate-name "$name" \
         -L "$OUT" "$@" -o "$OUT/lib$name.rlib" "$file"
 }
 
@@ -13,8 +13,23 @@ crate() {
 program() {
     local name=$1 file=$2
     shift 2
-    "$RUSTC" "${RUSTC_FLAGS[@]}" --edition 2021 -O --crate-name "$name" \
+    "$RUSTC" ${RUSTC_FLAGS[@]+"${RUSTC_FLAGS[@]}"} --edition 2021 -O --crate-name "$name" \
         -L "$OUT" "$@" -o "$OUT/$name" "$file"
+}
+
+# at_once WORDS..: begins a command beside others, as many as there are processors. all_done waits for the last of them.
+# A command that fails ends the script.
+at_once() {
+    while [ "$(jobs -rp | wc -l)" -ge "$(nproc)" ]; do
+        wait -n
+    done
+    "$@" &
+}
+
+all_done() {
+    while [ -n "$(jobs -p)" ]; do
+        wait -n
+    done
 }
 
 # extern NAME..: the words that let a crate name these crates, in the array EXTERN.
@@ -51,8 +66,9 @@ copy_oracle() {
 build_oracle() {
     local stand_ins=$HOST/oracle/stand-ins name
     for name in indexmap ulib clilog compact_str sverilogparse rayon; do
-        crate "$name" "$stand_ins/$name.rs"
+        at_once crate "$name" "$stand_ins/$name.rs"
     done
+    all_done
     extern compact_str sverilogparse
     crate netlistdb "$stand_ins/netlistdb.rs" "${EXTERN[@]}"
     # Derives run inside the compiler, so on its own machine.
@@ -67,16 +83,20 @@ build_oracle() {
 build_plain() {
     crate random "$HOST/random/src/lib.rs"
     crate plan "$HOST/plan/src/lib.rs"
+    extern random
+    crate filter "$HOST/filter/src/lib.rs" "${EXTERN[@]}"
 }
 
-# make_plans: the designs through GEM.
+# make_plans and make_filter: the designs, and the replay's filter, through GEM.
 build_make_plans() {
-    extern netlistdb random
+    extern netlistdb random filter
     crate netlists "$HOST/netlists/src/lib.rs" "${EXTERN[@]}"
-    extern oracle netlists plan random
+    extern oracle netlists netlistdb plan random
     crate from_gem "$HOST/plan/from_gem.rs" "${EXTERN[@]}"
-    extern from_gem netlists plan
-    program make_plans "$HOST/oracle/bin/make_plans.rs" "${EXTERN[@]}"
+    extern from_gem netlists plan filter
+    at_once program make_plans "$HOST/oracle/bin/make_plans.rs" "${EXTERN[@]}"
+    at_once program make_filter "$HOST/oracle/bin/make_filter.rs" "${EXTERN[@]}"
+    all_done
 }
 
 # build_gem FROM: all that is made of GEM's sources.
@@ -86,12 +106,12 @@ build_gem() {
     build_make_plans
 }
 
-# find_functions MAKER: sets HAS (an array) to the groups of functions that there are, of listing, plans and run. The
-# model has all; the archive is asked for their symbols.
+# find_functions MAKER: sets HAS (an array) to the groups of functions that there are, of listing, plans, run and value.
+# The model has all; the archive is asked for their symbols.
 find_functions() {
     local group
     HAS=()
-    for group in listing:juolgesot_list plans:juolgesot_build run:juolgesot_run; do
+    for group in listing:juolgesot_list plans:juolgesot_build run:juolgesot_run value:juolgesot_value; do
         if [ "$1" = model ] || grep -aqw "${group#*:}" "$ARCHIVE/libcapi.a"; then
             HAS+=("${group%:*}")
         fi
@@ -104,7 +124,6 @@ has() {
 
 # build_wrapper MAKER: the crate juolgesot over the archive (MAKER archive) or over the model.
 build_wrapper() {
-    local group flags=()
     extern model
     crate model "$HOST/model/src/lib.rs"
     if [ "$1" = model ]; then
@@ -112,32 +131,83 @@ build_wrapper() {
     else
         crate archive "$HOST/juolgesot/archive.rs" -L native="$ARCHIVE"
     fi
-    for group in ${HAS[@]+"${HAS[@]}"}; do
-        flags+=(--cfg "has_$group")
-    done
+    function_flags
     extern archive
-    crate juolgesot "$HOST/juolgesot/src/lib.rs" ${flags[@]+"${flags[@]}"} "${EXTERN[@]}"
+    crate juolgesot "$HOST/juolgesot/src/lib.rs" ${FLAGS[@]+"${FLAGS[@]}"} "${EXTERN[@]}"
 }
 
-# build_programs REFERENCE: the comparison programs, against gem or against model, of the functions that there are.
-build_programs() {
-    local name flags=()
+# The words that tell a crate which functions there are, in the array FLAGS.
+function_flags() {
+    local group
+    FLAGS=()
+    for group in ${HAS[@]+"${HAS[@]}"}; do
+        FLAGS+=(--cfg "has_$group")
+    done
+}
+
+# build_shared REFERENCE: what the programs share; comparisons are with gem or with model.
+build_shared() {
     extern model plan
     if [ "$1" = gem ]; then
         extern oracle plan indexmap
     fi
     crate reference "$HOST/compare/reference/$1.rs" "${EXTERN[@]}"
-    for name in ${HAS[@]+"${HAS[@]}"}; do
-        flags+=(--cfg "has_$name")
+    function_flags
+    SHARED=(juolgesot model reference random plan filter)
+    extern "${SHARED[@]}"
+    crate compare "$HOST/compare/src/lib.rs" ${FLAGS[@]+"${FLAGS[@]}"} "${EXTERN[@]}"
+    SHARED+=(compare)
+}
+
+# The comparison programs of the functions that there are.
+build_comparisons() {
+    local name programs=(replay_answers make_answers compare_rounds fuzz m10)
+    ! has listing || programs+=(compare_listing)
+    ! has plans || programs+=(compare_plans)
+    ! has run || programs+=(compare_run)
+    ! has value || programs+=(compare_value)
+    extern "${SHARED[@]}"
+    for name in "${programs[@]}"; do
+        at_once program "$name" "$HOST/compare/src/bin/$name.rs" ${FLAGS[@]+"${FLAGS[@]}"} "${EXTERN[@]}"
     done
-    extern juolgesot model reference random plan
-    crate compare "$HOST/compare/src/lib.rs" ${flags[@]+"${flags[@]}"} "${EXTERN[@]}"
-    extern juolgesot model reference random plan compare
-    PROGRAMS=(replay_answers make_answers compare_rounds)
-    ! has listing || PROGRAMS+=(compare_listing)
-    ! has plans || PROGRAMS+=(compare_plans)
-    ! has run || PROGRAMS+=(compare_run)
-    for name in "${PROGRAMS[@]}"; do
-        program "$name" "$HOST/compare/src/bin/$name.rs" "${EXTERN[@]}"
+    all_done
+}
+
+# build_juolgesot REFERENCE: the program juolgesot. Its crate has a name of its own, as the library has that one.
+build_juolgesot() {
+    local flags=(${FLAGS[@]+"${FLAGS[@]}"}) crates=("${SHARED[@]}")
+    if has run; then
+        extern "${SHARED[@]}"
+        crate replay "$HOST/replay/src/lib.rs" "${EXTERN[@]}"
+        crates+=(replay)
+    fi
+    if [ "$1" = gem ]; then
+        flags+=(--cfg has_gem)
+        crates+=(from_gem netlists)
+    fi
+    extern "${crates[@]}"
+    program juolgesot_program "$HOST/program/src/main.rs" ${flags[@]+"${flags[@]}"} "${EXTERN[@]}"
+    mv "$OUT/juolgesot_program" "$OUT/juolgesot"
+}
+
+# build_programs REFERENCE: all of them.
+build_programs() {
+    build_shared "$1"
+    build_comparisons
+    build_juolgesot "$1"
+}
+
+# build_c MAKER: the C program over the header, linked with the archive or with the model behind the same functions.
+build_c() {
+    local group flags=(-std=c99 -O1 -Wall -Wextra -Werror) library=$ARCHIVE/libcapi.a
+    for group in ${HAS[@]+"${HAS[@]}"}; do
+        flags+=("-DHAS_${group^^}")
     done
+    if [ "$1" = model ]; then
+        library=$OUT/libmodel_c.a
+        extern model
+        "$RUSTC" ${RUSTC_FLAGS[@]+"${RUSTC_FLAGS[@]}"} --edition 2021 -O --crate-type staticlib --crate-name model_c \
+            -L "$OUT" "${EXTERN[@]}" -o "$library" "$HOST/model/capi.rs"
+    fi
+    "$CC" "${flags[@]}" -o "$OUT/guarded" "$HOST/c/guarded.c" "$library" -lpthread -ldl -lm
 }

@@ -1,6 +1,7 @@
 # Sourced by host/check. Finds a rustc that builds for x86-64 (the archive's only machine),
 # a linker and, on another machine, an emulator; installs what is lacking from Debian.
-# Sets RUSTC, RUSTC_FLAGS (an array) and RUN (an array, put before a program's path).
+# Sets RUSTC, RUSTC_FLAGS (an array), CC and RUN (an array, put before a program's path).
+# With NATIVE=yes it takes the machine's own rustc and cc as they are: enough for the model, not for the archive.
 
 TARGET=x86_64-unknown-linux-gnu
 
@@ -52,10 +53,19 @@ find_rustc() {
 }
 
 install_tools() {
+    if [ "${NATIVE:-no}" = yes ]; then
+        RUSTC=${RUSTC:-rustc}
+        TARGET="this machine"
+        RUSTC_FLAGS=()
+        CC=cc
+        RUN=()
+        return
+    fi
     if [ "$(uname -m)" = x86_64 ]; then
         find_rustc || install_packages rustc
         command -v cc >/dev/null || install_packages gcc libc6-dev
         RUSTC_FLAGS=(--target "$TARGET")
+        CC=cc
         RUN=()
     else
         find_rustc || install_packages rustc libstd-rust-dev:amd64
@@ -63,6 +73,7 @@ install_tools() {
         [ -e /usr/lib/x86_64-linux-gnu/libc.so ] || install_packages libc6-dev:amd64
         command -v qemu-x86_64 >/dev/null || install_packages qemu-user
         RUSTC_FLAGS=(--target "$TARGET" -C linker=x86_64-linux-gnu-gcc)
+        CC=x86_64-linux-gnu-gcc
         RUN=(qemu-x86_64)
     fi
     find_rustc || {

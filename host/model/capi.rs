@@ -4,7 +4,7 @@
 #![deny(unsafe_op_in_unsafe_fn)]
 
 use model::build::{accept, Accepted, Sizes};
-use model::{listing, record, rounds, run, Refused};
+use model::{listing, record, rounds, run, value, Refused};
 use std::slice::{from_raw_parts, from_raw_parts_mut};
 
 /// # Safety
@@ -185,6 +185,41 @@ pub unsafe extern "C" fn juolgesot_run(
             new.copy_from_slice(&ran.new);
             (0, (ran.turns_left, 0))
         }
+        Err(refused) => (refused.number, (refused.part, refused.item)),
+    };
+    *first = results.0;
+    *second = results.1;
+    code
+}
+
+/// # Safety
+/// Each pointer is to its length of words or bytes, none of them shared.
+#[no_mangle]
+pub unsafe extern "C" fn juolgesot_value(
+    plan: *const u8,
+    plan_len: usize,
+    room: *mut u32,
+    room_len: usize,
+    old: *const u32,
+    old_len: usize,
+    new: *const u32,
+    new_len: usize,
+    part: u32,
+    pin: u32,
+    first: &mut u64,
+    second: &mut u64,
+) -> u32 {
+    let (plan, room) = unsafe { (from_raw_parts(plan, plan_len), from_raw_parts_mut(room, room_len)) };
+    let (old, new) = unsafe { (from_raw_parts(old, old_len), from_raw_parts(new, new_len)) };
+    let words = record::words(plan);
+    let answer = if (room.len() as u64) < record::room_words(&words) {
+        Err(Refused::plain(32))
+    } else {
+        room.fill(0);
+        value::answer(plan.len(), &words, part, pin, old, new)
+    };
+    let (code, results) = match answer {
+        Ok(bit) => (0, (bit as u64, 0)),
         Err(refused) => (refused.number, (refused.part, refused.item)),
     };
     *first = results.0;

@@ -1,5 +1,6 @@
 //! GEM's way from a netlist to a plan and its script: AIG, staging, partitioning and flattening by GEM's own files.
 
+use netlistdb::Direction;
 use netlists::designs::{Clusters, Design, Layout};
 use oracle::aig::{DriverType, EndpointGroup, AIG};
 use oracle::flatten::{oracle_inputs_outputs, FlattenedScriptV1, OracleTables};
@@ -13,6 +14,15 @@ pub struct Made {
     pub script: Script,
     /// Staged pins that lie in duplicate words.
     pub staged_duplicates: usize,
+    pub ports: Ports,
+}
+
+/// The ports of a design in the order in which they were made, each with its inverted pin number and where its bit is
+/// in the state; and the registers, likewise, by the pins of their outputs.
+pub struct Ports {
+    pub inputs: Vec<Option<(u32, u32)>>,
+    pub outputs: Vec<(u32, u32)>,
+    pub registers: Vec<(u32, u32)>,
 }
 
 pub fn make(design: &Design) -> Made {
@@ -57,13 +67,37 @@ pub fn make(design: &Design) -> Made {
         positions,
         stages: plan_stages,
     };
+    let ports = ports(&aig, design, &script);
     let script = Script {
         starts: script.blocks_start.iter().map(|&start| start as u64).collect(),
         words: script.blocks_data.to_vec(),
         state_words: script.reg_io_state_size.into(),
         sram_words: script.sram_storage_size.into(),
     };
-    Made { plan, script, staged_duplicates }
+    Made { plan, script, staged_duplicates, ports }
+}
+
+fn ports(aig: &AIG, design: &Design, script: &FlattenedScriptV1) -> Ports {
+    let mut ports = Ports { inputs: Vec::new(), outputs: Vec::new(), registers: Vec::new() };
+    let place = |pin: usize| script.input_map.get(&pin).map(|&position| (2 * pin as u32, position));
+    let netlist = &design.netlist;
+    for pin in (0..netlist.num_pins).filter(|&pin| netlist.pin2cell[pin] == 0) {
+        match aig.clock_pin2aigpins.get(&pin) {
+            Some(&(rising, _)) => ports.inputs.push(place(rising)),
+            None if netlist.pindirect[pin] == Direction::O => {
+                ports.inputs.push(place(aig.pin2aigpin_iv[pin] >> 1))
+            }
+            None => {
+                let inverted_pin = aig.pin2aigpin_iv[pin];
+                let position = script.output_map.get(&inverted_pin).expect("every output is stored");
+                ports.outputs.push((inverted_pin as u32, *position));
+            }
+        }
+    }
+    ports
+        .registers
+        .extend(aig.dffs.values().map(|register| place(register.q).expect("every register has its bit")));
+    ports
 }
 
 fn partitions(aig: &AIG, staged: &StagedAIG, clusters: Clusters, random: &mut Random) -> Vec<Partition> {

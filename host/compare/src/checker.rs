@@ -1,15 +1,10 @@
 //! One comparison: a call of our library, held to the reference in every answer and every lent word.
 
+use crate::lent::{self, LentRead, Room};
 use crate::tally::Tally;
 use juolgesot::ffi::{self, Answer};
 use model::rounds::{self, Pair, ROUND_WORDS, SET_ROOM};
 use std::time::Instant;
-
-/// Words around each lent slice that no call may touch.
-const GUARD: usize = 64;
-const GUARD_WORD: u32 = 0xC0DE_D00D;
-/// What a room that is not zero holds.
-const ROOM_WORD: u32 = 0x5A5A_A5A5;
 
 /// What working room and result room a call is lent.
 #[derive(Debug, Clone, Copy)]
@@ -36,9 +31,6 @@ impl Default for Lent {
 }
 
 pub struct Checker {
-    room: Vec<u32>,
-    out: Vec<u32>,
-    before: Vec<u32>,
     pub kinds: Tally,
     pub answers: Tally,
     pub tries: Tally,
@@ -48,9 +40,6 @@ pub struct Checker {
 impl Checker {
     pub fn new() -> Self {
         Checker {
-            room: Vec::new(),
-            out: Vec::new(),
-            before: Vec::new(),
             kinds: Tally::new("read sets by kind"),
             answers: Tally::new("read sets by answer"),
             tries: Tally::new("packings by the try that won"),
@@ -90,15 +79,14 @@ impl Checker {
         };
         self.count_answer(&expected);
 
-        self.lend(lent, out_length);
-        let answer = ffi::read_rounds(
-            set,
-            &mut self.room[GUARD..GUARD + lent.room],
-            &mut self.out[GUARD..GUARD + out_length],
-        );
+        let lent_set = LentRead::new(set);
+        let mut room = Room::new(lent.room, lent.room_is_zero);
+        let before = |index: usize| 0x9000_0000 + index as u32;
+        let mut out = lent::Lent::new(out_length, before, 0xC0DE_D00D);
+        let answer = ffi::read_rounds(lent_set.slice(), room.slice(), out.slice());
         check_answer(answer, &expected)?;
-        self.check_out(&expected)?;
-        self.check_room(lent, matches!(expected, Err((32, _))))
+        out.check("result word", expected.as_ref().map_or(&[], |words| words), before)?;
+        room.check(answer.code)
     }
 
     /// The reference's lanes; the model must agree with them.
@@ -121,55 +109,6 @@ impl Checker {
             Err((number, _)) => self.answers.count(&format!("refused {}", number)),
         }
     }
-
-    /// Fills room and result with what they hold before the call, guards around them.
-    fn lend(&mut self, lent: Lent, out_length: usize) {
-        self.room.clear();
-        self.room.resize(GUARD, GUARD_WORD);
-        self.room.resize(GUARD + lent.room, if lent.room_is_zero { 0 } else { ROOM_WORD });
-        self.room.resize(GUARD + lent.room + GUARD, GUARD_WORD);
-        self.out.clear();
-        self.out.extend((0..out_length + 2 * GUARD).map(|index| 0x9000_0000 + index as u32));
-        self.before.clear();
-        self.before.extend_from_slice(&self.out);
-    }
-
-    /// The result's words are the expected ones; behind them, and around, nothing has changed.
-    fn check_out(&mut self, expected: &Result<Vec<u32>, (u32, u64)>) -> Result<(), String> {
-        if let Ok(words) = expected {
-            self.before[GUARD..GUARD + words.len()].copy_from_slice(words);
-        }
-        same_words("result", &self.out, &self.before)
-    }
-
-    /// The room holds zeros, or after refusal 32 what it held before.
-    fn check_room(&self, lent: Lent, unchanged: bool) -> Result<(), String> {
-        let word = if unchanged && !lent.room_is_zero { ROOM_WORD } else { 0 };
-        let held = |words: &[u32], word: u32| words.iter().fold(0, |seen, held| seen | (held ^ word)) == 0;
-        let (front, rest) = self.room.split_at(GUARD);
-        let (room, back) = rest.split_at(lent.room);
-        if held(room, word) && held(front, GUARD_WORD) && held(back, GUARD_WORD) {
-            return Ok(());
-        }
-        let mut expected = vec![GUARD_WORD; self.room.len()];
-        expected[GUARD..GUARD + lent.room].fill(word);
-        same_words("room", &self.room, &expected)
-    }
-}
-
-/// The first word that differs. Both are slices with their guards.
-fn same_words(name: &str, found: &[u32], expected: &[u32]) -> Result<(), String> {
-    if found == expected {
-        return Ok(());
-    }
-    let at = found.iter().zip(expected).position(|(word, wanted)| word != wanted).unwrap_or(0);
-    Err(format!(
-        "{} word {} is {:#010x}, expected {:#010x}",
-        name,
-        at as isize - GUARD as isize,
-        found[at],
-        expected[at]
-    ))
 }
 
 fn check_answer(answer: Answer, expected: &Result<Vec<u32>, (u32, u64)>) -> Result<(), String> {

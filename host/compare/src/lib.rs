@@ -1,11 +1,17 @@
 //! What the comparison programs share.
 
 pub mod answers;
+#[cfg(has_plans)]
+pub mod builders;
 pub mod came;
 pub mod checker;
 pub mod damage;
 pub mod explain;
 pub mod lent;
+#[cfg(has_listing)]
+pub mod list_checker;
+pub mod marked;
+pub mod pages;
 pub mod plan_changes;
 #[cfg(has_plans)]
 pub mod plan_checker;
@@ -16,6 +22,8 @@ pub mod run_checker;
 pub mod run_damage;
 pub mod sets;
 pub mod tally;
+#[cfg(has_value)]
+pub mod value_checker;
 
 /// Panics of the reference are expected and caught: keep them off the terminal.
 pub fn silence_expected_panics() {
@@ -26,4 +34,14 @@ pub fn silence_expected_panics() {
             print(info);
         }
     }));
+}
+
+/// Writes a plan record that shows a difference to a file, and ends the program.
+pub fn stop_at_record(record: &[u8]) -> ! {
+    let path = std::env::temp_dir().join("juolgesot-difference.plan");
+    match std::fs::write(&path, record) {
+        Ok(()) => println!("the plan record ({} bytes) is in {}", record.len(), path.display()),
+        Err(_) => println!("the plan record has {} bytes", record.len()),
+    }
+    std::process::exit(1);
 }

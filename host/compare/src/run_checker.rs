@@ -1,6 +1,6 @@
 //! One comparison of a run, held to the model in its answer and every lent word.
 
-use crate::lent::{Lent, Room};
+use crate::lent::{Lent, LentRead, Room};
 use crate::run_damage::Case;
 use crate::tally::Tally;
 use juolgesot::ffi::{self, Answer};
@@ -52,8 +52,10 @@ impl RunChecker {
 
 fn compare(case: &Case, expected: &Result<Ran, Refused>, mut room: Room) -> Result<(), String> {
     let mut new = Lent::new(case.new.len(), |index| case.new[index], 0xC0DE_D00D);
-    let before = case.clone();
-    let answer = ffi::run(&case.words, &case.starts, &case.turns, &case.old, new.slice(), room.slice());
+    let (words, starts) = (LentRead::new(&case.words), LentRead::new(&case.starts));
+    let (turns, old) = (LentRead::new(&case.turns), LentRead::new(&case.old));
+    let answer =
+        ffi::run(words.slice(), starts.slice(), turns.slice(), old.slice(), new.slice(), room.slice());
     let wanted = match expected {
         Ok(ran) => Answer { code: 0, first: ran.turns_left, second: 0 },
         Err(refused) => Answer { code: refused.number, first: refused.part, second: refused.item },
@@ -63,9 +65,5 @@ fn compare(case: &Case, expected: &Result<Ran, Refused>, mut room: Room) -> Resu
     }
     let state = expected.as_ref().map_or(&case.new, |ran| &ran.new);
     new.check("word of the new state", state, |_| 0)?;
-    room.check(answer.code)?;
-    if *case != before {
-        return Err("words, starts, turns or the old state were changed".to_string());
-    }
-    Ok(())
+    room.check(answer.code)
 }

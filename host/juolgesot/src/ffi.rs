@@ -75,6 +75,22 @@ extern "C" {
         first: *mut u64,
         second: *mut u64,
     ) -> u32;
+
+    #[cfg(has_value)]
+    fn juolgesot_value(
+        plan: *const u8,
+        plan_len: usize,
+        room: *mut u32,
+        room_len: usize,
+        old: *const u32,
+        old_len: usize,
+        new: *const u32,
+        new_len: usize,
+        part: u32,
+        pin: u32,
+        first: *mut u64,
+        second: *mut u64,
+    ) -> u32;
 }
 
 /// What a call gives back: 0 and two results, or a refusal's number and its place (part, item).
@@ -199,6 +215,29 @@ pub fn run(
             new.len(),
             room.as_mut_ptr(),
             room.len(),
+            &mut first,
+            &mut second,
+        )
+    };
+    Answer { code, first, second }
+}
+
+/// Code 0: `first` is the bit, `second` 0.
+#[cfg(has_value)]
+pub fn value(plan: &[u8], room: &mut [u32], old: &[u32], new: &[u32], part: u32, pin: u32) -> Answer {
+    let (mut first, mut second) = (0, 0);
+    let code = unsafe {
+        juolgesot_value(
+            plan.as_ptr(),
+            plan.len(),
+            room.as_mut_ptr(),
+            room.len(),
+            old.as_ptr(),
+            old.len(),
+            new.as_ptr(),
+            new.len(),
+            part,
+            pin,
             &mut first,
             &mut second,
         )

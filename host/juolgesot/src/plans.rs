@@ -1,14 +1,9 @@
 //! Plans to scripts.
 
 use crate::ffi::{self, PlanAnswer};
+use crate::plan_room::room_for;
 use crate::refusal::Refusal;
-
-/// Words of working room for a plan, without those of its parts.
-const PLAN_ROOM: u64 = 65536;
-/// Words of working room for each part.
-const PART_ROOM: u64 = 16;
-/// Parts of a plan, at most: 64 major stages of 4096.
-const MOST_PARTS: u64 = 64 * 4096;
+use crate::script::Script;
 
 /// How much result room a plan needs, and how large its state and SRAM are.
 #[derive(Debug, Clone, Copy, PartialEq, Eq)]
@@ -17,25 +12,6 @@ pub struct Sizes {
     pub words: usize,
     pub state_words: u64,
     pub sram_words: u64,
-}
-
-#[derive(Debug, Clone, PartialEq, Eq)]
-pub struct Script {
-    /// Where each block of each major stage begins, and the end.
-    pub starts: Vec<u64>,
-    pub words: Vec<u32>,
-    pub state_words: u64,
-    pub sram_words: u64,
-}
-
-/// Words of working room for a plan, as the counts of its record say.
-pub fn plan_room(plan: &[u8]) -> u64 {
-    let word = |index: usize| match plan.get(4 * index..4 * index + 4) {
-        Some(bytes) => u32::from_le_bytes([bytes[0], bytes[1], bytes[2], bytes[3]]) as u64,
-        None => 0,
-    };
-    let parts: u64 = (0..word(1).min(64) as usize).map(|stage| word(5 + stage)).sum();
-    PLAN_ROOM + PART_ROOM * parts
 }
 
 fn sizes(answer: PlanAnswer) -> Result<Sizes, Refusal> {
@@ -49,11 +25,6 @@ fn sizes(answer: PlanAnswer) -> Result<Sizes, Refusal> {
         }),
         number => Err(Refusal { number, part: first, item: second }),
     }
-}
-
-/// The room that a plan asks for, but not more than a plan in range can: such a record is refused by 32.
-fn room_for(plan: &[u8]) -> Vec<u32> {
-    vec![0; plan_room(plan).min(PLAN_ROOM + PART_ROOM * MOST_PARTS) as usize]
 }
 
 /// The sizes of a plan's script, or what refuses the plan.

@@ -2,6 +2,7 @@
 
 use crate::ffi;
 use crate::refusal::Refusal;
+use crate::units::LocalPosition;
 
 /// Lanes of 32 bits.
 pub const LANES: usize = 256;
@@ -41,7 +42,7 @@ impl ReadRounds {
     }
 
     /// The local position of bit `bit` of `word` (bit 31 of the word meaning staged), if it was asked for.
-    pub fn local_position(&self, word: u32, bit: u32) -> Option<u16> {
+    pub fn local_position(&self, word: u32, bit: u32) -> Option<LocalPosition> {
         if bit >= 32 {
             return None;
         }
@@ -54,7 +55,7 @@ impl ReadRounds {
                 };
                 if read_word == word && mask >> bit & 1 == 1 {
                     let bits_above = (mask >> bit).count_ones() - 1;
-                    return Some((32 * lane as u32 + later_bits + bits_above) as u16);
+                    return Some(LocalPosition((32 * lane as u32 + later_bits + bits_above) as u16));
                 }
                 later_bits += mask.count_ones();
             }

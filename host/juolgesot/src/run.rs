@@ -31,3 +31,29 @@ pub fn run_into(
 ) -> Result<u64, Refusal> {
     Refusal::check(ffi::run(words, starts, turns, old, new, room))
 }
+
+/// Turns that finish these blocks, block after block, round and round: a part takes its stages and two more. Where the
+/// words cannot be followed the turns of that block end; a run refuses such words anyway.
+pub fn finishing_turns(words: &[u32], starts: &[u64]) -> Vec<u32> {
+    let counts: Vec<usize> = starts.windows(2).map(|range| block_turns(words, range[0], range[1])).collect();
+    let most = counts.iter().copied().max().unwrap_or(0);
+    let mut turns = Vec::new();
+    for turn in 0..most {
+        turns.extend((0..counts.len() as u32).filter(|&block| turn < counts[block as usize]));
+    }
+    turns
+}
+
+/// Words 0 and 6 of a part are its stages and its rounds; an empty block has 0 stages.
+fn block_turns(words: &[u32], start: u64, end: u64) -> usize {
+    let (mut at, mut turns) = (start, 0);
+    while at < end {
+        let head = match words.get(at as usize..).and_then(|words| words.get(..7)) {
+            Some(head) if (1..=255).contains(&head[0]) => head,
+            _ => break,
+        };
+        turns += head[0] as usize + 2;
+        at += 10496 + 512 * u64::from(head[6]) + 5120 * u64::from(head[0]);
+    }
+    turns
+}

@@ -1,5 +1,7 @@
 //! A plan in plain form, and its record: little-endian u32 words, as ARCHITECTURE ("The plan record") lays them.
 
+pub mod packed;
+pub mod script_file;
 pub mod stored;
 
 /// Positions 1..8191, then level 0 (slot j at 8192 + j); index 0 stands for nothing.

@@ -2,9 +2,9 @@
 //!
 //! compare_listing [SEED]    stops at the first difference
 
+use compare::list_checker::difference;
 use compare::tally::Tally;
-use juolgesot::ffi::{self, Answer};
-use juolgesot::{LIST_ROOM, LIST_TEXT};
+use juolgesot::LIST_ROOM;
 use random::Random;
 use std::time::Instant;
 
@@ -19,7 +19,7 @@ fn main() {
     let mut kinds = Tally::new("listings by kind");
     let mut answers = Tally::new("listings by answer");
     let mut check = |kind: &str, records: &[u8], room: usize, spare: isize| {
-        match compare(records, room, spare) {
+        match difference(records, room, spare) {
             Ok(answer) => answers.count(&answer),
             Err(what) => {
                 println!("DIFFERENCE ({}): {}", kind, what);
@@ -138,39 +138,4 @@ fn damaged(random: &mut Random, records: &[u8]) -> Vec<u8> {
         }
     }
     records
-}
-
-/// One call: answer, text, room, and what lies behind the text. Gives the answer's name.
-fn compare(records: &[u8], room_length: usize, spare: isize) -> Result<String, String> {
-    let text = model::listing::text(records, reference::lanes);
-    if text.len() > LIST_TEXT {
-        return Err("the text is longer than LIST_TEXT".to_string());
-    }
-    let out_length = (text.len() as isize + spare).max(0) as usize;
-    let (expected, written) = if room_length < LIST_ROOM {
-        (Answer { code: 32, first: 0, second: 0 }, 0)
-    } else if out_length < text.len() {
-        (Answer { code: 14, first: 0, second: 0 }, 0)
-    } else {
-        (Answer { code: 0, first: text.len() as u64, second: 0 }, text.len())
-    };
-
-    let mut room = vec![0x5A5A_A5A5; room_length];
-    let mut out = vec![0xEE; out_length];
-    let answer = ffi::list(records, &mut room, &mut out);
-    if answer != expected {
-        return Err(format!("answered {:?}, expected {:?}", answer, expected));
-    }
-    if out[..written] != text.as_bytes()[..written] || out[written..].iter().any(|byte| *byte != 0xEE) {
-        return Err(format!("wrote {:?}, expected {:?}", String::from_utf8_lossy(&out), text));
-    }
-    let held = if answer.code == 32 { 0x5A5A_A5A5 } else { 0 };
-    if room.iter().any(|word| *word != held) {
-        return Err("the room does not hold what it should".to_string());
-    }
-    Ok(match answer.code {
-        0 if text.starts_with("refused") => text.split(" at").next().unwrap_or("").trim().to_string(),
-        0 => "listed".to_string(),
-        code => format!("not written: {}", code),
-    })
 }

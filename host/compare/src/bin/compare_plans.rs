@@ -1,16 +1,15 @@
 //! Compares the library's builder with the reference's on whole plans.
 //!
-//! compare_plans [PLANS] [SEED]    PLANS is what make_plans wrote; stops at the first difference
-//! compare_plans bench [SEED]      times of both on the same random plans
+//! compare_plans [SEED]    stops at the first difference. The designs are compared by `juolgesot compare`.
 
 use compare::came::Came;
-use compare::plan_checker::{same_script, stop, Expected, More, PlanChecker};
+use compare::marked::{m10, m6, m8, plain_part};
+use compare::plan_checker::{Expected, More, PlanChecker};
 use compare::plan_damage::{self, Change};
 use compare::plans::{self, Size};
-use plan::stored::{self, Case};
-use plan::{Endpoint, Part, Plan, Position, Stage, Tables, EMPTY, LEVEL_0};
+use plan::{Endpoint, Part, Plan, Position, Stage, EMPTY, LEVEL_0};
 use random::Random;
-use std::time::{Duration, Instant};
+use std::time::Instant;
 
 const SEED: u64 = 20_240_614;
 /// How often each damage is to bring about its refusal, and the plans that are tried for it.
@@ -19,22 +18,11 @@ const MOST_PLANS: usize = 200;
 
 fn main() {
     compare::silence_expected_panics();
-    let mut words: Vec<String> = std::env::args().skip(1).collect();
-    let seed = words.last().and_then(|word| word.parse().ok());
-    if seed.is_some() {
-        words.pop();
-    }
-    let seed = seed.unwrap_or(SEED);
+    let seed = std::env::args().nth(1).and_then(|word| word.parse().ok()).unwrap_or(SEED);
     println!("reference: {}; seed {}", reference::NAME, seed);
     let start = Instant::now();
     let mut random = Random::new(seed);
-    if words.first().map_or(false, |word| word == "bench") {
-        return benchmark(&mut random);
-    }
     let mut checker = PlanChecker::new();
-    if let Some(path) = words.first() {
-        netlists(&mut checker, &std::fs::read(path).expect("the plans can be read"));
-    }
     marked(&mut checker);
     random_plans(&mut checker, &mut random);
     unpackable(&mut checker, &mut random);
@@ -55,63 +43,6 @@ fn main() {
     );
 }
 
-/// The designs that GEM staged, partitioned and flattened: a line each.
-fn netlists(checker: &mut PlanChecker, bytes: &[u8]) {
-    let (mut equal, mut refused) = (0, 0);
-    for Case { name, staged_duplicate, record, script } in stored::read(bytes) {
-        let start = Instant::now();
-        let expected = Expected::of(&record);
-        match &expected.answer {
-            Ok(made) => {
-                if let Err(what) = same_script(made, &script, &record) {
-                    stop(&name, &record, "", &format!("host/model and GEM: {}", what));
-                }
-                equal += 1;
-            }
-            Err(found) if staged_duplicate && found.number == 12 => refused += 1,
-            Err(found) => stop(&name, &record, "", &format!("host/model refuses: {:?}", found)),
-        }
-        checker.check_expected(&name, &record, &expected, More::default());
-        checker.kinds.count_timed("netlists through GEM", start.elapsed());
-        println!("  {:32} {}", name, line(&record, &expected));
-    }
-    println!(
-        "netlists: {} scripts equal to GEM's in every word, start and size; {} refused by 12, a staged pin being in a duplicate word",
-        equal, refused
-    );
-}
-
-/// What a plan is and what it gives.
-fn line(record: &[u8], expected: &Expected) -> String {
-    let words = model::record::words(record);
-    let plan = model::record::plan(record.len(), &words).expect("a plan in form");
-    let stages: Vec<usize> = plan.parts.iter().map(|part| part.stages.len()).collect();
-    let shape = format!(
-        "{:3} parts of {:2} stages at most, {:2} major stages, {:4} blocks",
-        stages.len(),
-        stages.iter().max().unwrap_or(&0),
-        plan.major_parts.len(),
-        plan.blocks
-    );
-    match &expected.answer {
-        Err(refused) => {
-            format!("{}: refused {} at part {}, item {}", shape, refused.number, refused.part, refused.item)
-        }
-        Ok(script) => {
-            let accepted = model::build::accept(record.len(), &words).expect("accepted before");
-            let rounds = accepted.lanes.iter().map(model::rounds::rounds).max().unwrap_or(0);
-            format!(
-                "{}: {:8} words, {:2} rounds at most, state {:4}, SRAM {:6}: equal",
-                shape,
-                script.words.len(),
-                rounds,
-                script.state_words,
-                script.sram_words
-            )
-        }
-    }
-}
-
 /// Plans of M6, M8 and M10.
 fn marked(checker: &mut PlanChecker) {
     for plan in [m6(), m8(), m10()] {
@@ -127,49 +58,6 @@ fn check_both(checker: &mut PlanChecker, kind: &str, plan: &Plan) -> u32 {
     let number = checker.check_expected(kind, &record, &expected, More::default());
     checker.kinds.count_timed(kind, start.elapsed());
     number
-}
-
-/// A part that reads pin 1, with these stages' locations.
-fn plain_part(locations: &[&[u32]]) -> Part {
-    let stages = locations
-        .iter()
-        .map(|locations| {
-            let mut stage = Stage::empty();
-            stage.slots[LEVEL_0] = 1;
-            stage.slots[4096] = 1;
-            stage.locations = locations.to_vec();
-            stage
-        })
-        .collect();
-    Part { endpoints: Vec::new(), stages, tables: Tables::zeros() }
-}
-
-fn m6() -> Plan {
-    Plan { blocks: 1, layout: vec![1], stages: vec![vec![plain_part(&[&[1, 2], &[3]])]], ..Plan::default() }
-}
-
-fn m8() -> Plan {
-    let mut layout = vec![EMPTY; 40];
-    layout[7] = 1;
-    let parts = [4, 2, 1, 1].iter().map(|&stages| {
-        let mut locations: Vec<&[u32]> = vec![&[]; stages];
-        locations[0] = &[128];
-        plain_part(&locations)
-    });
-    Plan { blocks: 2, layout, stages: vec![parts.collect()], ..Plan::default() }
-}
-
-fn m10() -> Plan {
-    let mut part = plain_part(&[&[128]]);
-    part.stages[0].slots[LEVEL_0 + 4096] = 2;
-    part.stages[0].slots[4096] = 3;
-    Plan {
-        blocks: 1,
-        gates: vec![plan::Gate { pin: 3, first: 2, second: 5 }],
-        layout: vec![1, 2],
-        stages: vec![vec![part]],
-        ..Plan::default()
-    }
 }
 
 const SMALL: Size = Size { majors: 3, parts: 2, stages: 3, inputs: 300, wide: false };
@@ -398,43 +286,4 @@ fn many_parts(parts: &[(usize, &Part)]) -> Vec<u8> {
         }
     }
     record
-}
-
-/// Times of `build` and of GEM's flattener, which is given the same tables and positions.
-fn benchmark(random: &mut Random) {
-    let (mut ours, mut gems) = (Duration::ZERO, Duration::ZERO);
-    for index in 0..12 {
-        let plan =
-            plans::any(random, Size { majors: 3, parts: 1 + index, stages: 3, inputs: 9000, wide: false });
-        let record = plan.record();
-        let expected = match Expected::of(&record).answer {
-            Ok(script) => script,
-            Err(_) => continue,
-        };
-        let mut room = vec![0; juolgesot::plan_room(&record) as usize];
-        let (mut starts, mut words) = (vec![0; expected.starts.len()], vec![0; expected.words.len()]);
-        let start = Instant::now();
-        let answer = juolgesot::build_into(&record, &mut room, &mut starts, &mut words);
-        let our_time = start.elapsed();
-        assert!(answer.is_ok() && words == expected.words);
-        let gem_time = match reference::flatten_time(&plan) {
-            Some(time) => time,
-            None => {
-                println!("compare_plans bench: no GEM sources, nothing to compare with");
-                return;
-            }
-        };
-        println!(
-            "  {:3} parts, {:8} words: {:8.2} ms, {} {:8.2} ms, ratio {:.2}",
-            plan.parts().count(),
-            words.len(),
-            1e3 * our_time.as_secs_f64(),
-            reference::NAME,
-            1e3 * gem_time.as_secs_f64(),
-            our_time.as_secs_f64() / gem_time.as_secs_f64()
-        );
-        ours += our_time;
-        gems += gem_time;
-    }
-    println!("compare_plans bench: ratio {:.2} over all", ours.as_secs_f64() / gems.as_secs_f64());
 }

@@ -1,29 +1,21 @@
 //! Compares the library's read rounds with the reference's on every kind of read set.
 //!
-//! compare_rounds [SEED]         all comparisons; stops at the first difference
-//! compare_rounds bench [SEED]   times of both on the same sets
+//! compare_rounds [SEED]    stops at the first difference
 
 use compare::checker::{Checker, Lent, OutLength};
 use compare::damage;
 use compare::sets;
 use juolgesot::SET_ROOM;
 use random::Random;
-use std::collections::BTreeMap;
-use std::time::{Duration, Instant};
+use std::time::Instant;
 
 const SEED: u64 = 20_240_611;
 
 fn main() {
     compare::silence_expected_panics();
-    let words: Vec<String> = std::env::args().skip(1).collect();
-    let bench = words.first().map_or(false, |word| word == "bench");
-    let seed = words.last().and_then(|word| word.parse().ok()).unwrap_or(SEED);
+    let seed = std::env::args().nth(1).and_then(|word| word.parse().ok()).unwrap_or(SEED);
     println!("reference: {}; seed {}", reference::NAME, seed);
-    if bench {
-        benchmark(&mut Random::new(seed));
-    } else {
-        compare_all(&mut Random::new(seed));
-    }
+    compare_all(&mut Random::new(seed));
 }
 
 fn compare_all(random: &mut Random) {
@@ -178,58 +170,4 @@ fn short_rooms(checker: &mut Checker, random: &mut Random) {
         let out = OutLength::Exactly(random.below(600));
         checker.check("working room too short", &set, Lent { room, room_is_zero: random.chance(2), out });
     }
-}
-
-/// Times of both on the same sets: small, mid and full ones.
-fn benchmark(random: &mut Random) {
-    println!("time of a search with its read section; ratio: ours to the reference's");
-    let small: Vec<Vec<u32>> = (0..200).map(|_| sets::any(random, 8)).collect();
-    let mid: Vec<Vec<u32>> = (0..50)
-        .map(|_| {
-            let bits: Vec<u32> = (0..300).map(|_| random.between(1, 20) as u32).collect();
-            sets::with_bits(random, &bits)
-        })
-        .collect();
-    let thin: Vec<Vec<u32>> = (0..10).map(|_| sets::with_bits(random, &vec![1; 8192])).collect();
-    let full: Vec<Vec<u32>> = (0..10)
-        .map(|_| {
-            let bits = sets::bits_summing_to(random, 8192, |random| random.pick(&[1, 2, 4, 8, 16, 32]));
-            sets::with_bits(random, &bits)
-        })
-        .collect();
-    time_both("8 pairs", &small);
-    time_both("300 pairs", &mid);
-    time_both("8192 pairs of one bit", &thin);
-    time_both("8192 bits, mixed", &full);
-}
-
-fn time_both(name: &str, sets: &[Vec<u32>]) {
-    let maps: Vec<BTreeMap<u32, u32>> =
-        sets.iter().map(|set| set.chunks(2).map(|pair| (pair[0], pair[1])).collect()).collect();
-    let mut room = vec![0; SET_ROOM];
-    let mut out = vec![0; 32 * 512];
-    let (mut ours, mut theirs) = (Duration::ZERO, Duration::ZERO);
-    let (mut calls, mut our_rounds, mut their_rounds) = (0u32, 0, 0);
-    // Turn about, so that both see the same machine.
-    while ours + theirs < Duration::from_secs(3) {
-        for (set, map) in sets.iter().zip(&maps) {
-            let start = Instant::now();
-            our_rounds += juolgesot::read_rounds_into(set, &mut room, &mut out).unwrap_or(0);
-            ours += start.elapsed();
-            let start = Instant::now();
-            let section = reference::lanes_of_map(map).map(|lanes| model::rounds::section(&lanes));
-            their_rounds += section.map_or(0, |words| words.len() / 512);
-            theirs += start.elapsed();
-            calls += 1;
-        }
-    }
-    assert_eq!(our_rounds, their_rounds);
-    let each = |time: Duration| time.as_secs_f64() * 1e6 / calls as f64;
-    println!(
-        "  {:24} ours {:10.1} us, reference {:10.1} us, ratio {:.3}",
-        name,
-        each(ours),
-        each(theirs),
-        ours.as_secs_f64() / theirs.as_secs_f64()
-    );
 }

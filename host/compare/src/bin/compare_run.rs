@@ -3,6 +3,7 @@
 //! compare_run [PLANS] [SEED]    PLANS is what make_plans wrote; stops at the first difference
 
 use compare::came::Came;
+use compare::marked::m10;
 use compare::plans::{self, Size};
 use compare::run_checker::RunChecker;
 use compare::run_damage::{self, all_turns, case_of, parts, state, Case, PartPlace};
@@ -120,20 +121,7 @@ fn stored_bits(plan: &Accepted<'_>, old: &[u32], new: &[u32]) -> u64 {
 
 /// M10: old word 1 stores 1, old word 3 stores 0xFFFFFFFE.
 fn marked(checker: &mut RunChecker) {
-    let mut part = plan::Part { endpoints: Vec::new(), stages: Vec::new(), tables: plan::Tables::zeros() };
-    let mut stage = plan::Stage::empty();
-    stage.slots[8192] = 1;
-    stage.slots[8192 + 4096] = 2;
-    stage.slots[4096] = 3;
-    stage.locations = vec![128];
-    part.stages.push(stage);
-    let plan = plan::Plan {
-        blocks: 1,
-        gates: vec![plan::Gate { pin: 3, first: 2, second: 5 }],
-        layout: vec![1, 2],
-        stages: vec![vec![part]],
-        ..plan::Plan::default()
-    };
+    let plan = m10();
     for (old, stored) in [(1, 1), (3, 0xFFFF_FFFE)] {
         let mut case = case_of(&mut Random::new(1), &plan).expect("M10 is in order");
         case.old[0] = old;

@@ -1,0 +1,252 @@
+/* The functions of juolgesot.h called from C, every lent slice and number between two pages that may not be touched:
+ * once up against the page behind it, once against the page before it. Document 01's marked examples.
+ *
+ * HAS_LISTING, HAS_PLANS, HAS_RUN, HAS_VALUE: the functions that the archive has. */
+#define _GNU_SOURCE
+#include "../juolgesot.h"
+#include <stdio.h>
+#include <stdlib.h>
+#include <string.h>
+#include <sys/mman.h>
+#include <unistd.h>
+
+/* Whether slices lie at the end of their pages. */
+static int at_end;
+static int calls;
+
+static void fail(const char *what)
+{
+    printf("DIFFERENCE (C, slices at the %s of their pages): %s\n", at_end ? "end" : "beginning", what);
+    exit(1);
+}
+
+/* So many bytes between pages without access; with items, a copy of them that cannot be written. */
+static void *between_pages(size_t bytes, const void *items)
+{
+    size_t page = (size_t)sysconf(_SC_PAGESIZE);
+    size_t held = (bytes / page + 1) * page;
+    char *first = mmap(NULL, held + 2 * page, PROT_NONE, MAP_PRIVATE | MAP_ANONYMOUS, -1, 0);
+    if (first == MAP_FAILED || mprotect(first + page, held, PROT_READ | PROT_WRITE) != 0)
+        fail("no memory");
+    char *lent = at_end ? first + page + held - bytes : first + page;
+    if (items != NULL) {
+        if (bytes > 0)
+            memcpy(lent, items, bytes);
+        if (mprotect(first + page, held, PROT_READ) != 0)
+            fail("no protection");
+    }
+    return lent;
+}
+
+/* Room that is not zero before the call. */
+static uint32_t *room_of(size_t words)
+{
+    uint32_t *room = between_pages(4 * words, NULL);
+    memset(room, 0x5A, 4 * words);
+    return room;
+}
+
+static void is_zero(const uint32_t *room, size_t words)
+{
+    for (size_t i = 0; i < words; i++)
+        if (room[i] != 0)
+            fail("the room does not hold zeros");
+}
+
+static uint64_t *number(void)
+{
+    uint64_t *number = between_pages(8, NULL);
+    *number = 77;
+    return number;
+}
+
+static void is(const char *what, uint64_t found, uint64_t expected)
+{
+    if (found != expected) {
+        printf("found %llu, expected %llu\n", (unsigned long long)found, (unsigned long long)expected);
+        fail(what);
+    }
+}
+
+/* M2's set, one result word too few, an empty set, a room too short. */
+static void read_rounds(void)
+{
+    static const uint32_t m2[] = {0, 3, 1, 0x20, 0x80000000u, 1};
+    uint32_t *set = between_pages(sizeof m2, m2);
+    uint32_t *room = room_of(JUOLGESOT_SET_ROOM);
+    uint32_t *out = between_pages(4 * 512, NULL);
+    uint32_t *short_out = between_pages(4 * 511, NULL);
+    uint64_t *first = number(), *second = number();
+    is("rounds", juolgesot_read_rounds(set, 6, room, JUOLGESOT_SET_ROOM, out, 512, first, second), 0);
+    is("number of rounds", *first, 1);
+    is("second", *second, 0);
+    is_zero(room, JUOLGESOT_SET_ROOM);
+    for (size_t i = 0; i < 512; i++)
+        is("word of the read section", out[i], i < 6 ? m2[i] : 0);
+    is("short result", juolgesot_read_rounds(set, 6, room, JUOLGESOT_SET_ROOM, short_out, 511, first, second), 14);
+    is("M1", juolgesot_read_rounds(set, 0, room, JUOLGESOT_SET_ROOM, out, 512, first, second), 3);
+    is("half a pair", juolgesot_read_rounds(set, 5, room, JUOLGESOT_SET_ROOM, out, 512, first, second), 2);
+    is("its place", *second, 2);
+    uint32_t *short_room = room_of(JUOLGESOT_SET_ROOM - 1);
+    is("short room", juolgesot_read_rounds(set, 6, short_room, JUOLGESOT_SET_ROOM - 1, out, 512, first, second), 32);
+    is("first word of a short room", short_room[0], 0x5A5A5A5A);
+    calls += 5;
+}
+
+#ifdef HAS_LISTING
+static void list(void)
+{
+    static const uint8_t example[] = {1, 0, 0, 0, 0, 1, 1, 0, 0, 0, 1, 37, 0, 0, 0, 2, 0, 0, 0, 0, 0};
+    static const char text[] = "rounds 1\n0 0 n 0 00000003\n1 0 n 1 00000020\n2 0 s 0 00000001\n";
+    size_t length = sizeof text - 1;
+    uint8_t *records = between_pages(sizeof example, example);
+    uint32_t *room = room_of(JUOLGESOT_SET_ROOM);
+    uint8_t *out = between_pages(length, NULL);
+    uint8_t *short_out = between_pages(length - 1, NULL);
+    uint64_t *first = number(), *second = number();
+    is("list", juolgesot_list(records, sizeof example, room, JUOLGESOT_SET_ROOM, out, length, first, second), 0);
+    is("bytes", *first, length);
+    if (memcmp(out, text, length) != 0)
+        fail("the listing of document 01 is not its text");
+    is_zero(room, JUOLGESOT_SET_ROOM);
+    is("short text",
+       juolgesot_list(records, sizeof example, room, JUOLGESOT_SET_ROOM, short_out, length - 1, first, second), 14);
+    calls += 2;
+}
+#endif
+
+#if defined(HAS_PLANS) || defined(HAS_VALUE)
+/* M10's plan: pins 1 and 2 at state 0 and 1; gate 3 = 1 and not 2 at level 1 slot 0, location 128. */
+enum { SLOTS = 16383, TABLES = 2 * 8192 + 5 * 256, HEAD = 5 + 1 + 3 + 2 + 2, PLAN_WORDS = HEAD + 1 + SLOTS + 1 + TABLES };
+static uint32_t m10[PLAN_WORDS];
+
+static void make_m10(void)
+{
+    static const uint32_t head[HEAD + 1] = {1, 1, 1, 2, 0, 1, 3, 2, 5, 1, 2, 1, 0, 1};
+    memset(m10, 0, sizeof m10);
+    memcpy(m10, head, sizeof head);
+    uint32_t *slots = m10 + HEAD + 1;
+    memset(slots, 0xFF, 4 * SLOTS);
+    slots[8192 - 1] = 1;
+    slots[8192 + 4096 - 1] = 2;
+    slots[4096 - 1] = 3;
+    slots[SLOTS] = 128;
+}
+#endif
+
+#if defined(HAS_PLANS) || defined(HAS_RUN)
+/* M10's script, word by word. */
+enum { STARTS = 2, WORDS = 10496 + 512 + 5120 + 2048, STAGE = 256 + 512 };
+static const uint64_t m10_starts[STARTS] = {0, WORDS - 2048};
+static uint32_t m10_words[WORDS];
+
+static void make_m10_script(void)
+{
+    /* stages, last, write-outs, state start, SRAMs, SRAM start, rounds, duplicates */
+    static const uint32_t head[8] = {1, 1, 1, 1, 0, 0, 1, 0};
+    memset(m10_words, 0, sizeof m10_words);
+    memcpy(m10_words, head, sizeof head);
+    memset(m10_words + 128, 0xFF, 4 * 128);
+    m10_words[128] = 0xFFFF0080u;
+    m10_words[256 + 1] = 3;                        /* lane 0 reads bits 0 and 1 of word 0 */
+    m10_words[STAGE] = 1;                          /* slot 0 is pin 1, at local position 1; slot 4096 is pin 2, at 0 */
+    m10_words[STAGE + 4096 + 4 * 128 + 1] = 1;     /* xorb of position 4096 */
+}
+#endif
+
+#ifdef HAS_PLANS
+enum { ROOM = JUOLGESOT_PLAN_ROOM + JUOLGESOT_PART_ROOM };
+
+static void build(void)
+{
+    uint8_t *plan = between_pages(sizeof m10, m10);
+    uint32_t *room = room_of(ROOM);
+    uint64_t *first = number(), *second = number(), *third = number(), *fourth = number();
+    is("sizes", juolgesot_plan_sizes(plan, sizeof m10, room, ROOM, first, second, third, fourth), 0);
+    is("starts", *first, STARTS);
+    is("words", *second, WORDS);
+    is("state words", *third, 2);
+    is("SRAM words", *fourth, 0);
+    is_zero(room, ROOM);
+    uint64_t *starts = between_pages(sizeof m10_starts, NULL);
+    uint32_t *words = between_pages(sizeof m10_words, NULL);
+    is("build", juolgesot_build(plan, sizeof m10, room, ROOM, starts, STARTS, words, WORDS, first, second, third, fourth), 0);
+    is_zero(room, ROOM);
+    if (memcmp(starts, m10_starts, sizeof m10_starts) != 0 || memcmp(words, m10_words, sizeof m10_words) != 0)
+        fail("M10's script");
+    is("short words",
+       juolgesot_build(plan, sizeof m10, room, ROOM, starts, STARTS, words, WORDS - 1, first, second, third, fourth), 14);
+    is("cut plan", juolgesot_plan_sizes(plan, sizeof m10 - 1, room, ROOM, first, second, third, fourth), 5);
+    is("no plan", juolgesot_plan_sizes(plan, 0, room, ROOM, first, second, third, fourth), 5);
+    calls += 5;
+}
+#endif
+
+#ifdef HAS_RUN
+static void run(void)
+{
+    static const uint32_t three_turns[] = {0, 0, 0};
+    static const uint32_t olds[][3] = {{1, 0, 1}, {3, 0, 0xFFFFFFFEu}};
+    for (int i = 0; i < 2; i++) {
+        uint32_t *words = between_pages(sizeof m10_words, m10_words);
+        uint64_t *starts = between_pages(sizeof m10_starts, m10_starts);
+        uint32_t *turns = between_pages(sizeof three_turns, three_turns);
+        uint32_t *old = between_pages(8, olds[i]);
+        uint32_t *new_ = between_pages(8, NULL);
+        uint32_t *room = room_of(JUOLGESOT_BLOCK_ROOM);
+        uint64_t *first = number(), *second = number();
+        is("run", juolgesot_run(words, WORDS, starts, STARTS, turns, 3, old, 2, new_, 2, room, JUOLGESOT_BLOCK_ROOM, first, second), 0);
+        is("turns left", *first, 0);
+        is("M10's stored word", new_[1], olds[i][2]);
+        is_zero(room, JUOLGESOT_BLOCK_ROOM);
+        is("short state",
+           juolgesot_run(words, WORDS, starts, STARTS, turns, 3, old, 1, new_, 2, room, JUOLGESOT_BLOCK_ROOM, first, second), 15);
+        calls += 2;
+    }
+}
+#endif
+
+#ifdef HAS_VALUE
+static void value(void)
+{
+    enum { VALUE_ROOM = JUOLGESOT_PLAN_ROOM + JUOLGESOT_PART_ROOM };
+    uint8_t *plan = between_pages(sizeof m10, m10);
+    uint32_t *room = room_of(VALUE_ROOM);
+    uint64_t *first = number(), *second = number();
+    for (uint32_t word = 0; word < 4; word++) {
+        uint32_t *old = between_pages(4, &word);
+        uint32_t *new_ = between_pages(0, &word);
+        is("value", juolgesot_value(plan, sizeof m10, room, VALUE_ROOM, old, 1, new_, 0, 0, 3, first, second), 0);
+        is("gate 3", *first, word == 1);
+        is_zero(room, VALUE_ROOM);
+        calls++;
+    }
+}
+#endif
+
+int main(void)
+{
+    for (at_end = 0; at_end < 2; at_end++) {
+        read_rounds();
+#ifdef HAS_LISTING
+        list();
+#endif
+#if defined(HAS_PLANS) || defined(HAS_VALUE)
+        make_m10();
+#endif
+#if defined(HAS_PLANS) || defined(HAS_RUN)
+        make_m10_script();
+#endif
+#ifdef HAS_PLANS
+        build();
+#endif
+#ifdef HAS_RUN
+        run();
+#endif
+#ifdef HAS_VALUE
+        value();
+#endif
+    }
+    printf("C: %d calls between guard pages, no difference\n", calls);
+    return 0;
+}

@@ -1,0 +1,372 @@
+//! Random and damaged inputs over every exported function that there is.
+//!
+//! fuzz [CASES] [SEED]
+//!
+//! Each call is held to the model: its answer, every word of its results, its room, and the guards beside each lent
+//! slice; a touch of a page beside one ends the program. Stops at the first difference.
+
+use compare::checker::{Checker, Lent, OutLength};
+#[cfg(has_listing)]
+use compare::list_checker;
+#[cfg(has_plans)]
+use compare::plan_checker::{More, PlanChecker};
+#[cfg(any(has_plans, has_run, has_value))]
+use compare::plans::{self, Size};
+#[cfg(has_run)]
+use compare::run_checker::RunChecker;
+#[cfg(has_run)]
+use compare::run_damage::{self, Case};
+use compare::sets;
+use compare::tally::Tally;
+#[cfg(has_value)]
+use compare::value_checker::{few_paths, Question, ValueChecker};
+use random::Random;
+use std::time::{Duration, Instant};
+
+const SEED: u64 = 20_240_618;
+const CASES: u64 = 20_000;
+/// How many cases a plan or a script is damaged for before others are made.
+#[cfg(any(has_plans, has_run, has_value))]
+const REUSE: usize = 300;
+
+fn main() {
+    compare::silence_expected_panics();
+    let mut words = std::env::args().skip(1).map(|word| word.parse().expect("usage: fuzz [CASES] [SEED]"));
+    let cases = words.next().unwrap_or(CASES);
+    let seed = words.next().unwrap_or(SEED);
+    println!("reference: host/model; {} cases, seed {}", cases, seed);
+    let start = Instant::now();
+    let mut told = Instant::now();
+    let mut fuzz = Fuzz::new(seed);
+    for case in 0..cases {
+        fuzz.case();
+        if told.elapsed() > Duration::from_secs(5) {
+            told = Instant::now();
+            eprintln!("  fuzz: {} of {} cases, {:.0} s", case, cases, start.elapsed().as_secs_f64());
+        }
+    }
+    fuzz.functions.print();
+    fuzz.print_answers();
+    println!("fuzz: {} cases, no difference, {:.1} s", cases, start.elapsed().as_secs_f64());
+}
+
+struct Fuzz {
+    random: Random,
+    functions: Tally,
+    rounds: Checker,
+    #[cfg(has_listing)]
+    listings: Tally,
+    #[cfg(has_plans)]
+    plans: PlanChecker,
+    #[cfg(has_run)]
+    runs: RunChecker,
+    #[cfg(has_value)]
+    values: ValueChecker,
+    #[cfg(any(has_plans, has_value))]
+    records: Pool<Vec<u32>>,
+    #[cfg(has_run)]
+    scripts: Pool<Case>,
+}
+
+/// Something that is damaged again and again before another is made.
+#[cfg(any(has_plans, has_run, has_value))]
+struct Pool<T> {
+    held: Option<T>,
+    left: usize,
+}
+
+#[cfg(any(has_plans, has_run, has_value))]
+impl<T: Clone> Pool<T> {
+    fn new() -> Self {
+        Pool { held: None, left: 0 }
+    }
+
+    fn next(&mut self, make: impl FnOnce() -> T) -> T {
+        if self.left == 0 {
+            self.held = Some(make());
+            self.left = REUSE;
+        }
+        self.left -= 1;
+        self.held.clone().expect("made before")
+    }
+}
+
+impl Fuzz {
+    fn new(seed: u64) -> Self {
+        Fuzz {
+            random: Random::new(seed),
+            functions: Tally::new("cases by function"),
+            rounds: Checker::new(),
+            #[cfg(has_listing)]
+            listings: Tally::new("listings by answer"),
+            #[cfg(has_plans)]
+            plans: PlanChecker::new(),
+            #[cfg(has_run)]
+            runs: RunChecker::new(),
+            #[cfg(has_value)]
+            values: ValueChecker::new(),
+            #[cfg(any(has_plans, has_value))]
+            records: Pool::new(),
+            #[cfg(has_run)]
+            scripts: Pool::new(),
+        }
+    }
+
+    fn print_answers(&mut self) {
+        self.rounds.answers.print();
+        #[cfg(has_listing)]
+        self.listings.print();
+        #[cfg(has_plans)]
+        self.plans.answers.print();
+        #[cfg(has_run)]
+        self.runs.answers.print();
+        #[cfg(has_value)]
+        self.values.answers.print();
+    }
+
+    /// Read sets and listings are quick and come most often.
+    fn case(&mut self) {
+        let start = Instant::now();
+        let name = match self.random.below(100) {
+            #[cfg(has_listing)]
+            0..=34 => self.list(),
+            #[cfg(has_plans)]
+            35..=37 => self.plan(),
+            #[cfg(has_run)]
+            38..=40 => self.run(),
+            #[cfg(has_value)]
+            41..=43 => self.value(),
+            _ => self.read_rounds(),
+        };
+        self.functions.count_timed(name, start.elapsed());
+    }
+
+    fn read_rounds(&mut self) -> &'static str {
+        let random = &mut self.random;
+        let pairs = if random.chance(200) { random.between(200, 8300) } else { random.between(0, 30) };
+        let mut set = match random.below(4) {
+            0 => (0..random.between(0, 2 * pairs)).map(|_| any_word(random)).collect(),
+            1 => sets::wide(random, pairs),
+            _ => sets::any(random, pairs),
+        };
+        if !random.chance(4) {
+            damage_words(random, &mut set);
+        }
+        let room =
+            if random.chance(12) { random.below(16_384) } else { 16_384 + random.pick(&[0, 0, 1, 77]) };
+        let out = match random.below(4) {
+            0 => OutLength::Exactly(random.below(600)),
+            1 => OutLength::Short(random.below(3)),
+            _ => OutLength::Spare(random.below(3)),
+        };
+        let lent = Lent { room, room_is_zero: random.chance(2), out };
+        self.rounds.check("fuzz", &set, lent);
+        "read_rounds"
+    }
+
+    #[cfg(has_listing)]
+    fn list(&mut self) -> &'static str {
+        let random = &mut self.random;
+        let positions = if random.chance(300) { random.between(100, 8300) } else { random.between(0, 30) };
+        let mut records: Vec<u8> = Vec::new();
+        if random.chance(4) {
+            records.extend((0..5 * positions).map(|_| random.pick(&[0, 1, 1, 2, 2, 3, 255])));
+        } else {
+            let end = random.pick(&[40, 3000, u32::MAX as usize]);
+            for _ in 0..positions {
+                records.push(random.pick(&[1, 2]));
+                records.extend((random.below(end) as u32).to_le_bytes());
+            }
+            records.push(0);
+        }
+        if random.chance(2) {
+            damage_bytes(random, &mut records);
+        }
+        let room = if random.chance(12) { random.below(16_384) } else { 16_384 };
+        let spare = random.pick(&[0, 0, 0, 1, 50, -1, -3, -1000]);
+        match list_checker::difference(&records, room, spare) {
+            Ok(answer) => self.listings.count(&answer),
+            Err(what) => {
+                println!("DIFFERENCE (list): {}", what);
+                println!("records: {:?}", &records[..records.len().min(400)]);
+                std::process::exit(1);
+            }
+        }
+        "list"
+    }
+
+    /// A damaged plan record: its bytes.
+    #[cfg(any(has_plans, has_value))]
+    fn record(&mut self) -> Vec<u8> {
+        let random = &mut self.random;
+        if random.chance(4) {
+            let mut words: Vec<u32> = (0..random.below(300)).map(|_| any_word(random)).collect();
+            if words.len() > 1 && random.chance(2) {
+                words[0] = random.between(1, 3) as u32;
+                words[1] = random.between(1, 3) as u32;
+            }
+            let mut bytes = plan::bytes(&words);
+            damage_bytes(random, &mut bytes);
+            return bytes;
+        }
+        let size = Size { majors: 2, parts: 2, stages: 2, inputs: 200, wide: random.chance(2) };
+        let mut words = self.records.next(|| plans::any(random, size).words());
+        if random.chance(3) {
+            // The front has the counts and the lists.
+            let front = words.len().min(random.pick(&[8, 40, 900]));
+            damage_words_in_place(random, &mut words[..front]);
+        } else {
+            damage_words(random, &mut words);
+        }
+        let mut bytes = plan::bytes(&words);
+        if random.chance(30) {
+            damage_bytes(random, &mut bytes);
+        }
+        bytes
+    }
+
+    #[cfg(has_plans)]
+    fn plan(&mut self) -> &'static str {
+        let record = self.record();
+        let random = &mut self.random;
+        let more = More {
+            room: if random.chance(12) { random.pick(&[-1, -16, -100_000]) } else { random.pick(&[0, 0, 5]) },
+            room_is_zero: random.chance(2),
+            starts: random.pick(&[0, 0, 3, -1]),
+            words: random.pick(&[0, 0, 9, -1]),
+        };
+        self.plans.check("fuzz", &record, more);
+        "plan_sizes and build"
+    }
+
+    #[cfg(has_run)]
+    fn run(&mut self) -> &'static str {
+        let random = &mut self.random;
+        let mut case = self.scripts.next(|| loop {
+            let size = Size { majors: 1, parts: 3, stages: 2, inputs: 3000, wide: false };
+            let plan = plans::any(random, size);
+            if let Some(case) = run_damage::case_of(random, &plan) {
+                return case;
+            }
+        });
+        match random.below(6) {
+            0 => damage_words(random, &mut case.words),
+            1 => {
+                let places = run_damage::parts(&case.words, &case.starts);
+                let _ = run_damage::any_word(random, &mut case, &places);
+            }
+            2 => damage_words(random, &mut case.turns),
+            3 => {
+                let start = random.below(case.starts.len());
+                case.starts[start] =
+                    random.pick(&[0, 1, 256, case.words.len() as u64, case.starts[0] + 1, u64::MAX]);
+            }
+            4 => {
+                let state = if random.chance(2) { &mut case.old } else { &mut case.new };
+                state.truncate(random.below(state.len() + 1));
+            }
+            _ => {}
+        }
+        let room = if random.chance(12) { random.pick(&[-1, -1024]) } else { random.pick(&[0, 0, 7]) };
+        let _ = self.runs.check("fuzz", &case, room, random.chance(2));
+        "run"
+    }
+
+    #[cfg(has_value)]
+    fn value(&mut self) -> &'static str {
+        let record = self.record();
+        let random = &mut self.random;
+        // Many ones: gates are 1 where both fan-ins are.
+        let state: Vec<u32> =
+            (0..random.below(400)).map(|_| random.word() | random.word() | random.word()).collect();
+        let (old, new) = state.split_at(random.below(state.len() + 1));
+        let part = random.pick(&[0, 0, 0, 1, 2, 3, u32::MAX]);
+        let pin = match random_pin(random, &record) {
+            pin if random.chance(2) => pin,
+            _ => random.pick(&[0, 1, 2, 50, 200, 1 << 30, u32::MAX]),
+        };
+        let (more_room, room_is_zero) = (if random.chance(12) { -1 } else { 0 }, random.chance(2));
+        for pin in few_paths(&record, part, &[pin]) {
+            self.values
+                .check("fuzz", Question { record: &record, part, pin, old, new, more_room, room_is_zero });
+        }
+        "value"
+    }
+}
+
+/// A word of the record: often a pin.
+#[cfg(has_value)]
+fn random_pin(random: &mut Random, record: &[u8]) -> u32 {
+    let words = record.len() / 4;
+    if words == 0 {
+        return 7;
+    }
+    let among = words.min(random.pick(&[60, 600, 6000]));
+    let at = 4 * random.below(among);
+    u32::from_le_bytes([record[at], record[at + 1], record[at + 2], record[at + 3]])
+}
+
+/// Words around every bound.
+fn any_word(random: &mut Random) -> u32 {
+    match random.below(4) {
+        0 => random.pick(&[0, 1, 2, 31, 32, 255, 256, 257, 1024, 4096, 8191, 8192, 8193, 0xFFFF, 0x1_0000]),
+        1 => random.pick(&[
+            1 << 20,
+            (1 << 27) - 1,
+            1 << 27,
+            1 << 30,
+            (1 << 30) + 1,
+            1 << 31,
+            u32::MAX - 1,
+            u32::MAX,
+        ]),
+        2 => random.below(400) as u32,
+        _ => random.word(),
+    }
+}
+
+/// Changes one to three words, or the length.
+fn damage_words(random: &mut Random, words: &mut Vec<u32>) {
+    match random.below(8) {
+        0 => words.truncate(random.below(words.len() + 1)),
+        1 => {
+            let at = random.below(words.len() + 1);
+            words.insert(at, any_word(random));
+        }
+        2 if !words.is_empty() => {
+            words.remove(random.below(words.len()));
+        }
+        _ => damage_words_in_place(random, words),
+    }
+}
+
+fn damage_words_in_place(random: &mut Random, words: &mut [u32]) {
+    if words.is_empty() {
+        return;
+    }
+    for _ in 0..random.between(1, 3) {
+        let at = random.below(words.len());
+        words[at] = match random.below(5) {
+            0 => words[at] ^ 1 << random.below(32),
+            1 => words[random.below(words.len())],
+            2 => words[at].wrapping_add(1),
+            3 => words[at].wrapping_sub(1),
+            _ => any_word(random),
+        };
+    }
+}
+
+fn damage_bytes(random: &mut Random, bytes: &mut Vec<u8>) {
+    match random.below(4) {
+        0 => bytes.truncate(random.below(bytes.len() + 1)),
+        1 => bytes.extend((0..random.between(1, 9)).map(|_| random.below(256) as u8)),
+        _ => {
+            for _ in 0..random.between(1, 3) {
+                if !bytes.is_empty() {
+                    let at = random.below(bytes.len());
+                    bytes[at] = random.pick(&[0, 1, 2, 3, 127, 128, 255]);
+                }
+            }
+        }
+    }
+}

@@ -1,0 +1,154 @@
+//! Both builders on one plan: ours and GEM's, or where GEM cannot be asked, the model.
+
+use crate::plan_checker::{difference, same_script, Expected, More, PlanChecker};
+use model::record;
+use plan::stored::Case;
+use plan::{Endpoint, Gate, Part, Plan, Position, Script, Stage, Tables, EMPTY};
+use reference::Flattened;
+
+/// What became of a plan.
+pub enum Outcome {
+    /// Every word, start and size is the same.
+    Equal,
+    /// Both refuse: ours with this number, GEM by a panic or by having no such check.
+    Refused(u32),
+    /// The first difference, in words.
+    Differs(String),
+}
+
+/// A plan, what it is and what became of it.
+pub struct Line {
+    pub shape: String,
+    pub outcome: Outcome,
+}
+
+/// A design that GEM staged, partitioned and flattened.
+pub fn design(checker: &mut PlanChecker, case: &Case) -> Line {
+    let expected = Expected::of(&case.record);
+    let outcome = match &expected.answer {
+        Ok(made) => same(made, &case.script, &case.record),
+        Err(found) if case.staged_duplicate && found.number == 12 => Outcome::Refused(12),
+        Err(found) => {
+            Outcome::Differs(format!("refused {} at part {}, item {}", found.number, found.part, found.item))
+        }
+    };
+    finish(checker, &case.record, &expected, outcome)
+}
+
+/// A plan record of any kind. GEM is given its tables and positions.
+pub fn record(checker: &mut PlanChecker, bytes: &[u8]) -> Line {
+    let expected = Expected::of(bytes);
+    let words = record::words(bytes);
+    let flattened = match record::plan(bytes.len(), &words) {
+        Some(plan) => reference::flatten(&plain(&plan)),
+        None => Flattened::NotAsked,
+    };
+    let outcome = match (&expected.answer, flattened) {
+        (Ok(made), Flattened::Script(script)) => same(made, &script, bytes),
+        (Ok(_), Flattened::Panicked) => Outcome::Differs("GEM panicked".to_string()),
+        (Ok(_), Flattened::NotAsked) => Outcome::Equal,
+        (Err(refused), _) => Outcome::Refused(refused.number),
+    };
+    finish(checker, bytes, &expected, outcome)
+}
+
+fn same(made: &Script, gems: &Script, record: &[u8]) -> Outcome {
+    same_script(made, gems, record).map_or_else(Outcome::Differs, |()| Outcome::Equal)
+}
+
+/// Where the model and GEM agree, our library is held to them.
+fn finish(checker: &mut PlanChecker, record: &[u8], expected: &Expected, outcome: Outcome) -> Line {
+    let outcome = match outcome {
+        Outcome::Differs(what) => Outcome::Differs(format!("host/model and {}: {}", reference::NAME, what)),
+        agreed => match difference(record, expected, More::default()) {
+            Ok(number) => {
+                checker.count_answer(number);
+                agreed
+            }
+            Err(what) => Outcome::Differs(what),
+        },
+    };
+    Line { shape: shape(record, expected), outcome }
+}
+
+/// Parts, words and rounds of a plan and its script.
+pub fn shape(record: &[u8], expected: &Expected) -> String {
+    let words = record::words(record);
+    let plan = match record::plan(record.len(), &words) {
+        Some(plan) => plan,
+        None => return format!("{:8} bytes, no plan", record.len()),
+    };
+    let stages: Vec<usize> = plan.parts.iter().map(|part| part.stages.len()).collect();
+    let of_plan = format!(
+        "{:3} parts of {:2} stages at most, {:2} major stages, {:4} blocks",
+        stages.len(),
+        stages.iter().max().unwrap_or(&0),
+        plan.major_parts.len(),
+        plan.blocks
+    );
+    match &expected.answer {
+        Err(refused) => format!("{}: part {}, item {}", of_plan, refused.part, refused.item),
+        Ok(script) => {
+            let accepted = model::build::accept(record.len(), &words).expect("accepted before");
+            let rounds = accepted.lanes.iter().map(model::rounds::rounds).max().unwrap_or(0);
+            format!(
+                "{}: {:8} words, {:2} rounds at most, state {:4}, SRAM {:6}",
+                of_plan,
+                script.words.len(),
+                rounds,
+                script.state_words,
+                script.sram_words
+            )
+        }
+    }
+}
+
+/// A record's plan in plain form.
+pub fn plain(plan: &record::Plan<'_>) -> Plan {
+    let mut parts = plan.parts.iter().map(plain_part);
+    let stages = plan.major_parts.iter().map(|&count| parts.by_ref().take(count).collect()).collect();
+    Plan {
+        blocks: plan.blocks as u32,
+        gates: plan
+            .gates
+            .chunks(3)
+            .map(|gate| Gate { pin: gate[0], first: gate[1], second: gate[2] })
+            .collect(),
+        layout: plan.layout.to_vec(),
+        positions: plan
+            .positions
+            .chunks(3)
+            .map(|entry| Position { pin: entry[0], position: entry[1], staged: entry[2] })
+            .collect(),
+        stages,
+    }
+}
+
+fn plain_part(part: &record::Part<'_>) -> Part {
+    let stage = |stage: &record::Stage<'_>| {
+        let mut slots = vec![EMPTY];
+        slots.extend(stage.positions().map(|(_, pin)| pin));
+        slots.extend(stage.level_0());
+        Stage { slots, locations: stage.locations.to_vec() }
+    };
+    let list =
+        |table: &[u32], list: usize| table[plan::ENTRIES + plan::LANES * list..][..plan::LANES].to_vec();
+    let (sram, enable) = (part.sram_table, part.enable_table);
+    Part {
+        endpoints: part
+            .endpoints
+            .chunks(3)
+            .map(|endpoint| Endpoint { kind: endpoint[0], x: endpoint[1], y: endpoint[2] })
+            .collect(),
+        stages: part.stages.iter().map(stage).collect(),
+        tables: Tables {
+            sram: sram[..plan::ENTRIES].to_vec(),
+            sram_inv: list(sram, 0),
+            sram_set0: list(sram, 1),
+            enable: enable[..plan::ENTRIES].to_vec(),
+            enable_inv: list(enable, 0),
+            enable_set0: list(enable, 1),
+            data_inv: list(enable, 2),
+        },
+    }
+}

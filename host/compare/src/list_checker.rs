@@ -1,0 +1,37 @@
+//! One comparison of a listing, held to the lines made from the reference's lanes.
+
+use crate::lent::{Lent, LentRead, Room};
+use juolgesot::ffi::{self, Answer};
+use juolgesot::{LIST_ROOM, LIST_TEXT};
+
+/// One call: answer, text, room, and what lies behind the text. The result has so many bytes more than the text. Gives
+/// the answer's name, or the first difference.
+pub fn difference(records: &[u8], room_length: usize, spare: isize) -> Result<String, String> {
+    let text = model::listing::text(records, reference::lanes);
+    if text.len() > LIST_TEXT {
+        return Err("the text is longer than LIST_TEXT".to_string());
+    }
+    let out_length = (text.len() as isize + spare).max(0) as usize;
+    let (expected, written) = if room_length < LIST_ROOM {
+        (Answer { code: 32, first: 0, second: 0 }, 0)
+    } else if out_length < text.len() {
+        (Answer { code: 14, first: 0, second: 0 }, 0)
+    } else {
+        (Answer { code: 0, first: text.len() as u64, second: 0 }, text.len())
+    };
+
+    let lent_records = LentRead::new(records);
+    let mut room = Room::new(room_length, false);
+    let mut out = Lent::new(out_length, |_| 0xEE, 0xAB);
+    let answer = ffi::list(lent_records.slice(), room.slice(), out.slice());
+    if answer != expected {
+        return Err(format!("answered {:?}, expected {:?}", answer, expected));
+    }
+    out.check("byte of the text", &text.as_bytes()[..written], |_| 0xEE)?;
+    room.check(answer.code)?;
+    Ok(match answer.code {
+        0 if text.starts_with("refused") => text.split(" at").next().unwrap_or("").trim().to_string(),
+        0 => "listed".to_string(),
+        code => format!("not written: {}", code),
+    })
+}

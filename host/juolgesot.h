@@ -1,0 +1,63 @@
+/* Juolgesot for C: the functions that target/staticlib/libcapi.a exports (x86-64).
+ *
+ * Each returns 0, or the number of a refusal of document 01; then *first is the part and *second the item of its place,
+ * and the others are 0. A slice is a pointer and its length in items. Slices must not overlap; nothing else is asked of
+ * a caller, and no pointer is kept. Pointers to empty slices are not read, but must not be null.
+ *
+ * `room` is working room. It holds zeros after every call, but for refusal 32 (it is too short), which changes nothing.
+ */
+#ifndef JUOLGESOT_H
+#define JUOLGESOT_H
+
+#include <stddef.h>
+#include <stdint.h>
+
+#ifdef __cplusplus
+extern "C" {
+#endif
+
+/* Words of room: for a read set and for a listing; for a plan, with 16 more for each part; for each block of a run. */
+#define JUOLGESOT_SET_ROOM 16384
+#define JUOLGESOT_PLAN_ROOM 65536
+#define JUOLGESOT_PART_ROOM 16
+#define JUOLGESOT_BLOCK_ROOM 1024
+
+/* The rounds of a read set: word, mask, word, mask ..
+ * 0: *first is the number of rounds, and out begins with 512 words a round. Refused by 32, 1, 2, 3, 4, 14. */
+uint32_t juolgesot_read_rounds(const uint32_t *set, size_t set_len, uint32_t *room, size_t room_len,
+                               uint32_t *out, size_t out_len, uint64_t *first, uint64_t *second);
+
+/* What the listing program prints for these records, refusals included.
+ * 0: *first is the number of bytes, and out begins with them. Refused by 32, 14. */
+uint32_t juolgesot_list(const uint8_t *records, size_t records_len, uint32_t *room, size_t room_len,
+                        uint8_t *out, size_t out_len, uint64_t *first, uint64_t *second);
+
+/* How large the script of a plan record is.
+ * 0: starts, words, state words, SRAM words. Refused by 32, 5 to 13, 3, 4. */
+uint32_t juolgesot_plan_sizes(const uint8_t *plan, size_t plan_len, uint32_t *room, size_t room_len,
+                              uint64_t *first, uint64_t *second, uint64_t *third, uint64_t *fourth);
+
+/* The script of a plan record.
+ * 0: as above, and starts and words begin with the script's. Refused by the same, then 14. */
+uint32_t juolgesot_build(const uint8_t *plan, size_t plan_len, uint32_t *room, size_t room_len,
+                         uint64_t *starts, size_t starts_len, uint32_t *words, size_t words_len,
+                         uint64_t *first, uint64_t *second, uint64_t *third, uint64_t *fourth);
+
+/* Turns of one major stage: its blocks' starts and their end, and a block for each turn. Bits are read from old, or
+ * (staged) from new_, and stored into new_. 0: *first is the number of turns left. Refused by 32, 15, 16. */
+uint32_t juolgesot_run(const uint32_t *words, size_t words_len, const uint64_t *starts, size_t starts_len,
+                       const uint32_t *turns, size_t turns_len, const uint32_t *old, size_t old_len,
+                       uint32_t *new_, size_t new_len, uint32_t *room, size_t room_len,
+                       uint64_t *first, uint64_t *second);
+
+/* The value of a pin by the gates, in a part, between two states.
+ * 0: *first is the bit. Refused by 32, 5, 6. */
+uint32_t juolgesot_value(const uint8_t *plan, size_t plan_len, uint32_t *room, size_t room_len,
+                         const uint32_t *old, size_t old_len, const uint32_t *new_, size_t new_len,
+                         uint32_t part, uint32_t pin, uint64_t *first, uint64_t *second);
+
+#ifdef __cplusplus
+}
+#endif
+
+#endif

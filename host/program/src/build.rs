@@ -1,0 +1,41 @@
+//! `juolgesot build`.
+
+use crate::{Failure, Outcome};
+
+pub const HELP: &str = "
+usage: juolgesot build PLAN OUT
+
+Builds the script of the plan record in the file PLAN and writes it to OUT. A plan that is refused is told with the
+refusal's number and place. The files' forms are in host/README.md.
+";
+
+#[cfg(has_plans)]
+pub fn call(words: &[String]) -> Outcome {
+    use crate::files;
+    use crate::progress::while_working;
+    let words = crate::Words::read(words, &[])?;
+    let (plan, out) = match &words.plain[..] {
+        [plan, out] => (plan, out),
+        _ => return Err(Failure::Usage("a plan and an output file are needed".to_string())),
+    };
+    let record = files::read(plan)?;
+    let script = while_working("building", || juolgesot::build(&record))?;
+    let blocks = u32::from_le_bytes([record[0], record[1], record[2], record[3]]);
+    println!(
+        "{}: {} blocks, {} starts, {} words, {} state words, {} SRAM words",
+        out,
+        blocks,
+        script.starts.len(),
+        script.words.len(),
+        script.state_words,
+        script.sram_words
+    );
+    let juolgesot::Script { starts, words, state_words, sram_words } = script;
+    let script = plan::Script { starts, words, state_words, sram_words };
+    files::write(out, &plan::script_file::bytes(blocks.into(), &script))
+}
+
+#[cfg(not(has_plans))]
+pub fn call(_: &[String]) -> Outcome {
+    Err(Failure::Lacking("build"))
+}

@@ -1,0 +1,39 @@
+//! `juolgesot list`.
+
+use crate::{Failure, Outcome};
+
+pub const HELP: &str = "
+usage: juolgesot list [FILE]
+
+Prints the lanes and rounds of requested positions. FILE (default: standard input) is records: a kind byte, 1 unstaged
+or 2 staged, and a four-byte little-endian position each; then a byte 0. A line is: lane, round, n or s, word, mask.
+Exit status 0 where the records are in form and have a packing.
+";
+
+#[cfg(has_listing)]
+pub fn call(words: &[String]) -> Outcome {
+    use std::io::{Read, Write};
+    let words = crate::Words::read(words, &[])?;
+    let records = match &words.plain[..] {
+        [path] => crate::files::read(path)?,
+        [] => {
+            let mut bytes = Vec::new();
+            std::io::stdin()
+                .read_to_end(&mut bytes)
+                .map_err(|error| Failure::Failed(format!("standard input cannot be read: {}", error)))?;
+            bytes
+        }
+        _ => return Err(Failure::Usage("one file at most".to_string())),
+    };
+    let text = crate::progress::while_working("listing", || juolgesot::list(&records))?;
+    std::io::stdout().write_all(&text).map_err(|error| Failure::Failed(error.to_string()))?;
+    if text.starts_with(b"refused") {
+        return Err(Failure::Failed("the records were refused".to_string()));
+    }
+    Ok(())
+}
+
+#[cfg(not(has_listing))]
+pub fn call(_: &[String]) -> Outcome {
+    Err(Failure::Lacking("the listing"))
+}

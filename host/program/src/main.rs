@@ -1,0 +1,159 @@
+//! `juolgesot`: the library from a shell, and what is shown with it.
+
+#![cfg_attr(not(all(has_plans, has_run)), allow(dead_code))]
+
+mod files;
+mod progress;
+
+#[cfg(has_plans)]
+mod bench_plans;
+#[cfg(has_run)]
+mod bench_run;
+
+mod bench;
+mod build;
+mod chart;
+mod compare;
+mod list;
+mod replay;
+mod run;
+
+use std::process::ExitCode;
+
+/// Why a verb did not end well.
+pub enum Failure {
+    /// It was not asked rightly: what is wrong.
+    Usage(String),
+    /// It was, and something is not as it should be.
+    Failed(String),
+    /// The archive has not got the functions that it needs: which.
+    Lacking(&'static str),
+}
+
+type Outcome = Result<(), Failure>;
+
+struct Verb {
+    name: &'static str,
+    summary: &'static str,
+    help: &'static str,
+    call: fn(&[String]) -> Outcome,
+}
+
+const VERBS: [Verb; 6] = [
+    Verb {
+        name: "compare",
+        summary: "both builders on the same plans, a line each",
+        help: compare::HELP,
+        call: compare::call,
+    },
+    Verb { name: "build", summary: "a plan record into a script", help: build::HELP, call: build::call },
+    Verb { name: "run", summary: "a script on a state", help: run::HELP, call: run::call },
+    Verb {
+        name: "list",
+        summary: "lanes and rounds of requested positions",
+        help: list::HELP,
+        call: list::call,
+    },
+    Verb {
+        name: "replay",
+        summary: "traffic through a Bloom filter's gates",
+        help: replay::HELP,
+        call: replay::call,
+    },
+    Verb { name: "bench", summary: "times, as ratios to plain Rust", help: bench::HELP, call: bench::call },
+];
+
+fn main() -> ExitCode {
+    let words: Vec<String> = std::env::args().skip(1).collect();
+    let (name, rest) = match words.split_first() {
+        Some((name, rest)) => (name.as_str(), rest),
+        None => {
+            eprint!("{}", overview());
+            return ExitCode::from(2);
+        }
+    };
+    if matches!(name, "--help" | "-h" | "help") {
+        print!("{}", overview());
+        return ExitCode::SUCCESS;
+    }
+    let verb = match VERBS.iter().find(|verb| verb.name == name) {
+        Some(verb) => verb,
+        None => {
+            eprintln!("juolgesot: no verb '{}'", name);
+            eprint!("{}", overview());
+            return ExitCode::from(2);
+        }
+    };
+    if rest.iter().any(|word| word == "--help" || word == "-h") {
+        println!("{}", verb.help.trim());
+        return ExitCode::SUCCESS;
+    }
+    match (verb.call)(rest) {
+        Ok(()) => ExitCode::SUCCESS,
+        Err(Failure::Usage(what)) => {
+            eprintln!("juolgesot {}: {}\n\n{}", name, what, verb.help.trim());
+            ExitCode::from(2)
+        }
+        Err(Failure::Failed(what)) => {
+            eprintln!("juolgesot {}: {}", name, what);
+            ExitCode::from(1)
+        }
+        Err(Failure::Lacking(what)) => {
+            eprintln!("juolgesot {}: the archive has not got {} yet; nothing was done", name, what);
+            ExitCode::from(3)
+        }
+    }
+}
+
+fn overview() -> String {
+    let mut text = "usage: juolgesot VERB ..    (juolgesot VERB --help says more)\n\n".to_string();
+    for verb in &VERBS {
+        text += &format!("  {:8} {}\n", verb.name, verb.summary);
+    }
+    text + "\nExit status: 0 all is well; 1 it is not; 2 not asked rightly; 3 the archive lacks a function.\n"
+}
+
+/// The words of a call: those that stand by themselves, and the values of options (`--name VALUE`).
+pub struct Words {
+    pub plain: Vec<String>,
+    options: Vec<(String, String)>,
+}
+
+impl Words {
+    pub fn read(words: &[String], names: &[&str]) -> Result<Self, Failure> {
+        let mut read = Words { plain: Vec::new(), options: Vec::new() };
+        let mut words = words.iter();
+        while let Some(word) = words.next() {
+            if !word.starts_with("--") {
+                read.plain.push(word.clone());
+                continue;
+            }
+            if !names.contains(&word.as_str()) {
+                return Err(Failure::Usage(format!("no option {}", word)));
+            }
+            let value = words.next().ok_or_else(|| Failure::Usage(format!("{} needs a value", word)))?;
+            read.options.push((word.clone(), value.clone()));
+        }
+        Ok(read)
+    }
+
+    pub fn option(&self, name: &str) -> Option<&str> {
+        self.options.iter().rev().find(|(option, _)| option == name).map(|(_, value)| value.as_str())
+    }
+
+    pub fn number(&self, name: &str) -> Result<Option<u64>, Failure> {
+        match self.option(name) {
+            None => Ok(None),
+            Some(word) => match word.parse() {
+                Ok(number) => Ok(Some(number)),
+                Err(_) => Err(Failure::Usage(format!("{} {} is no number", name, word))),
+            },
+        }
+    }
+}
+
+impl From<juolgesot::Refusal> for Failure {
+    fn from(refusal: juolgesot::Refusal) -> Self {
+        Failure::Failed(refusal.to_string())
+    }
+}

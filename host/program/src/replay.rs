@@ -1,0 +1,96 @@
+//! `juolgesot replay`.
+
+use crate::{Failure, Outcome};
+
+pub const HELP: &str = "
+usage: juolgesot replay [--traffic FILE] [--plan FILE --ports FILE] [--script FILE] [--lookups N]
+
+Builds the script of a Bloom filter (128 registers, 3 hashes, 8 look-up ports) and replays traffic through the run,
+cycle by cycle. Each answer of the gates, and each register, is held to a plain software model of the filter. A no must
+be sure: flash does not hold the key. A maybe goes on to flash, which alone says yes. Prints the counts; fails on the
+first difference with the cycle and the pin.
+
+--traffic  lines `insert KEY [COUNT [STEP]]`, `lookup KEY [COUNT [STEP]]`, `clear` (host/replay/src/traffic.rs);
+           default: the traffic that comes with it, 102,707 look-ups
+--plan     a plan record in the place of the one that comes with it, --ports where its ports are
+--script   a script of that plan that is built already (`juolgesot build`, or GEM's by make_filter)
+--lookups  stop after so many
+";
+
+#[cfg(has_run)]
+pub fn call(words: &[String]) -> Outcome {
+    use crate::files;
+    use crate::progress::Progress;
+    use ::replay::{traffic, Netlist, Replay, TRAFFIC};
+
+    let words = crate::Words::read(words, &["--traffic", "--plan", "--ports", "--script", "--lookups"])?;
+    if !words.plain.is_empty() {
+        return Err(Failure::Usage(format!("what is '{}'?", words.plain[0])));
+    }
+    let text = |path: &str| files::read(path).map(|bytes| String::from_utf8_lossy(&bytes).into_owned());
+    let netlist = match (words.option("--plan"), words.option("--ports")) {
+        (None, None) => Netlist::stored(),
+        (Some(plan), Some(ports)) => Netlist { record: files::read(plan)?, ports: text(ports)? },
+        _ => return Err(Failure::Usage("--plan and --ports belong together".to_string())),
+    };
+    let events = match words.option("--traffic") {
+        Some(path) => traffic::read(&text(path)?),
+        None => traffic::read(TRAFFIC),
+    };
+    let mut cycles = traffic::cycles(&events.map_err(Failure::Failed)?);
+    if let Some(most) = words.number("--lookups")? {
+        let looks_up =
+            |cycle: &filter::Cycle| cycle.ports.iter().filter(|(_, looks_up)| *looks_up).count() as u64;
+        let mut so_far = 0;
+        let end = cycles.iter().position(|cycle| {
+            so_far += looks_up(cycle);
+            so_far >= most
+        });
+        cycles.truncate(end.map_or(cycles.len(), |end| end + 1));
+    }
+
+    let script = match words.option("--script") {
+        Some(path) => {
+            let (_, plan::Script { starts, words, state_words, sram_words }) = files::script(path)?;
+            juolgesot::Script { starts, words, state_words, sram_words }
+        }
+        None => built(&netlist.record)?,
+    };
+    println!("filter: a script of {} words, {} state words", script.words.len(), script.state_words);
+    let mut replay = Replay::new(&netlist, script).map_err(Failure::Failed)?;
+    let mut progress = Progress::of("cycles");
+    for (number, cycle) in cycles.iter().enumerate() {
+        replay.cycle(cycle).map_err(|what| Failure::Failed(format!("DIFFERENCE: {}", what)))?;
+        progress.tell(number as u64 + 1, cycles.len() as u64);
+    }
+    let counts = replay.counts;
+    println!("cycles       {:8}", counts.cycles);
+    println!("inserted     {:8}", counts.inserts);
+    println!("looked up    {:8}", counts.looked_up);
+    println!("no           {:8}   none of them is in flash", counts.no);
+    println!(
+        "maybe        {:8}   each of them went on to flash ({} reads)",
+        counts.maybe, counts.flash_reads
+    );
+    println!(
+        "false maybe  {:8}   flash did not hold the key ({} found)",
+        counts.false_maybe, counts.found_in_flash
+    );
+    println!("no difference from the software model in any answer or register, {:.1} s", progress.seconds());
+    Ok(())
+}
+
+#[cfg(all(has_plans, has_run))]
+fn built(record: &[u8]) -> Result<juolgesot::Script, Failure> {
+    Ok(crate::progress::while_working("building", || juolgesot::build(record))?)
+}
+
+#[cfg(all(not(has_plans), has_run))]
+fn built(_: &[u8]) -> Result<juolgesot::Script, Failure> {
+    Err(Failure::Lacking("build"))
+}
+
+#[cfg(not(has_run))]
+pub fn call(_: &[String]) -> Outcome {
+    Err(Failure::Lacking("run"))
+}

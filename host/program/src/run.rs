@@ -1,0 +1,70 @@
+//! `juolgesot run`.
+
+use crate::{Failure, Outcome};
+
+pub const HELP: &str = "
+usage: juolgesot run SCRIPT OLD OUT [--new FILE] [--stage N [--turns FILE]]
+
+Runs a script on the state in the file OLD and writes the new state to OUT. All major stages are run in their order,
+each with turns that finish it; with --stage only that one (from 0). --turns: the blocks to give turns to, as numbers
+in a text. --new: what the new state holds before (default: zeros). States are little-endian u32 words; the script is
+what `juolgesot build` wrote. Prints the turns left of each major stage; exit status 0 only where none is left.
+";
+
+#[cfg(has_run)]
+pub fn call(words: &[String]) -> Outcome {
+    use crate::files;
+    use crate::progress::while_working;
+    use plan::script_file::words_of;
+    let words = crate::Words::read(words, &["--new", "--stage", "--turns"])?;
+    let (script_path, old_path, out) = match &words.plain[..] {
+        [script, old, out] => (script, old, out),
+        _ => return Err(Failure::Usage("a script, an old state and an output file are needed".to_string())),
+    };
+    let (blocks, built) = files::script(script_path)?;
+    let blocks = blocks as usize;
+    let old = words_of(&files::read(old_path)?);
+    let mut new = match words.option("--new") {
+        Some(path) => words_of(&files::read(path)?),
+        None => vec![0; (built.state_words as usize).max(old.len())],
+    };
+    let all = (built.starts.len() - 1) / blocks;
+    let stages = match words.number("--stage")? {
+        Some(stage) if (stage as usize) < all => stage as usize..stage as usize + 1,
+        Some(stage) => return Err(Failure::Usage(format!("there are {} major stages, no {}", all, stage))),
+        None => 0..all,
+    };
+    let given = match words.option("--turns") {
+        Some(_) if stages.len() != 1 => return Err(Failure::Usage("--turns needs --stage".to_string())),
+        Some(path) => Some(turns_of(&files::read(path)?)?),
+        None => None,
+    };
+    let mut left_over = 0;
+    for stage in stages {
+        let starts = &built.starts[stage * blocks..(stage + 1) * blocks + 1];
+        let turns = match &given {
+            Some(turns) => turns.clone(),
+            None => juolgesot::finishing_turns(&built.words, starts),
+        };
+        let left = while_working("running", || juolgesot::run(&built.words, starts, &turns, &old, &mut new))?;
+        println!("major stage {}: {} turns given, {} left", stage, turns.len(), left);
+        left_over += left;
+    }
+    files::write(out, &new.iter().flat_map(|word| word.to_le_bytes()).collect::<Vec<u8>>())?;
+    if left_over > 0 {
+        return Err(Failure::Failed(format!("{} turns are left", left_over)));
+    }
+    Ok(())
+}
+
+#[cfg(has_run)]
+fn turns_of(text: &[u8]) -> Result<Vec<u32>, Failure> {
+    let text = String::from_utf8_lossy(text);
+    let word = |word: &str| word.parse().map_err(|_| Failure::Failed(format!("'{}' is no block", word)));
+    text.split_whitespace().map(word).collect()
+}
+
+#[cfg(not(has_run))]
+pub fn call(_: &[String]) -> Outcome {
+    Err(Failure::Lacking("run"))
+}

@@ -1,0 +1,69 @@
+//! A built script, run cycle by cycle.
+//!
+//! A cycle reads the old state: its inputs, and the registers as the cycle before stored them. GEM places a register's
+//! output where its input is stored, so the new state of a cycle is the old state of the next once the next inputs are
+//! put in. Staged bits are read from the new state, and only where an earlier major stage of the cycle stored them.
+
+use juolgesot::{finishing_turns, run_into, Refusal, Script, BLOCK_ROOM};
+
+pub struct Machine {
+    script: Script,
+    blocks: usize,
+    /// For each major stage, a block for each turn: block after block, round and round, until all are finished.
+    turns: Vec<Vec<u32>>,
+    old: Vec<u32>,
+    new: Vec<u32>,
+    room: Vec<u32>,
+}
+
+/// Why a cycle did not come to its end.
+#[derive(Debug)]
+pub enum Trouble {
+    Refused { stage: usize, refusal: Refusal },
+    TurnsLeft { stage: usize, turns: u64 },
+}
+
+impl std::fmt::Display for Trouble {
+    fn fmt(&self, f: &mut std::fmt::Formatter<'_>) -> std::fmt::Result {
+        match self {
+            Trouble::Refused { stage, refusal } => write!(f, "major stage {}: {}", stage, refusal),
+            Trouble::TurnsLeft { stage, turns } => {
+                write!(f, "major stage {}: {} turns are left", stage, turns)
+            }
+        }
+    }
+}
+
+impl Machine {
+    /// All bits are 0 at the start. `blocks` is the plan's number of blocks.
+    pub fn new(script: Script, blocks: usize) -> Self {
+        let stages = (script.starts.len() - 1) / blocks;
+        let turns = (0..stages)
+            .map(|stage| {
+                finishing_turns(&script.words, &script.starts[stage * blocks..(stage + 1) * blocks + 1])
+            })
+            .collect();
+        let state = vec![0; script.state_words as usize];
+        Machine { blocks, turns, old: state.clone(), new: state, room: vec![0; BLOCK_ROOM * blocks], script }
+    }
+
+    /// The state that the next cycle reads.
+    pub fn old(&mut self) -> &mut [u32] {
+        &mut self.old
+    }
+
+    /// Runs one cycle. Afterwards `old` is what it stored.
+    pub fn cycle(&mut self) -> Result<(), Trouble> {
+        for (stage, turns) in self.turns.iter().enumerate() {
+            let starts = &self.script.starts[stage * self.blocks..(stage + 1) * self.blocks + 1];
+            let left = run_into(&self.script.words, starts, turns, &self.old, &mut self.new, &mut self.room);
+            match left {
+                Ok(0) => {}
+                Ok(turns) => return Err(Trouble::TurnsLeft { stage, turns }),
+                Err(refusal) => return Err(Trouble::Refused { stage, refusal }),
+            }
+        }
+        std::mem::swap(&mut self.old, &mut self.new);
+        Ok(())
+    }
+}
