@@ -101,8 +101,8 @@ unfolding outcome
 as-run d s turns old new after room accepted stage old-size new-size e =
     let x = stageRun d s turns old new in
     let q =
-        went 0 after (leb (1024 * (length (startsOf d s) - 1)) room) (badBlock 256 (assembled d) (startsOf d s) (length old) (length new))
-        (badTurn (startsOf d s) turns) (ran (allLeft 256 (assembled d) (x .blocks)) (x .new)) e
+    went 0 after (leb (1024 * (length (startsOf d s) - 1)) room) (badBlock 256 (assembled d) (startsOf d s) (length old) (length new))
+    (badTurn (startsOf d s) turns) (ran (allLeft 256 (assembled d) (x .blocks)) (x .new)) e
     in
     let f = q .1 in
     let none-left : allLeft 256 (assembled d) (stageRun d s turns old new .blocks) ≡ 0 = cc in
