@@ -1,9 +1,7 @@
--- TODO
+-- The words are written where both slices are long enough; else it is refusal 14.
 -- Assumes nothing.
-use mathlib.Core.Path.{_≡_, refl, sym, ap, _∙_}
-use mathlib.Core.List.{List}
-use Prim.Native.Nat.{ℕ, _+_, _*_, _-_, _^_, _≤_, _<_}
-use native.Mathlib.Omega.{arith}
+use mathlib.Core.Path.{sym, ap, _∙_}
+use Prim.Native.Nat.{ℕ, _-_}
 use lib.ListN.{length}
 use lib.ListN.{replicate}
 use Rattle.checks.specs.Refusals.{nowhere}

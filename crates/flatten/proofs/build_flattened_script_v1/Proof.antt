@@ -1,9 +1,7 @@
--- TODO
+-- A refused plan leaves the slices as they are; an accepted one is built.
 -- Assumes nothing.
-use mathlib.Core.Path.{_≡_, refl, sym, ap, _∙_}
-use mathlib.Core.List.{List}
-use Prim.Native.Nat.{ℕ, _+_, _*_, _-_, _^_, _≤_, _<_}
-use native.Mathlib.Omega.{arith}
+use mathlib.Core.Path.{sym, ap, _∙_}
+use Prim.Native.Nat.{_-_}
 use lib.ListN.{length}
 use Rattle.checks.specs.Refusals.{planVerdict}
 use Rattle.flatten.specs.Answers.{flattenedOf}

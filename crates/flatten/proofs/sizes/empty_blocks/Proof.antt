@@ -1,10 +1,8 @@
--- TODO
+-- The loop's invariant: the empty blocks of the first s major stages.
 -- Assumes nothing.
-use mathlib.Core.Path.{_≡_, refl, sym, ap, _∙_}
-use mathlib.Core.List.{List}
-use Prim.Native.Nat.{ℕ, _+_, _*_, _-_, _^_, _≤_, _<_}
+use mathlib.Core.Path.{_≡_, ap, _∙_}
+use Prim.Native.Nat.{_*_, _-_, _≤_}
 use native.Mathlib.Omega.{arith}
-use lib.ListN.{length}
 use Rattle.assembly.specs.Steps.{emptyBlocks}
 use Rattle.flatten.proofs.SizeLaws.{majors-few, empty-none, empty-more}
 use Rattle.record.specs.Record.{majorsOf}

@@ -1,13 +1,12 @@
--- TODO
+-- The loop's invariant: the words of the first p parts, each below 2^45.
 -- Assumes nothing.
-use mathlib.Core.Path.{_≡_, refl, sym, ap, _∙_}
-use mathlib.Core.List.{List}
-use Prim.Native.Nat.{ℕ, _+_, _*_, _-_, _^_, _≤_, _<_}
+use mathlib.Core.Path.{_≡_, ap, _∙_}
+use Prim.Native.Nat.{_+_, _*_, _-_, _≤_}
 use native.Mathlib.Omega.{arith}
-use lib.ListN.{length}
 use Rattle.words.specs.Sum.{sumTo}
 use Rattle.assembly.specs.Steps.{lengthOf}
-use Rattle.flatten.proofs.SizeLaws.{majors-few, parts-few, parts-none, parts-next}
+use Rattle.layout.proofs.RowLaws.{parts-few}
+use Rattle.flatten.proofs.SizeLaws.{majors-few, parts-none, parts-next}
 use Rattle.record.specs.Record.{partsOf}
 use borrow.Author.Needs.{needs}
 use Rattle.flatten.proofs.sizes.parts_words.Statement.{statement}

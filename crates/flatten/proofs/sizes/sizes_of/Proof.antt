@@ -1,10 +1,7 @@
--- TODO
+-- Each of the four sizes is its definition.
 -- Assumes nothing.
-use mathlib.Core.Path.{_≡_, refl, sym, ap, _∙_}
-use mathlib.Core.List.{List}
-use Prim.Native.Nat.{ℕ, _+_, _*_, _-_, _^_, _≤_, _<_}
+use Prim.Native.Nat.{_-_}
 use native.Mathlib.Omega.{arith}
-use lib.ListN.{length}
 use Rattle.flatten.proofs.SizeLaws.{starts-few, judgeable, sizes-are}
 use borrow.Author.Needs.{needs}
 use Rattle.flatten.proofs.sizes.sizes_of.Statement.{statement}

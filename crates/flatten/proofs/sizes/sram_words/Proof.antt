@@ -1,13 +1,12 @@
--- TODO
+-- The loop's invariant: the SRAM words of the first p parts, each below 2^45.
 -- Assumes nothing.
-use mathlib.Core.Path.{_≡_, refl, sym, ap, _∙_}
-use mathlib.Core.List.{List}
-use Prim.Native.Nat.{ℕ, _+_, _*_, _-_, _^_, _≤_, _<_}
+use mathlib.Core.Path.{_≡_}
+use Prim.Native.Nat.{_+_, _*_, _-_, _≤_}
 use native.Mathlib.Omega.{arith}
-use lib.ListN.{length}
 use Rattle.words.specs.Sum.{sumTo}
 use Rattle.counts.specs.Counts.{srams}
-use Rattle.flatten.proofs.SizeLaws.{majors-few, parts-few, sram-none, sram-next, sram-all}
+use Rattle.layout.proofs.RowLaws.{parts-few}
+use Rattle.flatten.proofs.SizeLaws.{majors-few, sram-none, sram-next, sram-all}
 use borrow.Author.Needs.{needs}
 use Rattle.flatten.proofs.sizes.sram_words.Statement.{statement}
 use Rattle.flatten.proofs.sizes.sram_words.Tie as tie
