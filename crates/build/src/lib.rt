@@ -25,6 +25,7 @@ use record::bodies::Body;
 use script::head::Numbers;
 use script::parts::write_script;
 use script::stages::write_stage;
+use words::clear::clear;
 use words::edition::Edition;
 
 // The part's read set, from the start of `set`, and how many words it has. The room then has the winners of the part's pins, and behind them its
@@ -147,5 +148,5 @@ pub fn build_script(d: &[u8], p: usize, body: Body, x: Numbers, room: &mut [u32]
     let to = 256 + 512 * rounds + 5120;
     build_front(d, p, body, rounds, &mut room[..40960], &mut out[256..to]);
     write_script(d, p, body, x, &mut room[..32768], out);
-    pinmap::clear(&mut room[32768..65536]);
+    clear(&mut room[32768..65536]);
 }

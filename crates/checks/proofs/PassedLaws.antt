@@ -5,20 +5,18 @@ use mathlib.Core.Bool.{Bool, true, false}
 use mathlib.Core.Option.{Option, none, some}
 use mathlib.Core.List.{List}
 use Prim.Native.Nat.{ℕ, _<_}
-use native.Mathlib.Omega.{arith}
-use Rattle.reads.specs.ReadSet.{pairsOf}
 use Rattle.reads.specs.Outcome.{placed}
 use Rattle.record.specs.Record.{partsOf}
 use Rattle.record.specs.Tests.{Place}
 use Rattle.record.specs.Form.{planForm}
-use Rattle.record.proofs.TestLaws.{lowest-none}
+use Rattle.record.proofs.TestLaws.{some-not-none, lowest-none}
 use Rattle.gates.specs.Gates.{badGate}
 use Rattle.counts.specs.Counts.{refusal7}
 use Rattle.blocks.specs.Blocks.{totalsFit}
 use Rattle.slots.specs.Slots.{refusal9, refusal10, refusal11}
 use Rattle.positions.specs.Positions.{refusal12, refusal13}
-use Rattle.partreads.specs.PartReads.{readWords, partReads, partLanes, badReads, refusedReads}
-use Rattle.partreads.proofs.CheckLaws.{Answered, three, four, rounds, answered}
+use Rattle.partreads.specs.PartReads.{partReads, partLanes, refusedReads}
+use Rattle.partreads.proofs.CheckLaws.{placed-part}
 use Rattle.checks.specs.Refusals.{Refused, orElse, unless, gatePlace, planRefusal}
 
 pub record Passed (n : ℕ) (d : List ℕ) : Type 0 where
@@ -34,21 +32,18 @@ pub record Passed (n : ℕ) (d : List ℕ) : Type 0 where
   pub nothing : refusedReads n 3 d ≡ none
   pub no-room : refusedReads n 4 d ≡ none
 
-pub some-none : {A B : Type 0} (x : A) → some x ≡ none → B
-some-none x e = let z : _≡_ {A = ℕ} 0 1 = cc in absurd (omega arith)
-
 -- a test that lets a plan pass
 pub past : (k : ℕ) (o : Option Place) (r : Option Refused) → orElse k o r ≡ none → (o ≡ none) × (r ≡ none)
 past k none r e = (refl, e)
-past k (some q) r e = some-none _ e
+past k (some q) r e = absurd (some-not-none e)
 
 pub past-unless : (k : ℕ) (b : Bool) (r : Option Refused) → unless k b r ≡ none → (b ≡ true) × (r ≡ none)
 past-unless k true r e = (refl, e)
-past-unless k false r e = some-none _ e
+past-unless k false r e = absurd (some-not-none e)
 
 pub no-gate : (o : Option ℕ) → gatePlace o ≡ none → o ≡ none
 no-gate none e = refl
-no-gate (some g) e = some-none _ e
+no-gate (some g) e = absurd (some-not-none e)
 
 pub passed : (n : ℕ) (d : List ℕ) → planRefusal n d ≡ none → Passed n d
 unfolding planRefusal
@@ -78,18 +73,8 @@ passed n d e =
       no-room = four .0;
     }
 
--- the search refuses with 3 or 4, if at all
-pub placed-part : (d : List ℕ) (p : ℕ) → badReads 3 (partReads 256 d p) ≡ none → badReads 4 (partReads 256 d p) ≡ none → partReads 256 d p ≡ placed (partLanes 256 d p)
-unfolding badReads partReads
-placed-part d p a b = go (answered 256 (pairsOf (readWords d p)))
-  where
-    go : Answered (partReads 256 d p) → partReads 256 d p ≡ placed (partLanes 256 d p)
-    go (three q) = some-none _ (rw (q, badReads) at a)
-    go (four q) = some-none _ (rw (q, badReads) at b)
-    go (rounds lanes q) = rw q
-
 pub placed-lanes : (d : List ℕ) → planRefusal 256 d ≡ none → (p : ℕ) → p < partsOf d → partReads 256 d p ≡ placed (partLanes 256 d p)
 unfolding refusedReads
 placed-lanes d e p h =
     let s = passed 256 d e in
-    placed-part d p (lowest-none _ _ (s .nothing) p h) (lowest-none _ _ (s .no-room) p h)
+    placed-part 256 d p (lowest-none _ _ (s .nothing) p h) (lowest-none _ _ (s .no-room) p h)

@@ -28,7 +28,7 @@ use Rattle.partreads.specs.Answers.{checkedOf}
 use Rattle.checks.specs.Refusals.{orElse, gatePlace}
 use Rattle.checks.specs.Steps.{Few, readRefusal}
 use Rattle.checks.specs.Verdicts.{lowestPlace, faultPlace, listPlace, nothingPlace, roomPlace, checkedRefusal}
-use Rattle.checks.proofs.PassedLaws.{some-none}
+use Rattle.record.proofs.TestLaws.{some-not-none}
 
 -- ---- parts are few
 
@@ -85,14 +85,14 @@ few-same o p e h x f = h x (sym e ∙ f)
 
 bad-item : (k : ℕ) (o : Outcome) (i : ℕ) → badReads k o ≡ some i → i ≡ 0
 unfolding badReads
-bad-item k (placed lanes) i e = some-none i (sym e)
+bad-item k (placed lanes) i e = absurd (some-not-none (sym e))
 bad-item k (refused m j) i e = go (eqb m k) refl
   where
     go : (b : Bool) → eqb m k ≡ b → i ≡ 0
     go true q =
         let z : some 0 ≡ some i = rw (q, badReads) at e in
         cc
-    go false q = some-none i (sym (rw (q, badReads) at e))
+    go false q = absurd (some-not-none (sym (rw (q, badReads) at e)))
 
 reads-item : (n k : ℕ) (d : List ℕ) (x : Place) → refusedReads n k d ≡ some x → x .item ≡ 0
 unfolding refusedReads
@@ -115,13 +115,13 @@ same-part x y i e = let q : record { part = x .part; item = i } ≡ y = cc in ap
 
 nothing-few : (a b : Option Place) → Few a → Few (nothingPlace (checkedOf a b))
 nothing-few (some x) b h y e = omega (arith, h x refl, same-part x y 0 e)
-nothing-few none (some x) h y e = some-none y (sym e)
-nothing-few none none h y e = some-none y (sym e)
+nothing-few none (some x) h y e = absurd (some-not-none (sym e))
+nothing-few none none h y e = absurd (some-not-none (sym e))
 
 room-few : (a b : Option Place) → Few b → Few (roomPlace (checkedOf a b))
-room-few (some x) b h y e = some-none y (sym e)
+room-few (some x) b h y e = absurd (some-not-none (sym e))
 room-few none (some x) h y e = omega (arith, h x refl, same-part x y 0 e)
-room-few none none h y e = some-none y (sym e)
+room-few none none h y e = absurd (some-not-none (sym e))
 
 pub reads-few : (d : List ℕ) → planForm d ≡ true → (r : Checked) → r ≡ checkedOf (refusedReads 256 3 d) (refusedReads 256 4 d)
     → Few (nothingPlace r) × Few (roomPlace r)

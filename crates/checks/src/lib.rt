@@ -18,6 +18,7 @@ use places::check_places;
 use reading::check_reading;
 use record::places::room_words;
 use tell::is_refused;
+use words::clear::clear;
 use words::refusals::ROOM_SHORT;
 use words::refusals::Refusal;
 
@@ -65,10 +66,10 @@ pub fn check_plan(plan: &[u8], room: &mut [u32]) -> Verdict
             item: 0,
         });
     }
-    pinmap::clear(room);
+    clear(room);
     let verdict = check_all(plan, room);
     if is_refused(verdict) {
-        pinmap::clear(room);
+        clear(room);
     }
     verdict
 }

@@ -2,7 +2,7 @@
 -- Assumes nothing.
 use mathlib.Core.Path.{_≡_, sym, ap, subst, _∙_}
 use mathlib.Core.Bool.{true}
-use mathlib.Core.Option.{none, some}
+use mathlib.Core.Option.{none}
 use mathlib.Core.List.{List}
 use Prim.Native.Nat.{ℕ, zero, suc, _+_, _*_, _≤_, _<_}
 use native.Mathlib.Decide.{ℕ-discrete}
@@ -19,34 +19,17 @@ use Rattle.rounds.specs.Rounds.{tableAfter}
 use Rattle.record.specs.Record.{partsOf, stagesOf, slotAt}
 use Rattle.record.specs.Form.{empty, planForm}
 use Rattle.record.proofs.FormLaws.{formed}
-use Rattle.record.proofs.TestLaws.{lowest-none}
 use Rattle.counts.specs.Counts.{refusal7}
 use Rattle.counts.proofs.PartLaws.{passed}
 use Rattle.blocks.specs.Blocks.{totalsFit}
 use Rattle.positions.specs.Positions.{planned, refusal12, refusal13}
 use Rattle.positions.proofs.PositionLaws.{sram-entry, enable-entry}
-use Rattle.partreads.specs.PartReads.{readWords, partReads, lanesIn, partLanes, localPosition, badReads, refusedReads}
+use Rattle.partreads.specs.PartReads.{readWords, partReads, partLanes, localPosition}
 use Rattle.partreads.proofs.EntryLaws.{part-found, part-numbered, all-planned}
-use Rattle.partreads.proofs.CheckLaws.{Answered, three, four, rounds, answered}
 use Rattle.script.specs.Script.{pinEntry, stageEntry}
 use Rattle.script.proofs.EntryLaws.{entry-small}
 use Rattle.decode.specs.Decodable.{Decodable}
 use Rattle.decode.proofs.InsideLaws.{solvable, narrow, part-sound}
-
--- ---- 3 and 4 excluded
-
-pub part-placed : (d : List ℕ) → refusedReads 256 3 d ≡ none → refusedReads 256 4 d ≡ none → (p : ℕ) → p < partsOf d
-    → partReads 256 d p ≡ placed (partLanes 256 d p)
-unfolding refusedReads badReads partReads
-part-placed d no-three no-four p part = go (answered 256 (pairsOf (readWords d p)))
-  where
-    clash : {k : ℕ} → some k ≡ none → ⊥
-    clash {k} h = let z : _≡_ {A = ℕ} 0 1 = cc in omega arith
-
-    go : Answered (partReads 256 d p) → partReads 256 d p ≡ placed (partLanes 256 d p)
-    go (three e) = absurd (clash (sym (ap (badReads 3) e) ∙ lowest-none (λ q. badReads 3 (partReads 256 d q)) (partsOf d) no-three p part))
-    go (four e) = absurd (clash (sym (ap (badReads 4) e) ∙ lowest-none (λ q. badReads 4 (partReads 256 d q)) (partsOf d) no-four p part))
-    go (rounds lanes e) = e ∙ ap placed (sym (ap lanesIn e))
 
 module _ (d : List ℕ) (p : ℕ) (form : planForm d ≡ true) (seven : refusal7 d ≡ none) (fit : totalsFit d ≡ true) (twelve : refusal12 d ≡ none) (thirteen : refusal13 d ≡ none) (part : p < partsOf d) (found : partReads 256 d p ≡ placed (partLanes 256 d p)) where
   abbrev lanes : List Lane

@@ -2,9 +2,8 @@
 -- a half of a word, a bit of a word or a word of a round. Over the number of lanes n up to the last law.
 -- Assumes nothing.
 use mathlib.Core.Path.{_≡_, refl, sym, ap, _∙_}
-use mathlib.Core.Bool.{Bool, true, false}
 use mathlib.Core.List.{List, []}
-use Prim.Native.Nat.{ℕ, zero, suc, _+_, _*_, _-_, _/_, _%_, _^_, _≤_, _<_}
+use Prim.Native.Nat.{ℕ, zero, suc, _+_, _*_, _/_, _%_, _^_, _≤_, _<_}
 use native.Mathlib.Nat.{add-zero, mod-lt, mul-suc}
 use native.Mathlib.Numerals.{add-one}
 use native.Mathlib.Omega.{arith}
@@ -15,7 +14,7 @@ use Rattle.words.specs.Sum.{sumTo}
 use Rattle.words.specs.Bit.{bit}
 use Rattle.words.specs.Section.{placeOf, halfOf}
 use Rattle.words.specs.Edition.{sectionWords, partWords}
-use Rattle.words.proofs.BitLaws.{bit-wordOf}
+use Rattle.words.proofs.BitLaws.{test-le, bit-wordOf}
 use Rattle.words.proofs.SectionLaws.{getD-listOf, half-two, place-lt}
 use Rattle.reads.specs.Search.{longest}
 use Rattle.reads.specs.Local.{wordIn, maskIn}
@@ -39,11 +38,7 @@ use Rattle.decode.proofs.WordLaws.{within, at-number, at-location, at-r
 ended-le : (d : List ℕ) (p l n : ℕ) → endedBy d p l n ≤ n
 unfolding sumTo
 ended-le d p l zero = omega arith
-ended-le d p l (suc n) = omega (arith, ended-le d p l n, one (leb (sumTo (stageLocations d p) (suc n)) l))
-  where
-    one : (b : Bool) → elim b [ true ↦ 1 | false ↦ 0 ] ≤ 1
-    one true = omega arith
-    one false = omega arith
+ended-le d p l (suc n) = omega (arith, ended-le d p l n, test-le (leb (sumTo (stageLocations d p) (suc n)) l))
 
 -- a stage that ends after location l is not counted
 ended-lt : (d : List ℕ) (p l n : ℕ) → l < sumTo (stageLocations d p) n → endedBy d p l n < n

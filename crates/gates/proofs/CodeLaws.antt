@@ -6,7 +6,7 @@ use mathlib.Core.Bool.{true, _&&_}
 use mathlib.Core.List.{List}
 use mathlib.Core.Logic.{⊎-elim}
 use mathlib.Core.Option.{Option, none, some}
-use Prim.Native.Nat.{ℕ, zero, suc, _+_, _-_, _*_, _/_, _%_, _^_, _≤_, _<_, min}
+use Prim.Native.Nat.{ℕ, zero, suc, _+_, _*_, _/_, _%_, _^_, _≤_, _<_, min}
 use native.Mathlib.Decide.{ℕ-discrete}
 use native.Mathlib.Omega.{arith}
 use borrow.Author.Tests.{leb-true, lt-ltb, le-ltb, eq-eqb, ne-eqb}
@@ -16,6 +16,7 @@ use lib.Pow.{pow-pos}
 use lib.Seq.{getD-set-same, getD-set-other}
 use Rattle.words.specs.Bit.{bit, bitAt, wordOf, setBit}
 use Rattle.words.proofs.BitLaws.{lt-or-ge, bit-zero, bit-ext, bit-wordOf, wordOf-lt, with-lt, at-set-bit, set-bit-length}
+use Rattle.words.proofs.ListLaws.{zeros-at}
 use Rattle.words.proofs.SectionLaws.{listOf-is}
 use Rattle.pinmap.specs.PinMap.{look, foundOf}
 use Rattle.pinmap.specs.declared.Found.{Found}
@@ -133,11 +134,6 @@ pub record Stored (d known l : List ℕ) (n g : ℕ) : Type 0 where
   pub fits : (w : ℕ) → getD l w 0 < 2 ^ 32
   pub held : (q : ℕ) → q < g → bitAt l q ≡ gateValue d (look known) q
   pub free : (q : ℕ) → g ≤ q → bitAt l q ≡ 0
-
-zeros-at : (n w : ℕ) → getD (replicate {A = ℕ} n 0) w 0 ≡ 0
-zeros-at zero w = refl
-zeros-at (suc n) zero = refl
-zeros-at (suc n) (suc w) = zeros-at n w
 
 pub stored-none : (d known l : List ℕ) (n : ℕ) → l ≡ replicate n 0 → Stored d known l n 0
 unfolding bitAt

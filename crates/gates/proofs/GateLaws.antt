@@ -2,7 +2,7 @@
 -- below their gate's, and a pin has one gate at most.
 -- Assumes nothing.
 use mathlib.Core.Path.{_≡_, refl, ap, ap₂, _∙_}
-use mathlib.Core.Bool.{Bool, true, false, not, _&&_}
+use mathlib.Core.Bool.{true, false, not, _&&_, and-false}
 use mathlib.Core.List.{List}
 use mathlib.Core.Option.{none, some}
 use Prim.Native.Nat.{ℕ, zero, suc, _+_, _-_, _/_, _%_, _≤_, _<_, min}
@@ -34,10 +34,6 @@ pub bad-from : (d : List ℕ) → firstFrom (gateRight d) (gatesOf d - 0) 0 ≡ 
 unfolding badGate
 bad-from d = let e : gatesOf d - 0 ≡ gatesOf d = omega arith in ap (λ (m : ℕ). firstFrom (gateRight d) m 0) e
 
-and-no : (a b : Bool) → b ≡ false → (a && b) ≡ false
-and-no true b e = e
-and-no false b e = refl
-
 module _ (d : List ℕ) (g : ℕ) where
   -- a gate is right or not by its three tests, in their order
   pub right-not-above : gatePin d g ≤ pinBefore d g → gateRight d g ≡ false
@@ -46,8 +42,7 @@ module _ (d : List ℕ) (g : ℕ) where
 
   pub right-not-first : gatePin d g ≤ gateFirst d g / 2 → gateRight d g ≡ false
   unfolding gateRight
-  right-not-first h =
-      ap (λ (t : Bool). t && ltb (gateSecond d g / 2) (gatePin d g)) (and-no (ltb (pinBefore d g) (gatePin d g)) _ (le-ltb (gateFirst d g / 2) (gatePin d g) h))
+  right-not-first h = rw (le-ltb (gateFirst d g / 2) (gatePin d g) h, and-false (ltb (pinBefore d g) (gatePin d g)))
 
   pub right-last : pinBefore d g < gatePin d g → gateFirst d g / 2 < gatePin d g → gateRight d g ≡ ltb (gateSecond d g / 2) (gatePin d g)
   unfolding gateRight

@@ -14,6 +14,7 @@ use record::places::gate_base;
 use record::places::word_at;
 use words::bits::bit_at;
 use words::bits::set_bit;
+use words::clear::clear;
 use words::units::Pin;
 use words::units::PinIv;
 
@@ -191,7 +192,7 @@ pub fn all_values(d: &[u8], known: &[u32], bits: &mut [u32])
     requires { ⌜ Fillable (now d) (now known) (now bits) ⌝ }
     ensures { λ _. ⌜ now (bits .exit) ≡ gateWords (now (d .entry)) (look (now (known .entry))) (length (now (bits .entry))) ⌝ }
 {
-    pinmap::clear(bits);
+    clear(bits);
     let gates = word_at(d, 2);
     let mut g = 0;
     while g < gates {

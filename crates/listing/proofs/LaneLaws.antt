@@ -9,6 +9,7 @@ use native.Mathlib.Numerals.{add-one}
 use native.Mathlib.Omega.{arith}
 use lib.ListN.{length, getD, drop, replicate, length-replicate}
 use lib.Seq.{sets, sets-eq, getD-drop}
+use Rattle.words.proofs.ListLaws.{zeros-at}
 use Rattle.reads.specs.ReadSet.{Pair, pairsOf, broken}
 use Rattle.reads.specs.Search.{Lane, longest}
 use Rattle.reads.specs.Words.{readSection}
@@ -78,11 +79,6 @@ lane-all L s n i (l ∷ ls) S =
     )
 
 -- ---- the section in lent words that held zeros
-
-zeros-at : (n i : ℕ) → getD (replicate {A = ℕ} n 0) i 0 ≡ 0
-zeros-at zero i = refl
-zeros-at (suc n) zero = refl
-zeros-at (suc n) (suc i) = zeros-at n i
 
 after-at : (vs : List ℕ) (k n x : ℕ) → getD (vs ++ drop k (replicate n 0)) x 0 ≡ getD vs x 0
 after-at [] k n x = getD-drop k (replicate n 0) x 0 ∙ zeros-at n (k + x)

@@ -6,7 +6,7 @@ use Prim.Native.Nat.{ℕ, _+_, _≤_}
 use native.Mathlib.Omega.{arith}
 use lib.ListN.{length, set, length-append}
 use lib.Seq.{sets, set-out, length-sets}
-use Rattle.readout.proofs.ReadoutLaws.{sets-append}
+use Rattle.words.proofs.ListLaws.{sets-append}
 use Rattle.listing.specs.Writing.{Put}
 
 pub put-none : (k : ℕ) (l : List ℕ) (at : ℕ) → Put k [] l at l at

@@ -17,6 +17,7 @@ use answer::put_answer;
 use records::Read;
 use records::read_set_of;
 use rounds::Rounds;
+use words::clear::clear;
 use words::refusals::RESULT_SHORT;
 use words::refusals::ROOM_SHORT;
 use words::refusals::Refusal;
@@ -37,7 +38,7 @@ fn answer_to(s: &[u8], room: &mut [u32], section: &mut [u32]) -> Answer
     let mut set = [0u32; 16384];
     match read_set_of(s, &mut set) {
         Read::Refused(b) => {
-            rounds::clear(room);
+            clear(room);
             Answer::Bad(b)
         }
         Read::Asked(n) => match rounds::map_global_read_to_rounds(&set[..n], room, section) {

@@ -13,16 +13,12 @@ use lib.ListN.{length, getD}
 use lib.Pow.{pow-pos, pow-mono}
 use Rattle.words.specs.Bit.{bit, bitAt, wordOf}
 use Rattle.words.specs.Section.{listOf}
-use Rattle.words.proofs.BitLaws.{lt-or-ge, bit-lt, bit-ext, differ-lt, wordOf-lt, bit-wordOf}
+use Rattle.words.proofs.BitLaws.{lt-or-ge, bit-lt, bit-ext, differ-lt, wordOf-lt, bit-wordOf, at-lt}
 use Rattle.words.proofs.SectionLaws.{length-listOf, getD-listOf, listOf-is}
 use Rattle.machine.specs.Part.{entryAt}
 use Rattle.machine.specs.Turn.{gate, gateAt, levelBit, positionBit, stageRow}
 
 -- ---- words of a list, bit by bit
-
-pub at-lt : (l : List ℕ) (q : ℕ) → bitAt l q < 2
-unfolding bitAt
-at-lt l q = bit-lt (getD l (q / 32) 0) (q % 32)
 
 -- bit b of word w is at position 32w + b
 pub at-word : (l : List ℕ) (w b : ℕ) → b < 32 → bitAt l (32 * w + b) ≡ bit (getD l w 0) b

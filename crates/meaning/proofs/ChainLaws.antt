@@ -1,34 +1,31 @@
 -- Stage after stage: a later stage gathers each pin from its highest position in the stage before, which holds its value. And which stage a location
 -- is captured after.
 -- Assumes nothing.
-use mathlib.Core.Path.{_≡_, refl, sym, ap, _∙_}
-use mathlib.Core.Bool.{Bool, true, false}
+use mathlib.Core.Path.{_≡_, sym, ap, _∙_}
 use mathlib.Core.List.{List}
 use mathlib.Core.Logic.{⊎-elim}
-use Prim.Native.Nat.{ℕ, zero, suc, _+_, _/_, _%_, _≤_, _<_}
+use Prim.Native.Nat.{ℕ, zero, suc, _+_, _/_, _%_, _<_}
 use native.Mathlib.Nat.{not-suc-le-zero}
 use native.Mathlib.Numerals.{add-one}
 use native.Mathlib.Omega.{arith}
-use borrow.Author.Tests.{eq-eqb, ne-eqb, lt-leb}
-use lib.Dec.{leb}
+use borrow.Author.Tests.{eq-eqb, ne-eqb}
 use lib.ListN.{getD}
-use Rattle.words.specs.Sum.{sumTo}
 use Rattle.words.specs.Bit.{bitAt}
 use Rattle.words.proofs.BitLaws.{lt-or-ge}
-use Rattle.record.specs.Record.{stagesOf, stageLocations, locationsIn, locationsOf, countBase, slotAt}
+use Rattle.record.specs.Record.{stagesOf, locationsOf, slotAt}
 use Rattle.record.specs.Form.{empty}
 use Rattle.record.proofs.FormLaws.{formed}
 use Rattle.counts.proofs.PartLaws.{passed}
-use Rattle.blocks.proofs.TotalLaws.{sum-most}
 use Rattle.slots.specs.Slots.{highest}
 use Rattle.slots.proofs.SlotLaws.{later-highest}
 use Rattle.values.specs.Values.{pinValue}
-use Rattle.script.specs.Script.{locationStage, stageEntry, pinEntry}
+use Rattle.script.specs.Script.{stageEntry, pinEntry}
 use Rattle.machine.specs.Part.{normalAt, locationIn, entryAt}
 use Rattle.machine.specs.Turn.{readRow}
 use Rattle.machine.proofs.TurnLaws.{captured-word}
 use Rattle.order.specs.Order.{rowAfter, capsAfter}
 use Rattle.decode.specs.Decoded.{Decoded}
+use Rattle.decode.proofs.DecodeLaws.{stage-lt}
 use Rattle.meaning.specs.Meaning.{Sound, LocationAt, Gathers, HoldsValues}
 use Rattle.meaning.proofs.ReadLaws.{first-gathers}
 use Rattle.meaning.proofs.StageLaws.{stage-values}
@@ -48,29 +45,13 @@ module _ (W : List ℕ) (o : ℕ) (row : List ℕ) (l k w : ℕ) (inside : l < n
 
 -- ---- the stage of a location
 
-stage-lt : (ends : ℕ → ℕ) (l n : ℕ) → 0 < n → l < ends n → sumTo (λ s. elim (leb (ends (suc s)) l) [ true ↦ 1 | false ↦ 0 ]) n < n
-unfolding sumTo
-stage-lt ends l zero h e = absurd (omega arith)
-stage-lt ends l (suc n) h e =
-    let most = sum-most 1 (λ s. elim (leb (ends (suc s)) l) [ true ↦ 1 | false ↦ 0 ]) n (λ i k. one (leb (ends (suc i)) l)) in
-    rw (lt-leb (ends (suc n)) l e) (omega arith)
-  where
-    one : (b : Bool) → elim b [ true ↦ 1 | false ↦ 0 ] ≤ 1
-    one true = omega arith
-    one false = omega arith
-
-locations-sum : (d : List ℕ) (p : ℕ) → locationsOf d p ≡ sumTo (stageLocations d p) (stagesOf d p)
-unfolding locationsIn countBase
-locations-sum d p = refl
-
 module _ (d : List ℕ) (p : ℕ) (s : Sound d p) where
   some-stages : 0 < stagesOf d p
   some-stages = formed d (s .form) .part p (s .part) .some-stages
 
   pub location-at : (l : ℕ) → l < locationsOf d p → LocationAt d p l
-  unfolding locationStage
   location-at l h = record {
-    stage = stage-lt (sumTo (stageLocations d p)) l (stagesOf d p) some-stages (rw (← locations-sum d p) h);
+    stage = stage-lt d p l h;
     word = passed d (s .seven) p (s .part) .location l h;
   }
 

@@ -15,7 +15,7 @@ use lib.ListN.{length, getD}
 use lib.Seq.{sets, length-sets}
 use Rattle.words.proofs.BitLaws.{lt-or-ge}
 use Rattle.record.specs.Tests.{someBelow}
-use Rattle.record.proofs.TestLaws.{and-true, true-and, not-both, some-found, some-at}
+use Rattle.record.proofs.TestLaws.{and-true, true-and, not-both, not-true-false, some-found, some-at}
 use Rattle.machine.specs.Part.{stagesAt, lastAt, startAt, normalAt, endAt}
 use Rattle.machine.specs.Turn.{readRow, Block, begins, ended}
 use Rattle.machine.specs.Run.{Running, blocksFrom, step, runFrom, runTurns, turnsFrom, turnsAfter, turnsLeft, badBlock}
@@ -416,7 +416,7 @@ module _ (n L : ℕ) (W starts : List ℕ) (s t : ℕ) (old new : List ℕ) (B :
         ap (λ k. getD k (startAt W o + l) 0) new-is
         ∙ I .mine b (startAt W o + l) (q .block) (owns b i o (startAt W o + l) q (record { from = omega arith; until = omega arith }))
         ∙ a .held i o l q (omega (arith, q .inside)) g;
-    rest = λ w f. ap (λ k. getD k w 0) new-is ∙ I .rest w (λ b l. not-own b w (λ e. let q = owner b w l e in f b (q .i) (q .o) (q .part) (q .stores)));
+    rest = λ w f. ap (λ k. getD k w 0) new-is ∙ I .rest w (λ b l. not-true-false (own b w) (λ e. let q = owner b w l e in f b (q .i) (q .o) (q .part) (q .stores)));
   }
     where
       I : Project Block (ended 0) turn write Ok own B left starting m long independent start-ok (λ b. count b ts) (Turns.run Block (ended 0) turn write starting ts)
@@ -430,13 +430,6 @@ module _ (n L : ℕ) (W starts : List ℕ) (s t : ℕ) (old new : List ℕ) (B :
 
       priv : (b : ℕ) → b < m → getD (runTurns n L W starts ts old new .blocks) b (ended 0) ≡ Turns.solo Block (ended 0) turn write starting b (count b ts) .0
       priv b l = ap (λ ps. getD ps b (ended 0)) blocks-are ∙ I .priv b l
-
-      not-own : (b w : ℕ) → (own b w ≡ true → ⊥) → own b w ≡ false
-      not-own b w f = go (own b w) refl
-        where
-          go : (v : Bool) → own b w ≡ v → v ≡ false
-          go false e = refl
-          go true e = absurd (f e)
 
   -- ---- a word is stored by a part, or by none
 

@@ -15,6 +15,7 @@ use borrow.Author.Tests.{eq-eqb, ne-eqb}
 use lib.Dec.{eqb}
 use lib.ListN.{length, getD, set, length-set, replicate}
 use lib.Seq.{getD-set-same, getD-set-other}
+use Rattle.record.proofs.TestLaws.{not-true-false}
 
 -- two memories of one size that agree below B
 pub record Same (B : ℕ) (m m′ : List ℕ) : Type 0 where
@@ -116,16 +117,9 @@ module _ (P : Type 0) (nil : P) (turn : P → List ℕ → P) (put : P → List 
     solo-left b zero h = omega arith
     solo-left b (suc k) h = A .falls b _ _ (solo-ok b k h) ∙ omega (arith, solo-left b k h)
 
-    not-own : (b w : ℕ) → (own b w ≡ true → ⊥) → own b w ≡ false
-    not-own b w h = go (own b w) refl
-      where
-        go : (v : Bool) → own b w ≡ v → v ≡ false
-        go false e = refl
-        go true e = absurd (h e)
-
     -- words below B are no block's
     low : (b w : ℕ) → b < n → w < B → own b w ≡ false
-    low b w h l = not-own b w (λ e. omega (arith, A .high b w h e))
+    low b w h l = not-true-false (own b w) (λ e. omega (arith, A .high b w h e))
 
     -- after c b turns of each block b
     pub record Project (c : ℕ → ℕ) (s : List P × List ℕ) : Type 0 where
@@ -165,7 +159,7 @@ module _ (P : Type 0) (nil : P) (turn : P → List ℕ → P) (put : P → List 
         mine′ b w k o (yes e) =
             rw (e, hit-same t t refl, one-add)
             (ap (λ p. getD (put p (s .1)) w 0) (I .priv t h) ∙ A .word t _ _ _ w (solo-ok t (c t) h) (same c s t h I) (I .mine t w h (rw e at o)))
-        mine′ b w k o (no e) = rw (hit-other b t e, zero-add) (frame w (not-own t w (λ o′. e (A .apart b t w k h o o′))) ∙ I .mine b w k o)
+        mine′ b w k o (no e) = rw (hit-other b t e, zero-add) (frame w (not-true-false (own t w) (λ o′. e (A .apart b t w k h o o′))) ∙ I .mine b w k o)
 
     project-run : (c : ℕ → ℕ) (s : List P × List ℕ) (ts : List ℕ) → Names n ts → Project c s → Project (λ b. count b ts + c b) (run s ts)
     unfolding count

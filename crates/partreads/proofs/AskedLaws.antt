@@ -5,20 +5,19 @@ use mathlib.Core.Bool.{Bool, true, false}
 use mathlib.Core.Option.{Option, none, some}
 use mathlib.Core.List.{List, [], _∷_, _++_}
 use mathlib.Core.Logic.{⊎-elim}
-use Prim.Native.Nat.{ℕ, zero, suc, _+_, _*_, _-_, _/_, _%_, _^_, _≤_, _<_}
-use native.Mathlib.Nat.{zero-add}
+use Prim.Native.Nat.{ℕ, zero, suc, _+_, _*_, _-_, _^_, _≤_, _<_}
 use native.Mathlib.Numerals.{add-one}
 use native.Mathlib.Omega.{arith}
 use borrow.Author.Tests.{eq-eqb, ne-eqb}
 use lib.Dec.{eqb}
-use lib.ListN.{length, getD, set, take, length-append, List·getD-append}
-use lib.Seq.{sets, length-sets, getD-append-add}
+use lib.ListN.{length, set, take, length-append}
+use lib.Seq.{sets, length-sets}
+use Rattle.words.proofs.ListLaws.{sets-append}
 use Rattle.words.proofs.BitLaws.{lt-or-ge}
 use Rattle.reads.specs.Asked.{readSetOf}
 use Rattle.asks.specs.Rising.{Settable}
 use Rattle.asks.proofs.StoreLaws.{take-front}
 use Rattle.asks.proofs.FormLaws.{set-length-le}
-use Rattle.readout.proofs.ReadoutLaws.{sets-append}
 use Rattle.pinmap.specs.PinMap.{look, foundOf}
 use Rattle.pinmap.specs.declared.Found.{Found}
 use Rattle.pinmap.specs.declared.Found.the-variants.{Value, Missing}
@@ -27,8 +26,8 @@ use Rattle.record.specs.Form.{empty}
 use Rattle.positions.specs.Positions.{Planned, inLayout, inPositions, planned}
 use Rattle.positions.specs.Winners.{winner, plannedBy}
 use Rattle.positions.proofs.WinnerLaws.{by-layout, by-position, planned-winner}
-use Rattle.partreads.specs.PartReads.{orZero, bitNumber, askedBy, askedTo, readWords}
-use Rattle.partreads.specs.Ready.{numberOf, Narrow, AllNarrow, EntryOf, Won, AllWon, SetRoom}
+use Rattle.partreads.specs.PartReads.{orZero, askedBy, askedTo, readWords}
+use Rattle.partreads.specs.Ready.{numberOf, Narrow, AllNarrow, EntryOf, Won, SetRoom}
 
 -- ---- the bit of an entry
 

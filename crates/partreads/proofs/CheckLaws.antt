@@ -4,11 +4,11 @@ use mathlib.Core.Path.{_≡_, refl, sym, ap, _∙_}
 use mathlib.Core.Bool.{Bool, true, false}
 use mathlib.Core.Option.{Option, none, some}
 use mathlib.Core.List.{List, _++_}
-use Prim.Native.Nat.{ℕ, zero, suc, _+_, _*_, _-_, _/_, _^_, _≤_, _<_}
+use Prim.Native.Nat.{ℕ, _+_, _-_, _≤_, _<_}
 use native.Mathlib.Omega.{arith}
-use borrow.Author.Tests.{eq-eqb, ne-eqb, eqb-true, eqb-false}
+use borrow.Author.Tests.{eqb-true, eqb-false}
 use lib.Dec.{ltb, eqb}
-use lib.ListN.{length, getD, set, take, drop, replicate, length-append, take-append-drop}
+use lib.ListN.{length, set, take, drop, replicate, length-append, take-append-drop}
 use lib.Seq.{sets, length-take-le, drop-at, getD-take, ext-getD}
 use Rattle.reads.specs.ReadSet.{Pair, pairsOf}
 use Rattle.reads.specs.Search.{Lane, lanesOf, longest}
@@ -17,13 +17,13 @@ use Rattle.asks.proofs.StoreLaws.{take-front}
 use Rattle.rounds.specs.Rounds.{Solvable}
 use Rattle.record.specs.Record.{partsOf, bodyAt}
 use Rattle.record.specs.Tests.{Place, lowestFrom}
-use Rattle.record.proofs.TestLaws.{lowest-fault, lowest-next, lowest-end}
+use Rattle.record.proofs.TestLaws.{some-not-none, lowest-fault, lowest-next, lowest-end}
 use Rattle.blocks.specs.Table.{cell}
 use Rattle.blocks.proofs.FillLaws.{put-more, put-long, put-low}
-use Rattle.partreads.specs.PartReads.{lanesIn, askedTo, readWords, partReads, badReads, refusedReads}
+use Rattle.partreads.specs.PartReads.{lanesIn, askedTo, readWords, partReads, partLanes, badReads, refusedReads}
 use Rattle.partreads.specs.Ready.{AllNarrow, SetRoom, InForm, ClearRoom}
 use Rattle.partreads.specs.declared.searched.Reads.{Reads}
-use Rattle.partreads.specs.declared.searched.Reads.the-variants.{Nothing, NoRoom, Rounds}
+use Rattle.partreads.specs.declared.searched.Reads.the-variants.{Nothing, NoRoom}
 use Rattle.partreads.specs.declared.check.Checked.the-variants as checked
 use Rattle.partreads.specs.Answers.{readsOf, isNothing, earlierOf, fullAfter, checkedOf, roundsOf, roundsIn, partsUpTo, roundRows, searchedRoom}
 use Rattle.partreads.proofs.EntryLaws.{words-form}
@@ -91,6 +91,16 @@ answered L ps = go (ltb 0 (length ps)) refl (lanesOf L ps) refl
     go false e o f = three (rw (e, packed))
     go true e none f = four (rw (e, f, packed))
     go true e (some lanes) f = rounds lanes (rw (e, f, packed))
+
+-- a part that neither refuses has lanes
+pub placed-part : (n : ℕ) (d : List ℕ) (p : ℕ) → badReads 3 (partReads n d p) ≡ none → badReads 4 (partReads n d p) ≡ none → partReads n d p ≡ placed (partLanes n d p)
+unfolding badReads partReads
+placed-part n d p a b = go (answered n (pairsOf (readWords d p)))
+  where
+    go : Answered (partReads n d p) → partReads n d p ≡ placed (partLanes n d p)
+    go (three q) = absurd (some-not-none (rw (q, badReads) at a))
+    go (four q) = absurd (some-not-none (rw (q, badReads) at b))
+    go (rounds lanes q) = rw q
 
 -- ---- a pass over the parts
 

@@ -16,6 +16,7 @@ use record::bodies::Body;
 use record::bodies::body_at;
 use record::bodies::first_body;
 use record::bodies::parts_of;
+use words::clear::clear;
 use words::edition::Edition;
 
 // The first part with nothing to read, else the first without room.
@@ -58,7 +59,7 @@ fn check_part(
     ensures { λ _. ⌜ now (room .exit) ≡ now (room .entry) ⌝ }
 {
     let reads = search_part(d, p, body, &mut room[..32768], keys, scratch, set);
-    pinmap::clear(&mut room[..32768]);
+    clear(&mut room[..32768]);
     reads
 }
 

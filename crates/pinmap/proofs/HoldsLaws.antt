@@ -10,17 +10,13 @@ use native.Mathlib.Omega.{arith}
 use lib.Dec.{eqb}
 use lib.ListN.{length, getD, replicate, length-append, length-replicate}
 use lib.Seq.{append-snoc}
+use Rattle.words.proofs.ListLaws.{zeros-at}
 use Rattle.pinmap.specs.declared.PutAnswer.the-variants.{Stored}
 use Rattle.pinmap.specs.PinMap.{capacity, look, putIn, putAnswer, putThere, usedTo, used, Good, Entry, entry, replaced, lastFrom, lastPut, renewed, afterPuts, afterRenewals, Holds, Renewed}
 use Rattle.pinmap.proofs.ProbeLaws.{slot-taken}
 use Rattle.pinmap.proofs.PinMapLaws.{look-none, map-law, replaced-same, replaced-other, there-law, put-length, used-new, used-there, used-renewed, used-free-step, room-stored}
 
 -- ---- the empty map
-
-zeros-at : (n i : ℕ) → _≡_ {A = ℕ} (getD (replicate n 0) i 0) 0
-zeros-at zero i = refl
-zeros-at (suc n) zero = refl
-zeros-at (suc n) (suc i) = zeros-at n i
 
 pub zeros-good : (n : ℕ) → Good (replicate n 0)
 unfolding Good

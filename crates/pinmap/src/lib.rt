@@ -1,7 +1,7 @@
 // Pins to numbers in lent words, by open addressing with linear probing. Zeros are the empty map.
 ghost use mathlib.Core.Path.{_≡_};
 ghost use Prim.Native.Nat.{_+_, _*_, _-_, _<_, _^_};
-ghost use lib.ListN.{length, set, replicate};
+ghost use lib.ListN.{set};
 ghost use Rattle.pinmap.specs.PinMap.{capacity, keyAt, valueAt, home, next, slotOf, putAnswer, putIn, putThere, look, foundOf};
 use words::units::Pin;
 
@@ -98,17 +98,6 @@ fn probe(t: &[u32], p: Pin) -> Slot
         left -= 1;
     }
     Slot::Nowhere
-}
-
-// Empties the map.
-pub fn clear(t: &mut [u32])
-    ensures { λ _. ⌜ now (t .exit) ≡ replicate (length (now (t .entry))) 0 ⌝ }
-{
-    let mut i = 0;
-    while i < t.len() {
-        t[i] = 0;
-        i += 1;
-    }
 }
 
 // Puts a pin's value, over the one that was there. Where every slot is taken by other pins nothing changes.

@@ -55,16 +55,13 @@ module _ (d : List ℕ) (accepted : Accepted d) (s : ℕ) (stage : s < majorsOf 
 
     -- ---- the block's parts
 
-    part-end : (j : ℕ) → j < count → endAt 256 W (place j) ≡ place (j + 1)
-    part-end j h = Block.part-end d accepted s stage b block j h
-
     ends-last : (j : ℕ) → j + 1 ≡ count → endAt 256 W (place j) ≡ e
-    ends-last j h = part-end j (omega arith) ∙ ap place h ∙ Block.place-end d accepted s stage b block (omega arith)
+    ends-last j h = Block.part-end d accepted s stage b block j (omega arith) ∙ ap place h ∙ Block.place-end d accepted s stage b block (omega arith)
 
     ends-before : (j : ℕ) → j + 1 < count → endAt 256 W (place j) < e
     ends-before j h =
         let is : j + 1 + (count - (j + 1)) ≡ count = omega arith in
-        omega (arith, part-end j (omega arith), Block.place-more d accepted s stage b block (count - (j + 1)) (j + 1), ap place is, Block.place-end d accepted s stage b block (omega arith))
+        omega (arith, Block.part-end d accepted s stage b block j (omega arith), Block.place-more d accepted s stage b block (count - (j + 1)) (j + 1), ap place is, Block.place-end d accepted s stage b block (omega arith))
 
     -- its last mark says whether the block ends with it
     marked : (j : ℕ) → j < count → lastMark count j ≡ elim (eqb (endAt 256 W (place j)) e) [ true ↦ 1 | false ↦ 0 ]
@@ -98,7 +95,7 @@ module _ (d : List ℕ) (accepted : Accepted d) (s : ℕ) (stage : s < majorsOf 
     parts-form (suc f) (suc c) j l q =
         let later = parts-form f c (j + 1) (omega arith) (omega arith) in
         true-and _ _ (one-form j (omega arith))
-        (rw (ne-eqb (endAt 256 W (place j)) e (λ z. omega (arith, ends-before j (omega arith))), part-end j (omega arith)) later)
+        (rw (ne-eqb (endAt 256 W (place j)) e (λ z. omega (arith, ends-before j (omega arith))), Block.part-end d accepted s stage b block j (omega arith)) later)
 
     -- ---- the block
 

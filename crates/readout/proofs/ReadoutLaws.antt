@@ -1,13 +1,14 @@
 -- What a filled table says, word by word, and the loops over it: a lane or a round more is a step of the definition's own recursion.
 -- Assumes nothing.
 use mathlib.Core.Path.{_≡_, refl, sym, ap, _∙_}
-use mathlib.Core.List.{List, [], _∷_, _++_}
+use mathlib.Core.List.{List, [], _∷_}
 use Prim.Native.Nat.{ℕ, zero, suc, _+_, _*_, _-_, _≤_, _<_, max}
-use native.Mathlib.Nat.{zero-add, add-zero, add-suc, suc-add, mul-suc, mul-le-mul-left, not-suc-le-zero, le-of-suc-le-suc}
+use native.Mathlib.Nat.{zero-add, add-zero, mul-suc, mul-le-mul-left, not-suc-le-zero, le-of-suc-le-suc}
 use native.Mathlib.Numerals.{add-one, sub-one}
 use native.Mathlib.Omega.{arith}
-use lib.ListN.{length, getD, set, drop, length-take, drop-of-length-le, List·getD-append}
+use lib.ListN.{length, getD, set, drop, drop-of-length-le, List·getD-append}
 use lib.Seq.{drop-cons, sets, getD-append-add}
+use Rattle.words.proofs.ListLaws.{sets-append}
 use Rattle.reads.specs.ReadSet.{Pair}
 use Rattle.reads.specs.Search.{Lane, longest}
 use Rattle.reads.specs.Words.{roundWords, roundsFrom}
@@ -15,8 +16,7 @@ use Rattle.reads.specs.Local.{wordIn, maskIn}
 use Rattle.reads.proofs.SectionWordLaws.{place-words, round-length}
 use Rattle.tries.specs.Table.{row, tableOf}
 use Rattle.tries.specs.Decoded.{laneOf, rowAt, lanesAt, Each, Drawn}
-use Rattle.tries.specs.Tries.{RowIn}
-use Rattle.tries.proofs.TableLaws.{row-length, row-at-word, lane-at, kept-sound, filled-length, filled-named}
+use Rattle.tries.proofs.TableLaws.{row-length, lane-at, kept-sound, filled-length}
 use Rattle.readout.specs.Readout.{entryWord, Readable}
 
 -- ---- the table, word by word
@@ -84,17 +84,6 @@ module _ {ws t : List ℕ} {L : ℕ} (h : Readable ws t L) where
   pub read-mask : (i r : ℕ) → i < L → r < 32 → entryWord ws (getD t (32 * i + r) 0) 1 ≡ maskIn (getD lanes i []) r
   read-mask i r l k = rw (entry-at i r l k) (mask-is ws (getD lanes i []) (kept-sound (h .filled .kept) i l .drawn) r)
 
-  pub read-row : (j : ℕ) → j < L → RowIn ws t j
-  read-row j l = record {
-    in-room = omega (arith, h .in-room);
-    row = record {
-      short = omega (arith, length-take 32 (drop (32 * j) t));
-      named = λ i k.
-          let s : i < 32 = omega (arith, length-take 32 (drop (32 * j) t)) in
-          rw (row-at-word t j i s) (filled-named (h .filled) (32 * j + i) (omega arith));
-    };
-  }
-
   -- ---- the longest lane
 
   pub longest-step : (j : ℕ) → j < L → longest (drop j lanes) ≡ max (length (laneOf ws (rowAt t j))) (longest (drop (j + 1) lanes))
@@ -106,10 +95,6 @@ module _ {ws t : List ℕ} {L : ℕ} (h : Readable ws t L) where
   longest-end j l = let q : length lanes ≤ j = omega (arith, h .filled .kept .wide) in rw (drop-of-length-le lanes q)
 
 -- ---- a round, lane by lane
-
-pub sets-append : (l : List ℕ) (i : ℕ) (xs ys : List ℕ) → sets l i (xs ++ ys) ≡ sets (sets l i xs) (i + length xs) ys
-sets-append l i [] ys = rw add-zero
-sets-append l i (x ∷ xs) ys = sets-append (set l i x) (suc i) xs ys ∙ rw (add-suc, suc-add)
 
 module _ (ls : List Lane) (r : ℕ) (out : List ℕ) (at i : ℕ) where
   pub round-step : i < length ls

@@ -18,6 +18,7 @@ use lib.Pow.{pow-add, shr-shr, shr-le}
 use Rattle.words.specs.Bit.{bit, bitAt, popIn, pop}
 use Rattle.words.proofs.BitLaws.{bit-zero, bit-first, bit-suc, bit-high, bit-above}
 use Rattle.words.specs.Sum.{sumTo}
+use Rattle.words.proofs.SumLaws.{sum-ext}
 use Rattle.words.proofs.PopLaws.{popIn-ones, pop-ones}
 use Rattle.reads.specs.ReadSet.{Pair, total, broken}
 use Rattle.reads.specs.Search.{Lane, longest}
@@ -121,11 +122,6 @@ module _ (W M : ℕ → ℕ) where
       lane-up (suc r) n (pop m) ∙ rw p (appended-bit 32 k (W r) (M r) (laneWord W M r) h e)
 
 -- ---- the same sums over a lane of pairs
-
-sum-ext : (f g : ℕ → ℕ) (n : ℕ) → ((x : ℕ) → x < n → f x ≡ g x) → sumTo f n ≡ sumTo g n
-unfolding sumTo
-sum-ext f g zero h = refl
-sum-ext f g (suc n) h = ap₂ _+_ (sum-ext f g n (λ x l. h x (omega arith))) (h n (omega arith))
 
 sum-first : (f : ℕ → ℕ) (n : ℕ) → sumTo f (suc n) ≡ f 0 + sumTo (λ (x : ℕ). f (suc x)) n
 unfolding sumTo

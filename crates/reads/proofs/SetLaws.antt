@@ -1,7 +1,7 @@
 -- A read set in the form that refusal 2 asks, said of each word and mask that stands in it (`0 < times w m ps`), so that a packing carries it over.
 -- Assumes nothing.
 use mathlib.Core.Path.{_≡_, refl, sym, _∙_}
-use mathlib.Core.Bool.{Bool, true, false, _&&_}
+use mathlib.Core.Bool.{Bool, true, false, _&&_, and-eq-true-iff}
 use mathlib.Core.Option.{none, some}
 use mathlib.Core.List.{List, [], _∷_}
 use mathlib.Core.Logic.{_⊎_, inl, inr, ⊎-elim}
@@ -11,14 +11,10 @@ use native.Mathlib.Omega.{arith}
 use borrow.Author.Tests.{ltb-true, leb-true, eqb-true, eq-eqb}
 use lib.Dec.{leb, ltb, eqb}
 use lib.ListN.{length, getD}
-use Rattle.words.proofs.BitLaws.{lt-or-ge}
+use Rattle.words.proofs.BitLaws.{lt-or-ge, test-le}
 use Rattle.reads.specs.ReadSet.{Pair, pairsFrom, pairForm, brokenFrom, broken}
 use Rattle.reads.specs.Packing.{times}
 use Rattle.reads.proofs.PackingLaws.{times-nil, times-cons}
-
-both-true : (a b : Bool) → a && b ≡ true → (a ≡ true) × (b ≡ true)
-both-true true b e = (refl, e)
-both-true false b e = let z : _≡_ {A = ℕ} 0 1 = cc in absurd (omega arith)
 
 -- ---- what stands in a list of pairs
 
@@ -39,7 +35,7 @@ times-cases w m p ps h = go (eqb (p .word) w && eqb (p .mask) m) refl
   where
     go : (t : Bool) → eqb (p .word) w && eqb (p .mask) m ≡ t → ((p .word ≡ w) × (p .mask ≡ m)) ⊎ (0 < times w m ps)
     go true t =
-        let e = both-true (eqb (p .word) w) (eqb (p .mask) m) t in
+        let e = and-eq-true-iff (eqb (p .word) w) (eqb (p .mask) m) .0 t in
         inl (eqb-true (p .word) w (e .0), eqb-true (p .mask) m (e .1))
     go false t = inr (rw (t, times) at h)
 
@@ -62,8 +58,8 @@ kept low p ps e = go (leb low (p .word) && pairForm p) refl
         let z : _≡_ {A = ℕ} 0 1 = cc in
         absurd (omega arith)
     go true t =
-        let a = both-true (leb low (p .word)) (ltb (p .word % 2 ^ 31) (2 ^ 27) && ltb 0 (p .mask)) t in
-        let b = both-true (ltb (p .word % 2 ^ 31) (2 ^ 27)) (ltb 0 (p .mask)) (a .1) in
+        let a = and-eq-true-iff (leb low (p .word)) (ltb (p .word % 2 ^ 31) (2 ^ 27) && ltb 0 (p .mask)) .0 t in
+        let b = and-eq-true-iff (ltb (p .word % 2 ^ 31) (2 ^ 27)) (ltb 0 (p .mask)) .0 (a .1) in
         record {
           ascending = leb-true low (p .word) (a .0);
           word = ltb-true (p .word % 2 ^ 31) (2 ^ 27) (b .0);
@@ -97,11 +93,7 @@ same-mask low (p ∷ ps) e w m n h l =
 
 at-most-one : (w m : ℕ) (p : Pair) → times w m (p ∷ []) ≤ 1
 unfolding times
-at-most-one w m p = go (eqb (p .word) w && eqb (p .mask) m)
-  where
-    go : (t : Bool) → elim t [ true ↦ 1 | false ↦ 0 ] ≤ 1
-    go true = omega arith
-    go false = omega arith
+at-most-one w m p = test-le (eqb (p .word) w && eqb (p .mask) m)
 
 stands-once : (low : ℕ) (ps : List Pair) → brokenFrom low ps ≡ none → (w m : ℕ) → times w m ps ≤ 1
 stands-once low [] e w m = omega (arith, times-nil w m)

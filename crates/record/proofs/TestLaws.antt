@@ -2,7 +2,7 @@
 -- and how it ends. Each is by induction over the bound, with the test at one number decided.
 -- Assumes nothing.
 use mathlib.Core.Path.{_≡_, refl, sym, ap, ap₂, _∙_, subst}
-use mathlib.Core.Bool.{Bool, true, false, _&&_, _||_, or-true}
+use mathlib.Core.Bool.{Bool, true, false, _&&_, _||_, or-true, and-eq-true-iff}
 use mathlib.Core.Logic.{_⊎_, inl, inr, ⊎-elim}
 use mathlib.Core.Option.{Option, none, some}
 use Prim.Native.Nat.{ℕ, zero, suc, _+_, _-_, _≤_, _<_}
@@ -21,11 +21,23 @@ not-both b t f =
     omega arith
 
 pub and-true : (a b : Bool) → (a && b) ≡ true → (a ≡ true) × (b ≡ true)
-and-true true b h = (refl, h)
-and-true false b h = absurd (not-both false h refl)
+and-true a b = and-eq-true-iff a b .0
 
 pub true-and : (a b : Bool) → a ≡ true → b ≡ true → (a && b) ≡ true
 true-and a b p q = ap₂ _&&_ p q
+
+pub or-cases : (a b : Bool) → (a || b) ≡ true → (a ≡ true) ⊎ (b ≡ true)
+or-cases true b h = inl refl
+or-cases false b h = inr h
+
+pub not-true-false : (b : Bool) → (b ≡ true → ⊥) → b ≡ false
+not-true-false true h = absurd (h refl)
+not-true-false false h = refl
+
+-- ---- a found answer
+
+pub some-not-none : {A : Type 0} {x : A} → some x ≡ none → ⊥
+some-not-none {A} {x} h = let z : _≡_ {A = ℕ} 0 1 = cc in omega arith
 
 -- ---- a number below n + 1 is below n, or n
 
@@ -153,9 +165,6 @@ pub record FirstAt (f : ℕ → Bool) (m i k : ℕ) : Type 0 where
 at-or-after : (i j : ℕ) → i ≤ j → (i ≡ j) ⊎ (i + 1 ≤ j)
 at-or-after i j h = ⊎-elim (λ l. inr (omega arith)) (λ e. inl e) (below-or i j (omega arith))
 
-some-not-none : {k : ℕ} → some k ≡ none → ⊥
-some-not-none {k} h = let z : _≡_ {A = ℕ} 0 1 = cc in omega arith
-
 pub first-at : (f : ℕ → Bool) (m i k : ℕ) → firstFrom f m i ≡ some k → FirstAt f m i k
 unfolding firstFrom
 first-at f zero i k h = absurd (some-not-none (sym h))
@@ -265,12 +274,9 @@ pub record LowestAt (bad : ℕ → Option ℕ) (m p : ℕ) (x : Place) : Type 0 
   pub refused : bad (x .part) ≡ some (x .item)
   pub passed : (q : ℕ) → p ≤ q → q < x .part → bad q ≡ none
 
-some-not-none-place : {x : Place} → some x ≡ none → ⊥
-some-not-none-place {x} h = let z : _≡_ {A = ℕ} 0 1 = cc in omega arith
-
 pub lowest-at : (bad : ℕ → Option ℕ) (m p : ℕ) (x : Place) → lowestFrom bad m p ≡ some x → LowestAt bad m p x
 unfolding lowestFrom
-lowest-at bad zero p x h = absurd (some-not-none-place (sym h))
+lowest-at bad zero p x h = absurd (some-not-none (sym h))
 lowest-at bad (suc m) p x h = go (bad p) refl (lowest-at bad m (p + 1) x)
   where
     go : (o : Option ℕ) → bad p ≡ o → (lowestFrom bad m (p + 1) ≡ some x → LowestAt bad m (p + 1) x) → LowestAt bad (suc m) p x
@@ -301,7 +307,7 @@ lowest-all bad (suc m) p h q l u = go (bad p) refl (lowest-all bad m (p + 1))
     go : (o : Option ℕ) → bad p ≡ o → (lowestFrom bad m (p + 1) ≡ none → (x : ℕ) → p + 1 ≤ x → x < p + 1 + m → bad x ≡ none) → bad q ≡ none
     go none e r =
         ⊎-elim (λ z. ap bad (sym z) ∙ e) (λ z. r (sym (lowest-on bad m p e) ∙ h) q z (omega arith)) (at-or-after p q l)
-    go (some i) e r = absurd (some-not-none-place (sym (lowest-here bad m p i e) ∙ h))
+    go (some i) e r = absurd (some-not-none (sym (lowest-here bad m p i e) ∙ h))
 
 pub lowest-ext : (f g : ℕ → Option ℕ) (m p : ℕ) → ((q : ℕ) → p ≤ q → q < p + m → f q ≡ g q) → lowestFrom f m p ≡ lowestFrom g m p
 unfolding lowestFrom

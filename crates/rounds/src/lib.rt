@@ -8,6 +8,7 @@ ghost use Rattle.reads.specs.Outcome.{refused, readSet, fitted, outcome, result
 ghost use Rattle.tries.specs.Table.{tableOf};
 ghost use Rattle.tries.specs.Tries.{isAll, lanesIn};
 ghost use Rattle.rounds.specs.Rounds.{roundsOf, isWon, tableAfter, Searchable, Solvable};
+use words::clear::clear;
 use words::edition::Edition;
 use words::refusals;
 
@@ -15,17 +16,6 @@ use words::refusals;
 pub enum Rounds {
     Placed(u32),
     Refused(refusals::Refusal),
-}
-
-// Zeros everywhere.
-pub fn clear(s: &mut [u32])
-    ensures { λ _. ⌜ now (s .exit) ≡ replicate (length (now (s .entry))) 0 ⌝ }
-{
-    let mut i = 0;
-    while i < s.len() {
-        s[i] = 0;
-        i += 1;
-    }
 }
 
 // A try at piece size k: the pieces are put in order, and their pairs placed in the empty table.

@@ -11,7 +11,7 @@ use borrow.Author.Tests.{leb-true, ltb-true, eqb-true, eqb-false}
 use lib.Dec.{leb, ltb, eqb}
 use lib.ListN.{length, getD}
 use Rattle.words.proofs.BitLaws.{lt-or-ge}
-use Rattle.record.proofs.TestLaws.{not-both, and-true, all-at}
+use Rattle.record.proofs.TestLaws.{not-both, and-true, or-cases, all-at}
 use Rattle.machine.specs.Part.{stagesAt, lastAt, endAt}
 use Rattle.machine.specs.Turn.{Block, begins, ended, afterRead, afterStage, afterStore, turned}
 use Rattle.machine.specs.Run.{partForm, partsForm, emptyBlock, blockForm}
@@ -54,10 +54,6 @@ module _ (W : List ℕ) (s t lo hi : ℕ) where
       go true e = rw (e, begins) (record { order = order; within = within; from = λ h. absurd (omega arith); parts = λ h. absurd (omega arith); stage = λ (h : _≡_ {A = ℕ} 3 1). absurd (omega arith); few = omega arith })
       go false e = rw (e, begins) (record { order = order; within = within; from = λ h. from; parts = λ h. parts (eqb-false _ _ e); stage = λ (h : _≡_ {A = ℕ} 0 1). absurd (omega arith); few = omega arith })
 
-or-false : (a b : Bool) → (a || b) ≡ true → (a ≡ true → ⊥) → b ≡ true
-or-false true b h n = absurd (n refl)
-or-false false b h n = h
-
 pub record BlockAt (W : List ℕ) (s t o e : ℕ) : Type 0 where
   pub order : o < e
   pub within : e ≤ length W
@@ -76,7 +72,7 @@ module _ (W : List ℕ) (s t o e : ℕ) where
       record {
         order = ltb-true _ _ a;
         within = leb-true _ _ b;
-        parts = λ n. record { f = length W; form = or-false (emptyBlock 256 W o e) _ h₂ (λ q. n (empty-stages q)) };
+        parts = λ n. record { f = length W; form = ⊎-elim (λ q. absurd (n (empty-stages q))) (λ q. q) (or-cases (emptyBlock 256 W o e) _ h₂) };
       }
 
 -- ---- a turn keeps it

@@ -15,7 +15,7 @@ use taking::take_turns;
 use turns::refuse::Found;
 use turns::refuse::bad_block;
 use turns::refuse::bad_turn;
-use turns::store::clear;
+use words::clear::clear;
 use words::refusals::ROOM_SHORT;
 use words::refusals::Refusal;
 use words::refusals::SCRIPT_FORM;

@@ -3,13 +3,11 @@
 use mathlib.Core.Path.{_≡_, refl, sym, ap}
 use mathlib.Core.Bool.{true, false}
 use mathlib.Core.List.{List, _∷_}
-use Prim.Native.Nat.{ℕ, suc, _+_, _*_, _^_, _%_, _≤_, _<_}
+use Prim.Native.Nat.{ℕ, suc, _+_, _*_, _^_, _≤_, _<_}
 use native.Mathlib.Numerals.{add-one}
 use native.Mathlib.Omega.{arith}
 use borrow.Author.Tests.{lt-ltb, le-ltb, le-leb, lt-leb}
-use lib.Bits.{bitOr, or-shifted-r}
 use lib.ListN.{length, set, replicate}
-use lib.Pow.{shl-exact}
 use Rattle.words.specs.Sum.{sumTo}
 use Rattle.record.specs.Record.{stagesOf, stageLocations, locationsOf, locationAt}
 use Rattle.script.specs.declared.head.Numbers.{Numbers}
@@ -56,7 +54,3 @@ half-past d p l n e h = let k : locationsOf d p ≤ l = omega arith in
 -- word j of the locations
 abbrev pub locationWord : List ℕ → ℕ → ℕ → ℕ
 locationWord d p j = locationHalf d p (2 * j + 1) * 2 ^ 16 + locationHalf d p (2 * j)
-
--- two halves in one word
-pub halves-join : (low high : ℕ) → low < 2 ^ 16 → high < 2 ^ 16 → bitOr low ((high * 2 ^ 16) % 2 ^ 32) ≡ high * 2 ^ 16 + low
-halves-join low high a b = rw (shl-exact 16 16 32 b (omega arith)) (or-shifted-r high 16 low a)

@@ -7,6 +7,7 @@ ghost use Rattle.script.specs.Writers.{Accepted, numberWords, endsBy};
 use record::bodies::Body;
 use record::bodies::location;
 use record::bodies::stage_locations;
+use words::clear::clear;
 
 // Words 0..7, in this order.
 pub struct Numbers {
@@ -25,7 +26,7 @@ pub fn write_numbers(x: Numbers, out: &mut [u32])
     requires { ⌜ length (now out) ≡ 128 ⌝ }
     ensures { λ _. ⌜ now (out .exit) ≡ numberWords x ⌝ }
 {
-    pinmap::clear(out);
+    clear(out);
     out[0] = x.stages;
     out[1] = x.last;
     out[2] = x.writeouts;

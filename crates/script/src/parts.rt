@@ -13,6 +13,7 @@ use crate::sections::write_enables;
 use crate::sections::write_sram;
 use crate::stages::write_later;
 use record::bodies::Body;
+use words::clear::clear;
 
 // Writes the numbers and the locations.
 pub fn write_head(d: &[u8], p: usize, body: Body, x: Numbers, out: &mut [u32])
@@ -46,7 +47,7 @@ pub fn write_stages(d: &[u8], p: usize, body: Body, table: &mut [u32], out: &mut
         write_later(d, p, body, s, table, &mut out[from..to]);
         s += 1;
     }
-    pinmap::clear(table);
+    clear(table);
 }
 
 // Writes a part's script around its read section and the section of its first stage.

@@ -11,7 +11,7 @@ use Rattle.record.specs.Form.{planForm}
 use Rattle.record.specs.Body.{BodyReady, BodyOf}
 use Rattle.record.specs.declared.bodies.Body.{Body}
 use Rattle.record.specs.Tests.{firstFrom, firstNot, lowestFrom, lowest, Place}
-use Rattle.record.proofs.TestLaws.{first-here, first-on, first-none, not-none, none-not, lowest-fault, lowest-next, lowest-end, lowest-none}
+use Rattle.record.proofs.TestLaws.{some-not-none, first-here, first-on, first-none, not-none, none-not, lowest-fault, lowest-next, lowest-end, lowest-none}
 use Rattle.record.proofs.FormLaws.{formed, body-ready}
 use Rattle.slots.specs.Slots.{badItem}
 use Rattle.slots.specs.Answers.{overItems, partFaultOf, planFaultOf}
@@ -27,9 +27,6 @@ items-all d right p n h =
     ap (λ (m : ℕ). firstFrom (overItems right) m 0) e
 
 -- ---- a run of items, then the others
-
-some-not-none : {k : ℕ} → some k ≡ none → ⊥
-some-not-none {k} h = let z : _≡_ {A = ℕ} 0 1 = cc in omega arith
 
 passed : (f : ℕ → Bool) (m k i : ℕ) → m ≡ k + 1 → f i ≡ true → firstFrom f m i ≡ firstFrom f k (i + 1)
 passed f m k i h e = let q : m - 1 ≡ k = omega arith in first-on f m i (omega arith) e ∙ ap (λ (x : ℕ). firstFrom f x (i + 1)) q

@@ -1,7 +1,7 @@
 -- What is found in a table filled with a stage's positions or with the pins that a part reads: by induction over the slots, the last one decided.
 -- Assumes nothing.
 use mathlib.Core.Path.{_≡_, refl, sym, ap, ap₂, _∙_}
-use mathlib.Core.Bool.{Bool, true, false, _&&_, _||_}
+use mathlib.Core.Bool.{Bool, true, false, _||_, or-true, or-false, and-false}
 use mathlib.Core.List.{List, [], _∷_, _++_, append-nil}
 use mathlib.Core.Logic.{⊎-elim}
 use mathlib.Core.Option.{none, some}
@@ -114,14 +114,6 @@ reads-hold d p n h = filled-holds n (readPuts d p) (omega (arith, held-length (�
 
 -- ---- the pins that a part reads: found just where some slot has them
 
-or-true : (b c : Bool) → c ≡ true → (b || c) ≡ true
-or-true true c h = refl
-or-true false c h = h
-
-or-false : (b c : Bool) → c ≡ false → (b || c) ≡ b
-or-false true c h = refl
-or-false false c h = h
-
 last-of-none : (pin value : ℕ → ℕ) (x : ℕ) → lastPut (heldBelow pin value 0) x ≡ none
 unfolding heldBelow lastFrom
 last-of-none pin value x = refl
@@ -133,14 +125,10 @@ found-some pin v (suc n) x k = go (eqb (pin n) x) refl (found-some pin v n x k)
   where
     go : (b : Bool) → eqb (pin n) x ≡ b → lastPut (heldBelow pin (λ i. v) n) x ≡ foundIf (someBelow (λ i. eqb (pin i) x) n) v
         → lastPut (heldBelow pin (λ i. v) (suc n)) x ≡ foundIf (someBelow (λ i. eqb (pin i) x) n || eqb (pin n) x) v
-    go true e r = held-same pin (λ i. v) n x k (eqb-true _ _ e) ∙ ap (λ (b : Bool). foundIf b v) (sym (or-true (someBelow (λ i. eqb (pin i) x) n) (eqb (pin n) x) e))
-    go false e r = held-other pin (λ i. v) n x (eqb-false _ _ e) ∙ (r ∙ ap (λ (b : Bool). foundIf b v) (sym (or-false (someBelow (λ i. eqb (pin i) x) n) (eqb (pin n) x) e)))
+    go true e r = rw (e, or-true (someBelow (λ i. eqb (pin i) x) n)) (held-same pin (λ i. v) n x k (eqb-true _ _ e))
+    go false e r = rw (e, or-false (someBelow (λ i. eqb (pin i) x) n)) (held-other pin (λ i. v) n x (eqb-false _ _ e) ∙ r)
 
 -- ---- the highest position of a pin
-
-and-false : (b c : Bool) → c ≡ false → (b && c) ≡ false
-and-false true c h = h
-and-false false c h = refl
 
 module _ (d : List ℕ) (p s x : ℕ) where
   pub highest-here : (q : ℕ) → 0 < q → slotAt d p s q ≡ x → highestBelow d p s x (suc q) ≡ q
@@ -149,7 +137,7 @@ module _ (d : List ℕ) (p s x : ℕ) where
 
   pub highest-on : (q : ℕ) → (slotAt d p s q ≡ x → ⊥) → highestBelow d p s x (suc q) ≡ highestBelow d p s x q
   unfolding highestBelow
-  highest-on q h = rw (and-false (ltb 0 q) (eqb (slotAt d p s q) x) (ne-eqb _ _ h), highestBelow)
+  highest-on q h = rw (ne-eqb _ _ h, and-false (ltb 0 q), highestBelow)
 
   pub highest-first : highestBelow d p s x 1 ≡ 0
   unfolding highestBelow
@@ -165,11 +153,9 @@ module _ (d : List ℕ) (p s x : ℕ) where
           → (someBelow (λ i. eqb (slotAt d p s (i + 1)) x) n || eqb (slotAt d p s (n + 1)) x) ≡ ltb 0 (highestBelow d p s x (suc (suc n)))
       go true e r =
           let h : slotAt d p s (suc n) ≡ x = ap (slotAt d p s) (sym (add-one n)) ∙ eqb-true _ _ e in
-          or-true (someBelow (λ i. eqb (slotAt d p s (i + 1)) x) n) (eqb (slotAt d p s (n + 1)) x) e
-          ∙ sym (ap (ltb 0) (highest-here (suc n) (omega arith) h) ∙ lt-ltb 0 (suc n) (omega arith))
+          rw (e, or-true (someBelow (λ i. eqb (slotAt d p s (i + 1)) x) n)) (sym (ap (ltb 0) (highest-here (suc n) (omega arith) h) ∙ lt-ltb 0 (suc n) (omega arith)))
       go false e r =
-          or-false (someBelow (λ i. eqb (slotAt d p s (i + 1)) x) n) (eqb (slotAt d p s (n + 1)) x) e
-          ∙ (r ∙ sym (ap (ltb 0) (highest-on (suc n) (λ h. eqb-false _ _ e (ap (slotAt d p s) (add-one n) ∙ h)))))
+          rw (e, or-false (someBelow (λ i. eqb (slotAt d p s (i + 1)) x) n)) (r ∙ sym (ap (ltb 0) (highest-on (suc n) (λ h. eqb-false _ _ e (ap (slotAt d p s) (add-one n) ∙ h)))))
 
   pub stands-highest : standsIn d p s x ≡ ltb 0 (highest d p s x)
   unfolding standsIn

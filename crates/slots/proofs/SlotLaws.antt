@@ -14,15 +14,11 @@ use lib.Dec.{eqb}
 use Rattle.words.proofs.BitLaws.{lt-or-ge}
 use Rattle.record.specs.Record.{partsOf, stagesOf, slotAt, gateFirst, gateSecond}
 use Rattle.record.specs.Form.{isPin, empty}
-use Rattle.record.proofs.TestLaws.{not-both, and-true}
+use Rattle.record.proofs.TestLaws.{not-both, and-true, or-cases}
 use Rattle.gates.specs.Gates.{gateOf}
 use Rattle.slots.specs.Slots.{slotA, slotB, feeds, pinRight, slotRight, nineRight, refusal9, standsIn, tenRight, refusal10, readsPin, elevenRight, refusal11, highest}
 use Rattle.slots.proofs.ItemLaws.{item-right}
 use Rattle.slots.proofs.PutLaws.{HighestAt, stands-highest, highest-is}
-
-or-cases : (a b : Bool) → (a || b) ≡ true → (a ≡ true) ⊎ (b ≡ true)
-or-cases true b h = inl refl
-or-cases false b h = inr h
 
 -- ---- 9
 

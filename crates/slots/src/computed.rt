@@ -18,6 +18,7 @@ use record::bodies::body_at;
 use record::bodies::first_body;
 use record::bodies::parts_of;
 use record::bodies::slot;
+use words::clear::clear;
 use words::units::EMPTY_PIN;
 use words::units::Pin;
 
@@ -67,7 +68,7 @@ fn eleven_part(d: &[u8], p: usize, body: Body, table: &mut [u32]) -> PartFault
 {
     fill_reads(d, p, body, table);
     let fault = eleven_items(d, p, body, table);
-    pinmap::clear(table);
+    clear(table);
     fault
 }
 
@@ -77,7 +78,7 @@ pub fn refusal11(d: &[u8], room: &mut [u32]) -> PlanFault
     ensures { λ r. ⌜ r ≡ planFaultOf (Rattle.slots.specs.Slots.refusal11 (now (d .entry))) ⌝ }
     ensures { λ r. ⌜ now (room .exit) ≡ replicate (length (now (room .entry))) 0 ⌝ }
 {
-    pinmap::clear(room);
+    clear(room);
     let parts = parts_of(d);
     let mut at = first_body(d);
     let mut p = 0;

@@ -18,6 +18,7 @@ use record::bodies::body_at;
 use record::bodies::first_body;
 use record::bodies::parts_of;
 use record::bodies::slot;
+use words::clear::clear;
 use words::units::EMPTY_PIN;
 use words::units::Pin;
 
@@ -60,7 +61,7 @@ fn ten_stage(d: &[u8], p: usize, body: Body, s: usize, table: &mut [u32]) -> Par
 {
     fill_positions(d, p, body, s, table);
     let fault = ten_items(d, p, body, s, table);
-    pinmap::clear(table);
+    clear(table);
     fault
 }
 
@@ -86,7 +87,7 @@ pub fn refusal10(d: &[u8], room: &mut [u32]) -> PlanFault
     ensures { λ r. ⌜ r ≡ planFaultOf (Rattle.slots.specs.Slots.refusal10 (now (d .entry))) ⌝ }
     ensures { λ r. ⌜ now (room .exit) ≡ replicate (length (now (room .entry))) 0 ⌝ }
 {
-    pinmap::clear(room);
+    clear(room);
     let parts = parts_of(d);
     let mut at = first_body(d);
     let mut p = 0;

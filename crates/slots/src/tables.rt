@@ -9,6 +9,7 @@ ghost use Rattle.slots.specs.Slots.{top};
 ghost use Rattle.slots.specs.Puts.{heldAt, positionPuts, readPuts, filled};
 use record::bodies::Body;
 use record::bodies::slot;
+use words::clear::clear;
 use words::units::EMPTY_PIN;
 use words::units::Pin;
 
@@ -37,7 +38,7 @@ pub fn fill_positions(d: &[u8], p: usize, body: Body, s: usize, table: &mut [u32
     requires { ⌜ BodyOf (now d) p body × (s < body .stages) ⌝ }
     ensures { λ _. ⌜ now (table .exit) ≡ filled (length (now (table .entry))) (positionPuts (now (d .entry)) p s) ⌝ }
 {
-    pinmap::clear(table);
+    clear(table);
     let mut i = 0;
     while i < 8191 {
         put_slot(d, p, body, s, i + 1, (i + 1) as u32, table);
@@ -50,7 +51,7 @@ pub fn fill_reads(d: &[u8], p: usize, body: Body, table: &mut [u32])
     requires { ⌜ BodyOf (now d) p body × (0 < body .stages) ⌝ }
     ensures { λ _. ⌜ now (table .exit) ≡ filled (length (now (table .entry))) (readPuts (now (d .entry)) p) ⌝ }
 {
-    pinmap::clear(table);
+    clear(table);
     let mut j = 0;
     while j < 8192 {
         put_slot(d, p, body, 0, 8192 + j, 0, table);

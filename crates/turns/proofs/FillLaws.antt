@@ -4,13 +4,13 @@ use mathlib.Core.Path.{_≡_, refl, sym, ap, _∙_}
 use mathlib.Core.List.{List, [], _∷_, _++_, append-assoc}
 use mathlib.Core.Logic.{⊎-elim}
 use Prim.Native.Nat.{ℕ, suc, _+_, _≤_, _<_}
-use native.Mathlib.Nat.{add-zero, add-suc, suc-add}
 use native.Mathlib.Numerals.{add-one}
 use native.Mathlib.Omega.{arith}
 use lib.ListN.{length, getD, take, drop, set, replicate, length-set, length-replicate, getD-replicate}
 use lib.Seq.{sets, sets-eq, getD-set-same, getD-set-other, getD-take, length-take-le, take-at, drop-at, take-set-le, take-take, drop-drop, ext-getD}
 use Rattle.words.specs.Section.{listOf}
 use Rattle.words.proofs.BitLaws.{lt-or-ge}
+use Rattle.words.proofs.ListLaws.{sets-append}
 use Rattle.words.proofs.SectionLaws.{length-listOf, listOf-is}
 use Rattle.turns.specs.Fill.{Filled}
 
@@ -30,10 +30,6 @@ filled-more P a b l₀ l v f h room p = record {
 }
 
 -- ---- the same as stores of a list of values
-
-sets-append : (l : List ℕ) (i : ℕ) (xs ys : List ℕ) → sets l i (xs ++ ys) ≡ sets (sets l i xs) (i + length xs) ys
-sets-append l i [] ys = rw add-zero
-sets-append l i (x ∷ xs) ys = sets-append (set l i x) (suc i) xs ys ∙ rw (add-suc, suc-add)
 
 -- one value more
 pub sets-more : (l : List ℕ) (a : ℕ) (f : ℕ → ℕ) (b : ℕ) → set (sets l a (listOf f b)) (a + b) (f b) ≡ sets l a (listOf f (b + 1))

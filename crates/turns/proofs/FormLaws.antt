@@ -1,9 +1,9 @@
 -- What refusal 15 leaves: a part in form has every fact that a turn asks for, and so have all parts of a block in form.
 -- Assumes nothing.
 use mathlib.Core.Path.{_≡_, refl, _∙_}
-use mathlib.Core.Bool.{Bool, true, false, _&&_, _||_}
+use mathlib.Core.Bool.{true, false, _&&_, _||_}
 use mathlib.Core.List.{List}
-use mathlib.Core.Logic.{_⊎_, inl, inr, ⊎-elim}
+use mathlib.Core.Logic.{⊎-elim}
 use Prim.Native.Nat.{ℕ, zero, suc, _+_, _*_, _/_, _%_, _^_, _≤_, _<_}
 use native.Mathlib.Omega.{arith}
 use borrow.Author.Tests.{leb-true, ltb-true, eqb-true, eq-eqb, ne-eqb}
@@ -12,17 +12,11 @@ use lib.ListN.{length}
 use Rattle.words.specs.Bit.{pop}
 use Rattle.words.specs.Sum.{sumTo}
 use Rattle.record.specs.Tests.{allBelow}
-use Rattle.record.proofs.TestLaws.{and-true, all-at, not-both}
+use Rattle.record.proofs.TestLaws.{and-true, or-cases, all-at, not-both}
 use Rattle.machine.specs.Part.{stagesAt, lastAt, writeOutsAt, startAt, sramsAt, roundsAt, duplicatesAt, normalAt, endAt, locationIn, readWordAt, readMaskAt, entryAt}
 use Rattle.machine.specs.Run.{entriesForm, locationsForm, lanesForm, readsForm, storesForm, partForm, partsForm}
 use Rattle.turns.specs.Well.{Reads, EntriesIn}
 use Rattle.turns.specs.Block.{PartWell}
-
--- ---- a test that is one of two
-
-or-true : (a b : Bool) → (a || b) ≡ true → (a ≡ true) ⊎ (b ≡ true)
-or-true true b h = inl refl
-or-true false b h = inr h
 
 module _ (n : ℕ) (W : List ℕ) (s t o : ℕ) where
   entries-in : entriesForm n W o ≡ true → EntriesIn n W o
@@ -50,7 +44,7 @@ module _ (n : ℕ) (W : List ℕ) (s t o : ℕ) where
       ⊎-elim
       (λ e. absurd (omega (arith, eqb-true (readMaskAt n W o r i) 0 e)))
       (λ e. let (a, b) = and-true (ltb x s) (ltb x t) e in (ltb-true _ _ a, ltb-true _ _ b))
-      (or-true (eqb (readMaskAt n W o r i) 0) (ltb x s && ltb x t) one)
+      (or-cases (eqb (readMaskAt n W o r i) 0) (ltb x s && ltb x t) one)
 
   pub record StoresIn : Type 0 where
     pub exact : sramsAt W o + duplicatesAt W o ≤ writeOutsAt W o
@@ -69,7 +63,7 @@ module _ (n : ℕ) (W : List ℕ) (s t o : ℕ) where
         inside = λ some. ⊎-elim
             (λ e. absurd (omega (arith, eqb-true (normalAt W o) 0 e)))
             (λ e. let (p, q) = and-true (leb x s) (leb x t) e in (leb-true _ _ p, leb-true _ _ q))
-            (or-true (eqb (normalAt W o) 0) (leb x s && leb x t) c);
+            (or-cases (eqb (normalAt W o) 0) (leb x s && leb x t) c);
       }
 
   -- ---- one part, which ends by e

@@ -12,7 +12,7 @@ use lib.Arith.{digits-lt}
 use lib.ListN.{length, getD, set}
 use Rattle.words.specs.Bit.{bit, bitAt}
 use Rattle.words.specs.Section.{placeOf, halfOf, halfAt}
-use Rattle.words.proofs.BitLaws.{lt-or-ge, bit-lt, bit-low, bit-high, bit-first, bit-suc}
+use Rattle.words.proofs.BitLaws.{lt-or-ge, at-lt, bit-low, bit-high, bit-first, bit-suc}
 use Rattle.turns.specs.Well.{Entries}
 use Rattle.turns.specs.Fill.{Filled}
 use Rattle.turns.specs.Gather.{GatherBits, Gathered}
@@ -54,10 +54,6 @@ pair-in n j h l g =
     omega arith
 
 -- ---- the bits of a word
-
-at-lt : (l : List ℕ) (q : ℕ) → bitAt l q < 2
-unfolding bitAt
-at-lt l q = bit-lt _ _
 
 pub at-small : (r : ℕ) (l : List ℕ) (q : ℕ) → r ≡ bitAt l q → r < 2
 at-small r l q e = rw e (at-lt l q)

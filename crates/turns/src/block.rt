@@ -10,6 +10,7 @@ ghost use Rattle.machine.specs.Part.{stagesAt};
 ghost use Rattle.machine.specs.Turn.{begins, turned, written};
 ghost use Rattle.turns.specs.Well.{PartIn, Reads, EntriesIn, Captures};
 ghost use Rattle.turns.specs.Block.{blockIn, roomRead, roomStaged, roomTurned, BlockWell};
+use words::clear::clear;
 
 // Where the block's part begins; what its next turn does: 0 read, 1 a stage, 2 store, 3 nothing; which stage.
 pub struct BlockState {
@@ -24,7 +25,7 @@ fn read_room<'a>(words: &[u32], at: usize, old: &'a [u32], new: &'a [u32], room:
     ensures { λ _. ⌜ now (room .exit) ≡ roomRead 256 (now (words .entry)) at (now (old .entry)) (now (new .entry)) (now (room .entry)) ⌝ }
 {
     read::read_turn(words, at, old, new, &mut room[0..256]);
-    store::clear(&mut room[512..768]);
+    clear(&mut room[512..768]);
 }
 
 // The room after stage k.

@@ -3,23 +3,12 @@
 use crate::part;
 ghost use mathlib.Core.Path.{_≡_};
 ghost use Prim.Native.Nat.{_+_, _<_, _≤_};
-ghost use lib.ListN.{length, take, drop, replicate};
+ghost use lib.ListN.{length, take, drop};
 ghost use lib.Seq.{sets};
 ghost use Rattle.machine.specs.Part.{startAt, normalAt};
 ghost use Rattle.machine.specs.Turn.{captured};
 ghost use Rattle.turns.specs.Capture.{capturedWord};
 ghost use Rattle.turns.specs.Well.{PartIn, Captures};
-
-// Zeros in every word.
-pub fn clear(s: &mut [u32])
-    ensures { λ _. ⌜ now (s .exit) ≡ replicate (length (now (s .entry))) 0 ⌝ }
-{
-    let mut i = 0;
-    while i < s.len() {
-        s[i] = 0;
-        i += 1;
-    }
-}
 
 // Captured word l after stage k.
 fn capture_word(words: &[u32], at: usize, k: usize, room: &[u32], l: usize) -> u32

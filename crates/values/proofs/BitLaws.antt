@@ -10,7 +10,7 @@ use borrow.Author.Tests.{eq-eqb, ne-eqb}
 use lib.Dec.{eqb}
 use lib.ListN.{length, List·getD-eq-default}
 use Rattle.words.specs.Bit.{bit, bitAt}
-use Rattle.words.proofs.BitLaws.{bit-lt, bit-zero}
+use Rattle.words.proofs.BitLaws.{bit-zero, at-lt}
 use Rattle.record.specs.Record.{wordAt, layoutOf, positionBase, positionPlace, positionStaged}
 use Rattle.positions.specs.Positions.{Planned}
 use Rattle.positions.specs.Winners.{plannedBy, positionNumber}
@@ -22,10 +22,6 @@ use Rattle.positions.proofs.WinnerLaws.{by-layout, by-position}
 pub beyond : (l : List ℕ) (p : ℕ) → length l ≤ p / 32 → 0 ≡ bitAt l p
 unfolding bitAt
 beyond l p h = sym (ap (λ (w : ℕ). bit w (p % 32)) (List·getD-eq-default l 0 h) ∙ bit-zero (p % 32))
-
-at-lt : (l : List ℕ) (p : ℕ) → bitAt l p < 2
-unfolding bitAt
-at-lt l p = bit-lt _ (p % 32)
 
 -- ---- bits at planned positions
 

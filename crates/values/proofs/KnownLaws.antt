@@ -1,15 +1,15 @@
 -- The table of state bits: one slot more, and what it finds. THE LAW (`known-look`): for every pin it finds what the definition says.
 -- Assumes nothing.
-use mathlib.Core.Path.{_≡_, refl, sym, ap, ap₂, _∙_}
-use mathlib.Core.Bool.{Bool, true, false, _&&_, _||_}
+use mathlib.Core.Path.{_≡_, refl, sym, ap, _∙_}
+use mathlib.Core.Bool.{Bool, true, false, _&&_, _||_, or-true, or-false}
 use mathlib.Core.Option.{Option, none, some}
-use mathlib.Core.List.{List, [], _∷_, _++_, append-nil}
-use Prim.Native.Nat.{ℕ, zero, suc, _+_, _*_, _-_, _/_, _≤_, _<_}
+use mathlib.Core.List.{List, [], _++_, append-nil}
+use Prim.Native.Nat.{ℕ, zero, suc, _+_, _-_, _≤_, _<_}
 use native.Mathlib.Numerals.{add-one}
 use native.Mathlib.Omega.{arith}
 use borrow.Author.Tests.{eq-eqb, ne-eqb, eqb-true, eqb-false, lt-ltb, le-ltb}
 use lib.Dec.{ltb, eqb}
-use lib.ListN.{length, take, drop, replicate, take-append-drop, length-append, length-drop, length-replicate, drop-of-length-le}
+use lib.ListN.{length, take, drop, replicate, take-append-drop, length-append, length-drop, drop-of-length-le}
 use lib.Seq.{length-take-le, take-all, take-at, drop-at}
 use Rattle.pinmap.specs.declared.Found.{Found}
 use Rattle.pinmap.specs.declared.Found.the-variants.{Value, Missing}
@@ -86,14 +86,6 @@ module _ (pin : ℕ → ℕ) (f : ℕ → Option ℕ) where
     last-here es y none false e r = rw append-nil r
     last-here es y (some v) b e r = last-snoc none es (entry y v) x ∙ replaced-same (entry y v) x _ (sym e)
 
-    or-true : (b c : Bool) → c ≡ true → (b || c) ≡ true
-    or-true true c h = refl
-    or-true false c h = h
-
-    or-false : (b c : Bool) → c ≡ false → (b || c) ≡ b
-    or-false true c h = refl
-    or-false false c h = h
-
     pub found-last : (n : ℕ) → lastPut (foundBelow pin f n) x ≡ elim (someBelow (λ i. eqb (pin i) x) n) [ true ↦ f x | false ↦ none ]
     unfolding foundBelow someBelow lastFrom
     found-last zero = refl
@@ -103,12 +95,11 @@ module _ (pin : ℕ → ℕ) (f : ℕ → Option ℕ) where
             → lastPut (foundBelow pin f n ++ foundPut (pin n) (f (pin n))) x ≡ elim (someBelow (λ i. eqb (pin i) x) n || eqb (pin n) x) [ true ↦ f x | false ↦ none ]
         go true e r =
             let s : pin n ≡ x = eqb-true _ _ e in
-            ap (λ (o : Option ℕ). lastPut (foundBelow pin f n ++ foundPut (pin n) o) x) (ap f s)
-            ∙ (last-here (foundBelow pin f n) (pin n) (f x) (someBelow (λ i. eqb (pin i) x) n) s r
-            ∙ sym (ap (λ (b : Bool). elim b [ true ↦ f x | false ↦ none ]) (or-true (someBelow (λ i. eqb (pin i) x) n) (eqb (pin n) x) e)))
+            rw (e, or-true (someBelow (λ i. eqb (pin i) x) n))
+            (ap (λ (o : Option ℕ). lastPut (foundBelow pin f n ++ foundPut (pin n) o) x) (ap f s)
+            ∙ last-here (foundBelow pin f n) (pin n) (f x) (someBelow (λ i. eqb (pin i) x) n) s r)
         go false e r =
-            last-absent (foundBelow pin f n) (pin n) (f (pin n)) (eqb-false _ _ e)
-            ∙ (r ∙ sym (ap (λ (b : Bool). elim b [ true ↦ f x | false ↦ none ]) (or-false (someBelow (λ i. eqb (pin i) x) n) (eqb (pin n) x) e)))
+            rw (e, or-false (someBelow (λ i. eqb (pin i) x) n)) (last-absent (foundBelow pin f n) (pin n) (f (pin n)) (eqb-false _ _ e) ∙ r)
 
 -- ---- what the table finds
 

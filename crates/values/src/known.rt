@@ -15,7 +15,6 @@ ghost use Rattle.positions.specs.Winners.{plannedBy, positionNumber};
 ghost use Rattle.positions.specs.Input.{plannedBit};
 ghost use Rattle.values.specs.Known.{heldBit, foundPut, bitPuts, knownPuts, Clear, Numbered};
 use pinmap::Found;
-use pinmap::clear;
 use pinmap::look_up;
 use positions::planned::fill_planned;
 use record::bodies::Body;
@@ -26,6 +25,7 @@ use record::bodies::slot;
 use record::places::position_base;
 use record::places::word_at;
 use words::bits::bit_at;
+use words::clear::clear;
 use words::units::EMPTY_PIN;
 use words::units::Pin;
 

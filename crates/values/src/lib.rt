@@ -10,6 +10,7 @@ use gates::check_gates;
 use known::fill_known;
 use record::form::plan_form;
 use record::places::room_words;
+use words::clear::clear;
 use words::refusals::GATE_ORDER;
 use words::refusals::PLAN_FORM;
 use words::refusals::ROOM_SHORT;
@@ -34,7 +35,7 @@ fn pin_bit(plan: &[u8], part: usize, old: &[u32], new: &[u32], room: &mut [u32],
     }
     fill_known(plan, part, old, new, room);
     let bit = gates::value(plan, &room[..32768], pin);
-    pinmap::clear(room);
+    clear(room);
     bit
 }
 
@@ -50,7 +51,7 @@ pub fn value(plan: &[u8], part: u32, old: &[u32], new: &[u32], room: &mut [u32],
             item: 0,
         });
     }
-    pinmap::clear(room);
+    clear(room);
     if !plan_form(plan) {
         return Answer::Refused(Refusal {
             number: PLAN_FORM,

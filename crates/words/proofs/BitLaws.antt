@@ -31,6 +31,11 @@ pub bit-lt : (w k : ℕ) → bit w k < 2
 unfolding bit
 bit-lt w k = mod-lt (w / 2 ^ k) two-pos
 
+-- a test, as a number
+pub test-le : (b : Bool) → elim b [ true ↦ 1 | false ↦ 0 ] ≤ 1
+test-le true = omega arith
+test-le false = omega arith
+
 -- ---- and, or, xor
 
 min-lt : (a b : ℕ) → a < 2 → min a b < 2
@@ -178,7 +183,11 @@ bit-with w k q = bit-or w (2 ^ k) q ∙ ap (max (bit w q)) (bit-pow k q) ∙ by 
     by true = omega (arith, bit-lt w q)
     by false = max-zero (bit w q)
 
--- ---- a list with the bit at a position set
+-- ---- the bit at a position of a list, and the list with it set
+
+pub at-lt : (l : List ℕ) (q : ℕ) → bitAt l q < 2
+unfolding bitAt
+at-lt l q = bit-lt (getD l (q / 32) 0) (q % 32)
 
 pub set-bit-length : (l : List ℕ) (p : ℕ) → length (setBit l p) ≡ length l
 unfolding setBit

@@ -1,4 +1,5 @@
 pub mod BitLaws
+pub mod ListLaws
 pub mod PopLaws
 pub mod SectionLaws
 pub mod SumLaws

@@ -10,7 +10,7 @@ use native.Mathlib.Decide.{ℕ-discrete}
 use native.Mathlib.Omega.{arith}
 use borrow.Author.Tests.{eq-eqb, ne-eqb}
 use lib.Arith.{digits-div, digits-mod, digits-lt}
-use lib.Bits.{bitAnd, bitOr, and-mask, or-shifted}
+use lib.Bits.{bitAnd, bitOr, and-mask, or-shifted, or-shifted-r}
 use lib.Dec.{eqb}
 use lib.ListN.{length, getD, set, length-set, length-append, List·getD-append}
 use lib.Pow.{pow-pos, shl-exact}
@@ -102,6 +102,10 @@ half-two g (suc (suc e)) l h = absurd (omega arith)
 pub half-join : (x : ℕ) → x ≡ halfOf x 1 * 2 ^ 16 + halfOf x 0
 unfolding halfOf
 half-join x = omega arith
+
+-- two halves in one word, as the code joins them
+pub halves-join : (low high : ℕ) → low < 2 ^ 16 → high < 2 ^ 16 → bitOr low ((high * 2 ^ 16) % 2 ^ 32) ≡ high * 2 ^ 16 + low
+halves-join low high a b = rw (shl-exact 16 16 32 b (omega arith)) (or-shifted-r high 16 low a)
 
 pub half-lt : (x e : ℕ) → x < 2 ^ 32 → halfOf x e < 2 ^ 16
 unfolding halfOf

@@ -1,5 +1,6 @@
-// Bits and halves of 32-bit words, the four units, the script edition, the refusals' numbers.
+// Bits and halves of 32-bit words, words cleared, the four units, the script edition, the refusals' numbers.
 pub mod bits;
+pub mod clear;
 pub mod edition;
 pub mod halves;
 pub mod refusals;

@@ -8,7 +8,7 @@ use lib.ListN.{length}
 use Rattle.record.specs.Form.{roomWords}
 use Rattle.checks.specs.Refusals.{planRefusal}
 use Rattle.checks.specs.Verdicts.{verdictOf}
-use Rattle.checks.proofs.PassedLaws.{some-none}
+use Rattle.record.proofs.TestLaws.{some-not-none}
 use Rattle.checks.proofs.VerdictLaws.{went-on, never}
 use Rattle.checks.proofs.RoomLaws.{cleared, short-verdict, short-room, wide-verdict, again-room, last-room, last-ready}
 use borrow.Author.Needs.{needs}
@@ -25,7 +25,7 @@ returns c =
     let s = c .before .before .before .before .args in
     let h : length (s .room .now) < roomWords (s .plan .now) = omega (arith, c .if1 .taken, c .before .room-words .ensures .0) in
     let is = short-verdict (s .plan .now) (s .room .now) h in
-    (ap verdictOf (sym is), (short-room (s .plan .now) (s .room .now) h, λ e. some-none _ (sym is ∙ e)))
+    (ap verdictOf (sym is), (short-room (s .plan .now) (s .room .now) h, λ e. absurd (some-not-none (sym is ∙ e))))
 
 -- src/lib.rt:68:5
 clear-requires : tie.Need-clear-requires

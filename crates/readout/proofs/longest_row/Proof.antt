@@ -7,7 +7,8 @@ use native.Mathlib.Omega.{arith}
 use lib.ListN.{drop}
 use Rattle.reads.specs.Search.{longest}
 use Rattle.tries.specs.Decoded.{lanesAt}
-use Rattle.readout.proofs.ReadoutLaws.{read-row, longest-step, longest-end}
+use Rattle.tries.proofs.TableLaws.{filled-row}
+use Rattle.readout.proofs.ReadoutLaws.{longest-step, longest-end}
 use borrow.Author.Needs.{needs}
 use Rattle.readout.proofs.longest_row.Statement.{statement}
 use Rattle.readout.proofs.longest_row.Tie as tie
@@ -22,7 +23,7 @@ loop-holds : tie.Need-loop-holds Inv-loop μ-loop
 loop-holds c = search needs
 
 lane-load-requires : tie.Need-lane-load-requires Inv-loop μ-loop
-lane-load-requires c κs = read-row (c .before .before .before .before .pre) _ (c .loop-test .taken)
+lane-load-requires c κs = filled-row (c .before .before .before .before .pre .filled) _ (c .loop-test .taken)
 
 add-j : tie.Need-add-j Inv-loop μ-loop
 add-j c = search needs

@@ -2,7 +2,7 @@
 -- Assumes nothing.
 use mathlib.Core.Path.{ap₂, _∙_}
 use Prim.Native.Nat.{ℕ, _+_, _*_, _^_}
-use Rattle.script.proofs.HeadLaws.{halves-join}
+use Rattle.words.proofs.SectionLaws.{halves-join}
 use borrow.Author.Needs.{needs}
 use Rattle.script.proofs.head.location_word.Statement.{statement}
 use Rattle.script.proofs.head.location_word.Tie as tie

@@ -1,4 +1,4 @@
--- `run::block::read_room` meets its contract: a part that is lent comes back in its place.
+-- `turns::block::read_room` meets its contract: a part that is lent comes back in its place.
 -- Assumes nothing.
 use borrow.Author.Needs.{needs}
 use Rattle.turns.proofs.BlockLaws.{read-room-is}

@@ -1,4 +1,4 @@
--- `run::block::stage_room` meets its contract: the positions come back in their place, and the captured words are those of the new positions.
+-- `turns::block::stage_room` meets its contract: the positions come back in their place, and the captured words are those of the new positions.
 -- Assumes nothing.
 use borrow.Author.Needs.{needs}
 use Rattle.turns.proofs.BlockLaws.{stage-room-is}

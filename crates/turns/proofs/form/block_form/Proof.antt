@@ -1,4 +1,4 @@
--- `run::form::block_form` meets its contract: one law for each way through.
+-- `turns::form::block_form` meets its contract: one law for each way through.
 -- Assumes nothing.
 use mathlib.Core.Path.{sym, _∙_}
 use Rattle.turns.proofs.BlockFormLaws.{block-none, block-outside, block-empty, block-parts}

@@ -1,4 +1,4 @@
--- `run::form::body_form` meets its contract: one law for each way through.
+-- `turns::form::body_form` meets its contract: one law for each way through.
 -- Assumes nothing.
 use mathlib.Core.Path.{sym, _∙_}
 use borrow.Author.Tests.{not-true, not-false}

@@ -1,4 +1,4 @@
--- `run::form::empty_form` meets its contract. The invariant: the words passed are those of an empty block.
+-- `turns::form::empty_form` meets its contract. The invariant: the words passed are those of an empty block.
 -- Assumes nothing.
 use mathlib.Core.Path.{_≡_, refl, sym, _∙_}
 use mathlib.Core.Bool.{true, false}

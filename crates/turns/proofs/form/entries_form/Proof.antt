@@ -1,4 +1,4 @@
--- `run::form::entries_form` meets its contract. The invariant: the sections passed are in form.
+-- `turns::form::entries_form` meets its contract. The invariant: the sections passed are in form.
 -- Assumes nothing.
 use mathlib.Core.Path.{_≡_, refl, sym, _∙_}
 use mathlib.Core.Bool.{true}

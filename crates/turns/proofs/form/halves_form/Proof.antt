@@ -1,4 +1,4 @@
--- `run::form::halves_form` meets its contract: by the two tests.
+-- `turns::form::halves_form` meets its contract: by the two tests.
 -- Assumes nothing.
 use borrow.Author.Tests.{lt-ltb, le-ltb}
 use Rattle.turns.proofs.form.halves_form.Statement.{statement}

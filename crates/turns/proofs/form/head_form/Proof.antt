@@ -1,4 +1,4 @@
--- `run::form::head_form` meets its contract: one law for each way through.
+-- `turns::form::head_form` meets its contract: one law for each way through.
 -- Assumes nothing.
 use Prim.Native.Nat.{_+_, _≤_}
 use native.Mathlib.Omega.{arith}

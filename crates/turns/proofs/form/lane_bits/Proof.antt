@@ -1,4 +1,4 @@
--- `run::form::lane_bits` meets its contract. The invariant: the bits of the rounds passed, at most 32 each.
+-- `turns::form::lane_bits` meets its contract. The invariant: the bits of the rounds passed, at most 32 each.
 -- Assumes nothing.
 use mathlib.Core.Path.{_≡_, refl}
 use Prim.Native.Nat.{_+_, _*_, _-_, _≤_}

@@ -1,4 +1,4 @@
--- `run::form::lanes_form` meets its contract. The invariant: the lanes passed have at most 32 bits.
+-- `turns::form::lanes_form` meets its contract. The invariant: the lanes passed have at most 32 bits.
 -- Assumes nothing.
 use mathlib.Core.Path.{_≡_, refl, sym}
 use mathlib.Core.Bool.{true}

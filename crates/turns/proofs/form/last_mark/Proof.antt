@@ -1,4 +1,4 @@
--- `run::form::last_mark` meets its contract: by the test.
+-- `turns::form::last_mark` meets its contract: by the test.
 -- Assumes nothing.
 use Rattle.turns.proofs.BlockFormLaws.{mark-last, mark-more}
 use Rattle.turns.proofs.form.last_mark.Statement.{statement}

@@ -1,4 +1,4 @@
--- `run::form::location_form` meets its contract: by the two tests.
+-- `turns::form::location_form` meets its contract: by the two tests.
 -- Assumes nothing.
 use Rattle.turns.proofs.TestCodeLaws.{location-good, location-bad}
 use borrow.Author.Needs.{needs}

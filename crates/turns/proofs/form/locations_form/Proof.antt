@@ -1,4 +1,4 @@
--- `run::form::locations_form` meets its contract. The invariant: the locations passed are in form.
+-- `turns::form::locations_form` meets its contract. The invariant: the locations passed are in form.
 -- Assumes nothing.
 use mathlib.Core.Path.{_≡_}
 use mathlib.Core.Bool.{true, _&&_}

@@ -1,4 +1,4 @@
--- `run::form::pair_form` meets its contract: by the tests.
+-- `turns::form::pair_form` meets its contract: by the tests.
 -- Assumes nothing.
 use borrow.Author.Tests.{eq-eqb}
 use Rattle.turns.proofs.TestCodeLaws.{or-then, read-inside, read-outside}

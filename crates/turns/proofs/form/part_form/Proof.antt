@@ -1,4 +1,4 @@
--- `run::form::part_form` meets its contract: the form of a part is that of its numbers and what follows from them.
+-- `turns::form::part_form` meets its contract: the form of a part is that of its numbers and what follows from them.
 -- Assumes nothing.
 use mathlib.Core.Path.{sym, _∙_}
 use native.Mathlib.Omega.{arith}

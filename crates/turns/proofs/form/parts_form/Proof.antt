@@ -1,4 +1,4 @@
--- `run::form::parts_form` meets its contract. The invariant: the parts from word o on are in form exactly when all are.
+-- `turns::form::parts_form` meets its contract. The invariant: the parts from word o on are in form exactly when all are.
 -- Assumes nothing.
 use mathlib.Core.Path.{sym, _∙_}
 use Prim.Native.Nat.{_-_}

@@ -1,4 +1,4 @@
--- `run::form::reads_form` meets its contract. The invariant: the rounds passed are in form.
+-- `turns::form::reads_form` meets its contract. The invariant: the rounds passed are in form.
 -- Assumes nothing.
 use mathlib.Core.Path.{_≡_, refl, sym, _∙_}
 use mathlib.Core.Bool.{true}

@@ -1,4 +1,4 @@
--- `run::form::round_form` meets its contract. The invariant: the pairs passed are in form.
+-- `turns::form::round_form` meets its contract. The invariant: the pairs passed are in form.
 -- Assumes nothing.
 use mathlib.Core.Path.{_≡_}
 use mathlib.Core.Bool.{true}

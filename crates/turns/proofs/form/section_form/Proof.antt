@@ -1,4 +1,4 @@
--- `run::form::section_form` meets its contract. The invariant: both halves of the words passed are positions.
+-- `turns::form::section_form` meets its contract. The invariant: both halves of the words passed are positions.
 -- Assumes nothing.
 use mathlib.Core.Path.{_≡_}
 use mathlib.Core.Bool.{true, _&&_}

@@ -1,4 +1,4 @@
--- `run::form::stores_form` meets its contract: one law for each way through.
+-- `turns::form::stores_form` meets its contract: one law for each way through.
 -- Assumes nothing.
 use native.Mathlib.Omega.{arith}
 use mathlib.Core.Path.{refl, _∙_}

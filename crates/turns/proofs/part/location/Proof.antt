@@ -1,4 +1,4 @@
--- `run::part::location` meets its contract: a mask of 16 bits is the low half, a shift by 16 the high one.
+-- `turns::part::location` meets its contract: a mask of 16 bits is the low half, a shift by 16 the high one.
 -- Assumes nothing.
 use borrow.Author.Needs.{needs}
 use native.Mathlib.Omega.{arith}

@@ -1,4 +1,4 @@
--- `run::part::normal` meets its contract: words 4 and 7 together are at most word 2, so nothing wraps.
+-- `turns::part::normal` meets its contract: words 4 and 7 together are at most word 2, so nothing wraps.
 -- Assumes nothing.
 use borrow.Author.Needs.{needs}
 use Prim.Native.Nat.{_+_}

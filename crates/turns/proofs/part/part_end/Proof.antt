@@ -1,4 +1,4 @@
--- `run::part::part_end` meets its contract: the part lies inside the words, so its end is one of their indices.
+-- `turns::part::part_end` meets its contract: the part lies inside the words, so its end is one of their indices.
 -- Assumes nothing.
 use Prim.Native.Nat.{_+_}
 use native.Mathlib.Omega.{arith}

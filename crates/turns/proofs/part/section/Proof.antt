@@ -1,4 +1,4 @@
--- `run::part::section` meets its contract: section k is one of stages + 2, all inside the part.
+-- `turns::part::section` meets its contract: section k is one of stages + 2, all inside the part.
 -- Assumes nothing.
 use borrow.Author.Needs.{needs}
 use native.Mathlib.Omega.{arith}

@@ -1,4 +1,4 @@
--- `run::read::append` meets its contract. The invariant: the bits of the mask that are left append what is missing, and they have room.
+-- `turns::read::append` meets its contract. The invariant: the bits of the mask that are left append what is missing, and they have room.
 -- Assumes nothing.
 use native.Mathlib.Omega.{arith}
 use lib.Count.{trailingZeros}

@@ -1,4 +1,4 @@
--- `run::read::read_lane` meets its contract. The invariant: the lane's word after r rounds.
+-- `turns::read::read_lane` meets its contract. The invariant: the lane's word after r rounds.
 -- Assumes nothing.
 use mathlib.Core.Path.{_≡_, refl}
 use Prim.Native.Nat.{ℕ, _-_, _≤_, _<_}

@@ -1,4 +1,4 @@
--- `run::read::read_round` meets its contract: an empty mask reads nothing, and the window's word is the state word.
+-- `turns::read::read_round` meets its contract: an empty mask reads nothing, and the window's word is the state word.
 -- Assumes nothing.
 use mathlib.Core.Path.{_≡_, sym, ap, _∙_}
 use mathlib.Core.List.{List}

@@ -1,4 +1,4 @@
--- `run::read::read_turn` meets its contract. The invariant: lanes 0 .. i - 1 are read.
+-- `turns::read::read_turn` meets its contract. The invariant: lanes 0 .. i - 1 are read.
 -- Assumes nothing.
 use mathlib.Core.Path.{_≡_}
 use Prim.Native.Nat.{_-_, _≤_}

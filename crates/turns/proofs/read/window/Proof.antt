@@ -1,4 +1,4 @@
--- `run::read::window` meets its contract: the word is in both states, so a part of one word can be lent of either.
+-- `turns::read::window` meets its contract: the word is in both states, so a part of one word can be lent of either.
 -- Assumes nothing.
 use Prim.Native.Nat.{_-_, _^_}
 use borrow.Author.Needs.{needs}

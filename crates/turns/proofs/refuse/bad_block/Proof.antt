@@ -1,4 +1,4 @@
--- `run::refuse::bad_block` meets its contract. The invariant: the lowest block from i on is the lowest of all.
+-- `turns::refuse::bad_block` meets its contract. The invariant: the lowest block from i on is the lowest of all.
 -- Assumes nothing.
 use mathlib.Core.Path.{_≡_, refl, sym, _∙_}
 use Prim.Native.Nat.{_-_, _≤_}

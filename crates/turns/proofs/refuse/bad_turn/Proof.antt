@@ -1,4 +1,4 @@
--- `run::refuse::bad_turn` meets its contract. The invariant: the lowest turn from i on is the lowest of all.
+-- `turns::refuse::bad_turn` meets its contract. The invariant: the lowest turn from i on is the lowest of all.
 -- Assumes nothing.
 use mathlib.Core.Path.{_≡_, sym, _∙_}
 use mathlib.Core.Logic.{⊎-elim}

@@ -1,4 +1,4 @@
--- `run::stage::gate` meets its contract: by the definition.
+-- `turns::stage::gate` meets its contract: by the definition.
 -- Assumes nothing.
 use borrow.Author.Needs.{needs}
 use Rattle.turns.specs.Level.{gateWord}

@@ -1,4 +1,4 @@
--- `run::stage::gather` meets its contract. The invariant: j words are gathered.
+-- `turns::stage::gather` meets its contract. The invariant: j words are gathered.
 -- Assumes nothing.
 use mathlib.Core.Path.{_≡_, subst}
 use Prim.Native.Nat.{_≤_, _-_}

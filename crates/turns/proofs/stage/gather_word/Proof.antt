@@ -1,4 +1,4 @@
--- `run::stage::gather_word` meets its contract. The invariant: 2h bits are gathered.
+-- `turns::stage::gather_word` meets its contract. The invariant: 2h bits are gathered.
 -- Assumes nothing.
 use mathlib.Core.Path.{_≡_}
 use Prim.Native.Nat.{_≤_, _+_, _-_, _*_}

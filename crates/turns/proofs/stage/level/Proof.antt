@@ -1,4 +1,4 @@
--- `run::stage::level` meets its contract. The invariant: words m .. w - 1 are done.
+-- `turns::stage::level` meets its contract. The invariant: words m .. w - 1 are done.
 -- Assumes nothing.
 use Prim.Native.Nat.{_≤_, _-_, _*_}
 use borrow.Author.Needs.{needs}

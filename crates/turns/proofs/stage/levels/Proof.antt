@@ -1,4 +1,4 @@
--- `run::stage::levels` meets its contract. The invariant: the levels of m words and more are right.
+-- `turns::stage::levels` meets its contract. The invariant: the levels of m words and more are right.
 -- Assumes nothing.
 use borrow.Author.Needs.{needs}
 use native.Mathlib.Omega.{arith}

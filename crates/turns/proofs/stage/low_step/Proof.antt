@@ -1,4 +1,4 @@
--- `run::stage::low_step` meets its contract, by the law of one step.
+-- `turns::stage::low_step` meets its contract, by the law of one step.
 -- Assumes nothing.
 use borrow.Author.Needs.{needs}
 use Rattle.turns.specs.Level.{gateWord}

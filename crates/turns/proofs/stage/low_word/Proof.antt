@@ -1,4 +1,4 @@
--- `run::stage::low_word` meets its contract: five steps, each with half the slots of the one before.
+-- `turns::stage::low_word` meets its contract: five steps, each with half the slots of the one before.
 -- Assumes nothing.
 use mathlib.Core.Path.{refl, ap, _∙_}
 use Prim.Native.Nat.{ℕ}

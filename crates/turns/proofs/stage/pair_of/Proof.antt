@@ -1,4 +1,4 @@
--- `run::stage::pair_of` meets its contract: entries 32j + 2h and 32j + 2h + 1 are the halves of that word.
+-- `turns::stage::pair_of` meets its contract: entries 32j + 2h and 32j + 2h + 1 are the halves of that word.
 -- Assumes nothing.
 use borrow.Author.Needs.{needs}
 use native.Mathlib.Omega.{arith}

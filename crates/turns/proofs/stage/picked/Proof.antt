@@ -1,4 +1,4 @@
--- `run::stage::picked` meets its contract: two bits make a number below 4.
+-- `turns::stage::picked` meets its contract: two bits make a number below 4.
 -- Assumes nothing.
 use borrow.Author.Needs.{needs}
 use native.Mathlib.Omega.{arith}

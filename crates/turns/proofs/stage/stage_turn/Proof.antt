@@ -1,4 +1,4 @@
--- `run::stage::stage_turn` meets its contract: the two parts of the section are cut out of the words, and what gathering and the levels leave is the stage.
+-- `turns::stage::stage_turn` meets its contract: the two parts of the section are cut out of the words, and what gathering and the levels leave is the stage.
 -- Assumes nothing.
 use mathlib.Core.Path.{_≡_, refl, ap}
 use Prim.Native.Nat.{ℕ, _+_}

@@ -1,4 +1,4 @@
--- `run::store::capture` meets its contract. The invariant: l words are captured.
+-- `turns::store::capture` meets its contract. The invariant: l words are captured.
 -- Assumes nothing.
 use mathlib.Core.Path.{_≡_, refl, ap, _∙_}
 use Prim.Native.Nat.{_-_, _≤_}

@@ -1,4 +1,4 @@
--- `run::store::capture_word` meets its contract: by the test on the location's stage.
+-- `turns::store::capture_word` meets its contract: by the test on the location's stage.
 -- Assumes nothing.
 use borrow.Author.Needs.{needs}
 use Rattle.turns.proofs.CaptureLaws.{word-here, word-kept}

@@ -1,4 +1,4 @@
--- `run::store::store` meets its contract. The invariant: l words are stored.
+-- `turns::store::store` meets its contract. The invariant: l words are stored.
 -- Assumes nothing.
 use mathlib.Core.Path.{_≡_, refl}
 use Prim.Native.Nat.{_-_, _≤_}

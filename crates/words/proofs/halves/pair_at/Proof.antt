@@ -1,16 +1,9 @@
 -- `words::halves::pair_at` meets its contract: the two halves do not overlap, so `|` is their sum.
 -- Assumes nothing.
-use mathlib.Core.Path.{_≡_}
-use Prim.Native.Nat.{ℕ, _+_, _*_, _%_, _^_, _<_}
 use borrow.Author.Needs.{needs}
-use native.Mathlib.Omega.{arith}
-use lib.Bits.{bitOr, or-shifted-r}
-use lib.Pow.{shl-exact}
+use Rattle.words.proofs.SectionLaws.{halves-join}
 use Rattle.words.proofs.halves.pair_at.Statement.{statement}
 use Rattle.words.proofs.halves.pair_at.Tie as tie
-
-join : (low high : ℕ) → low < 2 ^ 16 → high < 2 ^ 16 → bitOr low ((high * 2 ^ 16) % 2 ^ 32) ≡ high * 2 ^ 16 + low
-join low high l h = rw (shl-exact 16 16 32 h (omega arith)) (or-shifted-r high 16 low l)
 
 mul-result : tie.Need-mul-result
 mul-result c = search needs
@@ -34,7 +27,7 @@ shared-slice-read-result-2 : tie.Need-shared-slice-read-result-2
 shared-slice-read-result-2 c = search needs
 
 returns : tie.Need-returns
-returns c = join _ _ (c .before .before .pre .1) (c .before .before .pre .2)
+returns c = halves-join _ _ (c .before .before .pre .1) (c .before .before .pre .2)
 
 pub pair-at-spec : {M : Type 1} → statement M
 pair-at-spec =

@@ -1,4 +1,4 @@
--- `run::block::BlockState::begins` meets its contract: by the test on the stages.
+-- `turns::block::BlockState::begins` meets its contract: by the test on the stages.
 -- Assumes nothing.
 use mathlib.Core.Path.{refl}
 use borrow.Author.Needs.{needs}

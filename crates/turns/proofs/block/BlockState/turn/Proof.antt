@@ -1,4 +1,4 @@
--- `run::block::BlockState::turn` meets its contract: one law for each way through.
+-- `turns::block::BlockState::turn` meets its contract: one law for each way through.
 -- Assumes nothing.
 use mathlib.Core.Path.{sym, ap, _∙_}
 use Prim.Native.Nat.{ℕ}

@@ -1,30 +1,30 @@
--- `clear`: after i turns the words are i zeros and what was behind them.
+-- `words::clear::clear` meets its contract. The loop's invariant: zeros up to i, the words of before after them.
 -- Assumes nothing.
-use mathlib.Core.Path.{_≡_, ap, _∙_}
-use mathlib.Core.List.{List, _++_}
+use mathlib.Core.Path.{_≡_, refl, ap, _∙_}
+use mathlib.Core.List.{List, _++_, append-nil}
 use Prim.Native.Nat.{ℕ, _-_, _≤_}
 use native.Mathlib.Omega.{arith}
 use lib.ListN.{length, set, drop, replicate, length-set}
-use borrow.Author.Fill.{fill-more}
-use Rattle.sort.proofs.CopyLaws.{fill-all}
+use lib.Seq.{drop-length}
+use borrow.Author.Fill.{fill-none, fill-more}
 use borrow.Author.Needs.{needs}
-use Rattle.rounds.proofs.clear.Statement.{statement}
-use Rattle.rounds.proofs.clear.Tie as tie
+use Rattle.words.proofs.clear.clear.Statement.{statement}
+use Rattle.words.proofs.clear.clear.Tie as tie
 
 abbrev Inv-loop : tie.InvT-loop
-Inv-loop s₀ i₀ s i = (i ≤ length s₀) × (length s ≡ length s₀) × (s ≡ replicate i 0 ++ drop i s₀)
+Inv-loop l₀ i₀ l i = (i ≤ length l₀) × (length l ≡ length l₀) × (l ≡ replicate i 0 ++ drop i l₀)
 
 abbrev μ-loop : tie.MeasureT-loop
-μ-loop s₀ i₀ s i = length s₀ - i
+μ-loop l₀ i₀ l i = length l₀ - i
 
 loop-holds : tie.Need-loop-holds Inv-loop μ-loop
-loop-holds c = search needs
+loop-holds c = (search needs, refl, fill-none _ 0)
 
-mul-s : tie.Need-mul-s Inv-loop μ-loop
-mul-s c = search needs
+mul-l : tie.Need-mul-l Inv-loop μ-loop
+mul-l c = search needs
 
-slice-write-s : tie.Need-slice-write-s Inv-loop μ-loop
-slice-write-s c = search needs
+slice-write-l : tie.Need-slice-write-l Inv-loop μ-loop
+slice-write-l c = search needs
 
 add-i : tie.Need-add-i Inv-loop μ-loop
 add-i c = search needs
@@ -43,7 +43,9 @@ same-length c = search needs
 returns : tie.Need-returns Inv-loop μ-loop
 returns c =
     let l = c .before .loop in
-    fill-all (l .i) (c .before .before .args .s .now) _ (l .inv .2) (omega arith)
+    let s = c .before .before .args .l .now in
+    let e : l .i ≡ length s = omega arith in
+    l .inv .2 ∙ rw (e, drop-length s, append-nil)
 
 pub clear-spec : {M : Type 1} → statement M
 clear-spec =
@@ -52,8 +54,8 @@ clear-spec =
     Inv-loop
     μ-loop
     loop-holds
-    mul-s
-    slice-write-s
+    mul-l
+    slice-write-l
     add-i
     loop-less
     loop-again
