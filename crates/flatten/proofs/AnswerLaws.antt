@@ -17,7 +17,7 @@ use Rattle.record.proofs.TestLaws.{and-true}
 use Rattle.checks.specs.Refusals.{Refused, nowhere, planRefusal, planVerdict}
 use Rattle.checks.specs.Ready.{Ready, readyRoom, roomLeft}
 use Rattle.checks.specs.Verdicts.{verdictOf}
-use Rattle.checks.proofs.PassedLaws.{some-none}
+use Rattle.record.proofs.TestLaws.{some-not-none}
 use Rattle.checks.specs.declared.Verdict.{Verdict}
 use Rattle.checks.specs.declared.Verdict.the-variants as verdict
 use Rattle.assembly.specs.Assembly.{scriptWords}
@@ -56,7 +56,7 @@ module _ (d room : List ℕ) where
       (elim b [ false ↦ room | true ↦ replicate (length room) 0 ])
   room-refused false o z q e = refl
   room-refused true (some x) z q e = refl
-  room-refused true none z q e = some-none q (sym e)
+  room-refused true none z q e = absurd (some-not-none (sym e))
 
   module _ (q : Refused) (e : planVerdict 256 d (length room) ≡ some q) where
     refused-room : (after : List ℕ) → after ≡ roomLeft d room → after ≡ roomAfter d room
@@ -76,7 +76,7 @@ module _ (d room : List ℕ) where
 
   none-both : (b : Bool) (o : Option Refused) → _≡_ {A = Option Refused} (elim b [ true ↦ o | false ↦ some (nowhere 32) ]) none → (b ≡ true) × (o ≡ none)
   none-both true o e = (refl, e)
-  none-both false o e = some-none _ e
+  none-both false o e = absurd (some-not-none e)
 
   module _ (e : planVerdict 256 d (length room) ≡ none) where
     accepted : (leb (roomWords d) (length room) ≡ true) × (planRefusal 256 d ≡ none)

@@ -14,6 +14,7 @@ use checks::check_plan;
 use layout::write_plan;
 use sizes::Sizes;
 use sizes::sizes_of;
+use words::clear::clear;
 use words::refusals::RESULT_SHORT;
 use words::refusals::Refusal;
 
@@ -30,7 +31,7 @@ fn size_accepted(plan: &[u8], room: &mut [u32]) -> Flattened
     ensures { λ _. ⌜ now (room .exit) ≡ replicate (length (now (room .entry))) 0 ⌝ }
 {
     let sizes = sizes_of(plan, room);
-    pinmap::clear(room);
+    clear(room);
     Flattened::Built(sizes)
 }
 
@@ -63,10 +64,10 @@ fn build_accepted(plan: &[u8], room: &mut [u32], starts: &mut [u64], words: &mut
     let sizes = sizes_of(plan, room);
     if enough(sizes, starts.len(), words.len()) {
         write_plan(plan, room, starts, words);
-        pinmap::clear(room);
+        clear(room);
         return Flattened::Built(sizes);
     }
-    pinmap::clear(room);
+    clear(room);
     Flattened::Refused(Refusal {
         number: RESULT_SHORT,
         part: 0,

@@ -7,7 +7,7 @@ use native.Mathlib.Omega.{arith}
 use borrow.Rule.Slice.PartMut.{putMid}
 use lib.ListN.{length, take, drop}
 use lib.Seq.{sets, sets-eq, drop-drop, length-sets}
-use Rattle.readout.proofs.ReadoutLaws.{sets-append}
+use Rattle.words.proofs.ListLaws.{sets-append}
 
 -- a list behind one that is stored already
 pub sets-next : (l l₁ l₂ xs ys : List ℕ) (at next : ℕ) → l₁ ≡ sets l at xs → next ≡ at + length xs → l₂ ≡ sets l₁ next ys → l₂ ≡ sets l at (xs ++ ys)

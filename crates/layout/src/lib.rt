@@ -12,6 +12,7 @@ ghost use Rattle.layout.specs.Layout.{NextOf, StageRoom, PlanRoom};
 use placed::Next;
 use placed::write_block;
 use record::places::word_at;
+use words::clear::clear;
 
 // Writes major stage s, and where its blocks begin, from start number `first` on. What comes next.
 fn write_stage(
@@ -69,5 +70,5 @@ pub fn write_plan(d: &[u8], room: &mut [u32], starts: &mut [u64], words: &mut [u
     let end = write_stages(d, room, starts, words);
     let last = word_at(d, 0) as usize * (word_at(d, 1) as usize);
     starts[last] = end as u64;
-    pinmap::clear(&mut words[end..end + 2048]);
+    clear(&mut words[end..end + 2048]);
 }

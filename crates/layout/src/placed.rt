@@ -8,6 +8,7 @@ ghost use Rattle.assembly.specs.Steps.{lastMark, partsIn, firstRank};
 ghost use Rattle.layout.specs.Layout.{emptyWords, BlockAt, BlockRoom};
 use crate::parts::write_part;
 use record::places::parts_before;
+use words::clear::clear;
 
 // The rank of the next part, and where the next words begin.
 pub struct Next {
@@ -71,7 +72,7 @@ fn write_empty(out: &mut [u32])
     requires { ⌜ length (now out) ≡ 256 ⌝ }
     ensures { λ _. ⌜ now (out .exit) ≡ emptyWords ⌝ }
 {
-    pinmap::clear(out);
+    clear(out);
     out[1] = 1;
 }
 
