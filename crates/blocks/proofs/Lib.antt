@@ -1,6 +1,7 @@
 pub mod TotalLaws
 pub mod OrderLaws
 pub mod BlockLaws
+pub mod RecordLaws
 pub mod FillLaws
 pub mod StepLaws
 pub mod StartLaws

@@ -21,10 +21,11 @@ use Rattle.blocks.specs.declared.stages.Firsts.{Firsts}
 use Rattle.blocks.specs.Blocks.{blockIn, blockOf, takenBefore, stateOf, sramOf, stateStart, sramStart, stateWords, sramWords, totalsFit}
 use Rattle.blocks.specs.Sums.{inBlock}
 use Rattle.blocks.specs.Table.{rankOf}
-use Rattle.blocks.specs.Fill.{putCells, column, takes, blockFrom, startIn, rankedRows, startedRows, stageRows, Rows, Placeable, Takeable, Rankable, StagePlaceable, StageSummable, StageReady}
+use Rattle.blocks.specs.Fill.{putCells, column, takes, blockFrom, startIn, blank, placedRows, partCounts, rankedRows, startedRows, stageRows, Rows, Placeable, Takeable, Rankable, StagePlaceable, StageSummable, StageReady}
 use Rattle.blocks.proofs.TotalLaws.{sum-const}
 use Rattle.blocks.proofs.OrderLaws.{taken-blocks, taken-ext}
 use Rattle.blocks.proofs.BlockLaws.{in-lt, in-total, in-ext}
+use Rattle.blocks.proofs.RecordLaws.{blanks-front, blanks-long}
 use Rattle.blocks.proofs.FillLaws.{put-long, put-here, put-word, put-ext, put-cong}
 use Rattle.blocks.proofs.StartLaws.{parts-next, state-next, state-mono, sram-next, sram-mono}
 
@@ -38,23 +39,16 @@ zeros-front (suc N) (suc n) h = rw (zeros-front N n (omega arith))
 pub zeros-long : (N n : ℕ) → n ≤ N → n ≡ length (take n (replicate {A = ℕ} N 0))
 zeros-long N n h = sym (ap length (zeros-front N n h) ∙ length-replicate n 0)
 
--- what is asked for `blocks` zeros holds of the first of N zeros
-pub front-placeable : (d room : List ℕ) (N blocks base count : ℕ) → blocks ≤ N → StagePlaceable d room blocks base count
-    → Placeable d room (take blocks (replicate N 0)) (take blocks (replicate N 0)) base count
-front-placeable d room N blocks base count h t =
-    let e = zeros-long N blocks h in
-    let z : take blocks (replicate {A = ℕ} N 0) ≡ replicate (length (take blocks (replicate {A = ℕ} N 0))) 0 =
-    zeros-front N blocks h ∙ ap (λ (n : ℕ). replicate n 0) e
-    in
-    record {
+-- what is asked for as many blocks holds of the first of N records without parts
+pub front-placeable : (d room : List ℕ) (N B base count : ℕ) → B ≤ N → StagePlaceable d room B base count → Placeable d room (take B (replicate N blank)) base count
+front-placeable d room N B base count h t =
+    let e = blanks-long N B h in record {
       few = t .few;
       parts = t .parts;
       inside = t .inside;
       some-block = omega (arith, e, t .some-block);
       few-blocks = omega (arith, e, t .few-blocks);
-      same = refl;
-      costs-zero = z;
-      counts-zero = z;
+      blanks = blanks-front N B h ∙ ap (λ (n : ℕ). replicate n blank) e;
       stages = t .stages;
     }
 
@@ -152,31 +146,31 @@ pub column-kept : (room : List ℕ) (k j base count : ℕ) (row value : ℕ → 
 unfolding column
 column-kept room k j base count row value u v h i = put-word room k row value count (base + i) j u v h
 
-module _ (d room costs counts₀ : List ℕ) (base count : ℕ) (t : Placeable d room costs counts₀ base count) (placed counts : List ℕ)
-    (placed-is : placed ≡ putCells room 6 (λ i. base + i) (blockFrom d (length costs) base) count)
-    (counts-are : counts ≡ listOf (λ b. inBlock (blockFrom d (length costs) base) (λ i. 1) b count) (length costs)) where
-  block-lt : (i : ℕ) → i < count → blockFrom d (length costs) base i < length costs
-  block-lt i l = in-lt (length costs) (λ j. stagesOf d (base + j)) (t .some-block) i
+module _ (d room : List ℕ) (B base count : ℕ) (t : StagePlaceable d room B base count) (placed counts : List ℕ)
+    (placed-is : placed ≡ placedRows d room B base count)
+    (counts-are : counts ≡ partCounts d B base count) where
+  block-lt : (i : ℕ) → i < count → blockFrom d B base i < B
+  block-lt i l = in-lt B (λ j. stagesOf d (base + j)) (t .some-block) i
 
   pub ranks-fit : 0 + sumTo (λ b. getD counts b 0) (length counts) < 2 ^ 32
   ranks-fit =
       omega (
         arith,
-        sums-all (blockFrom d (length costs) base) (λ i. 1) (length costs) count 0 block-lt counts _ counts-are refl,
+        sums-all (blockFrom d B base) (λ i. 1) B count 0 block-lt counts _ counts-are refl,
         sum-const 1 count,
         t .few,
       )
 
   module _ (starts : List ℕ) (starts-are : starts ≡ listOf (λ b. 0 + sumTo (λ k. getD counts k 0) b) (length counts)) where
-    same-block : (i : ℕ) → i < count → column placed base 6 i ≡ blockFrom d (length costs) base i
+    same-block : (i : ℕ) → i < count → column placed base 6 i ≡ blockFrom d B base i
     same-block i l =
-        ap (λ (r : List ℕ). column r base 6 i) placed-is ∙ column-put room 6 base count (blockFrom d (length costs) base) (omega arith) (t .inside) i l
+        ap (λ (r : List ℕ). column r base 6 i) placed-is ∙ column-put room 6 base count (blockFrom d B base) (omega arith) (t .inside) i l
 
-    rank-long : length starts ≡ length costs
-    rank-long = starts-long (blockFrom d (length costs) base) (λ i. 1) (length costs) count 0 block-lt counts starts counts-are starts-are
+    rank-long : length starts ≡ B
+    rank-long = starts-long (blockFrom d B base) (λ i. 1) B count 0 block-lt counts starts counts-are starts-are
 
-    same-sum : (b n : ℕ) → n ≤ count → inBlock (column placed base 6) (λ i. 1) b n ≡ inBlock (blockFrom d (length costs) base) (λ i. 1) b n
-    same-sum b n l = in-ext (column placed base 6) (blockFrom d (length costs) base) (λ i. 1) (λ i. 1) b n (λ j u. same-block j (omega arith)) (λ j u. refl)
+    same-sum : (b n : ℕ) → n ≤ count → inBlock (column placed base 6) (λ i. 1) b n ≡ inBlock (blockFrom d B base) (λ i. 1) b n
+    same-sum b n l = in-ext (column placed base 6) (blockFrom d B base) (λ i. 1) (λ i. 1) b n (λ j u. same-block j (omega arith)) (λ j u. refl)
 
     pub ranks-ready : Rankable placed starts base count
     ranks-ready = record {
@@ -191,23 +185,23 @@ module _ (d room costs counts₀ : List ℕ) (base count : ℕ) (t : Placeable d
           omega (
             arith,
             same-sum b count (omega arith),
-            start-reach (blockFrom d (length costs) base) (λ i. 1) (length costs) count 0 block-lt counts starts counts-are starts-are b (omega (arith, rank-long)),
+            start-reach (blockFrom d B base) (λ i. 1) B count 0 block-lt counts starts counts-are starts-are b (omega (arith, rank-long)),
             sum-const 1 count,
           );
     }
 
-    pub ranks-are : putCells placed 9 (λ i. base + startIn placed starts base (λ j. 1) i) (λ i. base + i) count ≡ rankedRows d room (length costs) base count
+    pub ranks-are : putCells placed 9 (λ i. base + startIn placed starts base (λ j. 1) i) (λ i. base + i) count ≡ rankedRows d room B base count
     ranks-are =
         put-ext placed 9 _ _ _ _ count (λ i l. ap (λ (x : ℕ). base + x) (each i l)) (λ i l. refl)
-        ∙ ap (λ (r : List ℕ). putCells r 9 (λ i. base + takenBefore (blockFrom d (length costs) base) (λ j. 1) count i) (λ i. base + i) count) placed-is
+        ∙ ap (λ (r : List ℕ). putCells r 9 (λ i. base + takenBefore (blockFrom d B base) (λ j. 1) count i) (λ i. base + i) count) placed-is
       where
-        each : (i : ℕ) → i < count → startIn placed starts base (λ j. 1) i ≡ takenBefore (blockFrom d (length costs) base) (λ j. 1) count i
+        each : (i : ℕ) → i < count → startIn placed starts base (λ j. 1) i ≡ takenBefore (blockFrom d B base) (λ j. 1) count i
         each i l =
             ap (λ (x : ℕ). getD starts x 0 + inBlock (column placed base 6) (λ j. 1) x i) (same-block i l)
             ∙ omega (
               arith,
-              same-sum (blockFrom d (length costs) base i) i (omega arith),
-              start-is (blockFrom d (length costs) base) (λ j. 1) (length costs) count 0 block-lt counts starts counts-are starts-are i l,
+              same-sum (blockFrom d B base i) i (omega arith),
+              start-is (blockFrom d B base) (λ j. 1) B count 0 block-lt counts starts counts-are starts-are i l,
             )
 
 -- ---- a major stage of a plan
