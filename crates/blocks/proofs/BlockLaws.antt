@@ -87,9 +87,18 @@ least-kept costs best (suc n) p e h =
     let f : best ≡ leastTo costs n = e ∙ ap (leastTo costs) r in
     f ∙ sym (ap (leastTo costs) q ∙ least-old costs n (rw f at h))
 
+pub lesser-new : (best least i cost : ℕ) → cost < least → lesser best least i cost ≡ i
+lesser-new best least i cost h = rw (lt-ltb _ _ h, lesser)
+
+pub lesser-old : (best least i cost : ℕ) → least ≤ cost → lesser best least i cost ≡ best
+lesser-old best least i cost h = rw (le-ltb _ _ h, lesser)
+
 pub least-next : (costs : List ℕ) (best i : ℕ) → 0 < i → best ≡ leastTo costs (i - 1) → lesser best (getD costs best 0) i (getD costs i 0) ≡ leastTo costs (i + 1 - 1)
 least-next costs best i p e =
-    ⊎-elim (λ h. rw (lt-ltb _ _ h) (least-here costs best i p e h)) (λ h. rw (le-ltb _ _ h) (least-kept costs best i p e h)) (lt-or-ge (getD costs i 0) (getD costs best 0))
+    ⊎-elim
+    (λ h. lesser-new best (getD costs best 0) i (getD costs i 0) h ∙ least-here costs best i p e h)
+    (λ h. lesser-old best (getD costs best 0) i (getD costs i 0) h ∙ least-kept costs best i p e h)
+    (lt-or-ge (getD costs i 0) (getD costs best 0))
 
 -- ---- the block of a part
 

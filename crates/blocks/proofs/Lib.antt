@@ -8,3 +8,4 @@ pub mod StartLaws
 pub mod TableLaws
 pub mod StageLaws
 pub mod WholeLaws
+pub mod Calls

@@ -266,13 +266,15 @@ module _ (d room : List ℕ) (blocks₀ : List BlockCost) (base count : ℕ) (t 
             );
       }
 
-      pub put-costs : costsOf (withPart blocks b w) ≡ costsAfter (length blocks₀) (λ j. stagesOf d (base + j)) (i + 1)
+      costs-more : set (costsOf blocks) b (getD (costsOf blocks) b 0 + w) ≡ costsAfter (length blocks₀) (λ j. stagesOf d (base + j)) (i + 1)
       unfolding costsAfter blockIn
-      put-costs =
+      costs-more =
           rw add-one
-          (costs-put blocks b w
-          ∙ ap₂ (λ (x y : ℕ). set (costsOf blocks) x (getD (costsOf blocks) x 0 + y)) block-is cost
+          (ap₂ (λ (x y : ℕ). set (costsOf blocks) x (getD (costsOf blocks) x 0 + y)) block-is cost
           ∙ ap (λ (s : List ℕ). set s (blockFrom d (length blocks₀) base i) (getD s (blockFrom d (length blocks₀) base i) 0 + (stagesOf d (base + i) + 3))) costs-are)
+
+      pub put-costs : costsOf (withPart blocks b w) ≡ costsAfter (length blocks₀) (λ j. stagesOf d (base + j)) (i + 1)
+      put-costs = costs-put blocks b w ∙ costs-more
 
 -- ---- the part counts taken one by one
 

@@ -24,7 +24,7 @@ pub fn no_parts() -> [BlockCost; 1024]
 }
 
 // The running cost of block b.
-fn cost_of(blocks: &[BlockCost], b: usize) -> u32
+pub fn cost_of(blocks: &[BlockCost], b: usize) -> u32
     requires { ⌜ b < length (now blocks) ⌝ }
     ensures { λ r. ⌜ r ≡ getD (costsOf (now (blocks .entry))) b 0 ⌝ }
 {
@@ -32,7 +32,7 @@ fn cost_of(blocks: &[BlockCost], b: usize) -> u32
 }
 
 // The part count of block b.
-fn parts_of(blocks: &[BlockCost], b: usize) -> u32
+pub fn parts_of(blocks: &[BlockCost], b: usize) -> u32
     requires { ⌜ b < length (now blocks) ⌝ }
     ensures { λ r. ⌜ r ≡ getD (countsOf (now (blocks .entry))) b 0 ⌝ }
 {
@@ -40,7 +40,7 @@ fn parts_of(blocks: &[BlockCost], b: usize) -> u32
 }
 
 // A part more in block b: the one place where a record changes.
-fn put_part(blocks: &mut [BlockCost], b: usize, cost: u32)
+pub fn put_part(blocks: &mut [BlockCost], b: usize, cost: u32)
     requires { ⌜ Puttable (now blocks) b cost ⌝ }
     ensures { λ _. ⌜ now (blocks .exit) ≡ withPart (now (blocks .entry)) b cost ⌝ }
 {
@@ -67,7 +67,7 @@ fn cheaper(best: usize, least: u32, i: usize, cost: u32) -> usize
 }
 
 // The block of least cost, the lowest number on a tie.
-fn least_block(blocks: &[BlockCost]) -> usize
+pub fn least_block(blocks: &[BlockCost]) -> usize
     requires { ⌜ 0 < length (now blocks) ⌝ }
     ensures { λ r. ⌜ (r ≡ leastTo (costsOf (now (blocks .entry))) (length (now (blocks .entry)) - 1)) × (r < length (now (blocks .entry))) ⌝ }
 {
@@ -81,7 +81,7 @@ fn least_block(blocks: &[BlockCost]) -> usize
 }
 
 // The block of part i: the first parts go one to a block.
-fn block_for(blocks: &[BlockCost], i: usize) -> usize
+pub fn block_for(blocks: &[BlockCost], i: usize) -> usize
     requires { ⌜ 0 < length (now blocks) ⌝ }
     ensures { λ r. ⌜ (r ≡ blockFor (length (now (blocks .entry))) (costsOf (now (blocks .entry))) i) × (r < length (now (blocks .entry))) ⌝ }
 {

@@ -1,9 +1,7 @@
 -- `blocks::costs::block_for` meets its contract.
 -- Assumes nothing.
-pub mod Kinds
-pub mod Reads
-pub mod Lts
-pub mod Tie
+mod Lts
+mod Tie
 use mathlib.Core.Path.{sym, _∙_}
 use native.Mathlib.Omega.{arith}
 use Rattle.blocks.proofs.BlockLaws.{for-early, for-later}

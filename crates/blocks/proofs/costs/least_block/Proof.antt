@@ -1,9 +1,7 @@
 -- `blocks::costs::least_block` meets its contract. The loop's invariant: `best` is the first least of the first i costs.
 -- Assumes nothing.
-pub mod Kinds
-pub mod Reads
-pub mod Lts
-pub mod Tie
+mod Lts
+mod Tie
 use mathlib.Core.Path.{_≡_, ap, sym, _∙_}
 use Prim.Native.Nat.{ℕ, _-_, _≤_, _<_}
 use native.Mathlib.Omega.{arith}

@@ -1,9 +1,7 @@
 -- `blocks::costs::place_parts` meets its contract. The loop's invariant: the first i parts have their blocks, and the costs and counts are theirs.
 -- Assumes nothing.
-pub mod Kinds
-pub mod Reads
-pub mod Lts
-pub mod Tie
+mod Lts
+mod Tie
 use mathlib.Core.Path.{_≡_, ap, sym, _∙_}
 use Prim.Native.Nat.{_+_, _-_, _≤_}
 use native.Mathlib.Omega.{arith}

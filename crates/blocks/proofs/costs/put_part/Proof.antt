@@ -1,7 +1,5 @@
 -- `blocks::costs::put_part` meets its contract: a walk of its MIR, by hand. The borrow is opened, one record is taken out of the row, its two numbers are written, and the borrow is closed at the list with the new record in it.
 -- Assumes nothing.
-pub mod Kinds
-pub mod Reads
 use mathlib.Core.Path.{_≡_, refl, sym, ap, subst}
 use Prim.Native.Nat.{ℕ, _+_, _*_, _<_, _^_}
 use mathlib.Core.List.{List, [], _∷_}

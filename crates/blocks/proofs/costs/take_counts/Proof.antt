@@ -1,9 +1,7 @@
 -- `blocks::costs::take_counts` meets its contract. The loop's invariant: the first b counts are the records'.
 -- Assumes nothing.
-pub mod Kinds
-pub mod Reads
-pub mod Lts
-pub mod Tie
+mod Lts
+mod Tie
 use mathlib.Core.Path.{_≡_, ap, sym, _∙_}
 use Prim.Native.Nat.{_-_}
 use native.Mathlib.Omega.{arith}

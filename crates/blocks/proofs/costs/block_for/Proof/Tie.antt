@@ -1,11 +1,11 @@
 use Rattle.blocks.proofs.costs.block_for.Code
 use Rattle.blocks.proofs.costs.block_for.Key
-use Rattle.blocks.proofs.costs.block_for.Proof.Kinds
+use Rattle.blocks.proofs.Calls.BlockFor.Kinds
 use Rattle.blocks.proofs.costs.block_for.Proof.Lts
-use Rattle.blocks.proofs.costs.block_for.Proof.Reads
+use Rattle.blocks.proofs.Calls.BlockFor.Reads
 use Rattle.blocks.proofs.costs.block_for.Statement
 use Rattle.blocks.proofs.costs.least_block.Met
-use Rattle.blocks.proofs.costs.least_block.Proof.Reads as Reads'
+use Rattle.blocks.proofs.Calls.LeastBlock.Reads as Reads'
 use Rattle.blocks.proofs.costs.least_block.Symbol
 use borrow.Fn.Run
 use borrow.Fn.Written

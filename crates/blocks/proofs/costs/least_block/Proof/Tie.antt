@@ -2,13 +2,13 @@ use Rattle.blocks.proofs.costs.cheaper.Met
 use Rattle.blocks.proofs.costs.cheaper.Reads
 use Rattle.blocks.proofs.costs.cheaper.Symbol
 use Rattle.blocks.proofs.costs.cost_of.Met as Met'
-use Rattle.blocks.proofs.costs.cost_of.Proof.Reads as Reads'
+use Rattle.blocks.proofs.Calls.CostOf.Reads as Reads'
 use Rattle.blocks.proofs.costs.cost_of.Symbol as Symbol'
 use Rattle.blocks.proofs.costs.least_block.Code
 use Rattle.blocks.proofs.costs.least_block.Key
-use Rattle.blocks.proofs.costs.least_block.Proof.Kinds
+use Rattle.blocks.proofs.Calls.LeastBlock.Kinds
 use Rattle.blocks.proofs.costs.least_block.Proof.Lts
-use Rattle.blocks.proofs.costs.least_block.Proof.Reads as Reads''
+use Rattle.blocks.proofs.Calls.LeastBlock.Reads as Reads''
 use Rattle.blocks.proofs.costs.least_block.Statement
 use borrow.Fn.Run
 use borrow.Fn.Written

@@ -1,20 +1,20 @@
 use Rattle.blocks.proofs.costs.block_for.Met
-use Rattle.blocks.proofs.costs.block_for.Proof.Reads
+use Rattle.blocks.proofs.Calls.BlockFor.Reads
 use Rattle.blocks.proofs.costs.block_for.Symbol
 use Rattle.blocks.proofs.costs.part_cost.Met as Met'
 use Rattle.blocks.proofs.costs.part_cost.Reads as Reads'
 use Rattle.blocks.proofs.costs.part_cost.Symbol as Symbol'
 use Rattle.blocks.proofs.costs.place_parts.Code
 use Rattle.blocks.proofs.costs.place_parts.Key
-use Rattle.blocks.proofs.costs.place_parts.Proof.Kinds
+use Rattle.blocks.proofs.Calls.PlaceParts.Kinds
 use Rattle.blocks.proofs.costs.place_parts.Proof.Lts
-use Rattle.blocks.proofs.costs.place_parts.Proof.Reads as Reads''
+use Rattle.blocks.proofs.Calls.PlaceParts.Reads as Reads''
 use Rattle.blocks.proofs.costs.place_parts.Statement
 use Rattle.blocks.proofs.costs.put_block.Met as Met''
 use Rattle.blocks.proofs.costs.put_block.Reads as Reads'3
 use Rattle.blocks.proofs.costs.put_block.Symbol as Symbol''
 use Rattle.blocks.proofs.costs.put_part.Met as Met'3
-use Rattle.blocks.proofs.costs.put_part.Proof.Reads as Reads'4
+use Rattle.blocks.proofs.Calls.PutPart.Reads as Reads'4
 use Rattle.blocks.proofs.costs.put_part.Symbol as Symbol'3
 use borrow.Fn.Run
 use borrow.Fn.Written

@@ -1,11 +1,11 @@
 use Rattle.blocks.proofs.costs.parts_of.Met
-use Rattle.blocks.proofs.costs.parts_of.Proof.Reads
+use Rattle.blocks.proofs.Calls.PartsOf.Reads
 use Rattle.blocks.proofs.costs.parts_of.Symbol
 use Rattle.blocks.proofs.costs.take_counts.Code
 use Rattle.blocks.proofs.costs.take_counts.Key
-use Rattle.blocks.proofs.costs.take_counts.Proof.Kinds
+use Rattle.blocks.proofs.Calls.TakeCounts.Kinds
 use Rattle.blocks.proofs.costs.take_counts.Proof.Lts
-use Rattle.blocks.proofs.costs.take_counts.Proof.Reads as Reads'
+use Rattle.blocks.proofs.Calls.TakeCounts.Reads as Reads'
 use Rattle.blocks.proofs.costs.take_counts.Statement
 use borrow.Fn.Run
 use borrow.Fn.Written

@@ -1,5 +1,5 @@
 use Rattle.blocks.proofs.costs.take_counts
-use Rattle.blocks.proofs.costs.take_counts.Proof.Kinds
+use Rattle.blocks.proofs.Calls.TakeCounts.Kinds
 use base.Logic
 use borrow.Fn.Kinds as Kinds'
 use borrow.Fn.Learn

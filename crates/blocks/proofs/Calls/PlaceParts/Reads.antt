@@ -1,5 +1,5 @@
 use Rattle.blocks.proofs.costs.place_parts
-use Rattle.blocks.proofs.costs.place_parts.Proof.Kinds
+use Rattle.blocks.proofs.Calls.PlaceParts.Kinds
 use base.Logic
 use borrow.Fn.Kinds as Kinds'
 use borrow.Fn.Learn

@@ -1,5 +1,5 @@
-use Rattle.blocks.proofs.costs.cost_of
-use Rattle.blocks.proofs.costs.cost_of.Proof.Kinds
+use Rattle.blocks.proofs.costs.block_for
+use Rattle.blocks.proofs.Calls.BlockFor.Kinds
 use base.Logic
 use borrow.Fn.Kinds as Kinds'
 use borrow.Fn.Learn
@@ -16,21 +16,21 @@ abbrev pub Ghost : Type 0
 Ghost = Unit {0}
 
 module _ (κs : Lifetimes.Lfts 1) where
-  abbrev pub Pinned : (a : World.ArgsD cost_of.signature κs) → (w : World.World) → Type 1
-  Pinned = Learn.no-pin cost_of.signature κs
+  abbrev pub Pinned : (a : World.ArgsD block_for.signature κs) → (w : World.World) → Type 1
+  Pinned = Learn.no-pin block_for.signature κs
 
   abbrev pub Owned :
-      (r : World.ResD cost_of.signature κs) →
+      (r : World.ResD block_for.signature κs) →
       (s : Clauses.AtExit (Kinds'.endedOf 1 Kinds.ps Kinds.r) κs) →
       (w : World.World) →
       Type 1
   Owned = Learn.no-own (Kinds'.endedOf 1 Kinds.ps Kinds.r) κs
 
-  abbrev pub Base : (a : World.ArgsD cost_of.signature κs) → (w : World.World) → World.Pr w
+  abbrev pub Base : (a : World.ArgsD block_for.signature κs) → (w : World.World) → World.Pr w
   Base = Written.Base 1 Kinds.ps Kinds.r (λ κs. Pinned) κs
 
-  abbrev pub pins : (w : World.World) → Learn.PinOf cost_of.signature κs w λ a. Pinned a w
-  pins = λ w. Learn.no-pins cost_of.signature κs w
+  abbrev pub pins : (w : World.World) → Learn.PinOf block_for.signature κs w λ a. Pinned a w
+  pins = λ w. Learn.no-pins block_for.signature κs w
 
   abbrev pub owns :
       (w : World.World) →
@@ -46,19 +46,19 @@ module _ (κs : Lifetimes.Lfts 1) where
   owns = λ w. Learn.no-owns (Kinds'.endedOf 1 Kinds.ps Kinds.r) (Kinds'.stays Kinds.ps) κs w
 
   abbrev pub requires :
-      (a : World.ArgsD cost_of.signature κs) → (g : Ghost) → (w : World.World) → World.Pr w
+      (a : World.ArgsD block_for.signature κs) → (g : Ghost) → (w : World.World) → World.Pr w
   requires =
-      λ a g w. cost_of.clauses (w .𝓤) (w .H) (w .𝓖 .A) (w .𝓜 .mem) (w .𝓡 .run) κs a .requires g
+      λ a g w. block_for.clauses (w .𝓤) (w .H) (w .𝓖 .A) (w .𝓜 .mem) (w .𝓡 .run) κs a .requires g
 
   abbrev pub ensures :
-      (a : World.ArgsD cost_of.signature κs) →
+      (a : World.ArgsD block_for.signature κs) →
       (g : Ghost) →
-      (r : World.ResD cost_of.signature κs) →
+      (r : World.ResD block_for.signature κs) →
       (s : Clauses.AtExit (Kinds'.endedOf 1 Kinds.ps Kinds.r) κs) →
       (w : World.World) →
       World.Pr w
   ensures =
-      λ a g r s w. cost_of.clauses
+      λ a g r s w. block_for.clauses
       (w .𝓤)
       (w .H)
       (w .𝓖 .A)
@@ -71,12 +71,12 @@ module _ (κs : Lifetimes.Lfts 1) where
       s
 
   abbrev pub requires-1·read :
-      (a : World.ArgsD cost_of.signature κs) →
+      (a : World.ArgsD block_for.signature κs) →
       (g : Ghost) →
       Read.Read
-      (World.In cost_of.signature κs a)
+      (World.In block_for.signature κs a)
       Read.no-know
-      λ w. cost_of.requires-1
+      λ w. block_for.requires-1
       (w .𝓤)
       (w .H)
       κs
@@ -87,27 +87,35 @@ module _ (κs : Lifetimes.Lfts 1) where
       (a .1 .0)
   requires-1·read =
       λ a g. Read.all-models
-      (λ w. cost_of.requires-1 (w .𝓤) (w .H) κs (w .𝓖 .A) (w .𝓜 .mem) (w .𝓡 .run) (a .0) (a .1 .0))
+      (λ w. block_for.requires-1
+      (w .𝓤)
+      (w .H)
+      κs
+      (w .𝓖 .A)
+      (w .𝓜 .mem)
+      (w .𝓡 .run)
+      (a .0)
+      (a .1 .0))
       (λ w. search Read.reads)
       (λ w. Path'.refl)
       (λ w. Path'.refl)
       λ w. Path'.refl
 
   abbrev pub pre-read :
-      (a : World.ArgsD cost_of.signature κs) →
+      (a : World.ArgsD block_for.signature κs) →
       (g : Ghost) →
-      Read.Read (World.In cost_of.signature κs a) Read.no-know (requires a g)
+      Read.Read (World.In block_for.signature κs a) Read.no-know (requires a g)
   pre-read = λ a g. requires-1·read a g
 
   abbrev pub ensures-1·read :
-      (a : World.ArgsD cost_of.signature κs) →
+      (a : World.ArgsD block_for.signature κs) →
       (g : Ghost) →
-      (r : World.ResD cost_of.signature κs) →
+      (r : World.ResD block_for.signature κs) →
       (s : Clauses.AtExit (Kinds'.endedOf 1 Kinds.ps Kinds.r) κs) →
       Read.Read
       (Base a)
       (Owned r s)
-      λ w. cost_of.ensures-1
+      λ w. block_for.ensures-1
       (w .𝓤)
       (w .H)
       κs
@@ -121,7 +129,7 @@ module _ (κs : Lifetimes.Lfts 1) where
       r
   ensures-1·read =
       λ a g r s. Read.all-models
-      (λ w. cost_of.ensures-1
+      (λ w. block_for.ensures-1
       (w .𝓤)
       (w .H)
       κs
@@ -139,9 +147,9 @@ module _ (κs : Lifetimes.Lfts 1) where
       λ w. Path'.refl
 
   abbrev pub post-read :
-      (a : World.ArgsD cost_of.signature κs) →
+      (a : World.ArgsD block_for.signature κs) →
       (g : Ghost) →
-      (r : World.ResD cost_of.signature κs) →
+      (r : World.ResD block_for.signature κs) →
       (s : Clauses.AtExit (Kinds'.endedOf 1 Kinds.ps Kinds.r) κs) →
       Read.Read (Base a) (Owned r s) (ensures a g r s)
   post-read = λ a g r s. ensures-1·read a g r s
@@ -167,7 +175,7 @@ passes = λ w κs a g r ws ft p q. Monad.top (w .𝓤) (Read.all∗ w (pre-read 
 pub lent :
     (w : World.World) →
     (κs : Lifetimes.Lfts 1) →
-    (a : World.ArgsD cost_of.signature κs) →
+    (a : World.ArgsD block_for.signature κs) →
     Logic.ent (w .𝓤) (Logic.emp (w .𝓤)) (Read.all∗ w (pre-read κs a tt .held w))
 lent = λ w κs a. Logic.id⊢ (w .𝓤) (Logic.emp (w .𝓤))
 
