@@ -39,18 +39,42 @@ zeros-front (suc N) (suc n) h = rw (zeros-front N n (omega arith))
 pub zeros-long : (N n : ℕ) → n ≤ N → n ≡ length (take n (replicate {A = ℕ} N 0))
 zeros-long N n h = sym (ap length (zeros-front N n h) ∙ length-replicate n 0)
 
--- what is asked for as many blocks holds of the first of N records without parts
-pub front-placeable : (d room : List ℕ) (N B base count : ℕ) → B ≤ N → StagePlaceable d room B base count → Placeable d room (take B (replicate N blank)) base count
-front-placeable d room N B base count h t =
-    let e = blanks-long N B h in record {
-      few = t .few;
-      parts = t .parts;
-      inside = t .inside;
-      some-block = omega (arith, e, t .some-block);
-      few-blocks = omega (arith, e, t .few-blocks);
-      blanks = blanks-front N B h ∙ ap (λ (n : ℕ). replicate n blank) e;
-      stages = t .stages;
-    }
+-- ---- the first n of N records without parts, and these after the parts are placed
+
+module _ (d room : List ℕ) (N n base count : ℕ) (t : StagePlaceable d room n base count) (few : n ≤ N) (made : List BlockCost) (made-is : made ≡ replicate N blank) where
+  pub front-within : n ≤ length made
+  front-within = omega (arith, few, ap length made-is ∙ length-replicate N blank)
+
+  pub front-long : n ≡ length (take n made)
+  front-long = blanks-long N n few ∙ ap (λ (l : List BlockCost). length (take n l)) (sym made-is)
+
+  pub front-placeable : Placeable d room (take n made) base count
+  front-placeable = record {
+    few = t .few;
+    parts = t .parts;
+    inside = t .inside;
+    some-block = omega (arith, front-long, t .some-block);
+    few-blocks = omega (arith, front-long, t .few-blocks);
+    blanks = ap (λ (l : List BlockCost). take n l) made-is ∙ blanks-front N n few ∙ ap (λ (m : ℕ). replicate m blank) front-long;
+    stages = t .stages;
+  }
+
+  module _ (done : List BlockCost) (costs-are : costsOf done ≡ costsAfter (length (take n made)) (λ i. stagesOf d (base + i)) count)
+      (counts-are : countsOf done ≡ partCounts d (length (take n made)) base count) where
+    done-long : n ≡ length done
+    done-long = front-long ∙ sym (costs-long (length (take n made)) _ (front-placeable .some-block) count) ∙ sym (ap length costs-are) ∙ costs-length done
+
+    back : take n (done ++ drop n made) ≡ done
+    back = ap (λ (m : ℕ). take m (done ++ drop n made)) done-long ∙ take-append done (drop n made)
+
+    pub back-within : n ≤ length (done ++ drop n made)
+    back-within = omega (arith, done-long, length-append done (drop n made))
+
+    pub back-long : n ≡ length (take n (done ++ drop n made))
+    back-long = done-long ∙ sym (ap length back)
+
+    pub back-counts : countsOf (take n (done ++ drop n made)) ≡ partCounts d n base count
+    back-counts = ap countsOf back ∙ counts-are ∙ ap (λ (m : ℕ). partCounts d m base count) (sym front-long)
 
 pub front-summable : (room : List ℕ) (N blocks base count from scale to first : ℕ) → blocks ≤ N → StageSummable room blocks base count from scale to first
     → StageSummable room (length (take blocks (replicate {A = ℕ} N 0))) base count from scale to first

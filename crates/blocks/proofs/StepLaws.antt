@@ -212,9 +212,9 @@ pub place-none : (d room : List ℕ) (blocks : List BlockCost) (base count : ℕ
     → (costsOf blocks ≡ costsAfter (length blocks) (λ j. stagesOf d (base + j)) 0)
     × (countsOf blocks ≡ listOf (λ b. 0 + inBlock (blockFrom d (length blocks) base) (λ j. 1) b 0) (length blocks))
 place-none d room blocks base count t =
-    (ap costsOf (t .blanks) ∙ blank-costs _ ∙ sym (costs-none _ _), ap countsOf (t .blanks) ∙ blank-counts _ ∙ sums-none _ _ _)
+    (ap costsOf (t .blanks) ∙ blank-costs (length blocks) ∙ sym (costs-none _ _), ap countsOf (t .blanks) ∙ blank-counts (length blocks) ∙ sums-none _ _ _)
 
-module _ (d room : List ℕ) (blocks₀ : List BlockCost) (base count : ℕ) (t : Placeable d room blocks₀ base count) (blocks : List BlockCost) (i : ℕ) (l : i < count)
+module _ (d room : List ℕ) (blocks₀ : List BlockCost) (base count : ℕ) (t : Placeable d room blocks₀ base count) (blocks : List BlockCost) (i : ℕ)
     (costs-are : costsOf blocks ≡ costsAfter (length blocks₀) (λ j. stagesOf d (base + j)) i)
     (counts-are : countsOf blocks ≡ listOf (λ b. 0 + inBlock (blockFrom d (length blocks₀) base) (λ j. 1) b i) (length blocks₀)) where
   pub place-long : length blocks ≡ length blocks₀
@@ -242,8 +242,8 @@ module _ (d room : List ℕ) (blocks₀ : List BlockCost) (base count : ℕ) (t 
         ∙ sums-more (blockFrom d (length blocks₀) base) (λ j. 1) (λ x. 0) (length blocks₀) i (countsOf blocks) counts-are is-block
 
     module _ (w : ℕ) (cost : w ≡ stagesOf d (base + i) + 3) where
-      pub put-ready : Puttable blocks b w
-      put-ready = record {
+      pub put-ready : i < count → Puttable blocks b w
+      put-ready l = record {
         inside = omega (arith, block-is, place-long, is-block);
         number =
             omega (

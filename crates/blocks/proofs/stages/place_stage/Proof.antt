@@ -12,16 +12,21 @@ array-borrow-prefix-counts : tie.Need-array-borrow-prefix-counts
 array-borrow-prefix-counts c = search needs
 
 slice-aggregate-rank-stage : tie.Need-slice-aggregate-rank-stage
-slice-aggregate-rank-stage c = ?
+slice-aggregate-rank-stage c = zeros-long 1024 (c .before .before .before .before .args .blocks) (c .before .before .before .before .pre .few-blocks)
 
 rank-stage-requires : tie.Need-rank-stage-requires
-rank-stage-requires c κs = ?
+rank-stage-requires c κs =
+    let t = c .before .before .before .before in
+    subst (λ (B : ℕ). StagePlaceable (t .args .d .now) (t .args .room .now) B (t .args .base) (t .args .count)) (zeros-long 1024 (t .args .blocks) (t .pre .few-blocks)) (t .pre)
 
 same-length : tie.Need-same-length
 same-length c = search needs
 
 returns : tie.Need-returns
-returns c = ?
+returns c =
+    let t = c .before .before .before .before .before .before .before .before in
+    c .before .before .before .rank-stage .ensures
+    ∙ ap (λ (B : ℕ). rankedRows (t .args .d .now) (t .args .room .now) B (t .args .base) (t .args .count)) (sym (zeros-long 1024 (t .args .blocks) (t .pre .few-blocks)))
 
 pub place-stage-spec : {M : Type 1} → statement M
 place-stage-spec = tie.close (tie.spec array-borrow-prefix-counts slice-aggregate-rank-stage rank-stage-requires same-length returns)
