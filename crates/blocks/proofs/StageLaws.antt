@@ -2,13 +2,14 @@
 -- Assumes nothing.
 use mathlib.Core.Path.{_≡_, refl, sym, ap, ap₂, _∙_, subst}
 use mathlib.Core.Bool.{true}
-use mathlib.Core.List.{List}
+use mathlib.Core.List.{List, _++_}
 use Prim.Native.Nat.{ℕ, zero, suc, _+_, _*_, _-_, _^_, _≤_, _<_}
 use native.Mathlib.Nat.{one-mul}
 use native.Mathlib.Omega.{arith}
 use borrow.Author.Tests.{leb-true}
 use lib.Dec.{leb}
-use lib.ListN.{length, getD, take, replicate, length-replicate}
+use lib.ListN.{length, getD, take, drop, replicate, length-replicate, length-append}
+use lib.Seq.{take-at}
 use Rattle.words.specs.Sum.{sumTo}
 use Rattle.words.specs.Section.{listOf}
 use Rattle.words.proofs.SumLaws.{sum-more, sum-le, sum-ext}
@@ -17,15 +18,16 @@ use Rattle.record.specs.Record.{majorsOf, countAt, partsBefore, partsOf, stages
 use Rattle.record.proofs.TestLaws.{and-true}
 use Rattle.record.proofs.FormLaws.{formed, parts-in}
 use Rattle.counts.specs.Counts.{srams, writeOuts}
+use Rattle.blocks.specs.declared.costs.BlockCost.{BlockCost}
 use Rattle.blocks.specs.declared.stages.Firsts.{Firsts}
-use Rattle.blocks.specs.Blocks.{blockIn, blockOf, takenBefore, stateOf, sramOf, stateStart, sramStart, stateWords, sramWords, totalsFit}
+use Rattle.blocks.specs.Blocks.{costsAfter, blockIn, blockOf, takenBefore, stateOf, sramOf, stateStart, sramStart, stateWords, sramWords, totalsFit}
 use Rattle.blocks.specs.Sums.{inBlock}
 use Rattle.blocks.specs.Table.{rankOf}
-use Rattle.blocks.specs.Fill.{putCells, column, takes, blockFrom, startIn, blank, placedRows, partCounts, rankedRows, startedRows, stageRows, Rows, Placeable, Takeable, Rankable, StagePlaceable, StageSummable, StageReady}
+use Rattle.blocks.specs.Fill.{putCells, column, takes, blockFrom, startIn, blank, costsOf, countsOf, placedRows, partCounts, rankedRows, startedRows, stageRows, Rows, Placeable, Takeable, Rankable, StagePlaceable, StageSummable, StageReady}
 use Rattle.blocks.proofs.TotalLaws.{sum-const}
 use Rattle.blocks.proofs.OrderLaws.{taken-blocks, taken-ext}
-use Rattle.blocks.proofs.BlockLaws.{in-lt, in-total, in-ext}
-use Rattle.blocks.proofs.RecordLaws.{blanks-front, blanks-long}
+use Rattle.blocks.proofs.BlockLaws.{in-lt, in-total, in-ext, costs-long}
+use Rattle.blocks.proofs.RecordLaws.{costs-length, blanks-front, blanks-long}
 use Rattle.blocks.proofs.FillLaws.{put-long, put-here, put-word, put-ext, put-cong}
 use Rattle.blocks.proofs.StartLaws.{parts-next, state-next, state-mono, sram-next, sram-mono}
 
@@ -65,7 +67,7 @@ module _ (d room : List ℕ) (N n base count : ℕ) (t : StagePlaceable d room n
     done-long = front-long ∙ sym (costs-long (length (take n made)) _ (front-placeable .some-block) count) ∙ sym (ap length costs-are) ∙ costs-length done
 
     back : take n (done ++ drop n made) ≡ done
-    back = ap (λ (m : ℕ). take m (done ++ drop n made)) done-long ∙ take-append done (drop n made)
+    back = take-at done (drop n made) n (sym done-long)
 
     pub back-within : n ≤ length (done ++ drop n made)
     back-within = omega (arith, done-long, length-append done (drop n made))
