@@ -1,21 +1,18 @@
+-- The parameters and the result of `blocks::costs::place_parts`, as its callers pass them.
+-- Assumes nothing.
 use borrow.Fn.Kinds
 use borrow.Kind.MutSlice
 use borrow.Kind.ShrSlice
 use borrow.Table.Referent
 use denote.Array
 use mathlib.Core.List
+use mathlib.Core.List.{[], _∷_}
 use mir.Syntax
 use Rattle.blocks.proofs.costs.BlockCost
 
 abbrev pub ps : List.List (Kinds.PK 3)
-ps =
-    List._∷_
-    (ShrSlice.pShrS (Referent.rtF (Referent.fInt Syntax.w8)) 0 tt)
-    (List._∷_
-    (MutSlice.pMutS (Referent.rtF (Referent.fInt Syntax.w32)) 1 tt)
-    (List._∷_
-    (MutSlice.pMutS (BlockCost.the-row) 2 tt)
-    (List._∷_ (Kinds.pNum Syntax.w64) (List._∷_ (Kinds.pNum Syntax.w64) List.[]))))
+ps = ShrSlice.pShrS (Referent.rtF (Referent.fInt Syntax.w8)) 0 tt ∷ MutSlice.pMutS (Referent.rtF (Referent.fInt Syntax.w32)) 1 tt ∷ MutSlice.pMutS BlockCost.the-row 2 tt ∷ Kinds.pNum
+    Syntax.w64 ∷ Kinds.pNum Syntax.w64 ∷ []
 
 abbrev pub r : Kinds.RK 3
 r = Kinds.rUnit
