@@ -18,6 +18,7 @@ use Rattle.words.proofs.SectionLaws.{length-listOf, getD-listOf, listOf-is, lis
 use Rattle.words.proofs.BitLaws.{lt-or-ge}
 use Rattle.blocks.specs.Blocks.{leastTo, blockFor, costsAfter, blockIn}
 use Rattle.blocks.specs.Sums.{given, inBlock}
+use Rattle.blocks.specs.Fill.{lesser}
 use Rattle.blocks.proofs.TotalLaws.{same-or, given-le, given-true, given-false, sum-mono, sum-most, sum-swap, sum-meets}
 
 -- ---- the first least
@@ -70,7 +71,7 @@ pub least-start : (costs : List ℕ) → leastTo costs (1 - 1) ≡ 0
 unfolding leastTo
 least-start costs = refl
 
-pub least-here : (costs : List ℕ) (best i : ℕ) → 0 < i → best ≡ leastTo costs (i - 1) → getD costs i 0 < getD costs best 0 → i ≡ leastTo costs (i + 1 - 1)
+least-here : (costs : List ℕ) (best i : ℕ) → 0 < i → best ≡ leastTo costs (i - 1) → getD costs i 0 < getD costs best 0 → i ≡ leastTo costs (i + 1 - 1)
 least-here costs best zero p e h = absurd (omega arith)
 least-here costs best (suc n) p e h =
     let q : suc n + 1 - 1 ≡ suc n = omega arith in
@@ -78,13 +79,26 @@ least-here costs best (suc n) p e h =
     let f : best ≡ leastTo costs n = e ∙ ap (leastTo costs) r in
     sym (ap (leastTo costs) q ∙ least-new costs n (rw f at h))
 
-pub least-kept : (costs : List ℕ) (best i : ℕ) → 0 < i → best ≡ leastTo costs (i - 1) → getD costs best 0 ≤ getD costs i 0 → best ≡ leastTo costs (i + 1 - 1)
+least-kept : (costs : List ℕ) (best i : ℕ) → 0 < i → best ≡ leastTo costs (i - 1) → getD costs best 0 ≤ getD costs i 0 → best ≡ leastTo costs (i + 1 - 1)
 least-kept costs best zero p e h = absurd (omega arith)
 least-kept costs best (suc n) p e h =
     let q : suc n + 1 - 1 ≡ suc n = omega arith in
     let r : suc n - 1 ≡ n = omega arith in
     let f : best ≡ leastTo costs n = e ∙ ap (leastTo costs) r in
     f ∙ sym (ap (leastTo costs) q ∙ least-old costs n (rw f at h))
+
+pub lesser-new : (best least i cost : ℕ) → cost < least → lesser best least i cost ≡ i
+lesser-new best least i cost h = rw (lt-ltb _ _ h, lesser)
+
+pub lesser-old : (best least i cost : ℕ) → least ≤ cost → lesser best least i cost ≡ best
+lesser-old best least i cost h = rw (le-ltb _ _ h, lesser)
+
+pub least-next : (costs : List ℕ) (best i : ℕ) → 0 < i → best ≡ leastTo costs (i - 1) → lesser best (getD costs best 0) i (getD costs i 0) ≡ leastTo costs (i + 1 - 1)
+least-next costs best i p e =
+    ⊎-elim
+    (λ h. lesser-new best (getD costs best 0) i (getD costs i 0) h ∙ least-here costs best i p e h)
+    (λ h. lesser-old best (getD costs best 0) i (getD costs i 0) h ∙ least-kept costs best i p e h)
+    (lt-or-ge (getD costs i 0) (getD costs best 0))
 
 -- ---- the block of a part
 

@@ -1,9 +1,11 @@
 pub mod TotalLaws
 pub mod OrderLaws
 pub mod BlockLaws
+pub mod RecordLaws
 pub mod FillLaws
 pub mod StepLaws
 pub mod StartLaws
 pub mod TableLaws
 pub mod StageLaws
 pub mod WholeLaws
+pub mod Calls

@@ -2,13 +2,14 @@
 -- Assumes nothing.
 use mathlib.Core.Path.{_≡_, refl, sym, ap, ap₂, _∙_, subst}
 use mathlib.Core.Bool.{true}
-use mathlib.Core.List.{List}
+use mathlib.Core.List.{List, _++_}
 use Prim.Native.Nat.{ℕ, zero, suc, _+_, _*_, _-_, _^_, _≤_, _<_}
 use native.Mathlib.Nat.{one-mul}
 use native.Mathlib.Omega.{arith}
 use borrow.Author.Tests.{leb-true}
 use lib.Dec.{leb}
-use lib.ListN.{length, getD, take, replicate, length-replicate}
+use lib.ListN.{length, getD, take, drop, replicate, length-replicate, length-append}
+use lib.Seq.{take-at}
 use Rattle.words.specs.Sum.{sumTo}
 use Rattle.words.specs.Section.{listOf}
 use Rattle.words.proofs.SumLaws.{sum-more, sum-le, sum-ext}
@@ -17,14 +18,16 @@ use Rattle.record.specs.Record.{majorsOf, countAt, partsBefore, partsOf, stages
 use Rattle.record.proofs.TestLaws.{and-true}
 use Rattle.record.proofs.FormLaws.{formed, parts-in}
 use Rattle.counts.specs.Counts.{srams, writeOuts}
+use Rattle.blocks.specs.declared.costs.BlockCost.{BlockCost}
 use Rattle.blocks.specs.declared.stages.Firsts.{Firsts}
-use Rattle.blocks.specs.Blocks.{blockIn, blockOf, takenBefore, stateOf, sramOf, stateStart, sramStart, stateWords, sramWords, totalsFit}
+use Rattle.blocks.specs.Blocks.{costsAfter, blockIn, blockOf, takenBefore, stateOf, sramOf, stateStart, sramStart, stateWords, sramWords, totalsFit}
 use Rattle.blocks.specs.Sums.{inBlock}
 use Rattle.blocks.specs.Table.{rankOf}
-use Rattle.blocks.specs.Fill.{putCells, column, takes, blockFrom, startIn, rankedRows, startedRows, stageRows, Rows, Placeable, Takeable, Rankable, StagePlaceable, StageSummable, StageReady}
+use Rattle.blocks.specs.Fill.{putCells, column, takes, blockFrom, startIn, blank, costsOf, countsOf, placedRows, partCounts, rankedRows, startedRows, stageRows, Rows, Placeable, Takeable, Rankable, StagePlaceable, StageSummable, StageReady}
 use Rattle.blocks.proofs.TotalLaws.{sum-const}
 use Rattle.blocks.proofs.OrderLaws.{taken-blocks, taken-ext}
-use Rattle.blocks.proofs.BlockLaws.{in-lt, in-total, in-ext}
+use Rattle.blocks.proofs.BlockLaws.{in-lt, in-total, in-ext, costs-long}
+use Rattle.blocks.proofs.RecordLaws.{costs-length, blanks-front, blanks-long}
 use Rattle.blocks.proofs.FillLaws.{put-long, put-here, put-word, put-ext, put-cong}
 use Rattle.blocks.proofs.StartLaws.{parts-next, state-next, state-mono, sram-next, sram-mono}
 
@@ -38,25 +41,42 @@ zeros-front (suc N) (suc n) h = rw (zeros-front N n (omega arith))
 pub zeros-long : (N n : ℕ) → n ≤ N → n ≡ length (take n (replicate {A = ℕ} N 0))
 zeros-long N n h = sym (ap length (zeros-front N n h) ∙ length-replicate n 0)
 
--- what is asked for `blocks` zeros holds of the first of N zeros
-pub front-placeable : (d room : List ℕ) (N blocks base count : ℕ) → blocks ≤ N → StagePlaceable d room blocks base count
-    → Placeable d room (take blocks (replicate N 0)) (take blocks (replicate N 0)) base count
-front-placeable d room N blocks base count h t =
-    let e = zeros-long N blocks h in
-    let z : take blocks (replicate {A = ℕ} N 0) ≡ replicate (length (take blocks (replicate {A = ℕ} N 0))) 0 =
-    zeros-front N blocks h ∙ ap (λ (n : ℕ). replicate n 0) e
-    in
-    record {
-      few = t .few;
-      parts = t .parts;
-      inside = t .inside;
-      some-block = omega (arith, e, t .some-block);
-      few-blocks = omega (arith, e, t .few-blocks);
-      same = refl;
-      costs-zero = z;
-      counts-zero = z;
-      stages = t .stages;
-    }
+-- ---- the first n of N records without parts, and these after the parts are placed
+
+module _ (d room : List ℕ) (N n base count : ℕ) (t : StagePlaceable d room n base count) (few : n ≤ N) (made : List BlockCost) (made-is : made ≡ replicate N blank) where
+  pub front-within : n ≤ length made
+  front-within = omega (arith, few, ap length made-is ∙ length-replicate N blank)
+
+  pub front-long : n ≡ length (take n made)
+  front-long = blanks-long N n few ∙ ap (λ (l : List BlockCost). length (take n l)) (sym made-is)
+
+  pub front-placeable : Placeable d room (take n made) base count
+  front-placeable = record {
+    few = t .few;
+    parts = t .parts;
+    inside = t .inside;
+    some-block = omega (arith, front-long, t .some-block);
+    few-blocks = omega (arith, front-long, t .few-blocks);
+    blanks = ap (λ (l : List BlockCost). take n l) made-is ∙ blanks-front N n few ∙ ap (λ (m : ℕ). replicate m blank) front-long;
+    stages = t .stages;
+  }
+
+  module _ (done : List BlockCost) (costs-are : costsOf done ≡ costsAfter (length (take n made)) (λ i. stagesOf d (base + i)) count)
+      (counts-are : countsOf done ≡ partCounts d (length (take n made)) base count) where
+    done-long : n ≡ length done
+    done-long = front-long ∙ sym (costs-long (length (take n made)) _ (front-placeable .some-block) count) ∙ sym (ap length costs-are) ∙ costs-length done
+
+    back : take n (done ++ drop n made) ≡ done
+    back = take-at done (drop n made) n (sym done-long)
+
+    pub back-within : n ≤ length (done ++ drop n made)
+    back-within = omega (arith, done-long, length-append done (drop n made))
+
+    pub back-long : n ≡ length (take n (done ++ drop n made))
+    back-long = done-long ∙ sym (ap length back)
+
+    pub back-counts : countsOf (take n (done ++ drop n made)) ≡ partCounts d n base count
+    back-counts = ap countsOf back ∙ counts-are ∙ ap (λ (m : ℕ). partCounts d m base count) (sym front-long)
 
 pub front-summable : (room : List ℕ) (N blocks base count from scale to first : ℕ) → blocks ≤ N → StageSummable room blocks base count from scale to first
     → StageSummable room (length (take blocks (replicate {A = ℕ} N 0))) base count from scale to first
@@ -152,31 +172,31 @@ pub column-kept : (room : List ℕ) (k j base count : ℕ) (row value : ℕ → 
 unfolding column
 column-kept room k j base count row value u v h i = put-word room k row value count (base + i) j u v h
 
-module _ (d room costs counts₀ : List ℕ) (base count : ℕ) (t : Placeable d room costs counts₀ base count) (placed counts : List ℕ)
-    (placed-is : placed ≡ putCells room 6 (λ i. base + i) (blockFrom d (length costs) base) count)
-    (counts-are : counts ≡ listOf (λ b. inBlock (blockFrom d (length costs) base) (λ i. 1) b count) (length costs)) where
-  block-lt : (i : ℕ) → i < count → blockFrom d (length costs) base i < length costs
-  block-lt i l = in-lt (length costs) (λ j. stagesOf d (base + j)) (t .some-block) i
+module _ (d room : List ℕ) (B base count : ℕ) (t : StagePlaceable d room B base count) (placed counts : List ℕ)
+    (placed-is : placed ≡ placedRows d room B base count)
+    (counts-are : counts ≡ partCounts d B base count) where
+  block-lt : (i : ℕ) → i < count → blockFrom d B base i < B
+  block-lt i l = in-lt B (λ j. stagesOf d (base + j)) (t .some-block) i
 
   pub ranks-fit : 0 + sumTo (λ b. getD counts b 0) (length counts) < 2 ^ 32
   ranks-fit =
       omega (
         arith,
-        sums-all (blockFrom d (length costs) base) (λ i. 1) (length costs) count 0 block-lt counts _ counts-are refl,
+        sums-all (blockFrom d B base) (λ i. 1) B count 0 block-lt counts _ counts-are refl,
         sum-const 1 count,
         t .few,
       )
 
   module _ (starts : List ℕ) (starts-are : starts ≡ listOf (λ b. 0 + sumTo (λ k. getD counts k 0) b) (length counts)) where
-    same-block : (i : ℕ) → i < count → column placed base 6 i ≡ blockFrom d (length costs) base i
+    same-block : (i : ℕ) → i < count → column placed base 6 i ≡ blockFrom d B base i
     same-block i l =
-        ap (λ (r : List ℕ). column r base 6 i) placed-is ∙ column-put room 6 base count (blockFrom d (length costs) base) (omega arith) (t .inside) i l
+        ap (λ (r : List ℕ). column r base 6 i) placed-is ∙ column-put room 6 base count (blockFrom d B base) (omega arith) (t .inside) i l
 
-    rank-long : length starts ≡ length costs
-    rank-long = starts-long (blockFrom d (length costs) base) (λ i. 1) (length costs) count 0 block-lt counts starts counts-are starts-are
+    rank-long : length starts ≡ B
+    rank-long = starts-long (blockFrom d B base) (λ i. 1) B count 0 block-lt counts starts counts-are starts-are
 
-    same-sum : (b n : ℕ) → n ≤ count → inBlock (column placed base 6) (λ i. 1) b n ≡ inBlock (blockFrom d (length costs) base) (λ i. 1) b n
-    same-sum b n l = in-ext (column placed base 6) (blockFrom d (length costs) base) (λ i. 1) (λ i. 1) b n (λ j u. same-block j (omega arith)) (λ j u. refl)
+    same-sum : (b n : ℕ) → n ≤ count → inBlock (column placed base 6) (λ i. 1) b n ≡ inBlock (blockFrom d B base) (λ i. 1) b n
+    same-sum b n l = in-ext (column placed base 6) (blockFrom d B base) (λ i. 1) (λ i. 1) b n (λ j u. same-block j (omega arith)) (λ j u. refl)
 
     pub ranks-ready : Rankable placed starts base count
     ranks-ready = record {
@@ -191,23 +211,23 @@ module _ (d room costs counts₀ : List ℕ) (base count : ℕ) (t : Placeable d
           omega (
             arith,
             same-sum b count (omega arith),
-            start-reach (blockFrom d (length costs) base) (λ i. 1) (length costs) count 0 block-lt counts starts counts-are starts-are b (omega (arith, rank-long)),
+            start-reach (blockFrom d B base) (λ i. 1) B count 0 block-lt counts starts counts-are starts-are b (omega (arith, rank-long)),
             sum-const 1 count,
           );
     }
 
-    pub ranks-are : putCells placed 9 (λ i. base + startIn placed starts base (λ j. 1) i) (λ i. base + i) count ≡ rankedRows d room (length costs) base count
+    pub ranks-are : putCells placed 9 (λ i. base + startIn placed starts base (λ j. 1) i) (λ i. base + i) count ≡ rankedRows d room B base count
     ranks-are =
         put-ext placed 9 _ _ _ _ count (λ i l. ap (λ (x : ℕ). base + x) (each i l)) (λ i l. refl)
-        ∙ ap (λ (r : List ℕ). putCells r 9 (λ i. base + takenBefore (blockFrom d (length costs) base) (λ j. 1) count i) (λ i. base + i) count) placed-is
+        ∙ ap (λ (r : List ℕ). putCells r 9 (λ i. base + takenBefore (blockFrom d B base) (λ j. 1) count i) (λ i. base + i) count) placed-is
       where
-        each : (i : ℕ) → i < count → startIn placed starts base (λ j. 1) i ≡ takenBefore (blockFrom d (length costs) base) (λ j. 1) count i
+        each : (i : ℕ) → i < count → startIn placed starts base (λ j. 1) i ≡ takenBefore (blockFrom d B base) (λ j. 1) count i
         each i l =
             ap (λ (x : ℕ). getD starts x 0 + inBlock (column placed base 6) (λ j. 1) x i) (same-block i l)
             ∙ omega (
               arith,
-              same-sum (blockFrom d (length costs) base i) i (omega arith),
-              start-is (blockFrom d (length costs) base) (λ j. 1) (length costs) count 0 block-lt counts starts counts-are starts-are i l,
+              same-sum (blockFrom d B base i) i (omega arith),
+              start-is (blockFrom d B base) (λ j. 1) B count 0 block-lt counts starts counts-are starts-are i l,
             )
 
 -- ---- a major stage of a plan

@@ -12,13 +12,15 @@ use Rattle.words.specs.Sum.{sumTo}
 use Rattle.words.specs.Section.{listOf}
 use Rattle.words.proofs.SumLaws.{sum-more, sum-le}
 use Rattle.words.proofs.SectionLaws.{length-listOf, getD-listOf, listOf-is}
-use Rattle.record.specs.Record.{headBase, stagesOf, wordAt}
+use Rattle.record.specs.Record.{stagesOf}
+use Rattle.blocks.specs.declared.costs.BlockCost.{BlockCost}
 use Rattle.blocks.specs.Blocks.{blockFor, costsAfter, blockIn}
 use Rattle.blocks.specs.Sums.{inBlock}
 use Rattle.blocks.specs.Table.{cell}
-use Rattle.blocks.specs.Fill.{putCells, column, takes, blockFrom, sumsIn, startIn, Rows, Placeable, Puttable, Addable, RankReady, Summable, Takeable, Rankable}
+use Rattle.blocks.specs.Fill.{putCells, column, takes, blockFrom, sumsIn, startIn, costsOf, countsOf, withPart, Rows, Placeable, Puttable, Addable, RankReady, Summable, Takeable, Rankable}
 use Rattle.blocks.proofs.TotalLaws.{same-or, sum-const}
-use Rattle.blocks.proofs.BlockLaws.{in-here, in-grows, in-most, in-lt, costs-long, costs-small, sums-at, sums-more}
+use Rattle.blocks.proofs.BlockLaws.{in-here, in-grows, in-most, in-lt, sums-none, costs-none, costs-long, costs-small, sums-at, sums-more}
+use Rattle.blocks.proofs.RecordLaws.{cost-at, count-at, costs-length, costs-put, counts-put, blank-costs, blank-counts}
 use Rattle.blocks.proofs.FillLaws.{put-more, put-word, put-long}
 
 list-long : (f : ℕ → ℕ) (B : ℕ) (s : List ℕ) → s ≡ listOf f B → length s ≡ B
@@ -205,60 +207,98 @@ made-all sums₀ sums first at b m e =
 
 -- ---- a part goes to its block
 
-module _ (d room costs₀ counts₀ : List ℕ) (base count : ℕ) (t : Placeable d room costs₀ counts₀ base count) (costs counts : List ℕ) (i : ℕ) (l : i < count)
-    (costs-are : costs ≡ costsAfter (length costs₀) (λ j. stagesOf d (base + j)) i)
-    (counts-are : counts ≡ listOf (λ b. 0 + inBlock (blockFrom d (length costs₀) base) (λ j. 1) b i) (length costs₀)) where
-  pub place-long : length costs ≡ length costs₀
-  place-long = ap length costs-are ∙ costs-long (length costs₀) _ (t .some-block) i
+-- before the first part
+pub place-none : (d room : List ℕ) (blocks : List BlockCost) (base count : ℕ) → Placeable d room blocks base count
+    → (costsOf blocks ≡ costsAfter (length blocks) (λ j. stagesOf d (base + j)) 0)
+    × (countsOf blocks ≡ listOf (λ b. 0 + inBlock (blockFrom d (length blocks) base) (λ j. 1) b 0) (length blocks))
+place-none d room blocks base count t =
+    (ap costsOf (t .blanks) ∙ blank-costs (length blocks) ∙ sym (costs-none _ _), ap countsOf (t .blanks) ∙ blank-counts (length blocks) ∙ sums-none _ _ _)
 
-  pub counts-long : length counts ≡ length costs₀
-  counts-long = list-long _ _ counts counts-are
+module _ (d room : List ℕ) (blocks₀ : List BlockCost) (base count : ℕ) (t : Placeable d room blocks₀ base count) (blocks : List BlockCost) (i : ℕ)
+    (costs-are : costsOf blocks ≡ costsAfter (length blocks₀) (λ j. stagesOf d (base + j)) i)
+    (counts-are : countsOf blocks ≡ listOf (λ b. 0 + inBlock (blockFrom d (length blocks₀) base) (λ j. 1) b i) (length blocks₀)) where
+  pub place-long : length blocks ≡ length blocks₀
+  place-long = sym (costs-length blocks) ∙ ap length costs-are ∙ costs-long (length blocks₀) _ (t .some-block) i
 
-  module _ (b heads w : ℕ) (block : b ≡ blockFor (length costs) costs i) (head : heads ≡ headBase d) (word : w ≡ wordAt d (heads + 2 * (base + i))) where
-    pub block-is : b ≡ blockFrom d (length costs₀) base i
+  is-block : blockFrom d (length blocks₀) base i < length blocks₀
+  is-block = in-lt (length blocks₀) (λ j. stagesOf d (base + j)) (t .some-block) i
+
+  module _ (b : ℕ) (block : b ≡ blockFor (length blocks) (costsOf blocks) i) where
+    pub block-is : b ≡ blockFrom d (length blocks₀) base i
     unfolding blockIn
     block-is = block ∙ ap₂ (λ (B : ℕ) (s : List ℕ). blockFor B s i) place-long costs-are
 
-    pub stages-is : w ≡ stagesOf d (base + i)
-    stages-is = word ∙ ap (λ (x : ℕ). wordAt d (x + 2 * (base + i))) head
+    pub block-few : b < 1024
+    block-few = omega (arith, block-is, is-block, t .few-blocks)
 
-    pub put-ready : Puttable costs counts b w
-    put-ready = record {
-      in-costs = omega (arith, block-is, place-long, in-lt (length costs₀) (λ j. stagesOf d (base + j)) (t .some-block) i);
-      in-counts = omega (arith, block-is, counts-long, in-lt (length costs₀) (λ j. stagesOf d (base + j)) (t .some-block) i);
-      cost =
-          omega (
-            arith,
-            ap₂ (λ (s : List ℕ) (x : ℕ). getD s x 0) costs-are block-is,
-            stages-is,
-            t .stages i l,
-            costs-small (length costs₀) (λ j. stagesOf d (base + j)) (t .some-block) i (blockFrom d (length costs₀) base i)
-                (in-lt (length costs₀) (λ j. stagesOf d (base + j)) (t .some-block) i) (omega (arith, t .few)) (λ j u. t .stages j (omega arith)),
-          );
-      number =
-          omega (
-            arith,
-            ap₂ (λ (s : List ℕ) (x : ℕ). getD s x 0) counts-are block-is
-                ∙ getD-listOf _ (length costs₀) (blockFrom d (length costs₀) base i) (in-lt (length costs₀) (λ j. stagesOf d (base + j)) (t .some-block) i),
-            in-most (blockFrom d (length costs₀) base) (λ j. 1) (blockFrom d (length costs₀) base i) i,
-            sum-const 1 i,
-            t .few,
-          );
-    }
-
-    pub put-costs : set costs b (getD costs b 0 + (w + 3)) ≡ costsAfter (length costs₀) (λ j. stagesOf d (base + j)) (i + 1)
-    unfolding costsAfter blockIn
-    put-costs =
-        rw add-one
-        (ap₂ (λ (x y : ℕ). set costs x (getD costs x 0 + (y + 3))) block-is stages-is
-        ∙ ap (λ (s : List ℕ). set s (blockFrom d (length costs₀) base i) (getD s (blockFrom d (length costs₀) base i) 0 + (stagesOf d (base + i) + 3))) costs-are)
-
-    pub put-counts : set counts b (getD counts b 0 + 1) ≡ listOf (λ x. 0 + inBlock (blockFrom d (length costs₀) base) (λ j. 1) x (i + 1)) (length costs₀)
-    put-counts =
-        ap (λ (x : ℕ). set counts x (getD counts x 0 + 1)) block-is
-        ∙ sums-more (blockFrom d (length costs₀) base) (λ j. 1) (λ x. 0) (length costs₀) i counts counts-are
-        (in-lt (length costs₀) (λ j. stagesOf d (base + j)) (t .some-block) i)
-
-    pub put-rows : (now : List ℕ) → now ≡ putCells room 6 (λ j. base + j) (blockFrom d (length costs₀) base) i
-        → set now (cell (base + i) 6) b ≡ putCells room 6 (λ j. base + j) (blockFrom d (length costs₀) base) (i + 1)
+    pub put-rows : (now : List ℕ) → now ≡ putCells room 6 (λ j. base + j) (blockFrom d (length blocks₀) base) i
+        → set now (cell (base + i) 6) b ≡ putCells room 6 (λ j. base + j) (blockFrom d (length blocks₀) base) (i + 1)
     put-rows now e = ap₂ (λ (r : List ℕ) (v : ℕ). set r (cell (base + i) 6) v) e block-is ∙ sym (put-more room 6 _ _ i)
+
+    pub put-counts : (w : ℕ) → countsOf (withPart blocks b w) ≡ listOf (λ x. 0 + inBlock (blockFrom d (length blocks₀) base) (λ j. 1) x (i + 1)) (length blocks₀)
+    put-counts w =
+        counts-put blocks b w
+        ∙ ap (λ (x : ℕ). set (countsOf blocks) x (getD (countsOf blocks) x 0 + 1)) block-is
+        ∙ sums-more (blockFrom d (length blocks₀) base) (λ j. 1) (λ x. 0) (length blocks₀) i (countsOf blocks) counts-are is-block
+
+    module _ (w : ℕ) (cost : w ≡ stagesOf d (base + i) + 3) where
+      pub put-ready : i < count → Puttable blocks b w
+      put-ready l = record {
+        inside = omega (arith, block-is, place-long, is-block);
+        number =
+            omega (
+              arith,
+              count-at blocks b,
+              ap₂ (λ (s : List ℕ) (x : ℕ). getD s x 0) counts-are block-is ∙ getD-listOf _ (length blocks₀) (blockFrom d (length blocks₀) base i) is-block,
+              in-most (blockFrom d (length blocks₀) base) (λ j. 1) (blockFrom d (length blocks₀) base i) i,
+              sum-const 1 i,
+              t .few,
+            );
+        fits =
+            omega (
+              arith,
+              cost-at blocks b,
+              ap₂ (λ (s : List ℕ) (x : ℕ). getD s x 0) costs-are block-is,
+              cost,
+              t .stages i l,
+              costs-small (length blocks₀) (λ j. stagesOf d (base + j)) (t .some-block) i (blockFrom d (length blocks₀) base i) is-block (omega (arith, t .few))
+                  (λ j u. t .stages j (omega arith)),
+            );
+      }
+
+      costs-more : set (costsOf blocks) b (getD (costsOf blocks) b 0 + w) ≡ costsAfter (length blocks₀) (λ j. stagesOf d (base + j)) (i + 1)
+      unfolding costsAfter blockIn
+      costs-more =
+          rw add-one
+          (ap₂ (λ (x y : ℕ). set (costsOf blocks) x (getD (costsOf blocks) x 0 + y)) block-is cost
+          ∙ ap (λ (s : List ℕ). set s (blockFrom d (length blocks₀) base i) (getD s (blockFrom d (length blocks₀) base i) 0 + (stagesOf d (base + i) + 3))) costs-are)
+
+      pub put-costs : costsOf (withPart blocks b w) ≡ costsAfter (length blocks₀) (λ j. stagesOf d (base + j)) (i + 1)
+      put-costs = costs-put blocks b w ∙ costs-more
+
+-- ---- the part counts taken one by one
+
+pub record Taken (from counts : List ℕ) (b : ℕ) : Type 0 where
+  pub long : length counts ≡ length from
+  pub within : b ≤ length from
+  pub done : (k : ℕ) → k < b → getD counts k 0 ≡ getD from k 0
+
+module _ (from counts : List ℕ) where
+  pub taken-none : length counts ≡ length from → Taken from counts 0
+  taken-none e = record { long = e; within = omega arith; done = λ k l. absurd (omega arith) }
+
+  pub taken-more : (b v : ℕ) → Taken from counts b → b < length from → v ≡ getD from b 0 → Taken from (set counts b v) (b + 1)
+  taken-more b v t l e = record {
+    long = length-set counts b v ∙ t .long;
+    within = omega arith;
+    done =
+        λ k u.
+        ⊎-elim (λ q. rw q (getD-set-same counts b v 0 (omega (arith, t .long)) ∙ e))
+        (λ q. getD-set-other counts b k v 0 q ∙ t .done k (omega arith))
+        (same-or k b);
+  }
+
+  pub taken-all : (b : ℕ) → Taken from counts b → b ≡ length counts → counts ≡ from
+  taken-all b t e =
+      listOf-is (λ k. getD from k 0) (length from) counts (t .long) (λ k l. t .done k (omega (arith, t .long)))
+      ∙ sym (listOf-is (λ k. getD from k 0) (length from) from refl (λ k l. refl))

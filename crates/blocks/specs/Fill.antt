@@ -3,8 +3,9 @@
 use mathlib.Core.Path.{_≡_}
 use mathlib.Core.Bool.{true, false}
 use mathlib.Core.Option.{none}
-use mathlib.Core.List.{List}
+use mathlib.Core.List.{List, map}
 use Prim.Native.Nat.{ℕ, zero, suc, _+_, _*_, _/_, _%_, _^_, _≤_, _<_}
+use lib.Dec.{ltb}
 use lib.ListN.{length, getD, set, replicate}
 use Rattle.words.specs.Sum.{sumTo}
 use Rattle.words.specs.Section.{listOf}
@@ -14,6 +15,7 @@ use Rattle.record.specs.declared.bodies.Body.{Body}
 use Rattle.counts.specs.Counts.{srams, duplicates, writeOuts, refusal7}
 use Rattle.counts.specs.Parts.{Countable}
 use Rattle.blocks.specs.Blocks.{blockIn, blockOf, takenBefore, stateOf, sramOf, stateStart, sramStart, totalsFit}
+use Rattle.blocks.specs.declared.costs.BlockCost.{BlockCost}
 use Rattle.blocks.specs.declared.stages.Firsts.{Firsts}
 use Rattle.blocks.specs.Sums.{inBlock}
 use Rattle.blocks.specs.Table.{cell, rankOf, Counted}
@@ -34,6 +36,24 @@ blockAt room p = getD room (cell p 6) 0
 abbrev pub added : List ℕ → ℕ → ℕ → List ℕ
 added sums b w = set sums b (getD sums b 0 + w)
 
+-- a block without parts; the running costs and the part counts of some blocks
+abbrev pub blank : BlockCost
+blank = record { parts = 0; cost = 0 }
+
+unfoldable pub costsOf : List BlockCost → List ℕ
+costsOf blocks = map (λ x. x .cost) blocks
+
+unfoldable pub countsOf : List BlockCost → List ℕ
+countsOf blocks = map (λ x. x .parts) blocks
+
+-- the blocks with a part more, of cost c, in block b
+abbrev pub withPart : List BlockCost → ℕ → ℕ → List BlockCost
+withPart blocks b c = set blocks b (record { parts = getD blocks b blank .parts + 1; cost = getD blocks b blank .cost + c })
+
+-- of two blocks and their costs the one of less cost, the first on a tie
+abbrev pub lesser : ℕ → ℕ → ℕ → ℕ → ℕ
+lesser best least i cost = elim (ltb cost least) [ true ↦ i | false ↦ best ]
+
 -- what part i takes: `scale` times word `from` of its row
 abbrev pub takes : List ℕ → ℕ → ℕ → ℕ → ℕ → ℕ
 takes room base from scale i = scale * column room base from i
@@ -49,10 +69,17 @@ sumsIn room sums base words n = listOf (λ b. getD sums b 0 + inBlock (column ro
 abbrev pub startIn : List ℕ → List ℕ → ℕ → (ℕ → ℕ) → ℕ → ℕ
 startIn room sums base words i = getD sums (column room base 6 i) 0 + inBlock (column room base 6) words (column room base 6 i) i
 
+-- the rows with the parts' blocks, and how many parts each block has
+abbrev pub placedRows : List ℕ → List ℕ → ℕ → ℕ → ℕ → List ℕ
+placedRows d room B base count = putCells room 6 (λ i. base + i) (blockFrom d B base) count
+
+abbrev pub partCounts : List ℕ → ℕ → ℕ → ℕ → List ℕ
+partCounts d B base count = listOf (λ b. inBlock (blockFrom d B base) (λ i. 1) b count) B
+
 -- the rows with the parts' blocks and ranks, and with what comes before each part, from `first` on
 abbrev pub rankedRows : List ℕ → List ℕ → ℕ → ℕ → ℕ → List ℕ
 rankedRows d room B base count =
-    putCells (putCells room 6 (λ i. base + i) (blockFrom d B base) count)
+    putCells (placedRows d room B base count)
     9 (λ i. base + takenBefore (blockFrom d B base) (λ j. 1) count i) (λ i. base + i) count
 
 abbrev pub startedRows : List ℕ → ℕ → ℕ → ℕ → ℕ → ℕ → ℕ → List ℕ
@@ -102,24 +129,21 @@ pub record Rows (room : List ℕ) (blocks base count : ℕ) : Type 0 where
   pub inside : 65536 + 16 * (base + count) ≤ length room
   pub block : (i : ℕ) → i < count → column room base 6 i < blocks
 
--- the parts may be placed, by zero costs and counts
-pub record Placeable (d room costs counts : List ℕ) (base count : ℕ) : Type 0 where
+-- the parts may be placed, by records of blocks without parts
+pub record Placeable (d room : List ℕ) (blocks : List BlockCost) (base count : ℕ) : Type 0 where
   pub few : count ≤ 4096
   pub parts : base + count ≤ 262144
   pub inside : 65536 + 16 * (base + count) ≤ length room
-  pub some-block : 0 < length costs
-  pub few-blocks : length costs ≤ 1024
-  pub same : length counts ≡ length costs
-  pub costs-zero : costs ≡ replicate (length costs) 0
-  pub counts-zero : counts ≡ replicate (length costs) 0
+  pub some-block : 0 < length blocks
+  pub few-blocks : length blocks ≤ 1024
+  pub blanks : blocks ≡ replicate (length blocks) blank
   pub stages : (i : ℕ) → i < count → stagesOf d (base + i) ≤ 255
 
 -- a part more in block b
-pub record Puttable (costs counts : List ℕ) (b stages : ℕ) : Type 0 where
-  pub in-costs : b < length costs
-  pub in-counts : b < length counts
-  pub cost : getD costs b 0 + (stages + 3) < 2 ^ 32
-  pub number : getD counts b 0 + 1 < 2 ^ 32
+pub record Puttable (blocks : List BlockCost) (b cost : ℕ) : Type 0 where
+  pub inside : b < length blocks
+  pub number : getD blocks b blank .parts + 1 < 2 ^ 32
+  pub fits : getD blocks b blank .cost + cost < 2 ^ 32
 
 -- the row of part p is in the room, and the words that it adds to its block's sum fit
 pub record Addable (room sums : List ℕ) (p from scale : ℕ) : Type 0 where

@@ -3,8 +3,10 @@ ghost use mathlib.Core.Path.{_≡_};
 ghost use Prim.Native.Nat.{_+_};
 ghost use lib.ListN.{length, replicate};
 ghost use Rattle.words.specs.Sum.{sumTo};
-ghost use Rattle.blocks.specs.Fill.{Placeable, StagePlaceable, StageSummable, StageReady, FirstsOf, takes, rankedRows, startedRows, stageRows};
+ghost use Rattle.blocks.specs.Fill.{StagePlaceable, StageSummable, StageReady, FirstsOf, takes, placedRows, partCounts, rankedRows, startedRows, stageRows};
+use crate::costs::no_parts;
 use crate::costs::place_parts;
+use crate::costs::take_counts;
 use crate::starts::add_words;
 use crate::starts::make_starts;
 use crate::starts::rank_parts;
@@ -17,19 +19,24 @@ pub struct Firsts {
     pub sram: u32,
 }
 
-// The blocks and the ranks of `count` parts from part `base` on, with the blocks' costs and part counts in lent words.
-fn rank_stage(
-    d: &[u8],
-    room: &mut [u32],
-    costs: &mut [u32],
-    counts: &mut [u32],
-    base: usize,
-    count: usize,
-)
-    requires { ⌜ Placeable (now d) (now room) (now costs) (now counts) base count ⌝ }
-    ensures { λ _. ⌜ now (room .exit) ≡ rankedRows (now (d .entry)) (now (room .entry)) (length (now (costs .entry))) base count ⌝ }
+// The blocks of `count` parts from part `base` on, and how many parts each of these blocks has: there are as many blocks as counts.
+fn give_blocks(d: &[u8], room: &mut [u32], counts: &mut [u32], base: usize, count: usize)
+    requires { ⌜ StagePlaceable (now d) (now room) (length (now counts)) base count ⌝ }
+    ensures { λ _. ⌜ now (room .exit) ≡ placedRows (now (d .entry)) (now (room .entry)) (length (now (counts .entry))) base count ⌝ }
+    ensures { λ _. ⌜ now (counts .exit) ≡ partCounts (now (d .entry)) (length (now (counts .entry))) base count ⌝ }
 {
-    place_parts(d, room, costs, counts, base, count);
+    let mut blocks = no_parts();
+    let n = counts.len();
+    place_parts(d, room, &mut blocks[..n], base, count);
+    take_counts(&blocks[..n], counts);
+}
+
+// The blocks and the ranks of these parts, with the blocks' part counts in lent words.
+fn rank_stage(d: &[u8], room: &mut [u32], counts: &mut [u32], base: usize, count: usize)
+    requires { ⌜ StagePlaceable (now d) (now room) (length (now counts)) base count ⌝ }
+    ensures { λ _. ⌜ now (room .exit) ≡ rankedRows (now (d .entry)) (now (room .entry)) (length (now (counts .entry))) base count ⌝ }
+{
+    give_blocks(d, room, counts, base, count);
     make_starts(counts, 0);
     rank_parts(room, counts, base, count);
 }
@@ -39,16 +46,8 @@ fn place_stage(d: &[u8], room: &mut [u32], blocks: usize, base: usize, count: us
     requires { ⌜ StagePlaceable (now d) (now room) blocks base count ⌝ }
     ensures { λ _. ⌜ now (room .exit) ≡ rankedRows (now (d .entry)) (now (room .entry)) blocks base count ⌝ }
 {
-    let mut costs = [0u32; 1024];
     let mut counts = [0u32; 1024];
-    rank_stage(
-        d,
-        room,
-        &mut costs[..blocks],
-        &mut counts[..blocks],
-        base,
-        count,
-    );
+    rank_stage(d, room, &mut counts[..blocks], base, count);
 }
 
 // Word `to` of their rows: where each part starts, from `first` on, if it takes `scale` times word `from` of its row. What comes after the last.

@@ -1,0 +1,102 @@
+-- These facts, at the contract of `blocks::costs::least_block`; from them, that the function meets it.
+-- Assumes nothing.
+use Rattle.blocks.proofs.costs.cheaper.Met
+use Rattle.blocks.proofs.costs.cheaper.Reads
+use Rattle.blocks.proofs.costs.cheaper.Symbol
+use Rattle.blocks.proofs.costs.cost_of.Met as Met'
+use Rattle.blocks.proofs.Calls.CostOf.Reads as Reads'
+use Rattle.blocks.proofs.costs.cost_of.Symbol as Symbol'
+use Rattle.blocks.proofs.costs.least_block.Code
+use Rattle.blocks.proofs.costs.least_block.Key
+use Rattle.blocks.proofs.Calls.LeastBlock.Kinds
+use Rattle.blocks.proofs.costs.least_block.Proof.Lts
+use Rattle.blocks.proofs.Calls.LeastBlock.Reads as Reads''
+use Rattle.blocks.proofs.costs.least_block.Statement
+use borrow.Fn.Run
+use borrow.Fn.Written
+use contract.Running
+
+abbrev pub InvT-loop : Type 1
+InvT-loop = Lts.InvT-loop
+
+abbrev pub MeasureT-loop : Type 0
+MeasureT-loop = Lts.MeasureT-loop
+
+abbrev pub Start : (Inv : InvT-loop) → (μ : MeasureT-loop) → Type 0
+Start = λ Inv μ. Lts.Start (Reads'.Asked, Reads'.Learnt, Reads.Asked, Reads.Learnt) Reads''.Pre Reads''.Post Inv μ
+
+abbrev pub At-loop : (Inv : InvT-loop) → (μ : MeasureT-loop) → Type 0
+At-loop = λ Inv μ. Lts.At-loop (Reads'.Asked, Reads'.Learnt, Reads.Asked, Reads.Learnt) Reads''.Pre Reads''.Post Inv μ
+
+abbrev pub In-loop : (Inv : InvT-loop) → (μ : MeasureT-loop) → Type 0
+In-loop = λ Inv μ. Lts.In-loop (Reads'.Asked, Reads'.Learnt, Reads.Asked, Reads.Learnt) Reads''.Pre Reads''.Post Inv μ
+
+abbrev pub After-loop : (Inv : InvT-loop) → (μ : MeasureT-loop) → Type 0
+After-loop = λ Inv μ. Lts.After-loop (Reads'.Asked, Reads'.Learnt, Reads.Asked, Reads.Learnt) Reads''.Pre Reads''.Post Inv μ
+
+abbrev pub After-cost-of : (Inv : InvT-loop) → (μ : MeasureT-loop) → Type 0
+After-cost-of = λ Inv μ. Lts.After-cost-of (Reads'.Asked, Reads'.Learnt, Reads.Asked, Reads.Learnt) Reads''.Pre Reads''.Post Inv μ
+
+abbrev pub After-cost-of2 : (Inv : InvT-loop) → (μ : MeasureT-loop) → Type 0
+After-cost-of2 = λ Inv μ. Lts.After-cost-of2 (Reads'.Asked, Reads'.Learnt, Reads.Asked, Reads.Learnt) Reads''.Pre Reads''.Post Inv μ
+
+abbrev pub After-cheaper : (Inv : InvT-loop) → (μ : MeasureT-loop) → Type 0
+After-cheaper = λ Inv μ. Lts.After-cheaper (Reads'.Asked, Reads'.Learnt, Reads.Asked, Reads.Learnt) Reads''.Pre Reads''.Post Inv μ
+
+abbrev pub Need-loop-holds : (Inv : InvT-loop) → (μ : MeasureT-loop) → Type 0
+Need-loop-holds = λ Inv μ. Lts.Need-loop-holds (Reads'.Asked, Reads'.Learnt, Reads.Asked, Reads.Learnt) Reads''.Pre Reads''.Post Inv μ
+
+abbrev pub Need-cost-of-requires : (Inv : InvT-loop) → (μ : MeasureT-loop) → Type 0
+Need-cost-of-requires = λ Inv μ. Lts.Need-cost-of-requires (Reads'.Asked, Reads'.Learnt, Reads.Asked, Reads.Learnt) Reads''.Pre Reads''.Post Inv μ
+
+abbrev pub Need-cost-of-requires-2 : (Inv : InvT-loop) → (μ : MeasureT-loop) → Type 0
+Need-cost-of-requires-2 = λ Inv μ. Lts.Need-cost-of-requires-2 (Reads'.Asked, Reads'.Learnt, Reads.Asked, Reads.Learnt) Reads''.Pre Reads''.Post Inv μ
+
+abbrev pub Need-cheaper-requires : (Inv : InvT-loop) → (μ : MeasureT-loop) → Type 0
+Need-cheaper-requires = λ Inv μ. Lts.Need-cheaper-requires (Reads'.Asked, Reads'.Learnt, Reads.Asked, Reads.Learnt) Reads''.Pre Reads''.Post Inv μ
+
+abbrev pub Need-add-i : (Inv : InvT-loop) → (μ : MeasureT-loop) → Type 0
+Need-add-i = λ Inv μ. Lts.Need-add-i (Reads'.Asked, Reads'.Learnt, Reads.Asked, Reads.Learnt) Reads''.Pre Reads''.Post Inv μ
+
+abbrev pub Need-loop-less : (Inv : InvT-loop) → (μ : MeasureT-loop) → Type 0
+Need-loop-less = λ Inv μ. Lts.Need-loop-less (Reads'.Asked, Reads'.Learnt, Reads.Asked, Reads.Learnt) Reads''.Pre Reads''.Post Inv μ
+
+abbrev pub Need-loop-again : (Inv : InvT-loop) → (μ : MeasureT-loop) → Type 0
+Need-loop-again = λ Inv μ. Lts.Need-loop-again (Reads'.Asked, Reads'.Learnt, Reads.Asked, Reads.Learnt) Reads''.Pre Reads''.Post Inv μ
+
+abbrev pub Need-returns : (Inv : InvT-loop) → (μ : MeasureT-loop) → Type 0
+Need-returns = λ Inv μ. Lts.Need-returns (Reads'.Asked, Reads'.Learnt, Reads.Asked, Reads.Learnt) Reads''.Pre Reads''.Post Inv μ
+
+module _ {M : Type 1} where
+  pub spec : (Inv : InvT-loop) → (μ : MeasureT-loop) → (answer : Need-loop-holds Inv μ) → (answer : Need-cost-of-requires Inv μ) → (answer : Need-cost-of-requires-2 Inv μ) → (answer :
+      Need-cheaper-requires Inv μ) → (answer : Need-add-i Inv μ) → (answer : Need-loop-less Inv μ) → (answer : Need-loop-again Inv μ) → (answer : Need-returns Inv μ) → Lts.Closed
+      (Reads'.Asked, Reads'.Learnt, Reads.Asked, Reads.Learnt) Reads''.Pre Reads''.Post M
+  spec = λ Inv μ answer answer' answer'' answer'3 answer'4 answer'5 answer'6 answer'7. Lts.spec (Reads'.Asked, Reads'.Learnt, Reads.Asked, Reads.Learnt) Reads''.Pre Reads''.Post Inv μ answer
+      answer' answer'' answer'3 answer'4 answer'5 answer'6 answer'7
+
+  -- antt refused `close` as it was built: the module's report says why
+  pub close : Lts.Closed (Reads'.Asked, Reads'.Learnt, Reads.Asked, Reads.Learnt) Reads''.Pre Reads''.Post M → Statement.statement M
+  unfolding Code.routine Running.tablesOf
+  close = λ closed 𝓤 H 𝓜 𝓖 𝓡. Written.close 1 Kinds.ps Kinds.r Reads''.Ghost Reads''.requires Reads''.ensures Reads''.pre-read Reads''.Pinned Reads''.Owned Reads''.post-read record {
+    M = M;
+    𝓤 = 𝓤;
+    H = H;
+    𝓜 = 𝓜;
+    𝓖 = 𝓖;
+    𝓡 = 𝓡;
+  } Code.env Key.name Code.function (Code.unfolded 𝓤 H 𝓜 𝓡) (λ κs a g. tt) (λ κs. Reads''.owns κs record { M = M; 𝓤 = 𝓤; H = H; 𝓜 = 𝓜; 𝓖 = 𝓖; 𝓡 = 𝓡 })
+      (Reads''.passes record { M = M; 𝓤 = 𝓤; H = H; 𝓜 = 𝓜; 𝓖 = 𝓖; 𝓡 = 𝓡 }) λ g. closed 𝓤 H (𝓖 .A) (Running.givenOf 𝓤 H 𝓜 𝓖) (Run.Over 𝓤 H 𝓜 𝓖 𝓡 Code.env) (Reads'.known record {
+        M = M;
+        𝓤 = 𝓤;
+        H = H;
+        𝓜 = 𝓜;
+        𝓖 = 𝓖;
+        𝓡 = 𝓡;
+      } Code.env Symbol'.name Symbol'.routine Code.calls-blocks·costs·cost-of (Met'.met 𝓤 H 𝓜 𝓖 𝓡)) (Reads.known record {
+        M = M;
+        𝓤 = 𝓤;
+        H = H;
+        𝓜 = 𝓜;
+        𝓖 = 𝓖;
+        𝓡 = 𝓡;
+      } Code.env Symbol.name Symbol.routine Code.calls-blocks·costs·cheaper (Met.met 𝓤 H 𝓜 𝓖 𝓡))
