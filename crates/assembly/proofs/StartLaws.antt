@@ -53,12 +53,12 @@ module _ (n : ℕ) (d : List ℕ) where
   unfolding scriptStarts
   starts-are = refl
 
-  stage-starts : (s b : ℕ) → length (stageStarts n d s b) ≡ b
+  pub stage-starts : (s b : ℕ) → length (stageStarts n d s b) ≡ b
   unfolding stageStarts
   stage-starts s zero = refl
   stage-starts s (suc b) = omega (arith, length-append (stageStarts n d s b) (blockStart n d s b ∷ []), stage-starts s b)
 
-  major-starts : (s : ℕ) → length (majorStarts n d s) ≡ blocksOf d * s
+  pub major-starts : (s : ℕ) → length (majorStarts n d s) ≡ blocksOf d * s
   unfolding majorStarts
   major-starts zero = omega arith
   major-starts (suc s) =

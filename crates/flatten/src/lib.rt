@@ -1,1 +1,93 @@
-// The whole build: refusals in order, then the words.
+// The whole build: refusals in order, then the sizes or the words. The Rust is `build_flattened_script_v1`.
+pub mod sizes;
+
+ghost use mathlib.Core.Path.{_≡_};
+ghost use mathlib.Core.Bool.{_&&_};
+ghost use lib.Dec.{leb};
+ghost use lib.ListN.{length, replicate};
+ghost use Rattle.assembly.specs.Assembly.{scriptWords, scriptStarts};
+ghost use Rattle.layout.specs.Layout.{Sound};
+ghost use Rattle.flatten.specs.Flatten.{built, sizesOf, sizing, fits, ifFits, building, laid, startsAfter, wordsAfter, roomAfter};
+ghost use Rattle.flatten.specs.Answers.{flattenedOf};
+use checks::Verdict;
+use checks::check_plan;
+use layout::write_plan;
+use sizes::Sizes;
+use sizes::sizes_of;
+use words::refusals::RESULT_SHORT;
+use words::refusals::Refusal;
+
+// What a build gives: the sizes, or the refusal.
+pub enum Flattened {
+    Built(Sizes),
+    Refused(Refusal),
+}
+
+// The sizes of an accepted plan. The room is clear afterwards.
+fn size_accepted(plan: &[u8], room: &mut [u32]) -> Flattened
+    requires { ⌜ Sound (now plan) (now room) ⌝ }
+    ensures { λ r. ⌜ r ≡ flattenedOf (built (sizesOf 256 (now (plan .entry)))) ⌝ }
+    ensures { λ _. ⌜ now (room .exit) ≡ replicate (length (now (room .entry))) 0 ⌝ }
+{
+    let sizes = sizes_of(plan, room);
+    pinmap::clear(room);
+    Flattened::Built(sizes)
+}
+
+// How much room a plan's result takes.
+pub fn plan_sizes(plan: &[u8], room: &mut [u32]) -> Flattened
+    ensures { λ r. ⌜ r ≡ flattenedOf (sizing 256 (now (plan .entry)) (length (now (room .entry)))) ⌝ }
+    ensures { λ _. ⌜ now (room .exit) ≡ roomAfter (now (plan .entry)) (now (room .entry)) ⌝ }
+{
+    match check_plan(plan, room) {
+        Verdict::Refused(x) => Flattened::Refused(x),
+        Verdict::Accepted => size_accepted(plan, room),
+    }
+}
+
+// Whether the result slices are long enough.
+fn enough(sizes: Sizes, starts: usize, words: usize) -> bool
+    ensures { λ r. ⌜ r ≡ (leb (sizes .starts) starts && leb (sizes .words) words) ⌝ }
+{
+    sizes.starts <= starts as u64 && sizes.words <= words as u64
+}
+
+// The result of an accepted plan, or refusal 14. The room is clear afterwards.
+fn build_accepted(plan: &[u8], room: &mut [u32], starts: &mut [u64], words: &mut [u32]) -> Flattened
+    requires { ⌜ Sound (now plan) (now room) ⌝ }
+    ensures { λ r. ⌜ r ≡ flattenedOf (ifFits (fits (sizesOf 256 (now (plan .entry))) (length (now (starts .entry))) (length (now (words .entry)))) (sizesOf 256 (now (plan .entry)))) ⌝ }
+    ensures { λ _. ⌜ now (room .exit) ≡ replicate (length (now (room .entry))) 0 ⌝ }
+    ensures { λ _. ⌜ now (starts .exit) ≡ laid (ifFits (fits (sizesOf 256 (now (plan .entry))) (length (now (starts .entry))) (length (now (words .entry)))) (sizesOf 256 (now (plan .entry)))) (scriptStarts 256 (now (plan .entry))) (now (starts .entry)) ⌝ }
+    ensures { λ _. ⌜ now (words .exit) ≡ laid (ifFits (fits (sizesOf 256 (now (plan .entry))) (length (now (starts .entry))) (length (now (words .entry)))) (sizesOf 256 (now (plan .entry)))) (scriptWords 256 (now (plan .entry))) (now (words .entry)) ⌝ }
+{
+    let sizes = sizes_of(plan, room);
+    if enough(sizes, starts.len(), words.len()) {
+        write_plan(plan, room, starts, words);
+        pinmap::clear(room);
+        return Flattened::Built(sizes);
+    }
+    pinmap::clear(room);
+    Flattened::Refused(Refusal {
+        number: RESULT_SHORT,
+        part: 0,
+        item: 0,
+    })
+}
+
+// The assembled script of a plan, and where its blocks begin.
+pub fn build_flattened_script_v1(
+    plan: &[u8],
+    room: &mut [u32],
+    starts: &mut [u64],
+    words: &mut [u32],
+) -> Flattened
+    ensures { λ r. ⌜ r ≡ flattenedOf (building 256 (now (plan .entry)) (length (now (room .entry))) (length (now (starts .entry))) (length (now (words .entry)))) ⌝ }
+    ensures { λ _. ⌜ now (room .exit) ≡ roomAfter (now (plan .entry)) (now (room .entry)) ⌝ }
+    ensures { λ _. ⌜ now (starts .exit) ≡ startsAfter 256 (now (plan .entry)) (length (now (room .entry))) (now (starts .entry)) (now (words .entry)) ⌝ }
+    ensures { λ _. ⌜ now (words .exit) ≡ wordsAfter 256 (now (plan .entry)) (length (now (room .entry))) (now (starts .entry)) (now (words .entry)) ⌝ }
+{
+    match check_plan(plan, room) {
+        Verdict::Refused(x) => Flattened::Refused(x),
+        Verdict::Accepted => build_accepted(plan, room, starts, words),
+    }
+}

@@ -1,0 +1,157 @@
+-- From the verdict of the checks to the answer of a build, and what the lent slices then hold.
+-- Assumes nothing.
+use mathlib.Core.Path.{_≡_, refl, sym, ap, ap₂, _∙_}
+use mathlib.Core.Bool.{Bool, true, false, _&&_}
+use mathlib.Core.Option.{Option, none, some}
+use mathlib.Core.List.{List}
+use Prim.Native.Nat.{ℕ, _+_, _*_, _≤_, _<_}
+use native.Mathlib.Omega.{arith}
+use borrow.Author.Tests.{leb-true, le-leb, lt-leb}
+use lib.Dec.{leb}
+use lib.ListN.{length, replicate}
+use lib.Seq.{sets}
+use Rattle.words.specs.declared.refusals.Refusal.{Refusal}
+use Rattle.record.specs.Record.{blocksOf, majorsOf}
+use Rattle.record.specs.Form.{roomWords}
+use Rattle.record.proofs.TestLaws.{and-true}
+use Rattle.checks.specs.Refusals.{Refused, nowhere, planRefusal, planVerdict}
+use Rattle.checks.specs.Ready.{Ready, readyRoom, roomLeft}
+use Rattle.checks.specs.Verdicts.{verdictOf}
+use Rattle.checks.proofs.PassedLaws.{some-none}
+use Rattle.checks.specs.declared.Verdict.{Verdict}
+use Rattle.checks.specs.declared.Verdict.the-variants as verdict
+use Rattle.assembly.specs.Assembly.{scriptWords, scriptStarts}
+use Rattle.assembly.proofs.StartLaws.{starts-length}
+use Rattle.layout.specs.Layout.{Sound, PlanRoom}
+use Rattle.flatten.specs.declared.sizes.Sizes.{Sizes}
+use Rattle.flatten.specs.declared.Flattened.{Flattened}
+use Rattle.flatten.specs.declared.Flattened.the-variants as flattened
+use Rattle.flatten.specs.Flatten as flat
+use Rattle.flatten.specs.Flatten.{Build, built, refusal, sizesOf, sizing, fits, ifFits, building, laid, startsAfter, wordsAfter, roomAfter}
+use Rattle.flatten.specs.Answers.{sizesIn, flattenedOf}
+
+-- the answer that a verdict gives, where it is a refusal
+abbrev told : Verdict → Flattened
+told verdict.Accepted = flattened.Refused (record { number = 0; part = 0; item = 0 })
+told (verdict.Refused x) = flattened.Refused x
+
+no-verdict : {A : Type 0} (x : Refusal) → verdict.Accepted ≡ verdict.Refused x → A
+no-verdict x e = let z : _≡_ {A = ℕ} 0 1 = cc in absurd (omega arith)
+
+-- ---- a refusal
+
+pub refused-is : (o : Option Refused) (x : Refusal) → verdict.Refused x ≡ verdictOf o → (q : Refused) × (o ≡ some q) × (flattened.Refused x ≡ flattenedOf (refusal q))
+refused-is none x e = no-verdict x (sym e)
+refused-is (some q) x e = (q, refl, ap told e)
+
+pub accepted-is : (o : Option Refused) → verdict.Accepted ≡ verdictOf o → o ≡ none
+accepted-is none e = refl
+accepted-is (some q) e = no-verdict _ e
+
+module _ (d room : List ℕ) where
+  -- what the room of a refused plan holds
+  room-refused : (b : Bool) (o : Option Refused) (z : List ℕ) (q : Refused)
+      → _≡_ {A = Option Refused} (elim b [ true ↦ o | false ↦ some (nowhere 32) ]) (some q)
+      → _≡_ {A = List ℕ} (elim b [ false ↦ room | true ↦ elim o [ some x ↦ replicate (length room) 0 | none ↦ z ] ])
+      (elim b [ false ↦ room | true ↦ replicate (length room) 0 ])
+  room-refused false o z q e = refl
+  room-refused true (some x) z q e = refl
+  room-refused true none z q e = some-none q (sym e)
+
+  module _ (q : Refused) (e : planVerdict 256 d (length room) ≡ some q) where
+    pub refused-room : (after : List ℕ) → after ≡ roomLeft d room → after ≡ roomAfter d room
+    unfolding planVerdict roomLeft roomAfter
+    refused-room after is = is ∙ room-refused (leb (roomWords d) (length room)) (planRefusal 256 d) (readyRoom d (length room)) q e
+
+    pub refused-sizing : refusal q ≡ sizing 256 d (length room)
+    unfolding sizing
+    refused-sizing = rw (e, sizing)
+
+    module _ (s w : ℕ) where
+      pub refused-building : refusal q ≡ building 256 d (length room) s w
+      unfolding building
+      refused-building = rw (e, building)
+
+  -- ---- an accepted plan
+
+  none-both : (b : Bool) (o : Option Refused) → _≡_ {A = Option Refused} (elim b [ true ↦ o | false ↦ some (nowhere 32) ]) none → (b ≡ true) × (o ≡ none)
+  none-both true o e = (refl, e)
+  none-both false o e = some-none _ e
+
+  module _ (e : planVerdict 256 d (length room) ≡ none) where
+    accepted : (leb (roomWords d) (length room) ≡ true) × (planRefusal 256 d ≡ none)
+    unfolding planVerdict
+    accepted = none-both (leb (roomWords d) (length room)) (planRefusal 256 d) e
+
+    pub sound : (after : List ℕ) → Ready d after → Sound d after
+    sound after r = record { accepted = accepted .1; ready = r }
+
+    pub cleared-room : (after : List ℕ) (m : ℕ) → m ≡ length room → after ≡ replicate m 0 → after ≡ roomAfter d room
+    unfolding roomAfter
+    cleared-room after m k z = z ∙ ap (λ (n : ℕ). replicate n 0) k ∙ (rw (accepted .0, roomAfter))
+
+    pub accepted-sizing : built (sizesOf 256 d) ≡ sizing 256 d (length room)
+    unfolding sizing
+    accepted-sizing = rw (e, sizing)
+
+    pub accepted-building : (s w : ℕ) → ifFits (fits (sizesOf 256 d) s w) (sizesOf 256 d) ≡ building 256 d (length room) s w
+    unfolding building
+    accepted-building s w = rw (e, building)
+
+-- ---- refusal 14
+
+module _ (d : List ℕ) (s w : ℕ) (x : Sizes) (are : x ≡ sizesIn (sizesOf 256 d)) (t : Bool) (test : t ≡ (leb (x .starts) s && leb (x .words) w)) where
+  fits-is : fits (sizesOf 256 d) s w ≡ t
+  unfolding fits
+  fits-is = sym (test ∙ ap (λ (y : Sizes). leb (y .starts) s && leb (y .words) w) are)
+
+  pub long-enough : t ≡ true → ifFits (fits (sizesOf 256 d) s w) (sizesOf 256 d) ≡ built (sizesOf 256 d)
+  long-enough e = ap (λ (b : Bool). ifFits b (sizesOf 256 d)) (fits-is ∙ e)
+
+  pub too-short : t ≡ false → ifFits (fits (sizesOf 256 d) s w) (sizesOf 256 d) ≡ refusal (nowhere 14)
+  too-short e = ap (λ (b : Bool). ifFits b (sizesOf 256 d)) (fits-is ∙ e)
+
+  pub plan-room : (room : List ℕ) → Sound d room → t ≡ true → PlanRoom d room s w
+  unfolding fits sizesOf
+  plan-room room h e =
+      let r = and-true (leb (sizesOf 256 d .starts) s) (leb (sizesOf 256 d .words) w) (fits-is ∙ e) in
+      record {
+        sound = h;
+        starts = omega (arith, leb-true (blocksOf d * majorsOf d + 1) s (r .0), starts-length 256 d);
+        words = leb-true (length (scriptWords 256 d)) w (r .1);
+      }
+
+-- what a result slice then holds
+pub laid-built : (o : Build) (x : flat.Sizes) → o ≡ built x → (l before after : List ℕ) → after ≡ sets before 0 l → after ≡ laid o l before
+unfolding laid
+laid-built o x e l before after a = a ∙ rw (e, laid)
+
+pub laid-refused : (o : Build) (q : Refused) → o ≡ refusal q → (l before : List ℕ) → before ≡ laid o l before
+unfolding laid
+laid-refused o q e l before = rw (e, laid)
+
+-- ---- a refused plan's answer, and its slices
+
+module _ (d room : List ℕ) (x : Refusal) (v : verdict.Refused x ≡ verdictOf (planVerdict 256 d (length room))) (after : List ℕ) (is : after ≡ roomLeft d room) where
+  pub refused-sized : (flattened.Refused x ≡ flattenedOf (sizing 256 d (length room))) × (after ≡ roomAfter d room)
+  refused-sized =
+      let (q, e, f) = refused-is (planVerdict 256 d (length room)) x v in
+      (f ∙ ap flattenedOf (refused-sizing d room q e), refused-room d room q e after is)
+
+  module _ (starts words : List ℕ) where
+    pub refused-built : flattened.Refused x ≡ flattenedOf (building 256 d (length room) (length starts) (length words))
+    refused-built =
+        let (q, e, f) = refused-is (planVerdict 256 d (length room)) x v in
+        f ∙ ap flattenedOf (refused-building d room q e (length starts) (length words))
+
+    pub refused-kept : (l before : List ℕ) → before ≡ laid (building 256 d (length room) (length starts) (length words)) l before
+    refused-kept l before =
+        let (q, e, f) = refused-is (planVerdict 256 d (length room)) x v in
+        laid-refused (building 256 d (length room) (length starts) (length words)) q (sym (refused-building d room q e (length starts) (length words))) l before
+
+-- one test, then the other
+pub test-on : (a b : ℕ) (c : Bool) → a ≤ b → c ≡ (leb a b && c)
+test-on a b c h = rw (le-leb a b h)
+
+pub test-off : (a b : ℕ) (c : Bool) → b < a → leb a b ≡ (leb a b && c)
+test-off a b c h = rw (lt-leb a b h)

@@ -1,0 +1,100 @@
+-- The sums that the sizes are: over the parts by their rows, over the major stages by their counts.
+-- Assumes nothing.
+use mathlib.Core.Path.{_≡_, refl, sym, ap, ap₂, _∙_}
+use mathlib.Core.List.{List}
+use Prim.Native.Nat.{ℕ, _+_, _*_, _-_, _^_, _≤_, _<_}
+use native.Mathlib.Nat.{mul-le-mul-left}
+use native.Mathlib.Omega.{arith}
+use lib.ListN.{length, getD, take, replicate}
+use lib.Seq.{take-take}
+use Rattle.words.specs.Edition.{partWords}
+use Rattle.words.specs.Sum.{sumTo}
+use Rattle.words.proofs.SumLaws.{sum-more}
+use Rattle.record.specs.Record.{wordAt, blocksOf, majorsOf, countAt, partsOf, headBase, stagesOf}
+use Rattle.record.proofs.RecordLaws.{stages-at}
+use Rattle.counts.specs.Counts.{srams}
+use Rattle.blocks.specs.Blocks.{sramOf, stateWords, sramWords}
+use Rattle.blocks.specs.Table.{cell}
+use Rattle.positions.specs.Places.{Judgeable}
+use Rattle.blocks.proofs.StageLaws.{zeros-front}
+use Rattle.assembly.specs.Assembly.{scriptWords}
+use Rattle.assembly.specs.Steps.{lengthOf, emptyBlocks}
+use Rattle.assembly.proofs.LengthLaws.{words-sum}
+use Rattle.layout.specs.Layout.{Sound}
+use Rattle.layout.proofs.RowLaws.{plan-passed, plan-formed}
+use Rattle.flatten.specs.declared.sizes.Sizes.{Sizes}
+use Rattle.flatten.specs.Flatten.{sizesOf}
+use Rattle.flatten.specs.Answers.{sizesIn}
+
+-- ---- the empty blocks
+
+module _ (d : List ℕ) where
+  pub empty-none : 0 ≡ emptyBlocks d 0
+  unfolding emptyBlocks sumTo
+  empty-none = refl
+
+  pub empty-more : (s sum left blocks count : ℕ) → sum ≡ emptyBlocks d s → blocks ≡ blocksOf d → count ≡ countAt d s → left ≡ blocks - count → sum + left ≡ emptyBlocks d (s + 1)
+  unfolding emptyBlocks
+  empty-more s sum left blocks count a b c e =
+      ap₂ _+_ a (e ∙ ap₂ _-_ b c) ∙ sym (sum-more (λ t. blocksOf d - countAt d t) s)
+
+-- zeros in front of zeros
+fewer-zeros : (n m : ℕ) (l : List ℕ) → n ≤ m → take m l ≡ replicate m 0 → take n l ≡ replicate n 0
+fewer-zeros n m l h e = sym (take-take n m l h) ∙ ap (take n) e ∙ zeros-front m n h
+
+-- ---- the words of the parts, and of SRAM
+
+module _ (d room : List ℕ) (h : Sound d room) where
+  pub majors-few : majorsOf d ≤ 64
+  majors-few = plan-formed d room h .head .majors
+
+  pub blocks-few : blocksOf d ≤ 1024
+  blocks-few = plan-formed d room h .head .blocks
+
+  pub parts-few : partsOf d ≤ 262144
+  parts-few = plan-formed d room h .sizes .headed .parts
+
+  pub starts-few : (blocks majors : ℕ) → blocks ≡ blocksOf d → majors ≡ majorsOf d → blocks * majors ≤ 65536
+  starts-few blocks majors b m =
+      let u : majors ≤ 64 = omega (arith, majors-few) in
+      omega (arith, mul-le-mul-left blocks u, blocks-few)
+
+  pub parts-none : 0 ≡ sumTo (lengthOf 256 d) 0
+  unfolding sumTo
+  parts-none = refl
+
+  pub parts-next : (p heads sum more : ℕ) → p < partsOf d → heads ≡ headBase d → sum ≡ sumTo (lengthOf 256 d) p
+      → (stages : ℕ) → stages ≡ wordAt d (heads + 2 * p) → more ≡ partWords 256 (getD room (cell p 10) 0) stages → sum + more ≡ sumTo (lengthOf 256 d) (p + 1)
+  unfolding lengthOf
+  parts-next p heads sum more l e a stages t b =
+      ap₂ _+_ a (b ∙ ap₂ (partWords 256) (h .ready .rounds p l) (t ∙ stages-at d heads p e)) ∙ sym (sum-more (lengthOf 256 d) p)
+
+  pub sram-none : 0 ≡ sumTo (λ q. 8192 * srams d q) 0
+  unfolding sumTo
+  sram-none = refl
+
+  pub sram-next : (p sum : ℕ) → p < partsOf d → sum ≡ sumTo (λ q. 8192 * srams d q) p → sum + 8192 * getD room (cell p 3) 0 ≡ sumTo (λ q. 8192 * srams d q) (p + 1)
+  sram-next p sum l a =
+      ap₂ _+_ a (ap (λ (x : ℕ). 8192 * x) (h .ready .tabled .counted p l .sram-count)) ∙ sym (sum-more (λ q. 8192 * srams d q) p)
+
+  pub sram-all : (p sum : ℕ) → p ≡ partsOf d → sum ≡ sumTo (λ q. 8192 * srams d q) p → sum ≡ sramWords d
+  unfolding sramOf
+  sram-all p sum e a = a ∙ ap (sumTo (λ q. 8192 * srams d q)) e
+
+  -- ---- the whole
+
+  pub script-long : (parts empty : ℕ) → parts ≡ sumTo (lengthOf 256 d) (partsOf d) → empty ≡ emptyBlocks d (majorsOf d) → parts + 256 * empty + 2048 ≡ length (scriptWords 256 d)
+  script-long parts empty a b = omega (arith, a, b, words-sum 256 d (omega arith) refl (plan-formed d room h .head .some-blocks))
+
+  pub judgeable : Judgeable d room
+  judgeable = record {
+    form = plan-passed d room h .form;
+    table = h .ready .tabled;
+    wide = h .ready .wide;
+    clear = fewer-zeros 32768 65536 room (omega arith) (h .ready .front);
+  }
+
+  pub sizes-are : (blocks majors words state sram : ℕ) → blocks ≡ blocksOf d → majors ≡ majorsOf d → words ≡ length (scriptWords 256 d) → state ≡ stateWords d → sram ≡ sramWords d
+      → _≡_ {A = Sizes} (record { starts = blocks * majors + 1; words = words; state = state; sram = sram }) (sizesIn (sizesOf 256 d))
+  unfolding sizesOf
+  sizes-are blocks majors words state sram b m w t r = rw (b, m, w, t, r)

@@ -1,0 +1,20 @@
+-- TODO
+-- Assumes nothing.
+use mathlib.Core.Path.{_≡_, refl, sym, ap, _∙_}
+use mathlib.Core.List.{List}
+use Prim.Native.Nat.{ℕ, _+_, _*_, _-_, _^_, _≤_, _<_}
+use native.Mathlib.Omega.{arith}
+use lib.ListN.{length}
+use Rattle.flatten.proofs.AnswerLaws.{test-on, test-off}
+use borrow.Author.Needs.{needs}
+use Rattle.flatten.proofs.enough.Statement.{statement}
+use Rattle.flatten.proofs.enough.Tie as tie
+
+returns : tie.Need-returns
+returns c = test-on (c .before .before .before .args .sizes .starts) (c .before .before .before .args .starts) _ (omega arith)
+
+returns-2 : tie.Need-returns-2
+returns-2 c = test-off (c .before .before .args .sizes .starts) (c .before .before .args .starts) _ (omega arith)
+
+pub enough-spec : {M : Type 1} → statement M
+enough-spec = tie.close (tie.spec returns returns-2)

@@ -1,0 +1,86 @@
+-- TODO
+-- Assumes nothing.
+use mathlib.Core.Path.{_≡_, refl, sym, ap, _∙_}
+use mathlib.Core.List.{List}
+use Prim.Native.Nat.{ℕ, _+_, _*_, _-_, _^_, _≤_, _<_}
+use native.Mathlib.Omega.{arith}
+use lib.ListN.{length}
+use Rattle.assembly.specs.Steps.{emptyBlocks}
+use Rattle.flatten.proofs.SizeLaws.{majors-few, empty-none, empty-more}
+use Rattle.record.specs.Record.{majorsOf}
+use borrow.Author.Needs.{needs}
+use Rattle.flatten.proofs.sizes.empty_blocks.Statement.{statement}
+use Rattle.flatten.proofs.sizes.empty_blocks.Tie as tie
+
+abbrev Inv-loop : tie.InvT-loop
+Inv-loop d room blocks majors sum₀ s₀ sum s = (s ≤ majors) × (sum ≡ emptyBlocks d s) × (sum ≤ 4294967295 * s)
+
+abbrev μ-loop : tie.MeasureT-loop
+μ-loop d room blocks majors sum₀ s₀ sum s = majors - s
+
+word-at-requires : tie.Need-word-at-requires Inv-loop μ-loop
+word-at-requires c κs = search needs
+
+word-at-requires-2 : tie.Need-word-at-requires-2 Inv-loop μ-loop
+word-at-requires-2 c κs = search needs
+
+cast-majors : tie.Need-cast-majors Inv-loop μ-loop
+cast-majors c = search needs
+
+loop-holds : tie.Need-loop-holds Inv-loop μ-loop
+loop-holds c = (omega arith, empty-none (c .before .before .before .before .args .d .now), omega arith)
+
+add-word-at : tie.Need-add-word-at Inv-loop μ-loop
+add-word-at c = search needs
+
+word-at-requires-3 : tie.Need-word-at-requires-3 Inv-loop μ-loop
+word-at-requires-3 c κs = search needs
+
+blocks-left-requires : tie.Need-blocks-left-requires Inv-loop μ-loop
+blocks-left-requires c κs = search needs
+
+cast-sum : tie.Need-cast-sum Inv-loop μ-loop
+cast-sum c = search needs
+
+add-sum : tie.Need-add-sum Inv-loop μ-loop
+add-sum c = search needs
+
+add-s : tie.Need-add-s Inv-loop μ-loop
+add-s c = search needs
+
+loop-less : tie.Need-loop-less Inv-loop μ-loop
+loop-less c = search needs
+
+loop-again : tie.Need-loop-again Inv-loop μ-loop
+loop-again c = 
+    let l = c .before .before .before .loop in (
+      omega arith,
+      empty-more (c .before .before .before .before .before .before .before .before .args .d .now) (l .s) (l .sum) (c .blocks-left .result) _ _ (l .inv .1) (c .before .before .before .before .before .word-at .ensures) (c .before .word-at3 .ensures) (c .blocks-left .ensures),
+      omega (arith, l .inv .2),
+    )
+
+returns : tie.Need-returns Inv-loop μ-loop
+returns c = 
+    let l = c .before .loop in
+    let e : l .s ≡ majorsOf (c .before .before .before .before .before .before .args .d .now) = omega (arith, c .before .before .word-at2 .ensures) in
+    (l .inv .1 ∙ ap (emptyBlocks (c .before .before .before .before .before .before .args .d .now)) e, omega (arith, l .inv .2, majors-few (c .before .before .before .before .before .before .args .d .now) (c .before .before .before .before .before .before .args .room .now) (c .before .before .before .before .before .before .pre) ))
+
+pub empty-blocks-spec : {M : Type 1} → statement M
+empty-blocks-spec =
+    tie.close
+    (tie.spec
+    Inv-loop
+    μ-loop
+    word-at-requires
+    word-at-requires-2
+    cast-majors
+    loop-holds
+    add-word-at
+    word-at-requires-3
+    blocks-left-requires
+    cast-sum
+    add-sum
+    add-s
+    loop-less
+    loop-again
+    returns)

@@ -1,0 +1,102 @@
+// The sizes of an accepted plan's result: document 01, "Blocks and offsets".
+ghost use mathlib.Core.Path.{_≡_};
+ghost use Prim.Native.Nat.{_-_, _^_, _≤_};
+ghost use lib.ListN.{length};
+ghost use Rattle.words.specs.Sum.{sumTo};
+ghost use Rattle.record.specs.Record.{majorsOf, partsOf};
+ghost use Rattle.blocks.specs.Blocks.{sramWords};
+ghost use Rattle.assembly.specs.Assembly.{scriptWords};
+ghost use Rattle.assembly.specs.Steps.{lengthOf, emptyBlocks};
+ghost use Rattle.layout.specs.Layout.{Sound};
+ghost use Rattle.flatten.specs.Flatten.{sizesOf};
+ghost use Rattle.flatten.specs.Answers.{sizesIn};
+use positions::planned::state_words;
+use record::bodies::parts_of;
+use record::places::head_base;
+use record::places::word_at;
+use words::edition::Edition;
+
+// How much a plan's result takes: starts, words of the script, words of the state, words of SRAM.
+pub struct Sizes {
+    pub starts: u64,
+    pub words: u64,
+    pub state: u64,
+    pub sram: u64,
+}
+
+// The blocks that a number of parts leaves empty.
+fn blocks_left(blocks: u32, parts: u32) -> u32
+    ensures { λ r. ⌜ r ≡ blocks - parts ⌝ }
+{
+    if parts < blocks { blocks - parts } else { 0 }
+}
+
+// The empty blocks of all major stages.
+fn empty_blocks(d: &[u8], room: &[u32]) -> u64
+    requires { ⌜ Sound (now d) (now room) ⌝ }
+    ensures { λ r. ⌜ (r ≡ emptyBlocks (now (d .entry)) (majorsOf (now (d .entry)))) × (r ≤ 2 ^ 38) ⌝ }
+{
+    let blocks = word_at(d, 0);
+    let majors = word_at(d, 1) as usize;
+    let mut sum: u64 = 0;
+    let mut s = 0;
+    while s < majors {
+        sum += blocks_left(blocks, word_at(d, 5 + s)) as u64;
+        s += 1;
+    }
+    sum
+}
+
+// The words of all parts' scripts.
+fn parts_words(d: &[u8], room: &[u32]) -> u64
+    requires { ⌜ Sound (now d) (now room) ⌝ }
+    ensures { λ r. ⌜ (r ≡ sumTo (lengthOf 256 (now (d .entry))) (partsOf (now (d .entry)))) × (r ≤ 2 ^ 63) ⌝ }
+{
+    let parts = parts_of(d);
+    let heads = head_base(d);
+    let mut sum: u64 = 0;
+    let mut p = 0;
+    while p < parts {
+        sum += Edition::part_words(room[65536 + 16 * p + 10], word_at(d, heads + 2 * p));
+        p += 1;
+    }
+    sum
+}
+
+// The words of the whole script.
+fn script_words(d: &[u8], room: &[u32]) -> u64
+    requires { ⌜ Sound (now d) (now room) ⌝ }
+    ensures { λ r. ⌜ r ≡ length (scriptWords 256 (now (d .entry))) ⌝ }
+{
+    parts_words(d, room) + 256 * empty_blocks(d, room) + 2048
+}
+
+// The words of SRAM.
+fn sram_words(d: &[u8], room: &[u32]) -> u64
+    requires { ⌜ Sound (now d) (now room) ⌝ }
+    ensures { λ r. ⌜ r ≡ sramWords (now (d .entry)) ⌝ }
+{
+    let parts = parts_of(d);
+    let mut sum: u64 = 0;
+    let mut p = 0;
+    while p < parts {
+        sum += 8192 * (room[65536 + 16 * p + 3] as u64);
+        p += 1;
+    }
+    sum
+}
+
+// The sizes of an accepted plan, whose part table stands in the room.
+pub fn sizes_of(d: &[u8], room: &[u32]) -> Sizes
+    requires { ⌜ Sound (now d) (now room) ⌝ }
+    ensures { λ r. ⌜ r ≡ sizesIn (sizesOf 256 (now (d .entry))) ⌝ }
+{
+    let blocks = word_at(d, 0) as u64;
+    let majors = word_at(d, 1) as u64;
+    Sizes {
+        starts: blocks * majors + 1,
+        words: script_words(d, room),
+        state: state_words(d, room) as u64,
+        sram: sram_words(d, room),
+    }
+}

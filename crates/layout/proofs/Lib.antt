@@ -1,0 +1,4 @@
+pub mod StoreLaws
+pub mod RowLaws
+pub mod PlacedLaws
+pub mod StageLaws

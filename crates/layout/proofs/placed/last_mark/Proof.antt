@@ -1,0 +1,23 @@
+-- TODO
+-- Assumes nothing.
+use mathlib.Core.Path.{_≡_, refl, sym, ap, _∙_}
+use Prim.Native.Nat.{ℕ, _+_, _*_, _-_, _≤_, _<_}
+use native.Mathlib.Omega.{arith}
+use lib.ListN.{length}
+use lib.Seq.{sets}
+use Rattle.assembly.proofs.StepLaws.{mark-last, mark-more}
+use borrow.Author.Needs.{needs}
+use Rattle.layout.proofs.placed.last_mark.Statement.{statement}
+use Rattle.layout.proofs.placed.last_mark.Tie as tie
+
+add-if1 : tie.Need-add-if1
+add-if1 c = search needs
+
+returns : tie.Need-returns
+returns c = sym (mark-last _ _ (c .if1 .taken))
+
+returns-2 : tie.Need-returns-2
+returns-2 c = sym (mark-more _ _ (c .if1 .left))
+
+pub last-mark-spec : {M : Type 1} → statement M
+last-mark-spec = tie.close (tie.spec add-if1 returns returns-2)
