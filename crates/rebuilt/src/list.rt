@@ -46,23 +46,27 @@ fn low_byte(word: u32) -> u8 {
     (word % 256) as u8
 }
 
-// Puts a word's bytes, the lowest first.
-fn put_word(bytes: &mut [u8], at: usize, word: u32)
-    requires { ⌜ 4 * at + 4 ≤ length (now bytes) ⌝ }
-{
-    bytes[4 * at] = low_byte(word);
-    bytes[4 * at + 1] = low_byte(word / 256);
-    bytes[4 * at + 2] = low_byte(word / 65536);
-    bytes[4 * at + 3] = low_byte(word / 16777216);
+// Byte k of a word, the lowest first.
+fn byte_of(word: u32, k: usize) -> u8 {
+    if k == 0 {
+        return low_byte(word);
+    }
+    if k == 1 {
+        return low_byte(word / 256);
+    }
+    if k == 2 {
+        return low_byte(word / 65536);
+    }
+    low_byte(word / 16777216)
 }
 
-// Puts the bytes of all words.
+// Fills `bytes` with those of the words.
 pub fn put_words(words: &[u32], bytes: &mut [u8])
-    requires { ⌜ 4 * length (now words) ≤ length (now bytes) ⌝ }
+    requires { ⌜ length (now bytes) ≤ 4 * length (now words) ⌝ }
 {
     let mut i = 0;
-    while i < words.len() {
-        put_word(bytes, i, words[i]);
+    while i < bytes.len() {
+        bytes[i] = byte_of(words[i / 4], i % 4);
         i += 1;
     }
 }

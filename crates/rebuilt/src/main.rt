@@ -152,7 +152,7 @@ fn case_agrees(
         return false;
     }
     let bytes = 4 * n;
-    put_words(&list[..n], plan);
+    put_words(&list[..n], &mut plan[..bytes]);
     agrees(
         file,
         at + list_words(file, at),

@@ -1,0 +1,39 @@
+-- Two lists are the same where they are as long and agree at every index, and only there.
+-- Assumes nothing.
+use mathlib.Core.Path.{_≡_, refl, sym, ap, subst}
+use mathlib.Core.Bool.{Bool, true, false}
+use mathlib.Core.List.{List}
+use Prim.Native.Nat.{ℕ, _+_, _≤_, _<_}
+use native.Mathlib.Nat.{lt-of-lt-of-le}
+use lib.Dec.{T}
+use lib.ListN.{length, getD}
+use lib.Seq.{ext-getD}
+use borrow.Author.Count.{below-none, below-more}
+
+module _ (a b : List ℕ) where
+  abbrev pub AlikeAt : ℕ → Type 0
+  AlikeAt k = getD a k 0 ≡ getD b k 0
+
+  abbrev pub Alike : ℕ → Type 0
+  Alike i = (k : ℕ) → k < i → AlikeAt k
+
+  abbrev pub Tells : Bool → Type 0
+  Tells r = (r ≡ true → a ≡ b) × (a ≡ b → r ≡ true)
+
+  never : {X : Type 0} → false ≡ true → X
+  never e = absurd (subst T (sym e) tt)
+
+  pub other-length : (length a ≡ length b → ⊥) → Tells false
+  other-length h = ((λ e. never e), (λ e. absurd (h (ap (λ (l : List ℕ). length l) e))))
+
+  pub other-at : (i : ℕ) → (AlikeAt i → ⊥) → Tells false
+  other-at i h = ((λ e. never e), (λ e. absurd (h (ap (λ (l : List ℕ). getD l i 0) e))))
+
+  pub alike-none : Alike 0
+  alike-none = below-none AlikeAt
+
+  pub alike-more : (i : ℕ) → Alike i → AlikeAt i → Alike (i + 1)
+  alike-more i h e = below-more AlikeAt i h e
+
+  pub alike-all : (i : ℕ) → length a ≡ length b → Alike i → length a ≤ i → Tells true
+  alike-all i l h g = ((λ e. ext-getD 0 a b l (λ k m. h k (lt-of-lt-of-le m g))), (λ e. refl))
