@@ -60,12 +60,13 @@ fn byte_of(word: u32, k: usize) -> u8 {
     low_byte(word / 16777216)
 }
 
-// Fills `bytes` with those of the words.
-pub fn put_words(words: &[u32], bytes: &mut [u8])
-    requires { ⌜ length (now bytes) ≤ 4 * length (now words) ⌝ }
+// Puts the bytes of the first `count` words.
+pub fn put_words(words: &[u32], count: usize, bytes: &mut [u8])
+    requires { ⌜ (count ≤ length (now words)) × (4 * count ≤ length (now bytes)) ⌝ }
 {
+    let end = 4 * count;
     let mut i = 0;
-    while i < bytes.len() {
+    while i < end {
         bytes[i] = byte_of(words[i / 4], i % 4);
         i += 1;
     }
@@ -76,12 +77,12 @@ fn joined(low: u32, high: u32) -> u64 {
     low as u64 + 0x1_0000_0000 * (high as u64)
 }
 
-// Numbers of their low and high words, one after the other.
-pub fn join_halves(halves: &[u32], numbers: &mut [u64])
-    requires { ⌜ 2 * length (now numbers) ≤ length (now halves) ⌝ }
+// Puts the first `count` numbers of their low and high words, one after the other.
+pub fn join_halves(halves: &[u32], count: usize, numbers: &mut [u64])
+    requires { ⌜ (2 * count ≤ length (now halves)) × (count ≤ length (now numbers)) ⌝ }
 {
     let mut i = 0;
-    while i < numbers.len() {
+    while i < count {
         numbers[i] = joined(halves[2 * i], halves[2 * i + 1]);
         i += 1;
     }

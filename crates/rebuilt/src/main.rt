@@ -62,7 +62,7 @@ fn starts_agree(
     if stored.len() < numbers {
         return false;
     }
-    join_halves(&list[..n], &mut stored[..numbers]);
+    join_halves(list, numbers, stored);
     same_starts(starts, &stored[..numbers])
 }
 
@@ -152,7 +152,7 @@ fn case_agrees(
         return false;
     }
     let bytes = 4 * n;
-    put_words(&list[..n], &mut plan[..bytes]);
+    put_words(list, n, plan);
     agrees(
         file,
         at + list_words(file, at),

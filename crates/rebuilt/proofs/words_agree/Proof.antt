@@ -1,32 +1,28 @@
+-- Indices are in range, and the loop ends.
+-- Assumes nothing.
+use mathlib.Core.Path.{_≡_, refl, _∙_}
+use Prim.Native.Nat.{_+_, _*_, _-_, _/_, _≤_, _<_}
+use native.Mathlib.Omega.{arith}
+use lib.ListN.{length, length-set, length-take, length-append, length-drop}
 use borrow.Author.Needs.{needs}
 use Rattle.rebuilt.proofs.words_agree.Statement.{statement}
 use Rattle.rebuilt.proofs.words_agree.Tie as tie
-use Rattle.rebuilt.proofs.words_agree.Reads as reads
-use Rattle.rebuilt.proofs.words_agree.Lts as lts
-use Rattle.rebuilt.proofs.list.expand.Reads as expand-reads
-use Rattle.rebuilt.proofs.same.same_words.Reads as same-words-reads
 
--- src/main.rt:73:9
 expand-requires : tie.Need-expand-requires
 expand-requires c κs = search needs
 
--- src/main.rt:74:23
 slice-reshare-prefix-same-words : tie.Need-slice-reshare-prefix-same-words
 slice-reshare-prefix-same-words c = search needs
 
--- src/main.rt:74:23
 slice-aggregate-same-words : tie.Need-slice-aggregate-same-words
-slice-aggregate-same-words c = search needs
+slice-aggregate-same-words c = simp length-take (omega arith)
 
--- src/main.rt:74:5
 same-words-requires : tie.Need-same-words-requires
 same-words-requires c κs = search needs
 
--- src/main.rt:70:1
 same-length : tie.Need-same-length
 same-length c = search needs
 
--- src/main.rt:70:1
 returns : tie.Need-returns
 returns c = search needs
 

@@ -3,16 +3,16 @@
 use mathlib.Core.Path.{_≡_, refl, _∙_}
 use Prim.Native.Nat.{_+_, _*_, _-_, _/_, _≤_, _<_}
 use native.Mathlib.Omega.{arith}
-use lib.ListN.{length, length-set}
+use lib.ListN.{length, length-set, length-take, length-append, length-drop}
 use borrow.Author.Needs.{needs}
 use Rattle.rebuilt.proofs.list.join_halves.Statement.{statement}
 use Rattle.rebuilt.proofs.list.join_halves.Tie as tie
 
 abbrev Inv-loop : tie.InvT-loop
-Inv-loop halves numbers₀ i₀ numbers i = (i ≤ length numbers₀) × (length numbers ≡ length numbers₀)
+Inv-loop halves count numbers₀ i₀ numbers i = (i ≤ count) × (length numbers ≡ length numbers₀)
 
 abbrev μ-loop : tie.MeasureT-loop
-μ-loop halves numbers₀ i₀ numbers i = length numbers₀ - i
+μ-loop halves count numbers₀ i₀ numbers i = count - i
 
 loop-holds : tie.Need-loop-holds Inv-loop μ-loop
 loop-holds c = search needs

@@ -3,16 +3,19 @@
 use mathlib.Core.Path.{_≡_, refl, _∙_}
 use Prim.Native.Nat.{_+_, _*_, _-_, _/_, _≤_, _<_}
 use native.Mathlib.Omega.{arith}
-use lib.ListN.{length, length-set}
+use lib.ListN.{length, length-set, length-take, length-append, length-drop}
 use borrow.Author.Needs.{needs}
 use Rattle.rebuilt.proofs.list.put_words.Statement.{statement}
 use Rattle.rebuilt.proofs.list.put_words.Tie as tie
 
 abbrev Inv-loop : tie.InvT-loop
-Inv-loop words bytes₀ i₀ bytes i = (i ≤ length bytes₀) × (length bytes ≡ length bytes₀)
+Inv-loop words count bytes₀ end i₀ bytes i = (i ≤ 4 * count) × (length bytes ≡ length bytes₀)
 
 abbrev μ-loop : tie.MeasureT-loop
-μ-loop words bytes₀ i₀ bytes i = length bytes₀ - i
+μ-loop words count bytes₀ end i₀ bytes i = 4 * count - i
+
+mul-end : tie.Need-mul-end Inv-loop μ-loop
+mul-end c = search needs
 
 loop-holds : tie.Need-loop-holds Inv-loop μ-loop
 loop-holds c = search needs
@@ -50,6 +53,7 @@ put-words-spec =
     (tie.spec
     Inv-loop
     μ-loop
+    mul-end
     loop-holds
     mul-byte-of
     shared-slice-read-byte-of
