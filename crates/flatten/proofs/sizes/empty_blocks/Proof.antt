@@ -52,7 +52,7 @@ loop-less : tie.Need-loop-less Inv-loop μ-loop
 loop-less c = search needs
 
 loop-again : tie.Need-loop-again Inv-loop μ-loop
-loop-again c =
+loop-again c = 
     let l = c .before .before .before .loop in (
       omega arith,
       empty-more (c .before .before .before .before .before .before .before .before .args .d .now) (l .s) (l .sum) (c .blocks-left .result) _ _ (l .inv .1) (c .before .before .before .before .before .word-at .ensures) (c .before .word-at3 .ensures) (c .blocks-left .ensures),
@@ -60,10 +60,10 @@ loop-again c =
     )
 
 returns : tie.Need-returns Inv-loop μ-loop
-returns c =
+returns c = 
     let l = c .before .loop in
     let e : l .s ≡ majorsOf (c .before .before .before .before .before .before .args .d .now) = omega (arith, c .before .before .word-at2 .ensures) in
-    (l .inv .1 ∙ ap (emptyBlocks (c .before .before .before .before .before .before .args .d .now)) e, omega (arith, l .inv .2, majors-few (c .before .before .before .before .before .before .args .d .now) (c .before .before .before .before .before .before .args .room .now) (c .before .before .before .before .before .before .pre)))
+    (l .inv .1 ∙ ap (emptyBlocks (c .before .before .before .before .before .before .args .d .now)) e, omega (arith, l .inv .2, majors-few (c .before .before .before .before .before .before .args .d .now) (c .before .before .before .before .before .before .args .room .now) (c .before .before .before .before .before .before .pre) ))
 
 pub empty-blocks-spec : {M : Type 1} → statement M
 empty-blocks-spec =

@@ -32,7 +32,7 @@ script-words-requires : tie.Need-script-words-requires
 script-words-requires c κs = search needs
 
 state-words-requires : tie.Need-state-words-requires
-state-words-requires c κs = judgeable (c .before .before .before .before .before .args .d .now) (c .before .before .before .before .before .args .room .now) (c .before .before .before .before .before .pre)
+state-words-requires c κs = judgeable (c .before .before .before .before .before .args .d .now) (c .before .before .before .before .before .args .room .now) (c .before .before .before .before .before .pre) 
 
 sram-words-requires : tie.Need-sram-words-requires
 sram-words-requires c κs = search needs
