@@ -1,6 +1,6 @@
 -- From the verdict of the checks to the answer of a build, and what the lent slices then hold.
 -- Assumes nothing.
-use mathlib.Core.Path.{_≡_, refl, sym, ap, ap₂, _∙_}
+use mathlib.Core.Path.{_≡_, refl, sym, ap, _∙_}
 use mathlib.Core.Bool.{Bool, true, false, _&&_}
 use mathlib.Core.Option.{Option, none, some}
 use mathlib.Core.List.{List}
@@ -20,14 +20,14 @@ use Rattle.checks.specs.Verdicts.{verdictOf}
 use Rattle.checks.proofs.PassedLaws.{some-none}
 use Rattle.checks.specs.declared.Verdict.{Verdict}
 use Rattle.checks.specs.declared.Verdict.the-variants as verdict
-use Rattle.assembly.specs.Assembly.{scriptWords, scriptStarts}
+use Rattle.assembly.specs.Assembly.{scriptWords}
 use Rattle.assembly.proofs.StartLaws.{starts-length}
 use Rattle.layout.specs.Layout.{Sound, PlanRoom}
 use Rattle.flatten.specs.declared.sizes.Sizes.{Sizes}
 use Rattle.flatten.specs.declared.Flattened.{Flattened}
 use Rattle.flatten.specs.declared.Flattened.the-variants as flattened
 use Rattle.flatten.specs.Flatten as flat
-use Rattle.flatten.specs.Flatten.{Build, built, refusal, sizesOf, sizing, fits, ifFits, building, laid, startsAfter, wordsAfter, roomAfter}
+use Rattle.flatten.specs.Flatten.{Build, built, refusal, sizesOf, sizing, fits, ifFits, building, laid, roomAfter}
 use Rattle.flatten.specs.Answers.{sizesIn, flattenedOf}
 
 -- the answer that a verdict gives, where it is a refusal
@@ -40,7 +40,7 @@ no-verdict x e = let z : _≡_ {A = ℕ} 0 1 = cc in absurd (omega arith)
 
 -- ---- a refusal
 
-pub refused-is : (o : Option Refused) (x : Refusal) → verdict.Refused x ≡ verdictOf o → (q : Refused) × (o ≡ some q) × (flattened.Refused x ≡ flattenedOf (refusal q))
+refused-is : (o : Option Refused) (x : Refusal) → verdict.Refused x ≡ verdictOf o → (q : Refused) × (o ≡ some q) × (flattened.Refused x ≡ flattenedOf (refusal q))
 refused-is none x e = no-verdict x (sym e)
 refused-is (some q) x e = (q, refl, ap told e)
 
@@ -59,16 +59,16 @@ module _ (d room : List ℕ) where
   room-refused true none z q e = some-none q (sym e)
 
   module _ (q : Refused) (e : planVerdict 256 d (length room) ≡ some q) where
-    pub refused-room : (after : List ℕ) → after ≡ roomLeft d room → after ≡ roomAfter d room
+    refused-room : (after : List ℕ) → after ≡ roomLeft d room → after ≡ roomAfter d room
     unfolding planVerdict roomLeft roomAfter
     refused-room after is = is ∙ room-refused (leb (roomWords d) (length room)) (planRefusal 256 d) (readyRoom d (length room)) q e
 
-    pub refused-sizing : refusal q ≡ sizing 256 d (length room)
+    refused-sizing : refusal q ≡ sizing 256 d (length room)
     unfolding sizing
     refused-sizing = rw (e, sizing)
 
     module _ (s w : ℕ) where
-      pub refused-building : refusal q ≡ building 256 d (length room) s w
+      refused-building : refusal q ≡ building 256 d (length room) s w
       unfolding building
       refused-building = rw (e, building)
 

@@ -2,7 +2,7 @@
 -- Assumes nothing.
 use mathlib.Core.Path.{_≡_, refl, sym, ap, ap₂, _∙_}
 use mathlib.Core.List.{List}
-use Prim.Native.Nat.{ℕ, _+_, _*_, _-_, _^_, _≤_, _<_}
+use Prim.Native.Nat.{ℕ, _+_, _*_, _-_, _≤_, _<_}
 use native.Mathlib.Nat.{mul-le-mul-left}
 use native.Mathlib.Omega.{arith}
 use lib.ListN.{length, getD, take, replicate}
@@ -10,7 +10,7 @@ use lib.Seq.{take-take}
 use Rattle.words.specs.Edition.{partWords}
 use Rattle.words.specs.Sum.{sumTo}
 use Rattle.words.proofs.SumLaws.{sum-more}
-use Rattle.record.specs.Record.{wordAt, blocksOf, majorsOf, countAt, partsOf, headBase, stagesOf}
+use Rattle.record.specs.Record.{wordAt, blocksOf, majorsOf, countAt, partsOf, headBase}
 use Rattle.record.proofs.RecordLaws.{stages-at}
 use Rattle.counts.specs.Counts.{srams}
 use Rattle.blocks.specs.Blocks.{sramOf, stateWords, sramWords}
@@ -48,11 +48,8 @@ module _ (d room : List ℕ) (h : Sound d room) where
   pub majors-few : majorsOf d ≤ 64
   majors-few = plan-formed d room h .head .majors
 
-  pub blocks-few : blocksOf d ≤ 1024
+  blocks-few : blocksOf d ≤ 1024
   blocks-few = plan-formed d room h .head .blocks
-
-  pub parts-few : partsOf d ≤ 262144
-  parts-few = plan-formed d room h .sizes .headed .parts
 
   pub starts-few : (blocks majors : ℕ) → blocks ≡ blocksOf d → majors ≡ majorsOf d → blocks * majors ≤ 65536
   starts-few blocks majors b m =

@@ -1,7 +1,5 @@
 -- What the answers of the code stand for.
 -- Assumes nothing.
-use mathlib.Core.Path.{_≡_}
-use mathlib.Core.Option.{none}
 use Rattle.flatten.specs.declared.sizes.Sizes.{Sizes}
 use Rattle.flatten.specs.declared.Flattened.{Flattened}
 use Rattle.flatten.specs.declared.Flattened.the-variants.{Built, Refused}

@@ -2,15 +2,15 @@
 -- Assumes nothing.
 use mathlib.Core.Path.{_≡_, refl, sym, ap, ap₂, _∙_}
 use mathlib.Core.Logic.{⊎-elim}
-use mathlib.Core.List.{List, _∷_, _++_}
-use Prim.Native.Nat.{ℕ, suc, _+_, _-_, _≤_, _<_}
+use mathlib.Core.List.{List, _++_}
+use Prim.Native.Nat.{ℕ, _+_, _-_, _≤_, _<_}
 use native.Mathlib.Numerals.{add-one}
 use native.Mathlib.Omega.{arith}
 use borrow.Rule.Slice.PartMut.{putMid, mid-len}
 use lib.ListN.{length, getD, set, take, drop, replicate, length-append}
 use lib.Seq.{sets}
 use Rattle.words.proofs.BitLaws.{lt-or-ge}
-use Rattle.record.specs.Record.{blocksOf, majorsOf, countAt, partsBefore, partsOf}
+use Rattle.record.specs.Record.{blocksOf, countAt, partsBefore, partsOf}
 use Rattle.record.proofs.RecordLaws.{parts-more}
 use Rattle.record.proofs.FormLaws.{parts-in}
 use Rattle.blocks.specs.Fill.{blockAt}
@@ -22,7 +22,7 @@ use Rattle.assembly.proofs.GrowLaws.{grown-le}
 use Rattle.assembly.proofs.StepLaws as step
 use Rattle.assembly.proofs.RankLaws.{part-at, first-more, first-le, first-none, first-in, rank-found, row-at, rank-inside, rank-outside}
 use Rattle.assembly.proofs.LengthLaws.{part-length, empty-length}
-use Rattle.layout.specs.Layout.{rowScript, emptyWords, PartRoom, BlockAt, BlockRoom}
+use Rattle.layout.specs.Layout.{rowScript, emptyWords, PartRoom, BlockAt}
 use Rattle.layout.proofs.StoreLaws.{sets-next, put-sets, stored-length}
 
 pub empty-made : (l : List ℕ) (m : ℕ) → m ≡ 256 → l ≡ replicate m 0 → set l 1 1 ≡ emptyWords
@@ -52,7 +52,7 @@ module _ (d room : List ℕ) (s b from : ℕ) (q : BlockAt d room s b from) wher
   pub to-in : to ≤ end
   to-in = first-in d s (b + 1) (omega (arith, q .block)) some-blocks
 
-  pub base-le : partsBefore d s ≤ from
+  base-le : partsBefore d s ≤ from
   base-le = omega (arith, first-none d s, first-le d s 0 b (omega arith), q .first)
 
   -- ---- rank k names a part
@@ -86,7 +86,7 @@ module _ (d room : List ℕ) (s b from : ℕ) (q : BlockAt d room s b from) wher
       j-lt : j < length xs
       j-lt = omega (arith, parts-are)
 
-      pub part-in : rankedAt room k < partsOf d
+      part-in : rankedAt room k < partsOf d
       part-in = rank-in (omega (arith, to-in))
 
       part-row : rankedAt room k ≡ partsBefore d s + i
@@ -189,9 +189,6 @@ module _ (d room : List ℕ) (s b from : ℕ) (q : BlockAt d room s b from) wher
 
       pub empty-in : at + 256 ≤ length l
       empty-in = omega (arith, empty-next)
-
-      pub empty-lent : length (take (at + 256 - at) (drop at l)) ≡ 256
-      empty-lent = mid-len at (at + 256) l empty-in ∙ omega arith
 
       pub empty-stored : (z : List ℕ) → length z ≡ length (take (at + 256 - at) (drop at l)) → z ≡ emptyWords → putMid at (at + 256 - at) l z ≡ sets l at (blockWords 256 d s xs)
       empty-stored z kept e =

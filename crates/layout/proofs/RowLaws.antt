@@ -1,8 +1,8 @@
 -- What the row of a part gives its writer: the place of its body, and its numbers.
 -- Assumes nothing.
-use mathlib.Core.Path.{_≡_, refl, sym, ap, ap₂, _∙_}
+use mathlib.Core.Path.{_≡_, sym, ap, ap₂, _∙_}
 use mathlib.Core.List.{List, _++_}
-use Prim.Native.Nat.{ℕ, _+_, _*_, _-_, _/_, _%_, _^_, _≤_, _<_}
+use Prim.Native.Nat.{ℕ, _+_, _*_, _-_, _≤_, _<_}
 use native.Mathlib.Nat.{add-zero}
 use native.Mathlib.Omega.{arith}
 use borrow.Rule.Slice.PartMut.{putMid, mid-len}
@@ -41,7 +41,7 @@ module _ (d room : List ℕ) (h : Sound d room) where
     pub row-in : 65536 + 16 * p + 16 ≤ length room
     row-in = omega (arith, h .ready .wide)
 
-    pub body-place : (low : ℕ) → low ≡ getD room (65536 + 16 * p) 0 → low + 4294967296 * getD room (cell p 1) 0 ≡ bodyAt d p
+    body-place : (low : ℕ) → low ≡ getD room (65536 + 16 * p) 0 → low + 4294967296 * getD room (cell p 1) 0 ≡ bodyAt d p
     body-place low e =
         let c = h .ready .tabled .counted p l in
         omega (arith, e ∙ ap (λ (i : ℕ). getD room i 0) (sym (add-zero (65536 + 16 * p))) ∙ c .body-low, c .body-high)
@@ -74,7 +74,7 @@ module _ (d room : List ℕ) (h : Sound d room) where
     }
 
     module _ (x : Numbers) (are : NumbersOf d p x) where
-      pub part-long : partWords 256 (x .rounds) (x .stages) ≡ lengthOf 256 d p
+      part-long : partWords 256 (x .rounds) (x .stages) ≡ lengthOf 256 d p
       unfolding lengthOf
       part-long = ap₂ (partWords 256) (are .rounds) (are .stages)
 

@@ -1,7 +1,7 @@
 -- The blocks of a major stage, and the major stages, one after the other: what stands in the words and in the starts after each.
 -- Assumes nothing.
 use mathlib.Core.Path.{_≡_, refl, sym, ap, ap₂, _∙_}
-use mathlib.Core.List.{List, [], _∷_, _++_}
+use mathlib.Core.List.{List, [], _∷_}
 use Prim.Native.Nat.{ℕ, suc, _+_, _*_, _-_, _≤_, _<_}
 use native.Mathlib.Nat.{mul-suc}
 use native.Mathlib.Numerals.{add-one}
@@ -19,7 +19,7 @@ use Rattle.assembly.proofs.RankLaws.{first-none, first-all}
 use Rattle.assembly.proofs.LengthLaws.{words-length}
 use Rattle.assembly.proofs.StartLaws.{start-first, start-more, start-last, starts-none, starts-more, all-none, all-more, starts-are, stage-starts, major-starts, starts-length}
 use Rattle.layout.specs.declared.placed.Next.{Next}
-use Rattle.layout.specs.Layout.{Sound, BlockRoom, NextOf, StageRoom, PlanRoom}
+use Rattle.layout.specs.Layout.{BlockRoom, NextOf, StageRoom, PlanRoom}
 use Rattle.layout.proofs.StoreLaws.{sets-next, sets-behind, put-sets, stored-length}
 use Rattle.layout.proofs.RowLaws.{plan-formed}
 
@@ -149,6 +149,9 @@ module _ (d room : List ℕ) (m w : ℕ) (q : PlanRoom d room m w) where
 
   -- ---- the final start, and the zero words
 
+  pub last-in : (blocks majors : ℕ) → blocks ≡ blocksOf d → majors ≡ majorsOf d → blocks * majors < m
+  last-in blocks majors b k = omega (arith, starts-end, ap₂ _*_ b k)
+
   module _ (end : ℕ) (is : end ≡ length (majorWords 256 d (majorsOf d))) where
     pub end-fits : end + 2048 ≤ w
     end-fits = omega (arith, words-end)
@@ -160,9 +163,6 @@ module _ (d room : List ℕ) (m w : ℕ) (q : PlanRoom d room m w) where
         ∙ sets-behind l l₁ (set l₁ (blocksOf d * majorsOf d) (length (majorWords 256 d (majorsOf d)))) (majorStarts 256 d (majorsOf d)) (length (majorWords 256 d (majorsOf d)) ∷ [])
         (blocksOf d * majorsOf d) a (sym (major-starts 256 d (majorsOf d))) refl
         ∙ ap (sets l 0) (sym (starts-are 256 d))
-
-    pub last-in : (blocks majors : ℕ) → blocks ≡ blocksOf d → majors ≡ majorsOf d → blocks * majors < m
-    last-in blocks majors b k = omega (arith, starts-end, ap₂ _*_ b k)
 
     pub last-words : (l l₁ z : List ℕ) → length l ≡ w → l₁ ≡ sets l 0 (majorWords 256 d (majorsOf d)) → z ≡ replicate (length (take (end + 2048 - end) (drop end l₁))) 0
         → putMid end (end + 2048 - end) l₁ z ≡ sets l 0 (scriptWords 256 d)

@@ -1,9 +1,7 @@
--- TODO
+-- The words are written where both slices are long enough; else it is refusal 14.
 -- Assumes nothing.
-use mathlib.Core.Path.{_≡_, refl, sym, ap, _∙_}
-use mathlib.Core.List.{List}
-use Prim.Native.Nat.{ℕ, _+_, _*_, _-_, _^_, _≤_, _<_}
-use native.Mathlib.Omega.{arith}
+use mathlib.Core.Path.{sym, ap, _∙_}
+use Prim.Native.Nat.{ℕ, _-_}
 use lib.ListN.{length}
 use lib.ListN.{replicate}
 use Rattle.checks.specs.Refusals.{nowhere}
@@ -23,7 +21,7 @@ enough-requires : tie.Need-enough-requires
 enough-requires c κs = search needs
 
 write-plan-requires : tie.Need-write-plan-requires
-write-plan-requires c κs = 
+write-plan-requires c κs =
     let a = c .before .before .before .before .before .before .before .before .before .before .before .args in
     plan-room (a .plan .now) (length (a .starts .now)) (length (a .words .now)) (c .before .before .before .before .before .sizes-of .result) (c .before .before .before .before .before .sizes-of .ensures) (c .before .before .before .before .enough .result) (c .before .before .before .before .enough .ensures) (a .room .now) (c .before .before .before .before .before .before .before .before .before .before .before .pre) (c .before .before .before .if1 .taken)
 
@@ -40,14 +38,18 @@ same-length-3 : tie.Need-same-length-3
 same-length-3 c = search needs
 
 returns : tie.Need-returns
-returns c = 
+returns c =
     let a = c .before .before .before .before .before .before .before .before .before .before .before .before .before .before .before .before .before .before .before .before .before .before .args in
     let w = c .before .before .before .before .before .before .before .before .before .before .write-plan in
     let e = long-enough (a .plan .now) (length (a .starts .now)) (length (a .words .now)) (c .before .before .before .before .before .before .before .before .before .before .before .before .before .before .before .before .sizes-of .result) (c .before .before .before .before .before .before .before .before .before .before .before .before .before .before .before .before .sizes-of .ensures) (c .before .before .before .before .before .before .before .before .before .before .before .before .before .before .before .enough .result) (c .before .before .before .before .before .before .before .before .before .before .before .before .before .before .before .enough .ensures) (c .before .before .before .before .before .before .before .before .before .before .before .before .before .before .if1 .taken) in (
       ap Built (c .before .before .before .before .before .before .before .before .before .before .before .before .before .before .before .before .sizes-of .ensures) ∙ sym (ap flattenedOf e),
-      (c .before .before .clear .ensures ∙ ap (λ (n : ℕ). replicate n 0) (w .kept .1 .0),
-      (laid-built _ (sizesOf 256 (a .plan .now)) e (scriptStarts 256 (a .plan .now)) (a .starts .now) _ (w .ensures .1 .0),
-      laid-built _ (sizesOf 256 (a .plan .now)) e (scriptWords 256 (a .plan .now)) (a .words .now) _ (w .ensures .1 .1))),
+      (
+        c .before .before .clear .ensures ∙ ap (λ (n : ℕ). replicate n 0) (w .kept .1 .0),
+        (
+          laid-built _ (sizesOf 256 (a .plan .now)) e (scriptStarts 256 (a .plan .now)) (a .starts .now) _ (w .ensures .1 .0),
+          laid-built _ (sizesOf 256 (a .plan .now)) e (scriptWords 256 (a .plan .now)) (a .words .now) _ (w .ensures .1 .1),
+        ),
+      ),
     )
 
 clear-requires-2 : tie.Need-clear-requires-2
@@ -57,12 +59,14 @@ same-length-4 : tie.Need-same-length-4
 same-length-4 c = search needs
 
 returns-2 : tie.Need-returns-2
-returns-2 c = 
+returns-2 c =
     let a = c .before .before .before .before .before .before .before .before .before .before .before .before .args in
     let e = too-short (a .plan .now) (length (a .starts .now)) (length (a .words .now)) (c .before .before .before .before .before .before .sizes-of .result) (c .before .before .before .before .before .before .sizes-of .ensures) (c .before .before .before .before .before .enough .result) (c .before .before .before .before .before .enough .ensures) (c .before .before .before .before .if1 .left) in (
       sym (ap flattenedOf e),
-      (c .before .before .clear2 .ensures,
-      (laid-refused _ (nowhere 14) e (scriptStarts 256 (a .plan .now)) (a .starts .now), laid-refused _ (nowhere 14) e (scriptWords 256 (a .plan .now)) (a .words .now))),
+      (
+        c .before .before .clear2 .ensures,
+        (laid-refused _ (nowhere 14) e (scriptStarts 256 (a .plan .now)) (a .starts .now), laid-refused _ (nowhere 14) e (scriptWords 256 (a .plan .now)) (a .words .now)),
+      ),
     )
 
 pub build-accepted-spec : {M : Type 1} → statement M

@@ -1,12 +1,8 @@
--- TODO
+-- One comparison, then the other.
 -- Assumes nothing.
-use mathlib.Core.Path.{_≡_, refl, sym, ap, _∙_}
-use mathlib.Core.List.{List}
-use Prim.Native.Nat.{ℕ, _+_, _*_, _-_, _^_, _≤_, _<_}
+use Prim.Native.Nat.{_-_}
 use native.Mathlib.Omega.{arith}
-use lib.ListN.{length}
 use Rattle.flatten.proofs.AnswerLaws.{test-on, test-off}
-use borrow.Author.Needs.{needs}
 use Rattle.flatten.proofs.enough.Statement.{statement}
 use Rattle.flatten.proofs.enough.Tie as tie
 

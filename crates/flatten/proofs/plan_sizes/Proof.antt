@@ -1,9 +1,7 @@
--- TODO
+-- A refused plan is answered by its refusal; an accepted one by its sizes.
 -- Assumes nothing.
-use mathlib.Core.Path.{_≡_, refl, sym, ap, _∙_}
-use mathlib.Core.List.{List}
-use Prim.Native.Nat.{ℕ, _+_, _*_, _-_, _^_, _≤_, _<_}
-use native.Mathlib.Omega.{arith}
+use mathlib.Core.Path.{sym, ap, _∙_}
+use Prim.Native.Nat.{_-_}
 use lib.ListN.{length}
 use Rattle.checks.specs.Refusals.{planVerdict}
 use Rattle.flatten.specs.Answers.{flattenedOf}
@@ -22,7 +20,7 @@ enum-told : tie.Need-enum-told
 enum-told c = search needs
 
 size-accepted-requires : tie.Need-size-accepted-requires
-size-accepted-requires c κs = 
+size-accepted-requires c κs =
     let a = c .before .before .before .before .before .before .before .before .before .args in
     let e = accepted-is (planVerdict 256 (a .plan .now) (length (a .room .now))) (sym (c .before .enum-told .given .1) ∙ c .before .before .before .before .before .check-plan .ensures .0) in
     sound (a .plan .now) (a .room .now) e (c .before .before .before .before .before .check-plan .last .1 .0) (c .before .before .before .before .before .check-plan .ensures .1 .1 e)
@@ -31,15 +29,15 @@ same-length : tie.Need-same-length
 same-length c = search needs
 
 returns : tie.Need-returns
-returns c = 
+returns c =
     let a = c .before .before .before .before .before .before .before .before .before .args in
-    refused-sized (a .plan .now) (a .room .now) (c .before .x .given .0 .0) (sym (c .before .x .given .1) ∙ c .before .before .before .before .before .check-plan .ensures .0) (c .before .before .before .before .before .check-plan .last .1 .0) (c .before .before .before .before .before .check-plan .ensures .1 .0) 
+    refused-sized (a .plan .now) (a .room .now) (c .before .x .given .0 .0) (sym (c .before .x .given .1) ∙ c .before .before .before .before .before .check-plan .ensures .0) (c .before .before .before .before .before .check-plan .last .1 .0) (c .before .before .before .before .before .check-plan .ensures .1 .0)
 
 same-length-2 : tie.Need-same-length-2
 same-length-2 c = search needs
 
 returns-2 : tie.Need-returns-2
-returns-2 c = 
+returns-2 c =
     let a = c .before .before .before .before .before .before .before .before .before .before .before .before .args in
     let e = accepted-is (planVerdict 256 (a .plan .now) (length (a .room .now))) (sym (c .before .before .before .before .enum-told .given .1) ∙ c .before .before .before .before .before .before .before .before .check-plan .ensures .0) in
     let z = c .before .before .size-accepted in

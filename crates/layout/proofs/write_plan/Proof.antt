@@ -1,13 +1,8 @@
--- TODO
+-- All major stages, then the final start and the zero words.
 -- Assumes nothing.
-use mathlib.Core.Path.{_≡_, refl, sym, ap, _∙_}
-use mathlib.Core.List.{List}
-use Prim.Native.Nat.{ℕ, _+_, _*_, _-_, _≤_, _<_}
+use mathlib.Core.Path.{refl, _∙_}
+use Prim.Native.Nat.{_+_, _-_}
 use native.Mathlib.Omega.{arith}
-use lib.ListN.{length}
-use lib.Seq.{sets}
-use Rattle.assembly.specs.Assembly.{majorStarts, majorWords}
-use Rattle.layout.proofs.StoreLaws.{stored-length}
 use Rattle.layout.proofs.StageLaws.{end-fits, last-start, last-in, last-words}
 use borrow.Rule.Slice.PartMut.{same-len-mid}
 use lib.ListN.{length-set}
@@ -33,20 +28,18 @@ cast-last-2 c = search needs
 mul-last : tie.Need-mul-last
 mul-last c =
     let a = c .before .before .before .before .before .before .before .before .before .before .before .before .before .before .before .before in
-    let w = c .before .before .before .before .before .before .before .before .write-stages in
-    omega (arith, last-in (a .args .d .now) (a .args .room .now) _ _ (a .pre) _ (w .ensures .0) _ _ (c .before .word-at .ensures) (c .word-at2 .ensures))
+    omega (arith, last-in (a .args .d .now) (a .args .room .now) _ _ (a .pre) _ _ (c .before .word-at .ensures) (c .word-at2 .ensures))
 
 mul-starts : tie.Need-mul-starts
 mul-starts c =
     let a = c .before .before .before .before .before .before .before .before .before .before .before .before .before .before .before .before in
-    let w = c .before .before .before .before .before .before .before .before .write-stages in
-    omega (arith, last-in (a .args .d .now) (a .args .room .now) _ _ (a .pre) _ (w .ensures .0) _ _ (c .before .word-at .ensures) (c .word-at2 .ensures))
+    omega (arith, last-in (a .args .d .now) (a .args .room .now) _ _ (a .pre) _ _ (c .before .word-at .ensures) (c .word-at2 .ensures))
 
 slice-write-starts : tie.Need-slice-write-starts
 slice-write-starts c =
     let a = c .before .before .before .before .before .before .before .before .before .before .before .before .before .before .before .before in
     let w = c .before .before .before .before .before .before .before .before .write-stages in
-    omega (arith, last-in (a .args .d .now) (a .args .room .now) _ _ (a .pre) _ (w .ensures .0) _ _ (c .before .word-at .ensures) (c .word-at2 .ensures), w .kept .1 .1 .0)
+    omega (arith, last-in (a .args .d .now) (a .args .room .now) _ _ (a .pre) _ _ (c .before .word-at .ensures) (c .word-at2 .ensures), w .kept .1 .1 .0)
 
 add-clear : tie.Need-add-clear
 add-clear c =

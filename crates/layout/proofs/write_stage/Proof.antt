@@ -1,10 +1,8 @@
--- TODO
+-- The loop's invariant: the first b blocks are written, and their starts.
 -- Assumes nothing.
-use mathlib.Core.Path.{_≡_, refl, sym, ap, _∙_}
-use mathlib.Core.List.{List}
-use Prim.Native.Nat.{ℕ, _+_, _*_, _-_, _≤_, _<_}
+use mathlib.Core.Path.{_≡_, refl, ap, _∙_}
+use Prim.Native.Nat.{ℕ, _-_, _≤_}
 use native.Mathlib.Omega.{arith}
-use lib.ListN.{length}
 use lib.Seq.{sets}
 use Rattle.assembly.specs.Assembly.{blockStart, stageStarts, stageWords}
 use Rattle.assembly.specs.Steps.{firstRank}

@@ -1,13 +1,12 @@
--- TODO
+-- The loop's invariant: the words of the first p parts, each below 2^45.
 -- Assumes nothing.
-use mathlib.Core.Path.{_≡_, refl, sym, ap, _∙_}
-use mathlib.Core.List.{List}
-use Prim.Native.Nat.{ℕ, _+_, _*_, _-_, _^_, _≤_, _<_}
+use mathlib.Core.Path.{_≡_, ap, _∙_}
+use Prim.Native.Nat.{_+_, _*_, _-_, _≤_}
 use native.Mathlib.Omega.{arith}
-use lib.ListN.{length}
 use Rattle.words.specs.Sum.{sumTo}
 use Rattle.assembly.specs.Steps.{lengthOf}
-use Rattle.flatten.proofs.SizeLaws.{majors-few, parts-few, parts-none, parts-next}
+use Rattle.layout.proofs.RowLaws.{parts-few}
+use Rattle.flatten.proofs.SizeLaws.{majors-few, parts-none, parts-next}
 use Rattle.record.specs.Record.{partsOf}
 use borrow.Author.Needs.{needs}
 use Rattle.flatten.proofs.sizes.parts_words.Statement.{statement}
@@ -20,13 +19,13 @@ abbrev μ-loop : tie.MeasureT-loop
 μ-loop d room parts heads sum₀ p₀ sum p = parts - p
 
 parts-of-requires : tie.Need-parts-of-requires Inv-loop μ-loop
-parts-of-requires c κs = majors-few (c .before .before .args .d .now) (c .before .before .args .room .now) (c .before .before .pre) 
+parts-of-requires c κs = majors-few (c .before .before .args .d .now) (c .before .before .args .room .now) (c .before .before .pre)
 
 head-base-requires : tie.Need-head-base-requires Inv-loop μ-loop
 head-base-requires c κs = search needs
 
 loop-holds : tie.Need-loop-holds Inv-loop μ-loop
-loop-holds c = (omega arith, parts-none (c .before .before .before .before .args .d .now) (c .before .before .before .before .args .room .now) (c .before .before .before .before .pre) , omega arith)
+loop-holds c = (omega arith, parts-none (c .before .before .before .before .args .d .now) (c .before .before .before .before .args .room .now) (c .before .before .before .before .pre), omega arith)
 
 mul-part-words : tie.Need-mul-part-words Inv-loop μ-loop
 mul-part-words c = search needs
@@ -56,9 +55,9 @@ part-words-requires : tie.Need-part-words-requires Inv-loop μ-loop
 part-words-requires c κs = search needs
 
 add-sum : tie.Need-add-sum Inv-loop μ-loop
-add-sum c = 
+add-sum c =
     let l = c .before .before .before .before .loop in
-    omega (arith, c .part-words .ensures, c .before .before .shared-slice-known3 .given (65536 + 16 * l .p + 10), l .inv .2, c .before .before .before .before .before .before .parts-of .ensures .0, parts-few (c .before .before .before .before .before .before .before .before .before .args .d .now) (c .before .before .before .before .before .before .before .before .before .args .room .now) (c .before .before .before .before .before .before .before .before .before .pre) )
+    omega (arith, c .part-words .ensures, c .before .before .shared-slice-known3 .given (65536 + 16 * l .p + 10), l .inv .2, c .before .before .before .before .before .before .parts-of .ensures .0, parts-few (c .before .before .before .before .before .before .before .before .before .args .d .now) (c .before .before .before .before .before .before .before .before .before .args .room .now) (c .before .before .before .before .before .before .before .before .before .pre))
 
 add-p : tie.Need-add-p Inv-loop μ-loop
 add-p c = search needs
@@ -67,7 +66,7 @@ loop-less : tie.Need-loop-less Inv-loop μ-loop
 loop-less c = search needs
 
 loop-again : tie.Need-loop-again Inv-loop μ-loop
-loop-again c = 
+loop-again c =
     let l = c .before .before .before .before .loop in (
       omega arith,
       parts-next (c .before .before .before .before .before .before .before .before .before .args .d .now) (c .before .before .before .before .before .before .before .before .before .args .room .now) (c .before .before .before .before .before .before .before .before .before .pre) (l .p) (c .before .before .before .before .before .head-base .result) (l .sum) (c .part-words .result) (omega (arith, c .before .before .before .before .before .before .parts-of .ensures .0)) (c .before .before .before .before .before .head-base .ensures .0) (l .inv .1) (c .before .word-at .result) (c .before .word-at .ensures) (c .part-words .ensures),
@@ -75,10 +74,10 @@ loop-again c =
     )
 
 returns : tie.Need-returns Inv-loop μ-loop
-returns c = 
+returns c =
     let l = c .before .loop in
     let e : l .p ≡ partsOf (c .before .before .before .before .before .before .args .d .now) = omega (arith, c .before .before .before .parts-of .ensures .0) in
-    (l .inv .1 ∙ ap (sumTo (lengthOf 256 (c .before .before .before .before .before .before .args .d .now))) e, omega (arith, l .inv .2, parts-few (c .before .before .before .before .before .before .args .d .now) (c .before .before .before .before .before .before .args .room .now) (c .before .before .before .before .before .before .pre) ))
+    (l .inv .1 ∙ ap (sumTo (lengthOf 256 (c .before .before .before .before .before .before .args .d .now))) e, omega (arith, l .inv .2, parts-few (c .before .before .before .before .before .before .args .d .now) (c .before .before .before .before .before .before .args .room .now) (c .before .before .before .before .before .before .pre)))
 
 pub parts-words-spec : {M : Type 1} → statement M
 parts-words-spec =

@@ -1,10 +1,6 @@
--- TODO
+-- The parts, the empty blocks and the zero words are the whole script.
 -- Assumes nothing.
-use mathlib.Core.Path.{_≡_, refl, sym, ap, _∙_}
-use mathlib.Core.List.{List}
-use Prim.Native.Nat.{ℕ, _+_, _*_, _-_, _^_, _≤_, _<_}
-use native.Mathlib.Omega.{arith}
-use lib.ListN.{length}
+use Prim.Native.Nat.{_-_}
 use Rattle.flatten.proofs.SizeLaws.{script-long}
 use borrow.Author.Needs.{needs}
 use Rattle.flatten.proofs.sizes.script_words.Statement.{statement}

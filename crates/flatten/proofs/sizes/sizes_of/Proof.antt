@@ -1,10 +1,7 @@
--- TODO
+-- Each of the four sizes is its definition.
 -- Assumes nothing.
-use mathlib.Core.Path.{_≡_, refl, sym, ap, _∙_}
-use mathlib.Core.List.{List}
-use Prim.Native.Nat.{ℕ, _+_, _*_, _-_, _^_, _≤_, _<_}
+use Prim.Native.Nat.{_-_}
 use native.Mathlib.Omega.{arith}
-use lib.ListN.{length}
 use Rattle.flatten.proofs.SizeLaws.{starts-few, judgeable, sizes-are}
 use borrow.Author.Needs.{needs}
 use Rattle.flatten.proofs.sizes.sizes_of.Statement.{statement}
@@ -32,7 +29,7 @@ script-words-requires : tie.Need-script-words-requires
 script-words-requires c κs = search needs
 
 state-words-requires : tie.Need-state-words-requires
-state-words-requires c κs = judgeable (c .before .before .before .before .before .args .d .now) (c .before .before .before .before .before .args .room .now) (c .before .before .before .before .before .pre) 
+state-words-requires c κs = judgeable (c .before .before .before .before .before .args .d .now) (c .before .before .before .before .before .args .room .now) (c .before .before .before .before .before .pre)
 
 sram-words-requires : tie.Need-sram-words-requires
 sram-words-requires c κs = search needs

@@ -1,10 +1,8 @@
--- TODO
+-- The two words of a row give the place of the body.
 -- Assumes nothing.
-use mathlib.Core.Path.{_≡_, refl, sym, ap, _∙_}
-use Prim.Native.Nat.{ℕ, _+_, _*_, _-_, _≤_, _<_}
+use mathlib.Core.Path.{refl}
+use Prim.Native.Nat.{_+_, _*_, _-_}
 use native.Mathlib.Omega.{arith}
-use lib.ListN.{length}
-use lib.Seq.{sets}
 use Rattle.layout.proofs.RowLaws.{body-there}
 use borrow.Author.Needs.{needs}
 use Rattle.layout.proofs.parts.body_of.Statement.{statement}

@@ -1,10 +1,7 @@
--- TODO
+-- The row's words are the part's numbers.
 -- Assumes nothing.
-use mathlib.Core.Path.{_≡_, refl, sym, ap, _∙_}
-use Prim.Native.Nat.{ℕ, _+_, _*_, _-_, _≤_, _<_}
-use native.Mathlib.Omega.{arith}
-use lib.ListN.{length}
-use lib.Seq.{sets}
+use mathlib.Core.Path.{refl}
+use Prim.Native.Nat.{_-_}
 use Rattle.layout.proofs.RowLaws.{row-numbers}
 use borrow.Author.Needs.{needs}
 use Rattle.layout.proofs.parts.numbers_of.Statement.{statement}

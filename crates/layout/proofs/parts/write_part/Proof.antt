@@ -1,10 +1,8 @@
--- TODO
+-- The part's script is written in the words that are lent for it; the room's first words are clear again.
 -- Assumes nothing.
-use mathlib.Core.Path.{_≡_, refl, sym, ap, _∙_}
-use Prim.Native.Nat.{ℕ, _+_, _*_, _-_, _≤_, _<_}
+use mathlib.Core.Path.{refl}
+use Prim.Native.Nat.{_-_}
 use native.Mathlib.Omega.{arith}
-use lib.ListN.{length}
-use lib.Seq.{sets}
 use Rattle.layout.proofs.RowLaws.{next-in, next-is, lent-long, buildable, room-same, part-written}
 use borrow.Author.Needs.{needs}
 use Rattle.layout.proofs.parts.write_part.Statement.{statement}

@@ -1,12 +1,10 @@
--- TODO
+-- The loop's invariant: the ranks so far are the block's. The first rank of another block ends them, or the end of the major stage.
 -- Assumes nothing.
-use mathlib.Core.Path.{_≡_, refl, sym, ap, _∙_}
-use Prim.Native.Nat.{ℕ, _+_, _*_, _-_, _≤_, _<_}
+use Prim.Native.Nat.{_+_, _*_, _-_, _≤_}
 use native.Mathlib.Omega.{arith}
 use lib.ListN.{getD}
-use lib.Seq.{sets}
 use Rattle.assembly.specs.Steps.{firstRank}
-use Rattle.layout.proofs.RowLaws.{plan-formed, row-in, parts-few}
+use Rattle.layout.proofs.RowLaws.{plan-formed}
 use Rattle.layout.proofs.PlacedLaws.{end-in, parts-are, to-in, rank-in, block-on, block-off}
 use borrow.Author.Needs.{needs}
 use Rattle.layout.proofs.placed.block_end.Statement.{statement}

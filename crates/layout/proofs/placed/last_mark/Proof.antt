@@ -1,10 +1,7 @@
--- TODO
+-- The last part of a block is the one whose next rank ends the block.
 -- Assumes nothing.
-use mathlib.Core.Path.{_≡_, refl, sym, ap, _∙_}
-use Prim.Native.Nat.{ℕ, _+_, _*_, _-_, _≤_, _<_}
-use native.Mathlib.Omega.{arith}
-use lib.ListN.{length}
-use lib.Seq.{sets}
+use mathlib.Core.Path.{sym}
+use Prim.Native.Nat.{_-_}
 use Rattle.assembly.proofs.StepLaws.{mark-last, mark-more}
 use borrow.Author.Needs.{needs}
 use Rattle.layout.proofs.placed.last_mark.Statement.{statement}

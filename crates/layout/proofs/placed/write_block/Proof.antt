@@ -1,12 +1,9 @@
--- TODO
+-- With parts, their words; without, those of an empty block.
 -- Assumes nothing.
-use mathlib.Core.Path.{_≡_, refl, sym, ap, _∙_}
-use mathlib.Core.List.{List}
-use Prim.Native.Nat.{ℕ, _+_, _*_, _-_, _≤_, _<_}
+use mathlib.Core.Path.{refl}
+use Prim.Native.Nat.{_-_}
 use native.Mathlib.Omega.{arith}
-use lib.ListN.{length}
-use lib.Seq.{sets}
-use Rattle.layout.proofs.PlacedLaws.{empty-next, empty-in, empty-lent, empty-stored}
+use Rattle.layout.proofs.PlacedLaws.{empty-next, empty-in, empty-stored}
 use borrow.Author.Needs.{needs}
 use Rattle.layout.proofs.placed.write_block.Statement.{statement}
 use Rattle.layout.proofs.placed.write_block.Tie as tie

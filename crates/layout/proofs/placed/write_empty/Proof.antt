@@ -1,10 +1,6 @@
--- TODO
+-- Zeros, and then word 1.
 -- Assumes nothing.
-use mathlib.Core.Path.{_≡_, refl, sym, ap, _∙_}
-use Prim.Native.Nat.{ℕ, _+_, _*_, _-_, _≤_, _<_}
-use native.Mathlib.Omega.{arith}
-use lib.ListN.{length}
-use lib.Seq.{sets}
+use Prim.Native.Nat.{_-_}
 use Rattle.layout.proofs.PlacedLaws.{empty-made}
 use borrow.Author.Needs.{needs}
 use Rattle.layout.proofs.placed.write_empty.Statement.{statement}
