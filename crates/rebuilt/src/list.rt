@@ -1,6 +1,9 @@
 // Lists as the file has them: a number of runs, then a count and a word for each.
 ghost use Prim.Native.Nat.{_+_, _*_, _≤_, _<_, _^_};
-ghost use lib.ListN.{length};
+ghost use mathlib.Core.Path.{_≡_};
+ghost use mathlib.Core.List.{_++_};
+ghost use lib.ListN.{length, take, replicate};
+ghost use Rattle.rebuilt.specs.Stored.{listAt};
 use record::places::word_at;
 
 // How many words of the file the list at word `at` takes.
@@ -10,21 +13,22 @@ pub fn list_words(file: &[u8], at: usize) -> usize
     1 + 2 * (word_at(file, at) as usize)
 }
 
-// Puts one word at the indices from..to.
-fn fill(words: &mut [u32], from: usize, to: usize, word: u32)
-    requires { ⌜ (from ≤ to) × (to ≤ length (now words)) ⌝ }
+// Puts one word `count` times, from index `from` on.
+fn fill(words: &mut [u32], from: usize, count: usize, word: u32)
+    requires { ⌜ from + count ≤ length (now words) ⌝ }
+    ensures { λ _. ⌜ take (from + count) (now (words .exit)) ≡ take from (now (words .entry)) ++ replicate count word ⌝ }
 {
-    let mut i = from;
-    while i < to {
-        words[i] = word;
-        i += 1;
+    let mut k = 0;
+    while k < count {
+        words[from + k] = word;
+        k += 1;
     }
 }
 
-// Puts the list at word `at` of the file into `words` and gives its length; 0 where there is no place for it.
+// Puts the list at word `at` of the file into `words` and gives its length; more than `words` has where there is no place for it.
 pub fn expand(file: &[u8], at: usize, words: &mut [u32]) -> usize
     requires { ⌜ at < 2 ^ 63 ⌝ }
-    ensures { λ r. ⌜ r ≤ length (now (words .exit)) ⌝ }
+    ensures { λ r. ⌜ (r ≤ length (now (words .exit)) → take r (now (words .exit)) ≡ listAt (now (file .entry)) at) ⌝ }
 {
     let runs = word_at(file, at) as usize;
     let mut filled = 0;
@@ -32,9 +36,9 @@ pub fn expand(file: &[u8], at: usize, words: &mut [u32]) -> usize
     while i < runs {
         let count = word_at(file, at + 1 + 2 * i) as usize;
         if words.len() - filled < count {
-            return 0;
+            return words.len() + 1;
         }
-        fill(words, filled, filled + count, word_at(file, at + 2 + 2 * i));
+        fill(words, filled, count, word_at(file, at + 2 + 2 * i));
         filled += count;
         i += 1;
     }
@@ -68,22 +72,6 @@ pub fn put_words(words: &[u32], count: usize, bytes: &mut [u8])
     let mut i = 0;
     while i < end {
         bytes[i] = byte_of(words[i / 4], i % 4);
-        i += 1;
-    }
-}
-
-// A number of its low and its high word.
-fn joined(low: u32, high: u32) -> u64 {
-    low as u64 + 0x1_0000_0000 * (high as u64)
-}
-
-// Puts the first `count` numbers of their low and high words, one after the other.
-pub fn join_halves(halves: &[u32], count: usize, numbers: &mut [u64])
-    requires { ⌜ (2 * count ≤ length (now halves)) × (count ≤ length (now numbers)) ⌝ }
-{
-    let mut i = 0;
-    while i < count {
-        numbers[i] = joined(halves[2 * i], halves[2 * i + 1]);
         i += 1;
     }
 }

@@ -3,18 +3,20 @@
 mod list;
 mod same;
 
+ghost use mathlib.Core.Path.{_≡_};
+ghost use mathlib.Core.Bool.{true};
 ghost use Prim.Native.Nat.{_≤_, _<_, _^_};
+ghost use Rattle.rebuilt.specs.Stored.{listAt, Halves};
 use flatten::Flattened;
 use flatten::build_flattened_script_v1;
 use flatten::sizes::Sizes;
 use libc::STDIN_FILENO;
 use libc::STDOUT_FILENO;
 use list::expand;
-use list::join_halves;
 use list::list_words;
 use list::put_words;
 use record::places::word_at;
-use same::same_starts;
+use same::same_halves;
 use same::same_words;
 use words::refusals::Refusal;
 
@@ -47,30 +49,27 @@ fn sizes_agree(file: &[u8], at: usize, sizes: Sizes) -> bool
     sizes.sram == word_at(file, at + 3) as u64
 }
 
-// Whether the starts are those of the list at word `at`. The list goes into `list` and `stored`.
-fn starts_agree(
-    file: &[u8],
-    at: usize,
-    starts: &[u64],
-    list: &mut [u32],
-    stored: &mut [u64],
-) -> bool
+// Whether the starts are those of the list at word `at`. The list goes into `list`.
+fn starts_agree(file: &[u8], at: usize, starts: &[u64], list: &mut [u32]) -> bool
     requires { ⌜ at < 2 ^ 63 ⌝ }
+    ensures { λ r. ⌜ (r ≡ true → Halves (now (starts .entry)) (listAt (now (file .entry)) at)) ⌝ }
 {
     let n = expand(file, at, list);
-    let numbers = n / 2;
-    if stored.len() < numbers {
+    if list.len() < n {
         return false;
     }
-    join_halves(list, numbers, stored);
-    same_starts(starts, &stored[..numbers])
+    same_halves(starts, &list[..n])
 }
 
 // Whether the words are those of the list at word `at`. The list goes into `list`.
 fn words_agree(file: &[u8], at: usize, words: &[u32], list: &mut [u32]) -> bool
     requires { ⌜ at < 2 ^ 63 ⌝ }
+    ensures { λ r. ⌜ (r ≡ true → now (words .entry) ≡ listAt (now (file .entry)) at) ⌝ }
 {
     let n = expand(file, at, list);
+    if list.len() < n {
+        return false;
+    }
     same_words(words, &list[..n])
 }
 
@@ -85,7 +84,6 @@ fn script_agrees(
 ) -> bool
     requires { ⌜ at < 2 ^ 62 ⌝ }
 {
-    let mut stored = [0u64; 64];
     if !sizes_agree(file, at, sizes) {
         return false;
     }
@@ -100,7 +98,6 @@ fn script_agrees(
         at + 4,
         &starts[..sizes.starts as usize],
         list,
-        &mut stored,
     ) {
         return false;
     }
@@ -148,6 +145,9 @@ fn case_agrees(
     requires { ⌜ at < 2 ^ 60 ⌝ }
 {
     let n = expand(file, at, list);
+    if list.len() < n {
+        return false;
+    }
     if plan.len() / 4 < n {
         return false;
     }

@@ -17,6 +17,12 @@ same-length c = search needs
 returns : tie.Need-returns
 returns c = search needs
 
+same-length-2 : tie.Need-same-length-2
+same-length-2 c = search needs
+
+returns-2 : tie.Need-returns-2
+returns-2 c = search needs
+
 mul-bytes : tie.Need-mul-bytes
 mul-bytes c = search needs
 
@@ -38,9 +44,6 @@ slice-aggregate-agrees c = simp length-take (omega arith)
 agrees-requires : tie.Need-agrees-requires
 agrees-requires c κs = search needs
 
-same-length-2 : tie.Need-same-length-2
-same-length-2 c = search needs
-
 same-length-3 : tie.Need-same-length-3
 same-length-3 c = search needs
 
@@ -53,8 +56,11 @@ same-length-5 c = search needs
 same-length-6 : tie.Need-same-length-6
 same-length-6 c = search needs
 
-returns-2 : tie.Need-returns-2
-returns-2 c = search needs
+same-length-7 : tie.Need-same-length-7
+same-length-7 c = search needs
+
+returns-3 : tie.Need-returns-3
+returns-3 c = search needs
 
 pub case-agrees-spec : {M : Type 1} → statement M
 case-agrees-spec =
@@ -63,6 +69,8 @@ case-agrees-spec =
     expand-requires
     same-length
     returns
+    same-length-2
+    returns-2
     mul-bytes
     put-words-requires
     list-words-requires
@@ -70,9 +78,9 @@ case-agrees-spec =
     slice-reshare-prefix-agrees
     slice-aggregate-agrees
     agrees-requires
-    same-length-2
     same-length-3
     same-length-4
     same-length-5
     same-length-6
-    returns-2)
+    same-length-7
+    returns-3)

@@ -26,9 +26,6 @@ add-starts-agree c = search needs
 slice-aggregate-starts-agree : tie.Need-slice-aggregate-starts-agree
 slice-aggregate-starts-agree c = simp length-take (omega arith)
 
-slice-aggregate-starts-agree-2 : tie.Need-slice-aggregate-starts-agree-2
-slice-aggregate-starts-agree-2 c = search needs
-
 starts-agree-requires : tie.Need-starts-agree-requires
 starts-agree-requires c κs = search needs
 
@@ -72,7 +69,6 @@ script-agrees-spec =
     returns-3
     add-starts-agree
     slice-aggregate-starts-agree
-    slice-aggregate-starts-agree-2
     starts-agree-requires
     same-length
     returns-4

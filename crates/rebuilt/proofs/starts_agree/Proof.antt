@@ -17,23 +17,17 @@ same-length c = search needs
 returns : tie.Need-returns
 returns c = search needs
 
-join-halves-requires : tie.Need-join-halves-requires
-join-halves-requires c κs = search needs
+slice-reshare-prefix-same-halves : tie.Need-slice-reshare-prefix-same-halves
+slice-reshare-prefix-same-halves c = search needs
 
-slice-reshare-prefix-same-starts : tie.Need-slice-reshare-prefix-same-starts
-slice-reshare-prefix-same-starts c = search needs
+slice-aggregate-same-halves : tie.Need-slice-aggregate-same-halves
+slice-aggregate-same-halves c = simp length-take (omega arith)
 
-slice-aggregate-same-starts : tie.Need-slice-aggregate-same-starts
-slice-aggregate-same-starts c = simp length-take (omega arith)
-
-same-starts-requires : tie.Need-same-starts-requires
-same-starts-requires c κs = search needs
+same-halves-requires : tie.Need-same-halves-requires
+same-halves-requires c κs = search needs
 
 same-length-2 : tie.Need-same-length-2
 same-length-2 c = search needs
-
-same-length-3 : tie.Need-same-length-3
-same-length-3 c = search needs
 
 returns-2 : tie.Need-returns-2
 returns-2 c = search needs
@@ -45,10 +39,8 @@ starts-agree-spec =
     expand-requires
     same-length
     returns
-    join-halves-requires
-    slice-reshare-prefix-same-starts
-    slice-aggregate-same-starts
-    same-starts-requires
+    slice-reshare-prefix-same-halves
+    slice-aggregate-same-halves
+    same-halves-requires
     same-length-2
-    same-length-3
     returns-2)

@@ -11,6 +11,12 @@ use Rattle.rebuilt.proofs.words_agree.Tie as tie
 expand-requires : tie.Need-expand-requires
 expand-requires c κs = search needs
 
+same-length : tie.Need-same-length
+same-length c = search needs
+
+returns : tie.Need-returns
+returns c = search needs
+
 slice-reshare-prefix-same-words : tie.Need-slice-reshare-prefix-same-words
 slice-reshare-prefix-same-words c = search needs
 
@@ -20,19 +26,21 @@ slice-aggregate-same-words c = simp length-take (omega arith)
 same-words-requires : tie.Need-same-words-requires
 same-words-requires c κs = search needs
 
-same-length : tie.Need-same-length
-same-length c = search needs
+same-length-2 : tie.Need-same-length-2
+same-length-2 c = search needs
 
-returns : tie.Need-returns
-returns c = search needs
+returns-2 : tie.Need-returns-2
+returns-2 c = search needs
 
 pub words-agree-spec : {M : Type 1} → statement M
 words-agree-spec =
     tie.close
     (tie.spec
     expand-requires
+    same-length
+    returns
     slice-reshare-prefix-same-words
     slice-aggregate-same-words
     same-words-requires
-    same-length
-    returns)
+    same-length-2
+    returns-2)
