@@ -12,6 +12,9 @@ use lib.Seq.{ext-getD}
 use Rattle.rebuilt.specs.Stored.{Halves}
 use borrow.Author.Count.{below-none, below-more}
 
+pub never : {X : Type 0} → false ≡ true → X
+never e = absurd (subst T (sym e) tt)
+
 module _ (a b : List ℕ) where
   abbrev pub AlikeAt : ℕ → Type 0
   AlikeAt k = getD a k 0 ≡ getD b k 0
@@ -21,9 +24,6 @@ module _ (a b : List ℕ) where
 
   abbrev pub Tells : Bool → Type 0
   Tells r = (r ≡ true → a ≡ b) × (a ≡ b → r ≡ true)
-
-  never : {X : Type 0} → false ≡ true → X
-  never e = absurd (subst T (sym e) tt)
 
   pub other-length : (length a ≡ length b → ⊥) → Tells false
   other-length h = ((λ e. never e), (λ e. absurd (h (ap (λ (l : List ℕ). length l) e))))

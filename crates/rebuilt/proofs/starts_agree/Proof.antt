@@ -1,9 +1,13 @@
 -- Indices are in range, and the loop ends.
 -- Assumes nothing.
-use mathlib.Core.Path.{_≡_, refl, _∙_}
-use Prim.Native.Nat.{_+_, _*_, _-_, _/_, _≤_, _<_}
+use mathlib.Core.Path.{_≡_, refl, _∙_, subst}
+use mathlib.Core.List.{List}
+use denote.Ref.{now}
+use Rattle.rebuilt.specs.Stored.{Halves}
+use Prim.Native.Nat.{ℕ, _+_, _*_, _-_, _/_, _≤_, _<_}
 use native.Mathlib.Omega.{arith}
 use lib.ListN.{length, length-set, length-take, length-append, length-drop}
+use Rattle.rebuilt.proofs.SameLaws.{never}
 use borrow.Author.Needs.{needs}
 use Rattle.rebuilt.proofs.starts_agree.Statement.{statement}
 use Rattle.rebuilt.proofs.starts_agree.Tie as tie
@@ -15,7 +19,7 @@ same-length : tie.Need-same-length
 same-length c = search needs
 
 returns : tie.Need-returns
-returns c = search needs
+returns c = λ e. never e
 
 slice-reshare-prefix-same-halves : tie.Need-slice-reshare-prefix-same-halves
 slice-reshare-prefix-same-halves c = search needs
@@ -30,7 +34,7 @@ same-length-2 : tie.Need-same-length-2
 same-length-2 c = search needs
 
 returns-2 : tie.Need-returns-2
-returns-2 c = search needs
+returns-2 c = λ e. subst (λ (l : List ℕ). Halves (now (c .before .before .before .before .before .before .before .before .before .before .args .starts)) l) (c .before .before .before .before .before .expand .ensures (search needs)) (c .same-halves .ensures .0 e)
 
 pub starts-agree-spec : {M : Type 1} → statement M
 starts-agree-spec =

@@ -4,6 +4,7 @@ use mathlib.Core.Path.{_≡_, refl, _∙_}
 use Prim.Native.Nat.{_+_, _*_, _-_, _/_, _≤_, _<_}
 use native.Mathlib.Omega.{arith}
 use lib.ListN.{length, length-set, length-take, length-append, length-drop}
+use Rattle.rebuilt.proofs.SameLaws.{never}
 use borrow.Author.Needs.{needs}
 use Rattle.rebuilt.proofs.words_agree.Statement.{statement}
 use Rattle.rebuilt.proofs.words_agree.Tie as tie
@@ -15,7 +16,7 @@ same-length : tie.Need-same-length
 same-length c = search needs
 
 returns : tie.Need-returns
-returns c = search needs
+returns c = λ e. never e
 
 slice-reshare-prefix-same-words : tie.Need-slice-reshare-prefix-same-words
 slice-reshare-prefix-same-words c = search needs
@@ -30,7 +31,7 @@ same-length-2 : tie.Need-same-length-2
 same-length-2 c = search needs
 
 returns-2 : tie.Need-returns-2
-returns-2 c = search needs
+returns-2 c = λ e. c .same-words .ensures .0 e ∙ c .before .before .before .before .before .expand .ensures (search needs)
 
 pub words-agree-spec : {M : Type 1} → statement M
 words-agree-spec =
