@@ -1,7 +1,7 @@
 -- Two lists are the same where they are as long and agree at every index, and only there; and likewise halves.
 -- Assumes nothing.
 use mathlib.Core.Path.{_≡_, refl, sym, ap, subst}
-use mathlib.Core.Bool.{Bool, true, false}
+use mathlib.Core.Bool.{Bool, true, false, not}
 use mathlib.Core.List.{List}
 use Prim.Native.Nat.{ℕ, _+_, _*_, _/_, _%_, _≤_, _<_}
 use native.Mathlib.Omega.{arith}
@@ -14,6 +14,10 @@ use borrow.Author.Count.{below-none, below-more}
 
 pub never : {X : Type 0} → false ≡ true → X
 never e = absurd (subst T (sym e) tt)
+
+pub holds : (b : Bool) → not b ≡ false → b ≡ true
+holds true h = refl
+holds false h = never (sym h)
 
 module _ (a b : List ℕ) where
   abbrev pub AlikeAt : ℕ → Type 0

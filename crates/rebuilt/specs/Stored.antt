@@ -20,3 +20,18 @@ abbrev pub Halves : List ℕ → List ℕ → Type 0
 Halves numbers words =
     (2 * length numbers ≡ length words)
     × ((k : ℕ) → k < length numbers → getD numbers k 0 ≡ getD words (2 * k) 0 + 4294967296 * getD words (2 * k + 1) 0)
+
+-- ---- answers, from word i on
+
+-- "q not 0": a refusal's number, part and item
+abbrev pub RefusalAt : List ℕ → ℕ → ℕ → ℕ → ℕ → Type 0
+RefusalAt d i number part item = (number ≡ wordAt d i) × (part ≡ wordAt d (i + 1)) × (item ≡ wordAt d (i + 2))
+
+-- "sizes: starts, words, state words, SRAM words"
+abbrev pub SizesAt : List ℕ → ℕ → ℕ → ℕ → ℕ → ℕ → Type 0
+SizesAt d i starts words state sram =
+    (starts ≡ wordAt d i) × (words ≡ wordAt d (i + 1)) × (state ≡ wordAt d (i + 2)) × (sram ≡ wordAt d (i + 3))
+
+-- the starts and the words, a list each
+abbrev pub ListsAt : List ℕ → ℕ → List ℕ → List ℕ → Type 0
+ListsAt d i starts words = Halves starts (listAt d i) × (words ≡ listAt d (i + (1 + 2 * wordAt d i)))

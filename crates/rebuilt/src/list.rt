@@ -3,12 +3,13 @@ ghost use Prim.Native.Nat.{_+_, _*_, _≤_, _<_, _^_};
 ghost use mathlib.Core.Path.{_≡_};
 ghost use mathlib.Core.List.{_++_};
 ghost use lib.ListN.{length, take, replicate};
+ghost use Rattle.record.specs.Record.{wordAt};
 ghost use Rattle.rebuilt.specs.Stored.{listAt};
 use record::places::word_at;
 
 // How many words of the file the list at word `at` takes.
 pub fn list_words(file: &[u8], at: usize) -> usize
-    ensures { λ r. ⌜ r < 2 ^ 33 ⌝ }
+    ensures { λ r. ⌜ (r ≡ 1 + 2 * wordAt (now (file .entry)) at) × (r < 2 ^ 33) ⌝ }
 {
     1 + 2 * (word_at(file, at) as usize)
 }

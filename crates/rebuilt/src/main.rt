@@ -5,8 +5,9 @@ mod same;
 
 ghost use mathlib.Core.Path.{_≡_};
 ghost use mathlib.Core.Bool.{true};
-ghost use Prim.Native.Nat.{_≤_, _<_, _^_};
-ghost use Rattle.rebuilt.specs.Stored.{listAt, Halves};
+ghost use Prim.Native.Nat.{_+_, _≤_, _<_, _^_};
+ghost use Rattle.rebuilt.specs.Stored.{listAt, Halves, RefusalAt, SizesAt, ListsAt};
+ghost use lib.ListN.{take};
 use flatten::Flattened;
 use flatten::build_flattened_script_v1;
 use flatten::sizes::Sizes;
@@ -23,6 +24,7 @@ use words::refusals::Refusal;
 // Whether a refusal is the one at word `at`: number, part, item.
 fn refusal_agrees(file: &[u8], at: usize, refusal: Refusal) -> bool
     requires { ⌜ at < 2 ^ 63 ⌝ }
+    ensures { λ r. ⌜ (r ≡ true → RefusalAt (now (file .entry)) at (refusal .number) (refusal .part) (refusal .item)) ⌝ }
 {
     if refusal.number != word_at(file, at) {
         return false;
@@ -30,12 +32,16 @@ fn refusal_agrees(file: &[u8], at: usize, refusal: Refusal) -> bool
     if refusal.part != word_at(file, at + 1) {
         return false;
     }
-    refusal.item == word_at(file, at + 2) as u64
+    if refusal.item != word_at(file, at + 2) as u64 {
+        return false;
+    }
+    true
 }
 
 // Whether the sizes are those from word `at` on.
 fn sizes_agree(file: &[u8], at: usize, sizes: Sizes) -> bool
     requires { ⌜ at < 2 ^ 63 ⌝ }
+    ensures { λ r. ⌜ (r ≡ true → SizesAt (now (file .entry)) at (sizes .starts) (sizes .words) (sizes .state) (sizes .sram)) ⌝ }
 {
     if sizes.starts != word_at(file, at) as u64 {
         return false;
@@ -46,7 +52,10 @@ fn sizes_agree(file: &[u8], at: usize, sizes: Sizes) -> bool
     if sizes.state != word_at(file, at + 2) as u64 {
         return false;
     }
-    sizes.sram == word_at(file, at + 3) as u64
+    if sizes.sram != word_at(file, at + 3) as u64 {
+        return false;
+    }
+    true
 }
 
 // Whether the starts are those of the list at word `at`. The list goes into `list`.
@@ -83,6 +92,7 @@ fn script_agrees(
     list: &mut [u32],
 ) -> bool
     requires { ⌜ at < 2 ^ 62 ⌝ }
+    ensures { λ r. ⌜ (r ≡ true → SizesAt (now (file .entry)) at (sizes .starts) (sizes .words) (sizes .state) (sizes .sram) × ListsAt (now (file .entry)) (at + 4) (take (sizes .starts) (now (starts .entry))) (take (sizes .words) (now (words .entry)))) ⌝ }
 {
     if !sizes_agree(file, at, sizes) {
         return false;
@@ -93,12 +103,7 @@ fn script_agrees(
     if (words.len() as u64) < sizes.words {
         return false;
     }
-    if !starts_agree(
-        file,
-        at + 4,
-        &starts[..sizes.starts as usize],
-        list,
-    ) {
+    if !starts_agree(file, at + 4, &starts[..sizes.starts as usize], list) {
         return false;
     }
     words_agree(

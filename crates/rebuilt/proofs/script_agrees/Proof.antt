@@ -1,9 +1,12 @@
--- Indices are in range, and the loop ends.
+-- One comparison after the other.
 -- Assumes nothing.
-use mathlib.Core.Path.{_≡_, refl, _∙_}
-use Prim.Native.Nat.{_+_, _*_, _-_, _/_, _≤_, _<_}
+use mathlib.Core.Path.{ap, _∙_}
+use denote.Ref.{now}
+use Rattle.rebuilt.specs.Stored.{listAt}
+use Prim.Native.Nat.{ℕ, _+_}
 use native.Mathlib.Omega.{arith}
-use lib.ListN.{length, length-set, length-take, length-append, length-drop}
+use lib.ListN.{length-take}
+use Rattle.rebuilt.proofs.SameLaws.{never, holds}
 use borrow.Author.Needs.{needs}
 use Rattle.rebuilt.proofs.script_agrees.Statement.{statement}
 use Rattle.rebuilt.proofs.script_agrees.Tie as tie
@@ -12,13 +15,13 @@ sizes-agree-requires : tie.Need-sizes-agree-requires
 sizes-agree-requires c κs = search needs
 
 returns : tie.Need-returns
-returns c = search needs
+returns c = λ e. never e
 
 returns-2 : tie.Need-returns-2
-returns-2 c = search needs
+returns-2 c = λ e. never e
 
 returns-3 : tie.Need-returns-3
-returns-3 c = search needs
+returns-3 c = λ e. never e
 
 add-starts-agree : tie.Need-add-starts-agree
 add-starts-agree c = search needs
@@ -33,7 +36,7 @@ same-length : tie.Need-same-length
 same-length c = search needs
 
 returns-4 : tie.Need-returns-4
-returns-4 c = search needs
+returns-4 c = λ e. never e
 
 add-words-agree : tie.Need-add-words-agree
 add-words-agree c = search needs
@@ -57,7 +60,10 @@ same-length-2 : tie.Need-same-length-2
 same-length-2 c = search needs
 
 returns-5 : tie.Need-returns-5
-returns-5 c = search needs
+returns-5 c =
+    let at-start = c .before .before .before .before .before .before .before .before .before .before .before .before .before .before .before .before .before .before .before .before .before .before in
+    let behind = ap (λ (n : ℕ). listAt (now (at-start .args .file)) (at-start .args .at + 4 + n)) (c .before .before .before .before .before .list-words .ensures .0) in
+    λ e. (c .before .before .before .before .before .before .before .before .before .before .before .before .before .before .before .before .before .sizes-agree .ensures (holds _ (c .before .before .before .before .before .before .before .before .before .before .before .before .before .before .before .before .if1 .left)), (c .before .before .before .before .before .before .before .before .before .starts-agree .ensures (holds _ (c .before .before .before .before .before .before .if4 .left)), c .before .before .words-agree .ensures e ∙ behind))
 
 pub script-agrees-spec : {M : Type 1} → statement M
 script-agrees-spec =

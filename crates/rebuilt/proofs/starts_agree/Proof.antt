@@ -1,12 +1,12 @@
 -- Indices are in range, and the loop ends.
 -- Assumes nothing.
-use mathlib.Core.Path.{_≡_, refl, _∙_, subst}
+use mathlib.Core.Path.{subst}
 use mathlib.Core.List.{List}
 use denote.Ref.{now}
 use Rattle.rebuilt.specs.Stored.{Halves}
-use Prim.Native.Nat.{ℕ, _+_, _*_, _-_, _/_, _≤_, _<_}
+use Prim.Native.Nat.{ℕ}
 use native.Mathlib.Omega.{arith}
-use lib.ListN.{length, length-set, length-take, length-append, length-drop}
+use lib.ListN.{length-take}
 use Rattle.rebuilt.proofs.SameLaws.{never}
 use borrow.Author.Needs.{needs}
 use Rattle.rebuilt.proofs.starts_agree.Statement.{statement}

@@ -1,10 +1,9 @@
 -- The runs before i are put.
 -- Assumes nothing.
-use mathlib.Core.Path.{_≡_, refl, sym, ap, _∙_}
-use mathlib.Core.List.{List}
-use Prim.Native.Nat.{ℕ, _+_, _*_, _-_, _≤_, _<_}
+use mathlib.Core.Path.{_≡_, refl}
+use Prim.Native.Nat.{_-_, _≤_}
 use native.Mathlib.Omega.{arith}
-use lib.ListN.{length, take, length-set}
+use lib.ListN.{length}
 use denote.Ref.{now}
 use Rattle.rebuilt.proofs.ListLaws.{Put, put-none, put-more, put-all}
 use borrow.Author.Needs.{needs}

@@ -2,9 +2,9 @@
 -- Assumes nothing.
 use mathlib.Core.Path.{_≡_, refl, sym, ap, _∙_}
 use mathlib.Core.List.{_++_}
-use Prim.Native.Nat.{ℕ, _+_, _-_, _≤_, _<_}
+use Prim.Native.Nat.{ℕ, _+_, _-_, _≤_}
 use native.Mathlib.Omega.{arith}
-use lib.ListN.{length, take, replicate, length-set}
+use lib.ListN.{length, take, replicate}
 use denote.Ref.{now}
 use Rattle.rebuilt.proofs.ListLaws.{fill-none, fill-more}
 use borrow.Author.Needs.{needs}
