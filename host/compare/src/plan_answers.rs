@@ -24,6 +24,7 @@ use reference::Flattened;
 const MOST_PLAN: usize = 120_000;
 const MOST_WORDS: usize = 65_536;
 const MOST_STARTS: usize = 64;
+const MOST_BYTES: usize = 262_144;
 /// A plan that was drawn is taken where its list has at most so many words.
 const MOST_LIST: usize = 5_000;
 
@@ -110,6 +111,7 @@ fn list(words: &[u32]) -> Vec<u32> {
 pub fn write(cases: &[Case]) -> Vec<u8> {
     let mut words = vec![cases.len() as u32];
     words.extend(cases.iter().flat_map(Case::file_words));
+    assert!(4 * words.len() <= MOST_BYTES, "a file of {} bytes", 4 * words.len());
     plan::bytes(&words)
 }
 
