@@ -12,6 +12,7 @@ pub mod lent;
 pub mod list_checker;
 pub mod marked;
 pub mod pages;
+pub mod plan_answers;
 pub mod plan_changes;
 #[cfg(has_plans)]
 pub mod plan_checker;

@@ -1,8 +1,8 @@
-//! Writes stored answers of the reference: make_answers FILE. The list of sets is fixed by the seed.
-//! The format is in compare/src/answers.rs.
+//! Writes stored answers of the reference: `make_answers FILE` those of read sets, `make_answers plans FILE` those of
+//! plans. The sets and plans are fixed by the seed. The formats are in compare/src/answers.rs and plan_answers.rs.
 
 use compare::answers::{self, Case, Stored};
-use compare::sets;
+use compare::{plan_answers, sets};
 use model::rounds::pairs_of;
 use random::Random;
 
@@ -10,10 +10,31 @@ const SEED: u64 = 20_240_612;
 
 fn main() {
     compare::silence_expected_panics();
-    let path = std::env::args().nth(1).expect("usage: make_answers FILE");
+    let words: Vec<String> = std::env::args().skip(1).collect();
+    match &words[..] {
+        [path] => of_sets(path),
+        [what, path] if what == "plans" => of_plans(path),
+        _ => panic!("usage: make_answers [plans] FILE"),
+    }
+}
+
+fn of_plans(path: &str) {
+    let cases = plan_answers::cases(SEED);
+    let bytes = plan_answers::write(&cases);
+    std::fs::write(path, &bytes).expect("the file can be written");
+    for case in &cases {
+        match &case.answer {
+            Ok(script) => println!("  {}: {} words", case.name, script.words.len()),
+            Err(refused) => println!("  {}: {:?}", case.name, refused),
+        }
+    }
+    println!("make_answers: {} plans of {}, {} bytes", cases.len(), reference::NAME, bytes.len());
+}
+
+fn of_sets(path: &str) {
     let cases: Vec<Case> = chosen_sets().iter().map(|set| Case::ask(pairs_of(set))).collect();
     let bytes = answers::write(&cases);
-    std::fs::write(&path, &bytes).expect("the file can be written");
+    std::fs::write(path, &bytes).expect("the file can be written");
     let refused = cases.iter().filter(|case| matches!(case.answer, Stored::Refused(_))).count();
     println!(
         "make_answers: {} cases of {} ({} refused), {} bytes",
