@@ -18,7 +18,6 @@ extern "C" {
         second: *mut u64,
     ) -> u32;
 
-    #[cfg(has_listing)]
     fn juolgesot_list(
         records: *const u8,
         records_len: usize,
@@ -30,7 +29,6 @@ extern "C" {
         second: *mut u64,
     ) -> u32;
 
-    #[cfg(has_plans)]
     fn juolgesot_plan_sizes(
         plan: *const u8,
         plan_len: usize,
@@ -42,7 +40,6 @@ extern "C" {
         fourth: *mut u64,
     ) -> u32;
 
-    #[cfg(has_plans)]
     fn juolgesot_build(
         plan: *const u8,
         plan_len: usize,
@@ -58,7 +55,6 @@ extern "C" {
         fourth: *mut u64,
     ) -> u32;
 
-    #[cfg(has_run)]
     fn juolgesot_run(
         words: *const u32,
         words_len: usize,
@@ -76,7 +72,6 @@ extern "C" {
         second: *mut u64,
     ) -> u32;
 
-    #[cfg(has_value)]
     fn juolgesot_value(
         plan: *const u8,
         plan_len: usize,
@@ -121,7 +116,6 @@ pub fn read_rounds(set: &[u32], room: &mut [u32], out: &mut [u32]) -> Answer {
 
 /// What a call on a plan gives back: 0 with the number of starts and of words, the state's words and SRAM's words; or
 /// a refusal's number, its place in the first two and 0 in the others.
-#[cfg(has_plans)]
 #[derive(Debug, Clone, Copy, PartialEq, Eq)]
 pub struct PlanAnswer {
     pub code: u32,
@@ -129,7 +123,6 @@ pub struct PlanAnswer {
 }
 
 /// Code 0: `first` is the number of bytes written to `out`, `second` 0.
-#[cfg(has_listing)]
 pub fn list(records: &[u8], room: &mut [u32], out: &mut [u8]) -> Answer {
     let (mut first, mut second) = (0, 0);
     let code = unsafe {
@@ -147,7 +140,6 @@ pub fn list(records: &[u8], room: &mut [u32], out: &mut [u8]) -> Answer {
     Answer { code, first, second }
 }
 
-#[cfg(has_plans)]
 pub fn plan_sizes(plan: &[u8], room: &mut [u32]) -> PlanAnswer {
     let mut values = [0; 4];
     let [first, second, third, fourth] = &mut values;
@@ -167,7 +159,6 @@ pub fn plan_sizes(plan: &[u8], room: &mut [u32]) -> PlanAnswer {
 }
 
 /// Code 0: the first starts and the first words of the lent slices are the script's.
-#[cfg(has_plans)]
 pub fn build(plan: &[u8], room: &mut [u32], starts: &mut [u64], words: &mut [u32]) -> PlanAnswer {
     let mut values = [0; 4];
     let [first, second, third, fourth] = &mut values;
@@ -191,7 +182,6 @@ pub fn build(plan: &[u8], room: &mut [u32], starts: &mut [u64], words: &mut [u32
 }
 
 /// Code 0: `first` is the number of turns left, `second` 0.
-#[cfg(has_run)]
 pub fn run(
     words: &[u32],
     starts: &[u64],
@@ -223,7 +213,6 @@ pub fn run(
 }
 
 /// Code 0: `first` is the bit, `second` 0.
-#[cfg(has_value)]
 pub fn value(plan: &[u8], room: &mut [u32], old: &[u32], new: &[u32], part: u32, pin: u32) -> Answer {
     let (mut first, mut second) = (0, 0);
     let code = unsafe {

@@ -45,29 +45,15 @@ pub fn call(words: &[String]) -> Outcome {
     println!("| what | size | ours | plain Rust | ratio | growth (of the size) |");
     println!("|---|---|---|---|---|---|");
     read_rounds(&mut table, &mut random, time)?;
-    #[cfg(has_plans)]
     crate::bench_plans::rows(&mut table, &mut random, time)?;
-    #[cfg(has_run)]
     crate::bench_run::rows(&mut table, &mut random, time)?;
     if let Some(path) = words.option("--svg") {
         crate::files::write(path, chart::ratios(&table.rows).as_bytes())?;
     }
-    if cfg!(not(all(has_plans, has_run))) {
-        println!("\nThe archive has not got these functions yet, and they were not timed: {}.", lacking());
-    }
     Ok(())
 }
 
-fn lacking() -> &'static str {
-    match (cfg!(has_plans), cfg!(has_run)) {
-        (false, false) => "build and run",
-        (false, true) => "build",
-        _ => "run",
-    }
-}
-
 /// A plan in order of so many parts in one major stage, on two blocks.
-#[cfg(any(has_plans, has_run))]
 pub fn plan_of(random: &mut Random, parts: usize) -> plan::Plan {
     use ::compare::plans::{self, Size};
     loop {

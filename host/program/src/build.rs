@@ -9,7 +9,6 @@ Builds the script of the plan record in the file PLAN and writes it to OUT. A pl
 refusal's number and place. The files' forms are in host/README.md.
 ";
 
-#[cfg(has_plans)]
 pub fn call(words: &[String]) -> Outcome {
     use crate::files;
     use crate::progress::while_working;
@@ -33,9 +32,4 @@ pub fn call(words: &[String]) -> Outcome {
     let juolgesot::Script { starts, words, state_words, sram_words } = script;
     let script = plan::Script { starts, words, state_words, sram_words };
     files::write(out, &plan::script_file::bytes(blocks.into(), &script))
-}
-
-#[cfg(not(has_plans))]
-pub fn call(_: &[String]) -> Outcome {
-    Err(Failure::Lacking("build"))
 }

@@ -17,7 +17,6 @@ first difference with the cycle and the pin.
 --lookups  stop after so many
 ";
 
-#[cfg(has_run)]
 pub fn call(words: &[String]) -> Outcome {
     use crate::files;
     use crate::progress::Progress;
@@ -80,17 +79,6 @@ pub fn call(words: &[String]) -> Outcome {
     Ok(())
 }
 
-#[cfg(all(has_plans, has_run))]
 fn built(record: &[u8]) -> Result<juolgesot::Script, Failure> {
     Ok(crate::progress::while_working("building", || juolgesot::build(record))?)
-}
-
-#[cfg(all(not(has_plans), has_run))]
-fn built(_: &[u8]) -> Result<juolgesot::Script, Failure> {
-    Err(Failure::Lacking("build"))
-}
-
-#[cfg(not(has_run))]
-pub fn call(_: &[String]) -> Outcome {
-    Err(Failure::Lacking("run"))
 }

@@ -11,7 +11,6 @@ in a text. --new: what the new state holds before (default: zeros). States are l
 what `juolgesot build` wrote. Prints the turns left of each major stage; exit status 0 only where none is left.
 ";
 
-#[cfg(has_run)]
 pub fn call(words: &[String]) -> Outcome {
     use crate::files;
     use crate::progress::while_working;
@@ -57,14 +56,8 @@ pub fn call(words: &[String]) -> Outcome {
     Ok(())
 }
 
-#[cfg(has_run)]
 fn turns_of(text: &[u8]) -> Result<Vec<u32>, Failure> {
     let text = String::from_utf8_lossy(text);
     let word = |word: &str| word.parse().map_err(|_| Failure::Failed(format!("'{}' is no block", word)));
     text.split_whitespace().map(word).collect()
-}
-
-#[cfg(not(has_run))]
-pub fn call(_: &[String]) -> Outcome {
-    Err(Failure::Lacking("run"))
 }
