@@ -1,16 +1,12 @@
 //! `juolgesot`: the library from a shell, and what is shown with it.
 
-mod files;
-mod progress;
-
-mod bench_plans;
-mod bench_run;
-
 mod bench;
 mod build;
 mod chart;
 mod compare;
+mod files;
 mod list;
+mod progress;
 mod replay;
 mod run;
 
