@@ -4,6 +4,7 @@ pub mod answers;
 pub mod builders;
 pub mod came;
 pub mod checker;
+pub mod comparison;
 pub mod damage;
 pub mod explain;
 pub mod lent;

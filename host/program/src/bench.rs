@@ -69,7 +69,7 @@ pub fn call(words: &[String]) -> Outcome {
 }
 
 /// The rows so far.
-struct Table {
+pub struct Table {
     rows: Vec<Row>,
 }
 

@@ -6,7 +6,7 @@
 //! slice; a touch of a page beside one ends the program. Stops at the first difference.
 
 use compare::checker::{Checker, Lent, OutLength};
-use compare::list_checker;
+use compare::list_checker::ListChecker;
 use compare::plan_checker::{More, PlanChecker};
 use compare::plans::{self, Size};
 use compare::run_checker::RunChecker;
@@ -47,7 +47,7 @@ struct Fuzz {
     random: Random,
     functions: Tally,
     rounds: Checker,
-    listings: Tally,
+    listings: ListChecker,
     plans: PlanChecker,
     runs: RunChecker,
     values: ValueChecker,
@@ -82,7 +82,7 @@ impl Fuzz {
             random: Random::new(seed),
             functions: Tally::new("cases by function"),
             rounds: Checker::new(),
-            listings: Tally::new("listings by answer"),
+            listings: ListChecker::new(),
             plans: PlanChecker::new(),
             runs: RunChecker::new(),
             values: ValueChecker::new(),
@@ -93,7 +93,7 @@ impl Fuzz {
 
     fn print_answers(&mut self) {
         self.rounds.answers.print();
-        self.listings.print();
+        self.listings.answers.print();
         self.plans.answers.print();
         self.runs.answers.print();
         self.values.answers.print();
@@ -154,14 +154,7 @@ impl Fuzz {
         }
         let room = if random.chance(12) { random.below(16_384) } else { 16_384 };
         let spare = random.pick(&[0, 0, 0, 1, 50, -1, -3, -1000]);
-        match list_checker::difference(&records, room, spare) {
-            Ok(answer) => self.listings.count(&answer),
-            Err(what) => {
-                println!("DIFFERENCE (list): {}", what);
-                println!("records: {:?}", &records[..records.len().min(400)]);
-                std::process::exit(1);
-            }
-        }
+        self.listings.check("fuzz", &records, room, spare);
         "list"
     }
 
