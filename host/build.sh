@@ -79,10 +79,12 @@ build_oracle() {
     crate oracle "$OUT/oracle/lib.rs" --cap-lints allow "${EXTERN[@]}" --extern "serde=$OUT/libserde.so"
 }
 
-# Crates that need nothing else.
+# Crates that need no others but these.
 build_plain() {
-    crate random "$HOST/random/src/lib.rs"
-    crate plan "$HOST/plan/src/lib.rs"
+    at_once crate random "$HOST/random/src/lib.rs"
+    at_once crate plan "$HOST/plan/src/lib.rs"
+    at_once crate model "$HOST/model/src/lib.rs"
+    all_done
     extern random
     crate filter "$HOST/filter/src/lib.rs" "${EXTERN[@]}"
 }
@@ -108,14 +110,13 @@ build_gem() {
 
 # build_wrapper MAKER: the crate juolgesot over the archive (MAKER archive) or over the model.
 build_wrapper() {
-    extern model
-    crate model "$HOST/model/src/lib.rs"
     if [ "$1" = model ]; then
+        extern model
         crate archive "$HOST/model/capi.rs" "${EXTERN[@]}"
     else
         crate archive "$HOST/juolgesot/archive.rs" -L native="$ARCHIVE"
     fi
-    extern archive
+    extern archive plan
     crate juolgesot "$HOST/juolgesot/src/lib.rs" "${EXTERN[@]}"
 }
 

@@ -96,22 +96,12 @@ pub struct Answer {
     pub second: u64,
 }
 
-/// Code 0: `first` is the number of rounds, `second` 0.
-pub fn read_rounds(set: &[u32], room: &mut [u32], out: &mut [u32]) -> Answer {
-    let (mut first, mut second) = (0, 0);
-    let code = unsafe {
-        juolgesot_read_rounds(
-            set.as_ptr(),
-            set.len(),
-            room.as_mut_ptr(),
-            room.len(),
-            out.as_mut_ptr(),
-            out.len(),
-            &mut first,
-            &mut second,
-        )
-    };
-    Answer { code, first, second }
+impl Answer {
+    fn of(call: impl FnOnce(&mut u64, &mut u64) -> u32) -> Self {
+        let (mut first, mut second) = (0, 0);
+        let code = call(&mut first, &mut second);
+        Answer { code, first, second }
+    }
 }
 
 /// What a call on a plan gives back: 0 with the number of starts and of words, the state's words and SRAM's words; or
@@ -122,63 +112,54 @@ pub struct PlanAnswer {
     pub values: [u64; 4],
 }
 
+impl PlanAnswer {
+    fn of(call: impl FnOnce([&mut u64; 4]) -> u32) -> Self {
+        let mut values = [0; 4];
+        let [first, second, third, fourth] = &mut values;
+        let code = call([first, second, third, fourth]);
+        PlanAnswer { code, values }
+    }
+}
+
+/// Calls a function of the archive: each slice passes as its pointer and its length.
+macro_rules! call {
+    ($function:ident, [$($slice:ident.$pointer:ident),*], $($other:expr),*) => {
+        unsafe { $function($($slice.$pointer(), $slice.len(),)* $($other),*) }
+    };
+}
+
+/// Code 0: `first` is the number of rounds, `second` 0.
+pub fn read_rounds(set: &[u32], room: &mut [u32], out: &mut [u32]) -> Answer {
+    Answer::of(|first, second| {
+        call!(juolgesot_read_rounds, [set.as_ptr, room.as_mut_ptr, out.as_mut_ptr], first, second)
+    })
+}
+
 /// Code 0: `first` is the number of bytes written to `out`, `second` 0.
 pub fn list(records: &[u8], room: &mut [u32], out: &mut [u8]) -> Answer {
-    let (mut first, mut second) = (0, 0);
-    let code = unsafe {
-        juolgesot_list(
-            records.as_ptr(),
-            records.len(),
-            room.as_mut_ptr(),
-            room.len(),
-            out.as_mut_ptr(),
-            out.len(),
-            &mut first,
-            &mut second,
-        )
-    };
-    Answer { code, first, second }
+    Answer::of(|first, second| {
+        call!(juolgesot_list, [records.as_ptr, room.as_mut_ptr, out.as_mut_ptr], first, second)
+    })
 }
 
 pub fn plan_sizes(plan: &[u8], room: &mut [u32]) -> PlanAnswer {
-    let mut values = [0; 4];
-    let [first, second, third, fourth] = &mut values;
-    let code = unsafe {
-        juolgesot_plan_sizes(
-            plan.as_ptr(),
-            plan.len(),
-            room.as_mut_ptr(),
-            room.len(),
-            first,
-            second,
-            third,
-            fourth,
-        )
-    };
-    PlanAnswer { code, values }
+    PlanAnswer::of(|[first, second, third, fourth]| {
+        call!(juolgesot_plan_sizes, [plan.as_ptr, room.as_mut_ptr], first, second, third, fourth)
+    })
 }
 
 /// Code 0: the first starts and the first words of the lent slices are the script's.
 pub fn build(plan: &[u8], room: &mut [u32], starts: &mut [u64], words: &mut [u32]) -> PlanAnswer {
-    let mut values = [0; 4];
-    let [first, second, third, fourth] = &mut values;
-    let code = unsafe {
-        juolgesot_build(
-            plan.as_ptr(),
-            plan.len(),
-            room.as_mut_ptr(),
-            room.len(),
-            starts.as_mut_ptr(),
-            starts.len(),
-            words.as_mut_ptr(),
-            words.len(),
+    PlanAnswer::of(|[first, second, third, fourth]| {
+        call!(
+            juolgesot_build,
+            [plan.as_ptr, room.as_mut_ptr, starts.as_mut_ptr, words.as_mut_ptr],
             first,
             second,
             third,
-            fourth,
+            fourth
         )
-    };
-    PlanAnswer { code, values }
+    })
 }
 
 /// Code 0: `first` is the number of turns left, `second` 0.
@@ -190,46 +171,26 @@ pub fn run(
     new: &mut [u32],
     room: &mut [u32],
 ) -> Answer {
-    let (mut first, mut second) = (0, 0);
-    let code = unsafe {
-        juolgesot_run(
-            words.as_ptr(),
-            words.len(),
-            starts.as_ptr(),
-            starts.len(),
-            turns.as_ptr(),
-            turns.len(),
-            old.as_ptr(),
-            old.len(),
-            new.as_mut_ptr(),
-            new.len(),
-            room.as_mut_ptr(),
-            room.len(),
-            &mut first,
-            &mut second,
+    Answer::of(|first, second| {
+        call!(
+            juolgesot_run,
+            [words.as_ptr, starts.as_ptr, turns.as_ptr, old.as_ptr, new.as_mut_ptr, room.as_mut_ptr],
+            first,
+            second
         )
-    };
-    Answer { code, first, second }
+    })
 }
 
 /// Code 0: `first` is the bit, `second` 0.
 pub fn value(plan: &[u8], room: &mut [u32], old: &[u32], new: &[u32], part: u32, pin: u32) -> Answer {
-    let (mut first, mut second) = (0, 0);
-    let code = unsafe {
-        juolgesot_value(
-            plan.as_ptr(),
-            plan.len(),
-            room.as_mut_ptr(),
-            room.len(),
-            old.as_ptr(),
-            old.len(),
-            new.as_ptr(),
-            new.len(),
+    Answer::of(|first, second| {
+        call!(
+            juolgesot_value,
+            [plan.as_ptr, room.as_mut_ptr, old.as_ptr, new.as_ptr],
             part,
             pin,
-            &mut first,
-            &mut second,
+            first,
+            second
         )
-    };
-    Answer { code, first, second }
+    })
 }

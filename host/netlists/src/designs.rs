@@ -309,7 +309,7 @@ fn rams<const COUNT: usize, const READ_BITS: usize>(b: &mut Builder, random: &mu
             *net = if random.chance(2) { b.xor(x, y) } else { x };
         }
         let clock = random.pick(&[clock, gated]);
-        let found = b.ram_reading(clock, &read, &write, enable, &data, READ_BITS);
+        let found = b.ram(clock, &read, &write, enable, &data, READ_BITS);
         let parity = xor_all(b, &found);
         b.output(parity);
         nets.extend(&found);

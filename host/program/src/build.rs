@@ -29,7 +29,5 @@ pub fn call(words: &[String]) -> Outcome {
         script.state_words,
         script.sram_words
     );
-    let juolgesot::Script { starts, words, state_words, sram_words } = script;
-    let script = plan::Script { starts, words, state_words, sram_words };
     files::write(out, &plan::script_file::bytes(blocks.into(), &script))
 }

@@ -49,10 +49,7 @@ pub fn call(words: &[String]) -> Outcome {
     }
 
     let script = match words.option("--script") {
-        Some(path) => {
-            let (_, plan::Script { starts, words, state_words, sram_words }) = files::script(path)?;
-            juolgesot::Script { starts, words, state_words, sram_words }
-        }
+        Some(path) => files::script(path)?.1,
         None => built(&netlist.record)?,
     };
     println!("filter: a script of {} words, {} state words", script.words.len(), script.state_words);

@@ -50,12 +50,12 @@ fn small_sets(checker: &mut Checker, random: &mut Random, amount: Amount) {
 }
 
 fn random_sets(checker: &mut Checker, random: &mut Random, amount: Amount) {
-    for _ in 0..amount.of(60_000, 6_000) {
+    for _ in 0..amount.of(60_000, 15_000) {
         let pairs = random.between(1, 40);
         let set = if random.chance(2) { sets::any(random, pairs) } else { sets::wide(random, pairs) };
         checker.check("random, 1 to 40 pairs", &set, any_lent(random));
     }
-    for _ in 0..amount.of(4_000, 1_000) {
+    for _ in 0..amount.of(4_000, 1_500) {
         let pairs = random.between(41, 500);
         let set = if random.chance(2) { sets::any(random, pairs) } else { sets::wide(random, pairs) };
         checker.check("random, 41 to 500 pairs", &set, any_lent(random));
@@ -102,7 +102,7 @@ fn boundary_sets(checker: &mut Checker, random: &mut Random, amount: Amount) {
 
 fn damaged_sets(checker: &mut Checker, random: &mut Random, amount: Amount) {
     for kind in damage::KINDS {
-        for round in 0..amount.of(2_000, 250) {
+        for round in 0..amount.of(2_000, 500) {
             let pairs = if round % 50 == 0 { random.between(200, 8192) } else { random.between(1, 20) };
             let set = sets::any(random, pairs);
             let set = damage::damaged(random, &set, kind);
@@ -128,7 +128,7 @@ fn damaged_sets(checker: &mut Checker, random: &mut Random, amount: Amount) {
 
 /// Result rooms around the length that is needed; 3 and 4 come before 14.
 fn short_results(checker: &mut Checker, random: &mut Random, amount: Amount) {
-    for round in 0..amount.of(6_000, 1_000) {
+    for round in 0..amount.of(6_000, 2_000) {
         let set = match round % 20 {
             0 => sets::of_total(random, 5_000),
             1 => sets::wide(random, 257),
@@ -151,7 +151,7 @@ fn short_results(checker: &mut Checker, random: &mut Random, amount: Amount) {
 
 /// Working rooms that are too short, with good and with damaged sets: 32 comes first.
 fn short_rooms(checker: &mut Checker, random: &mut Random, amount: Amount) {
-    for round in 0..amount.of(6_000, 1_000) {
+    for round in 0..amount.of(6_000, 2_000) {
         let pairs = if round % 100 == 0 { random.between(8000, 8300) } else { random.between(1, 30) };
         let mut set = sets::any(random, pairs);
         if random.chance(3) {
