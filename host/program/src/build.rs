@@ -1,5 +1,7 @@
 //! `juolgesot build`.
 
+use crate::files;
+use crate::progress::while_working;
 use crate::{Failure, Outcome};
 
 pub const HELP: &str = "
@@ -10,8 +12,6 @@ refusal's number and place. The files' forms are in host/README.md.
 ";
 
 pub fn call(words: &[String]) -> Outcome {
-    use crate::files;
-    use crate::progress::while_working;
     let words = crate::Words::read(words, &[])?;
     let (plan, out) = match &words.plain[..] {
         [plan, out] => (plan, out),

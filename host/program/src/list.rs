@@ -1,6 +1,7 @@
 //! `juolgesot list`.
 
 use crate::{Failure, Outcome};
+use std::io::{Read, Write};
 
 pub const HELP: &str = "
 usage: juolgesot list [FILE]
@@ -11,7 +12,6 @@ Exit status 0 where the records are in form and have a packing.
 ";
 
 pub fn call(words: &[String]) -> Outcome {
-    use std::io::{Read, Write};
     let words = crate::Words::read(words, &[])?;
     let records = match &words.plain[..] {
         [path] => crate::files::read(path)?,
