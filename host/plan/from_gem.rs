@@ -58,13 +58,16 @@ pub fn make(design: &Design) -> Made {
             .collect(),
     };
     let ports = ports(&aig, design, &script);
-    let script = Script {
+    Made { plan, script: plain_script(&script), staged_duplicates, ports }
+}
+
+fn plain_script(script: &FlattenedScriptV1) -> Script {
+    Script {
         starts: script.blocks_start.iter().map(|&start| start as u64).collect(),
         words: script.blocks_data.to_vec(),
         state_words: script.reg_io_state_size.into(),
         sram_words: script.sram_storage_size.into(),
-    };
-    Made { plan, script, staged_duplicates, ports }
+    }
 }
 
 /// The parts of a major stage, each with the next tables.

@@ -1,4 +1,4 @@
-//! The C ABI, and the only unsafe code of the host's own programs.
+//! The C ABI, and the only unsafe code of this crate.
 //!
 //! A Rattle slice passes as a pointer and a length, a `&mut u64` as a pointer. The archive's
 //! functions are proved for all arguments (no `requires`), keep to the slices that they are

@@ -148,7 +148,7 @@ fn small_case(random: &mut Random) -> (Case, Vec<PartPlace>) {
     }
 }
 
-/// Each damage until its refusal has come three times, and then damages at random.
+/// Each damage until its refusal has come so many times, and then damages at random.
 fn damaged_scripts(checker: &mut RunChecker, random: &mut Random) {
     let damages = run_damage::damages();
     let mut came = Came::new(TIMES);
