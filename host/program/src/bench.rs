@@ -33,7 +33,7 @@ pub struct Row {
     pub times: Times,
 }
 
-/// The mean times of a call.
+/// The least times of a call: what else the machine does only adds to them.
 #[derive(Clone, Copy)]
 pub struct Times {
     pub ours: Duration,
@@ -107,6 +107,9 @@ fn timed<T>(work: impl FnOnce() -> T) -> (T, Duration) {
     (made, start.elapsed())
 }
 
+/// Calls of each, at least.
+const CALLS: u32 = 3;
+
 /// Calls both, turn about so that both see the same machine, until the time is over. Both give what they made, which
 /// is compared, and how long they took.
 fn time_both<T: PartialEq>(
@@ -114,16 +117,15 @@ fn time_both<T: PartialEq>(
     mut ours: impl FnMut() -> (T, Duration),
     mut theirs: impl FnMut() -> (T, Duration),
 ) -> Result<Times, Failure> {
-    let (mut our_time, mut their_time, mut calls) = (Duration::ZERO, Duration::ZERO, 0);
-    while calls == 0 || our_time + their_time < time {
-        let (our_result, took) = ours();
-        our_time += took;
-        let (their_result, took) = theirs();
-        their_time += took;
+    let mut least = Times { ours: Duration::MAX, theirs: Duration::MAX };
+    let (start, mut calls) = (Instant::now(), 0);
+    while calls < CALLS || start.elapsed() < time {
+        let ((our_result, our_time), (their_result, their_time)) = (ours(), theirs());
         if our_result != their_result {
             return Err(Failure::Failed("both were timed, and they differ".to_string()));
         }
+        least = Times { ours: least.ours.min(our_time), theirs: least.theirs.min(their_time) };
         calls += 1;
     }
-    Ok(Times { ours: our_time / calls, theirs: their_time / calls })
+    Ok(least)
 }
