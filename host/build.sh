@@ -79,10 +79,12 @@ build_oracle() {
     crate oracle "$OUT/oracle/lib.rs" --cap-lints allow "${EXTERN[@]}" --extern "serde=$OUT/libserde.so"
 }
 
-# Crates that need nothing else.
+# Crates that need no others but these.
 build_plain() {
-    crate random "$HOST/random/src/lib.rs"
-    crate plan "$HOST/plan/src/lib.rs"
+    at_once crate random "$HOST/random/src/lib.rs"
+    at_once crate plan "$HOST/plan/src/lib.rs"
+    at_once crate model "$HOST/model/src/lib.rs"
+    all_done
     extern random
     crate filter "$HOST/filter/src/lib.rs" "${EXTERN[@]}"
 }
@@ -106,43 +108,16 @@ build_gem() {
     build_make_plans
 }
 
-# find_functions MAKER: sets HAS (an array) to the groups of functions that there are, of listing, plans, run and value.
-# The model has all; the archive is asked for their symbols.
-find_functions() {
-    local group
-    HAS=()
-    for group in listing:juolgesot_list plans:juolgesot_build run:juolgesot_run value:juolgesot_value; do
-        if [ "$1" = model ] || grep -aqw "${group#*:}" "$ARCHIVE/libcapi.a"; then
-            HAS+=("${group%:*}")
-        fi
-    done
-}
-
-has() {
-    [[ " ${HAS[*]-} " == *" $1 "* ]]
-}
-
 # build_wrapper MAKER: the crate juolgesot over the archive (MAKER archive) or over the model.
 build_wrapper() {
-    extern model
-    crate model "$HOST/model/src/lib.rs"
     if [ "$1" = model ]; then
+        extern model
         crate archive "$HOST/model/capi.rs" "${EXTERN[@]}"
     else
         crate archive "$HOST/juolgesot/archive.rs" -L native="$ARCHIVE"
     fi
-    function_flags
-    extern archive
-    crate juolgesot "$HOST/juolgesot/src/lib.rs" ${FLAGS[@]+"${FLAGS[@]}"} "${EXTERN[@]}"
-}
-
-# The words that tell a crate which functions there are, in the array FLAGS.
-function_flags() {
-    local group
-    FLAGS=()
-    for group in ${HAS[@]+"${HAS[@]}"}; do
-        FLAGS+=(--cfg "has_$group")
-    done
+    extern archive plan
+    crate juolgesot "$HOST/juolgesot/src/lib.rs" "${EXTERN[@]}"
 }
 
 # build_shared REFERENCE: what the programs share; comparisons are with gem or with model.
@@ -152,35 +127,27 @@ build_shared() {
         extern oracle plan indexmap
     fi
     crate reference "$HOST/compare/reference/$1.rs" "${EXTERN[@]}"
-    function_flags
     SHARED=(juolgesot model reference random plan filter)
     extern "${SHARED[@]}"
-    crate compare "$HOST/compare/src/lib.rs" ${FLAGS[@]+"${FLAGS[@]}"} "${EXTERN[@]}"
+    crate compare "$HOST/compare/src/lib.rs" "${EXTERN[@]}"
     SHARED+=(compare)
 }
 
-# The comparison programs of the functions that there are.
+# The comparison programs.
 build_comparisons() {
-    local name programs=(replay_answers make_answers compare_rounds fuzz m10)
-    ! has listing || programs+=(compare_listing)
-    ! has plans || programs+=(compare_plans)
-    ! has run || programs+=(compare_run)
-    ! has value || programs+=(compare_value)
+    local name
     extern "${SHARED[@]}"
-    for name in "${programs[@]}"; do
-        at_once program "$name" "$HOST/compare/src/bin/$name.rs" ${FLAGS[@]+"${FLAGS[@]}"} "${EXTERN[@]}"
+    for name in replay_answers make_answers compare_{rounds,listing,plans,run,value} fuzz m10; do
+        at_once program "$name" "$HOST/compare/src/bin/$name.rs" "${EXTERN[@]}"
     done
     all_done
 }
 
 # build_juolgesot REFERENCE: the program juolgesot. Its crate has a name of its own, as the library has that one.
 build_juolgesot() {
-    local flags=(${FLAGS[@]+"${FLAGS[@]}"}) crates=("${SHARED[@]}")
-    if has run; then
-        extern "${SHARED[@]}"
-        crate replay "$HOST/replay/src/lib.rs" "${EXTERN[@]}"
-        crates+=(replay)
-    fi
+    local flags=() crates=("${SHARED[@]}" replay)
+    extern "${SHARED[@]}"
+    crate replay "$HOST/replay/src/lib.rs" "${EXTERN[@]}"
     if [ "$1" = gem ]; then
         flags+=(--cfg has_gem)
         crates+=(from_gem netlists)
@@ -199,15 +166,12 @@ build_programs() {
 
 # build_c MAKER: the C program over the header, linked with the archive or with the model behind the same functions.
 build_c() {
-    local group flags=(-std=c99 -O1 -Wall -Wextra -Werror) library=$ARCHIVE/libcapi.a
-    for group in ${HAS[@]+"${HAS[@]}"}; do
-        flags+=("-DHAS_${group^^}")
-    done
+    local library=$ARCHIVE/libcapi.a
     if [ "$1" = model ]; then
         library=$OUT/libmodel_c.a
         extern model
         "$RUSTC" ${RUSTC_FLAGS[@]+"${RUSTC_FLAGS[@]}"} --edition 2021 -O --crate-type staticlib --crate-name model_c \
             -L "$OUT" "${EXTERN[@]}" -o "$library" "$HOST/model/capi.rs"
     fi
-    "$CC" "${flags[@]}" -o "$OUT/guarded" "$HOST/c/guarded.c" "$library" -lpthread -ldl -lm
+    "$CC" -std=c99 -O1 -Wall -Wextra -Werror -o "$OUT/guarded" "$HOST/c/guarded.c" "$library" -lpthread -ldl -lm
 }

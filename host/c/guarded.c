@@ -1,7 +1,5 @@
 /* The functions of juolgesot.h called from C, every lent slice and number between two pages that may not be touched:
- * once up against the page behind it, once against the page before it. Document 01's marked examples.
- *
- * HAS_LISTING, HAS_PLANS, HAS_RUN, HAS_VALUE: the functions that the archive has. */
+ * once up against the page behind it, once against the page before it. Document 01's marked examples. */
 #define _GNU_SOURCE
 #include "../juolgesot.h"
 #include <stdio.h>
@@ -93,7 +91,6 @@ static void read_rounds(void)
     calls += 5;
 }
 
-#ifdef HAS_LISTING
 static void list(void)
 {
     static const uint8_t example[] = {1, 0, 0, 0, 0, 1, 1, 0, 0, 0, 1, 37, 0, 0, 0, 2, 0, 0, 0, 0, 0};
@@ -113,9 +110,7 @@ static void list(void)
        juolgesot_list(records, sizeof example, room, JUOLGESOT_SET_ROOM, short_out, length - 1, first, second), 14);
     calls += 2;
 }
-#endif
 
-#if defined(HAS_PLANS) || defined(HAS_VALUE)
 /* M10's plan: pins 1 and 2 at state 0 and 1; gate 3 = 1 and not 2 at level 1 slot 0, location 128. */
 enum { SLOTS = 16383, TABLES = 2 * 8192 + 5 * 256, HEAD = 5 + 1 + 3 + 2 + 2, PLAN_WORDS = HEAD + 1 + SLOTS + 1 + TABLES };
 static uint32_t m10[PLAN_WORDS];
@@ -132,9 +127,7 @@ static void make_m10(void)
     slots[4096 - 1] = 3;
     slots[SLOTS] = 128;
 }
-#endif
 
-#if defined(HAS_PLANS) || defined(HAS_RUN)
 /* M10's script, word by word. */
 enum { STARTS = 2, WORDS = 10496 + 512 + 5120 + 2048, STAGE = 256 + 512 };
 static const uint64_t m10_starts[STARTS] = {0, WORDS - 2048};
@@ -152,9 +145,7 @@ static void make_m10_script(void)
     m10_words[STAGE] = 1;                          /* slot 0 is pin 1, at local position 1; slot 4096 is pin 2, at 0 */
     m10_words[STAGE + 4096 + 4 * 128 + 1] = 1;     /* xorb of position 4096 */
 }
-#endif
 
-#ifdef HAS_PLANS
 enum { ROOM = JUOLGESOT_PLAN_ROOM + JUOLGESOT_PART_ROOM };
 
 static void build(void)
@@ -180,9 +171,7 @@ static void build(void)
     is("no plan", juolgesot_plan_sizes(plan, 0, room, ROOM, first, second, third, fourth), 5);
     calls += 5;
 }
-#endif
 
-#ifdef HAS_RUN
 static void run(void)
 {
     static const uint32_t three_turns[] = {0, 0, 0};
@@ -204,48 +193,32 @@ static void run(void)
         calls += 2;
     }
 }
-#endif
 
-#ifdef HAS_VALUE
 static void value(void)
 {
-    enum { VALUE_ROOM = JUOLGESOT_PLAN_ROOM + JUOLGESOT_PART_ROOM };
     uint8_t *plan = between_pages(sizeof m10, m10);
-    uint32_t *room = room_of(VALUE_ROOM);
+    uint32_t *room = room_of(ROOM);
     uint64_t *first = number(), *second = number();
     for (uint32_t word = 0; word < 4; word++) {
         uint32_t *old = between_pages(4, &word);
         uint32_t *new_ = between_pages(0, &word);
-        is("value", juolgesot_value(plan, sizeof m10, room, VALUE_ROOM, old, 1, new_, 0, 0, 3, first, second), 0);
+        is("value", juolgesot_value(plan, sizeof m10, room, ROOM, old, 1, new_, 0, 0, 3, first, second), 0);
         is("gate 3", *first, word == 1);
-        is_zero(room, VALUE_ROOM);
+        is_zero(room, ROOM);
         calls++;
     }
 }
-#endif
 
 int main(void)
 {
     for (at_end = 0; at_end < 2; at_end++) {
         read_rounds();
-#ifdef HAS_LISTING
         list();
-#endif
-#if defined(HAS_PLANS) || defined(HAS_VALUE)
         make_m10();
-#endif
-#if defined(HAS_PLANS) || defined(HAS_RUN)
         make_m10_script();
-#endif
-#ifdef HAS_PLANS
         build();
-#endif
-#ifdef HAS_RUN
         run();
-#endif
-#ifdef HAS_VALUE
         value();
-#endif
     }
     printf("C: %d calls between guard pages, no difference\n", calls);
     return 0;

@@ -7,6 +7,17 @@ use model::build::{accept, Accepted, Sizes};
 use model::{listing, record, rounds, run, value, Refused};
 use std::slice::{from_raw_parts, from_raw_parts_mut};
 
+/// Writes the result, or a refusal's place, and gives the code.
+fn tell(answer: Result<u64, Refused>, first: &mut u64, second: &mut u64) -> u32 {
+    let (code, results) = match answer {
+        Ok(result) => (0, (result, 0)),
+        Err(refused) => (refused.number, (refused.part, refused.item)),
+    };
+    *first = results.0;
+    *second = results.1;
+    code
+}
+
 /// # Safety
 /// Each pointer is to its length of words, none of them shared.
 #[no_mangle]
@@ -28,16 +39,11 @@ pub unsafe extern "C" fn juolgesot_read_rounds(
     if !matches!(answer, Err((32, _))) {
         room.fill(0);
     }
-    let (code, results) = match answer {
-        Ok(words) => {
-            out[..words.len()].copy_from_slice(&words);
-            (0, ((words.len() / rounds::ROUND_WORDS) as u64, 0))
-        }
-        Err((number, item)) => (number, (0, item)),
-    };
-    *first = results.0;
-    *second = results.1;
-    code
+    let answer = answer.map_err(|(number, item)| Refused { number, part: 0, item }).map(|words| {
+        out[..words.len()].copy_from_slice(&words);
+        (words.len() / rounds::ROUND_WORDS) as u64
+    });
+    tell(answer, first, second)
 }
 
 /// # Safety
@@ -60,19 +66,16 @@ pub unsafe extern "C" fn juolgesot_list(
             from_raw_parts_mut(out, out_len),
         )
     };
-    *first = 0;
-    *second = 0;
     if room_len < listing::LIST_ROOM {
-        return 32;
+        return tell(Err(Refused::plain(32)), first, second);
     }
     room.fill(0);
     let text = listing::text(records, |pairs| rounds::pack(pairs).map(|packing| packing.lanes));
     if out_len < text.len() {
-        return 14;
+        return tell(Err(Refused::plain(14)), first, second);
     }
     out[..text.len()].copy_from_slice(text.as_bytes());
-    *first = text.len() as u64;
-    0
+    tell(Ok(text.len() as u64), first, second)
 }
 
 /// Writes sizes, or a refusal's place, and gives the code.
@@ -180,16 +183,11 @@ pub unsafe extern "C" fn juolgesot_run(
     if !matches!(answer, Err(Refused { number: 32, .. })) {
         room.fill(0);
     }
-    let (code, results) = match answer {
-        Ok(ran) => {
-            new.copy_from_slice(&ran.new);
-            (0, (ran.turns_left, 0))
-        }
-        Err(refused) => (refused.number, (refused.part, refused.item)),
-    };
-    *first = results.0;
-    *second = results.1;
-    code
+    let answer = answer.map(|ran| {
+        new.copy_from_slice(&ran.new);
+        ran.turns_left
+    });
+    tell(answer, first, second)
 }
 
 /// # Safety
@@ -218,11 +216,5 @@ pub unsafe extern "C" fn juolgesot_value(
         room.fill(0);
         value::answer(plan.len(), &words, part, pin, old, new)
     };
-    let (code, results) = match answer {
-        Ok(bit) => (0, (bit as u64, 0)),
-        Err(refused) => (refused.number, (refused.part, refused.item)),
-    };
-    *first = results.0;
-    *second = results.1;
-    code
+    tell(answer.map(u64::from), first, second)
 }

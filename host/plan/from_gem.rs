@@ -46,35 +46,43 @@ pub fn make(design: &Design) -> Made {
 
     let staged_duplicates = tables.iter().map(|tables| tables.staged_duplicates).sum();
     let mut tables = tables.into_iter();
-    let plan_stages = slices
-        .iter()
-        .zip(&stages)
-        .map(|(parts, staged)| {
-            parts
-                .iter()
-                .map(|part| Part {
-                    endpoints: part.endpoints.iter().map(|&i| endpoint(&aig, staged, i)).collect(),
-                    stages: part.stages.iter().map(stage).collect(),
-                    tables: plain_tables(tables.next().expect("tables for every part")),
-                })
-                .collect()
-        })
-        .collect();
     let plan = Plan {
         blocks: design.blocks as u32,
         gates: gates(&aig),
         layout: layout.iter().map(|&pin| plain_pin(pin)).collect(),
         positions,
-        stages: plan_stages,
+        stages: slices
+            .iter()
+            .zip(&stages)
+            .map(|(parts, staged)| plain_parts(&aig, staged, parts, &mut tables))
+            .collect(),
     };
     let ports = ports(&aig, design, &script);
-    let script = Script {
+    Made { plan, script: plain_script(&script), staged_duplicates, ports }
+}
+
+fn plain_script(script: &FlattenedScriptV1) -> Script {
+    Script {
         starts: script.blocks_start.iter().map(|&start| start as u64).collect(),
         words: script.blocks_data.to_vec(),
         state_words: script.reg_io_state_size.into(),
         sram_words: script.sram_storage_size.into(),
+    }
+}
+
+/// The parts of a major stage, each with the next tables.
+fn plain_parts(
+    aig: &AIG,
+    staged: &StagedAIG,
+    parts: &[Partition],
+    tables: &mut impl Iterator<Item = OracleTables>,
+) -> Vec<Part> {
+    let part = |part: &Partition| Part {
+        endpoints: part.endpoints.iter().map(|&index| endpoint(aig, staged, index)).collect(),
+        stages: part.stages.iter().map(stage).collect(),
+        tables: plain_tables(tables.next().expect("tables for every part")),
     };
-    Made { plan, script, staged_duplicates, ports }
+    parts.iter().map(part).collect()
 }
 
 fn ports(aig: &AIG, design: &Design, script: &FlattenedScriptV1) -> Ports {

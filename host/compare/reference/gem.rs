@@ -6,7 +6,7 @@ use oracle::flatten::OracleTables;
 use oracle::flatten_given::{oracle_build_given, OracleGiven};
 use oracle::pe::{BoomerangStage, Partition};
 use oracle::staging::StagedAIG;
-use plan::{Part, Plan, Script, Tables, EMPTY};
+use plan::{Endpoint, Part, Plan, Script, Tables, EMPTY};
 use std::any::Any;
 use std::collections::BTreeMap;
 use std::panic::catch_unwind;
@@ -58,9 +58,9 @@ pub fn flatten(plan: &Plan) -> Flattened {
     }
 }
 
-/// How long GEM's flattener takes for a plan in order.
-pub fn flatten_time(plan: &Plan) -> Option<Duration> {
-    Some(script(plan).1)
+/// The same for a plan in order, and how long GEM's flattener took: its own call alone, its lists being made before.
+pub fn flatten_timed(plan: &Plan) -> (Script, Duration) {
+    script(plan)
 }
 
 fn can_be_asked(plan: &Plan) -> bool {
@@ -114,68 +114,66 @@ fn script(plan: &Plan) -> (Script, Duration) {
 
 /// An AIG with the plan's gates and endpoints, the staged pins of each major stage, and the endpoints of each part.
 fn aig_of(plan: &Plan) -> (AIG, Vec<StagedAIG>, Vec<Vec<usize>>) {
+    let aig = bare_aig(plan);
+    let outputs: BTreeMap<usize, usize> =
+        aig.primary_outputs.iter().enumerate().map(|(index, &pin)| (pin, index)).collect();
+    // Outputs, then registers, then SRAMs.
+    let mut registers = outputs.len()..;
+    let mut srams = outputs.len() + aig.dffs.len()..;
+    let mut number = |endpoint: &Endpoint| match endpoint.kind {
+        0 => outputs[&(endpoint.x as usize)],
+        2 => registers.next().expect("no end"),
+        _ => srams.next().expect("no end"),
+    };
+    let mut stageds = Vec::new();
+    let mut of_parts = Vec::new();
+    for parts in &plan.stages {
+        let (staged, of_stage) = staged_aig(parts, &mut number);
+        stageds.push(staged);
+        of_parts.extend(of_stage);
+    }
+    (aig, stageds, of_parts)
+}
+
+/// An AIG with the plan's gates and endpoints.
+fn bare_aig(plan: &Plan) -> AIG {
     let mut drivers = vec![DriverType::InputPort(0); MOST_PIN as usize + 1];
     drivers[0] = DriverType::Tie0;
     for gate in &plan.gates {
         drivers[gate.pin as usize] = DriverType::AndGate(gate.first as usize, gate.second as usize);
     }
-    let all = || plan.parts().flat_map(|part| &part.endpoints);
-    let primary_outputs: IndexSet<usize> =
-        all().filter(|endpoint| endpoint.kind == 0).map(|endpoint| endpoint.x as usize).collect();
-    let outputs: BTreeMap<usize, usize> =
-        primary_outputs.iter().enumerate().map(|(index, &pin)| (pin, index)).collect();
-    let registers = all().filter(|endpoint| endpoint.kind == 2);
-    let dffs: IndexMap<usize, DFF> = registers
-        .enumerate()
-        .map(|(cell, register)| (cell, DFF { d_iv: register.x as usize, en_iv: register.y as usize, q: 0 }))
-        .collect();
-    let srams: IndexMap<usize, RAMBlock> = all()
-        .filter(|endpoint| endpoint.kind == 3)
-        .enumerate()
-        .map(|(i, _)| (i, RAMBlock::default()))
-        .collect();
-
-    let (mut register, mut sram) = (outputs.len(), outputs.len() + dffs.len());
-    let mut stageds = Vec::new();
-    let mut of_parts = Vec::new();
-    for parts in &plan.stages {
-        let endpoints = || parts.iter().flat_map(|part| &part.endpoints);
-        let mut staged = StagedAIG {
-            primary_inputs: None,
-            primary_output_pins: endpoints()
-                .filter(|endpoint| endpoint.kind == 1)
-                .map(|endpoint| endpoint.x as usize)
-                .collect(),
-            endpoints: Vec::new(),
-        };
-        let mut pin = 0;
-        for part in parts {
-            let mut of_part = Vec::new();
-            for endpoint in &part.endpoints {
-                let counter = match endpoint.kind {
-                    1 => {
-                        of_part.push(pin);
-                        pin += 1;
-                        continue;
-                    }
-                    0 => {
-                        staged.endpoints.push(outputs[&(endpoint.x as usize)]);
-                        of_part.push(staged.primary_output_pins.len() + staged.endpoints.len() - 1);
-                        continue;
-                    }
-                    2 => &mut register,
-                    _ => &mut sram,
-                };
-                staged.endpoints.push(*counter);
-                *counter += 1;
-                of_part.push(staged.primary_output_pins.len() + staged.endpoints.len() - 1);
-            }
-            of_parts.push(of_part);
-        }
-        stageds.push(staged);
-    }
+    let of_kind =
+        |kind: u32| plan.parts().flat_map(|part| &part.endpoints).filter(move |one| one.kind == kind);
+    let primary_outputs: IndexSet<usize> = of_kind(0).map(|output| output.x as usize).collect();
+    let register = |(cell, register): (usize, &Endpoint)| {
+        (cell, DFF { d_iv: register.x as usize, en_iv: register.y as usize, q: 0 })
+    };
+    let dffs: IndexMap<usize, DFF> = of_kind(2).enumerate().map(register).collect();
+    let srams: IndexMap<usize, RAMBlock> =
+        of_kind(3).enumerate().map(|(cell, _)| (cell, RAMBlock::default())).collect();
     let num_aigpins = drivers.len() - 1;
-    (AIG { num_aigpins, drivers, primary_outputs, dffs, srams, ..AIG::default() }, stageds, of_parts)
+    AIG { num_aigpins, drivers, primary_outputs, dffs, srams, ..AIG::default() }
+}
+
+/// The staged pins and the endpoints of a major stage, an endpoint by its number in the AIG; and those of each part,
+/// staged pins being counted first.
+fn staged_aig(parts: &[Part], mut number: impl FnMut(&Endpoint) -> usize) -> (StagedAIG, Vec<Vec<usize>>) {
+    let all = parts.iter().flat_map(|part| &part.endpoints);
+    let staged_pins: Vec<usize> =
+        all.filter(|endpoint| endpoint.kind == 1).map(|endpoint| endpoint.x as usize).collect();
+    let (mut pins, mut endpoints) = (0.., Vec::new());
+    let mut of_parts = Vec::new();
+    for part in parts {
+        let of_stage = |endpoint: &Endpoint| match endpoint.kind {
+            1 => pins.next().expect("no end"),
+            _ => {
+                endpoints.push(number(endpoint));
+                staged_pins.len() + endpoints.len() - 1
+            }
+        };
+        of_parts.push(part.endpoints.iter().map(of_stage).collect());
+    }
+    (StagedAIG { primary_inputs: None, primary_output_pins: staged_pins, endpoints }, of_parts)
 }
 
 fn partition(part: &Part, endpoints: Vec<usize>) -> Partition {

@@ -2,7 +2,7 @@
 
 use plan::{Plan, Script};
 use std::collections::BTreeMap;
-use std::time::Duration;
+use std::time::{Duration, Instant};
 
 pub const NAME: &str = "host/model";
 
@@ -26,6 +26,13 @@ pub fn flatten(_: &Plan) -> Flattened {
     Flattened::NotAsked
 }
 
-pub fn flatten_time(_: &Plan) -> Option<Duration> {
-    None
+/// The model's script of a plan in order, and how long it took.
+pub fn flatten_timed(plan: &Plan) -> (Script, Duration) {
+    let record = plan.record();
+    let start = Instant::now();
+    let words = model::record::words(&record);
+    let accepted = model::build::accept(record.len(), &words).expect("a plan in order");
+    let model::build::Sizes { state_words, sram_words, .. } = accepted.sizes();
+    let script = Script { starts: accepted.starts(), words: accepted.words(), state_words, sram_words };
+    (script, start.elapsed())
 }

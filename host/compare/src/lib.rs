@@ -1,29 +1,25 @@
 //! What the comparison programs share.
 
 pub mod answers;
-#[cfg(has_plans)]
 pub mod builders;
 pub mod came;
 pub mod checker;
+pub mod comparison;
 pub mod damage;
 pub mod explain;
 pub mod lent;
-#[cfg(has_listing)]
 pub mod list_checker;
 pub mod marked;
 pub mod pages;
 pub mod plan_answers;
 pub mod plan_changes;
-#[cfg(has_plans)]
 pub mod plan_checker;
 pub mod plan_damage;
 pub mod plans;
-#[cfg(has_run)]
 pub mod run_checker;
 pub mod run_damage;
 pub mod sets;
 pub mod tally;
-#[cfg(has_value)]
 pub mod value_checker;
 
 /// Panics of the reference are expected and caught: keep them off the terminal.

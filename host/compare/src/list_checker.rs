@@ -1,12 +1,37 @@
 //! One comparison of a listing, held to the lines made from the reference's lanes.
 
 use crate::lent::{Lent, LentRead, Room};
+use crate::tally::Tally;
 use juolgesot::ffi::{self, Answer};
 use juolgesot::{LIST_ROOM, LIST_TEXT};
 
-/// One call: answer, text, room, and what lies behind the text. The result has so many bytes more than the text. Gives
-/// the answer's name, or the first difference.
-pub fn difference(records: &[u8], room_length: usize, spare: isize) -> Result<String, String> {
+pub struct ListChecker {
+    pub kinds: Tally,
+    pub answers: Tally,
+}
+
+impl ListChecker {
+    pub fn new() -> Self {
+        ListChecker { kinds: Tally::new("listings by kind"), answers: Tally::new("listings by answer") }
+    }
+
+    /// Compares one call and counts it, or stops the program at a difference. The result has so many bytes more than
+    /// the text.
+    pub fn check(&mut self, kind: &str, records: &[u8], room_length: usize, spare: isize) {
+        match difference(records, room_length, spare) {
+            Ok(answer) => self.answers.count(&answer),
+            Err(what) => {
+                println!("DIFFERENCE ({}): {}", kind, what);
+                println!("records: {:?}", &records[..records.len().min(400)]);
+                std::process::exit(1);
+            }
+        }
+        self.kinds.count(kind);
+    }
+}
+
+/// One call: answer, text, room, and what lies behind the text. Gives the answer's name, or the first difference.
+fn difference(records: &[u8], room_length: usize, spare: isize) -> Result<String, String> {
     let text = model::listing::text(records, reference::lanes);
     if text.len() > LIST_TEXT {
         return Err("the text is longer than LIST_TEXT".to_string());

@@ -157,44 +157,47 @@ fn word_difference(record: &[u8], at: isize, found: u32, expected: u32) -> Strin
 /// Compares both calls; gives the number that `build` answers, or the first difference.
 pub fn difference(record: &[u8], expected: &Expected, more: More) -> Result<u32, String> {
     let room_length = (expected.room_words as i64 + more.room).clamp(0, MOST_ROOM as i64) as usize;
-    let sizes = match &expected.answer {
-        _ if (room_length as u64) < expected.room_words => Err(Refused::plain(32)),
-        Ok(script) => Ok((script.starts.len(), script.words.len())),
-        Err(refused) => Err(*refused),
+    let refused = if (room_length as u64) < expected.room_words {
+        Some(Refused::plain(32))
+    } else {
+        expected.answer.as_ref().err().copied()
     };
     let lent_record = LentRead::new(record);
     let mut room = Room::new(room_length, more.room_is_zero);
     let answer = ffi::plan_sizes(lent_record.slice(), room.slice());
-    let wanted = wanted(expected, sizes.as_ref().err().copied());
-    same_answer("plan_sizes", answer, wanted)?;
+    same_answer("plan_sizes", answer, wanted(expected, refused))?;
     room.check(answer.code).map_err(|what| format!("plan_sizes: {}", what))?;
+    build_difference(record, expected, refused, Room::new(room_length, more.room_is_zero), more)
+}
 
-    let (needed_starts, needed_words) = *sizes.as_ref().unwrap_or(&(8, 300));
+/// The same for `build`, where the plan or the room is refused already, or not.
+fn build_difference(
+    record: &[u8],
+    expected: &Expected,
+    refused: Option<Refused>,
+    mut room: Room,
+    more: More,
+) -> Result<u32, String> {
+    let made = expected.answer.as_ref().ok().filter(|_| refused.is_none());
+    let (needed_starts, needed_words) =
+        made.map_or((8, 300), |script| (script.starts.len(), script.words.len()));
     let starts_length = (needed_starts as i64 + more.starts).max(0) as usize;
     let words_length = (needed_words as i64 + more.words).max(0) as usize;
-    let refused = match sizes {
-        Err(refused) => Some(refused),
-        Ok((starts, words)) if starts_length < starts || words_length < words => Some(Refused::plain(14)),
-        Ok(_) => None,
-    };
+    let is_short = starts_length < needed_starts || words_length < needed_words;
+    let refused = if made.is_some() && is_short { Some(Refused::plain(14)) } else { refused };
     let start_before = |index: usize| 0x9000_0000_0000_0000 + index as u64;
     let word_before = |index: usize| 0xA000_0000 + index as u32;
     let mut starts = Lent::new(starts_length, start_before, 0xC0DE_D00D);
     let mut words = Lent::new(words_length, word_before, 0xC0DE_D00D);
-    let mut room = Room::new(room_length, more.room_is_zero);
-    let answer = ffi::build(lent_record.slice(), room.slice(), starts.slice(), words.slice());
-    same_answer("build", answer, self::wanted(expected, refused))?;
+    let answer = ffi::build(LentRead::new(record).slice(), room.slice(), starts.slice(), words.slice());
+    same_answer("build", answer, wanted(expected, refused))?;
     room.check(answer.code)?;
-    let none = (&[][..], &[][..]);
-    let (script_starts, script_words) = match (&expected.answer, refused) {
-        (Ok(script), None) => (&script.starts[..], &script.words[..]),
-        _ => none,
-    };
-    starts.check("start", script_starts, start_before)?;
-    if let Some((at, found, expected)) = words.difference(script_words, word_before) {
-        return Err(word_difference(record, at, found, expected));
+    let written = made.filter(|_| refused.is_none());
+    starts.check("start", written.map_or(&[], |script| &script.starts), start_before)?;
+    match words.difference(written.map_or(&[], |script| &script.words), word_before) {
+        Some((at, found, expected)) => Err(word_difference(record, at, found, expected)),
+        None => Ok(refused.map_or(0, |refused| refused.number)),
     }
-    Ok(refused.map_or(0, |refused| refused.number))
 }
 
 fn wanted(expected: &Expected, refused: Option<Refused>) -> PlanAnswer {

@@ -1,4 +1,4 @@
-//! The C ABI, and the only unsafe code of the host's own programs.
+//! The C ABI, and the only unsafe code of this crate.
 //!
 //! A Rattle slice passes as a pointer and a length, a `&mut u64` as a pointer. The archive's
 //! functions are proved for all arguments (no `requires`), keep to the slices that they are
@@ -18,7 +18,6 @@ extern "C" {
         second: *mut u64,
     ) -> u32;
 
-    #[cfg(has_listing)]
     fn juolgesot_list(
         records: *const u8,
         records_len: usize,
@@ -30,7 +29,6 @@ extern "C" {
         second: *mut u64,
     ) -> u32;
 
-    #[cfg(has_plans)]
     fn juolgesot_plan_sizes(
         plan: *const u8,
         plan_len: usize,
@@ -42,7 +40,6 @@ extern "C" {
         fourth: *mut u64,
     ) -> u32;
 
-    #[cfg(has_plans)]
     fn juolgesot_build(
         plan: *const u8,
         plan_len: usize,
@@ -58,7 +55,6 @@ extern "C" {
         fourth: *mut u64,
     ) -> u32;
 
-    #[cfg(has_run)]
     fn juolgesot_run(
         words: *const u32,
         words_len: usize,
@@ -76,7 +72,6 @@ extern "C" {
         second: *mut u64,
     ) -> u32;
 
-    #[cfg(has_value)]
     fn juolgesot_value(
         plan: *const u8,
         plan_len: usize,
@@ -101,97 +96,73 @@ pub struct Answer {
     pub second: u64,
 }
 
-/// Code 0: `first` is the number of rounds, `second` 0.
-pub fn read_rounds(set: &[u32], room: &mut [u32], out: &mut [u32]) -> Answer {
-    let (mut first, mut second) = (0, 0);
-    let code = unsafe {
-        juolgesot_read_rounds(
-            set.as_ptr(),
-            set.len(),
-            room.as_mut_ptr(),
-            room.len(),
-            out.as_mut_ptr(),
-            out.len(),
-            &mut first,
-            &mut second,
-        )
-    };
-    Answer { code, first, second }
+impl Answer {
+    fn of(call: impl FnOnce(&mut u64, &mut u64) -> u32) -> Self {
+        let (mut first, mut second) = (0, 0);
+        let code = call(&mut first, &mut second);
+        Answer { code, first, second }
+    }
 }
 
 /// What a call on a plan gives back: 0 with the number of starts and of words, the state's words and SRAM's words; or
 /// a refusal's number, its place in the first two and 0 in the others.
-#[cfg(has_plans)]
 #[derive(Debug, Clone, Copy, PartialEq, Eq)]
 pub struct PlanAnswer {
     pub code: u32,
     pub values: [u64; 4],
 }
 
-/// Code 0: `first` is the number of bytes written to `out`, `second` 0.
-#[cfg(has_listing)]
-pub fn list(records: &[u8], room: &mut [u32], out: &mut [u8]) -> Answer {
-    let (mut first, mut second) = (0, 0);
-    let code = unsafe {
-        juolgesot_list(
-            records.as_ptr(),
-            records.len(),
-            room.as_mut_ptr(),
-            room.len(),
-            out.as_mut_ptr(),
-            out.len(),
-            &mut first,
-            &mut second,
-        )
-    };
-    Answer { code, first, second }
+impl PlanAnswer {
+    fn of(call: impl FnOnce([&mut u64; 4]) -> u32) -> Self {
+        let mut values = [0; 4];
+        let [first, second, third, fourth] = &mut values;
+        let code = call([first, second, third, fourth]);
+        PlanAnswer { code, values }
+    }
 }
 
-#[cfg(has_plans)]
-pub fn plan_sizes(plan: &[u8], room: &mut [u32]) -> PlanAnswer {
-    let mut values = [0; 4];
-    let [first, second, third, fourth] = &mut values;
-    let code = unsafe {
-        juolgesot_plan_sizes(
-            plan.as_ptr(),
-            plan.len(),
-            room.as_mut_ptr(),
-            room.len(),
-            first,
-            second,
-            third,
-            fourth,
-        )
+/// Calls a function of the archive: each slice passes as its pointer and its length.
+macro_rules! call {
+    ($function:ident, [$($slice:ident.$pointer:ident),*], $($other:expr),*) => {
+        unsafe { $function($($slice.$pointer(), $slice.len(),)* $($other),*) }
     };
-    PlanAnswer { code, values }
+}
+
+/// Code 0: `first` is the number of rounds, `second` 0.
+pub fn read_rounds(set: &[u32], room: &mut [u32], out: &mut [u32]) -> Answer {
+    Answer::of(|first, second| {
+        call!(juolgesot_read_rounds, [set.as_ptr, room.as_mut_ptr, out.as_mut_ptr], first, second)
+    })
+}
+
+/// Code 0: `first` is the number of bytes written to `out`, `second` 0.
+pub fn list(records: &[u8], room: &mut [u32], out: &mut [u8]) -> Answer {
+    Answer::of(|first, second| {
+        call!(juolgesot_list, [records.as_ptr, room.as_mut_ptr, out.as_mut_ptr], first, second)
+    })
+}
+
+pub fn plan_sizes(plan: &[u8], room: &mut [u32]) -> PlanAnswer {
+    PlanAnswer::of(|[first, second, third, fourth]| {
+        call!(juolgesot_plan_sizes, [plan.as_ptr, room.as_mut_ptr], first, second, third, fourth)
+    })
 }
 
 /// Code 0: the first starts and the first words of the lent slices are the script's.
-#[cfg(has_plans)]
 pub fn build(plan: &[u8], room: &mut [u32], starts: &mut [u64], words: &mut [u32]) -> PlanAnswer {
-    let mut values = [0; 4];
-    let [first, second, third, fourth] = &mut values;
-    let code = unsafe {
-        juolgesot_build(
-            plan.as_ptr(),
-            plan.len(),
-            room.as_mut_ptr(),
-            room.len(),
-            starts.as_mut_ptr(),
-            starts.len(),
-            words.as_mut_ptr(),
-            words.len(),
+    PlanAnswer::of(|[first, second, third, fourth]| {
+        call!(
+            juolgesot_build,
+            [plan.as_ptr, room.as_mut_ptr, starts.as_mut_ptr, words.as_mut_ptr],
             first,
             second,
             third,
-            fourth,
+            fourth
         )
-    };
-    PlanAnswer { code, values }
+    })
 }
 
 /// Code 0: `first` is the number of turns left, `second` 0.
-#[cfg(has_run)]
 pub fn run(
     words: &[u32],
     starts: &[u64],
@@ -200,47 +171,26 @@ pub fn run(
     new: &mut [u32],
     room: &mut [u32],
 ) -> Answer {
-    let (mut first, mut second) = (0, 0);
-    let code = unsafe {
-        juolgesot_run(
-            words.as_ptr(),
-            words.len(),
-            starts.as_ptr(),
-            starts.len(),
-            turns.as_ptr(),
-            turns.len(),
-            old.as_ptr(),
-            old.len(),
-            new.as_mut_ptr(),
-            new.len(),
-            room.as_mut_ptr(),
-            room.len(),
-            &mut first,
-            &mut second,
+    Answer::of(|first, second| {
+        call!(
+            juolgesot_run,
+            [words.as_ptr, starts.as_ptr, turns.as_ptr, old.as_ptr, new.as_mut_ptr, room.as_mut_ptr],
+            first,
+            second
         )
-    };
-    Answer { code, first, second }
+    })
 }
 
 /// Code 0: `first` is the bit, `second` 0.
-#[cfg(has_value)]
 pub fn value(plan: &[u8], room: &mut [u32], old: &[u32], new: &[u32], part: u32, pin: u32) -> Answer {
-    let (mut first, mut second) = (0, 0);
-    let code = unsafe {
-        juolgesot_value(
-            plan.as_ptr(),
-            plan.len(),
-            room.as_mut_ptr(),
-            room.len(),
-            old.as_ptr(),
-            old.len(),
-            new.as_ptr(),
-            new.len(),
+    Answer::of(|first, second| {
+        call!(
+            juolgesot_value,
+            [plan.as_ptr, room.as_mut_ptr, old.as_ptr, new.as_ptr],
             part,
             pin,
-            &mut first,
-            &mut second,
+            first,
+            second
         )
-    };
-    Answer { code, first, second }
+    })
 }

@@ -3,7 +3,7 @@
 use crate::ffi::{self, PlanAnswer};
 use crate::plan_room::room_for;
 use crate::refusal::Refusal;
-use crate::script::Script;
+use plan::Script;
 
 /// How much result room a plan needs, and how large its state and SRAM are.
 #[derive(Debug, Clone, Copy, PartialEq, Eq)]

@@ -75,36 +75,27 @@ pub fn increment(b: &mut Builder, q: &[Net]) -> Vec<Net> {
     next
 }
 
-/// The XOR of some nets, as a balanced tree.
-pub fn xor_all(b: &mut Builder, nets: &[Net]) -> Net {
+/// Some nets joined two and two, as a balanced tree.
+fn tree(b: &mut Builder, nets: &[Net], join: fn(&mut Builder, Net, Net) -> Net) -> Net {
     if nets.len() == 1 {
         return nets[0];
     }
     let (left, right) = nets.split_at(nets.len() / 2);
-    let left = xor_all(b, left);
-    let right = xor_all(b, right);
-    b.xor(left, right)
+    let left = tree(b, left, join);
+    let right = tree(b, right, join);
+    join(b, left, right)
 }
 
-/// The AND of some nets, as a balanced tree.
+pub fn xor_all(b: &mut Builder, nets: &[Net]) -> Net {
+    tree(b, nets, Builder::xor)
+}
+
 pub fn and_all(b: &mut Builder, nets: &[Net]) -> Net {
-    if nets.len() == 1 {
-        return nets[0];
-    }
-    let (left, right) = nets.split_at(nets.len() / 2);
-    let left = and_all(b, left);
-    let right = and_all(b, right);
-    b.and(left, right)
+    tree(b, nets, Builder::and)
 }
 
 pub fn or_all(b: &mut Builder, nets: &[Net]) -> Net {
-    if nets.len() == 1 {
-        return nets[0];
-    }
-    let (left, right) = nets.split_at(nets.len() / 2);
-    let left = or_all(b, left);
-    let right = or_all(b, right);
-    b.or(left, right)
+    tree(b, nets, Builder::or)
 }
 
 /// A CRC register after the data, one bit after another: deep.

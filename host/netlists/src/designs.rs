@@ -97,6 +97,17 @@ pub fn forty() -> Vec<Design> {
     made(list, SEED)
 }
 
+/// Three of the forty that differ in the words of their scripts: as few as any (18,176), the middle (184,576), and more
+/// than all but one (854,784).
+pub fn small_mid_and_large() -> Vec<Design> {
+    let mut forty = forty();
+    let mut take = |name: &str| {
+        let place = forty.iter().position(|design| design.name == name).expect("one of the forty");
+        forty.swap_remove(place)
+    };
+    ["counter of 8", "Bloom filter of 64", "multiplier of 12"].iter().map(|name| take(name)).collect()
+}
+
 /// Designs whose staged pins come to lie in duplicate words.
 pub fn staged_duplicates() -> Vec<Design> {
     use Clusters::*;
@@ -298,7 +309,7 @@ fn rams<const COUNT: usize, const READ_BITS: usize>(b: &mut Builder, random: &mu
             *net = if random.chance(2) { b.xor(x, y) } else { x };
         }
         let clock = random.pick(&[clock, gated]);
-        let found = b.ram_reading(clock, &read, &write, enable, &data, READ_BITS);
+        let found = b.ram(clock, &read, &write, enable, &data, READ_BITS);
         let parity = xor_all(b, &found);
         b.output(parity);
         nets.extend(&found);

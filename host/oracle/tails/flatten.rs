@@ -20,6 +20,20 @@ pub struct OracleTables {
     pub staged_duplicates: usize,
 }
 
+/// State start and SRAM start of each part of a major stage, as the heads of the parts in the script have them.
+fn oracle_starts(script: &FlattenedScriptV1, stage: usize, parts: usize) -> Vec<(u32, u32)> {
+    let mut starts = vec![(0, 0); parts];
+    for (block, block_parts) in script.stages_blocks_parts[stage].iter().enumerate() {
+        let mut at = script.blocks_start[stage * script.num_blocks + block];
+        for &part in block_parts {
+            let words = &script.blocks_data[at..];
+            starts[part] = (words[3], words[5]);
+            at += 10496 + 512 * words[6] as usize + 5120 * words[0] as usize;
+        }
+    }
+    starts
+}
+
 /// What `make_inputs_outputs` makes: positions (registers and SRAM outputs; staged pins) and each part's tables.
 /// It is asked again for each part in turn, the part's starts being read from the script that GEM made.
 pub fn oracle_inputs_outputs(
@@ -31,15 +45,7 @@ pub fn oracle_inputs_outputs(
     let mut staged_io_map = IndexMap::new();
     let mut tables = Vec::new();
     for (stage, (parts, staged)) in parts_in_stages.iter().zip(stageds).enumerate() {
-        let mut starts = vec![(0, 0); parts.len()];
-        for (block, block_parts) in script.stages_blocks_parts[stage].iter().enumerate() {
-            let mut at = script.blocks_start[stage * script.num_blocks + block];
-            for &part in block_parts {
-                let words = &script.blocks_data[at..];
-                starts[part] = (words[3], words[5]);
-                at += 10496 + 512 * words[6] as usize + 5120 * words[0] as usize;
-            }
-        }
+        let starts = oracle_starts(script, stage, parts.len());
         for (part, &(state_start, sram_start)) in parts.iter().zip(&starts) {
             let mut flattening = FlatteningPart { state_start, sram_start, ..Default::default() };
             flattening.init_afters_writeouts(aig, staged, part);

@@ -1,33 +1,47 @@
 //! `juolgesot bench`.
 
+mod build;
+mod inputs;
+mod rounds;
+mod run;
+
 use crate::{chart, Failure, Outcome};
-use ::compare::sets;
 use random::Random;
-use std::collections::BTreeMap;
 use std::time::{Duration, Instant};
 
 pub const HELP: &str = "
 usage: juolgesot bench [--seconds S] [--svg FILE]
 
-Times of our functions and of plain Rust on the same inputs, small to large, turn about in one process: read rounds and
-build beside GEM's Rust (beside host/model where GEM's sources were missing), the run beside host/model. Prints a
-Markdown table: ratio is our time to theirs; growth is how many times longer a row takes us than the row before it, for
-how many times the size. --seconds: for each row (default 1). --svg: writes the ratios as a chart.
+Times of our functions and of plain Rust on the same inputs, turn about in one process. What both made is compared each
+time. Prints Markdown tables; ratio is our time / their time: below 1 ours is faster.
+
+read rounds  beside GEM's Rust, small sets to large
+build        beside GEM's Rust, on three netlists (small, mid and large, by the words of their scripts) and on a random
+             part alone, twice, and so on to sixteen times; the time for each part too
+run          beside host/model's run, in turns a second, on the scripts of the same plans
+
+Where GEM's sources were missing, host/model stands in for GEM's Rust, and there are no netlists.
+--seconds: for each row (default 1). --svg: writes the ratios as a chart.
 ";
 
 const SEED: u64 = 20_240_617;
 
-/// One input size.
+/// One input.
 pub struct Row {
     pub group: &'static str,
     pub name: String,
-    /// What the time should grow with, at best.
-    pub size: f64,
+    pub times: Times,
+}
+
+/// The least times of a call: what else the machine does only adds to them.
+#[derive(Clone, Copy)]
+pub struct Times {
     pub ours: Duration,
     pub theirs: Duration,
 }
 
-impl Row {
+impl Times {
+    /// Our time / their time.
     pub fn ratio(&self) -> f64 {
         self.ours.as_secs_f64() / self.theirs.as_secs_f64()
     }
@@ -40,48 +54,18 @@ pub fn call(words: &[String]) -> Outcome {
     }
     let time = Duration::from_secs(words.number("--seconds")?.unwrap_or(1));
     ::compare::silence_expected_panics();
+    println!("Ratio is our time / their time, on the same inputs, turn about in one process.");
+    println!("Below 1: ours is faster. Above 1: ours is slower.");
     let mut random = Random::new(SEED);
     let mut table = Table { rows: Vec::new() };
-    println!("| what | size | ours | plain Rust | ratio | growth (of the size) |");
-    println!("|---|---|---|---|---|---|");
-    read_rounds(&mut table, &mut random, time)?;
-    #[cfg(has_plans)]
-    crate::bench_plans::rows(&mut table, &mut random, time)?;
-    #[cfg(has_run)]
-    crate::bench_run::rows(&mut table, &mut random, time)?;
+    rounds::rows(&mut table, &mut random, time)?;
+    let inputs = inputs::all(&mut random);
+    build::rows(&mut table, &inputs, time)?;
+    run::rows(&mut table, &inputs, &mut random, time)?;
     if let Some(path) = words.option("--svg") {
         crate::files::write(path, chart::ratios(&table.rows).as_bytes())?;
     }
-    if cfg!(not(all(has_plans, has_run))) {
-        println!("\nThe archive has not got these functions yet, and they were not timed: {}.", lacking());
-    }
     Ok(())
-}
-
-fn lacking() -> &'static str {
-    match (cfg!(has_plans), cfg!(has_run)) {
-        (false, false) => "build and run",
-        (false, true) => "build",
-        _ => "run",
-    }
-}
-
-/// A plan in order of so many parts in one major stage, on two blocks.
-#[cfg(any(has_plans, has_run))]
-pub fn plan_of(random: &mut Random, parts: usize) -> plan::Plan {
-    use ::compare::plans::{self, Size};
-    loop {
-        let size = Size { majors: 1, parts: 2 * parts, stages: 3, inputs: 3000, wide: false };
-        let mut plan = plans::any(random, size);
-        if plan.stages[0].len() >= parts {
-            plan.stages[0].truncate(parts);
-            plan.blocks = 2;
-            let record = plan.record();
-            if model::build::accept(record.len(), &model::record::words(&record)).is_ok() {
-                return plan;
-            }
-        }
-    }
 }
 
 /// The rows so far.
@@ -90,25 +74,15 @@ pub struct Table {
 }
 
 impl Table {
-    /// Prints a row and keeps it.
-    pub fn add(&mut self, row: Row) {
-        let growth = match self.rows.last().filter(|before| before.group == row.group) {
-            Some(before) => format!(
-                "{:.1} ({:.1})",
-                row.ours.as_secs_f64() / before.ours.as_secs_f64(),
-                row.size / before.size
-            ),
-            None => String::new(),
-        };
-        println!(
-            "| {} | {} | {} | {} | {:.2} | {} |",
-            row.group,
-            row.name,
-            in_words(row.ours),
-            in_words(row.theirs),
-            row.ratio(),
-            growth
-        );
+    /// Begins a table of these columns.
+    fn begin(&self, columns: &[&str]) {
+        println!("\n| {} |", columns.join(" | "));
+        println!("|{}", "---|".repeat(columns.len()));
+    }
+
+    /// Prints a row, its cells behind its name, and keeps it.
+    fn add(&mut self, row: Row, cells: &[String]) {
+        println!("| {} | {} |", row.name, cells.join(" | "));
         self.rows.push(row);
     }
 }
@@ -122,54 +96,36 @@ fn in_words(time: Duration) -> String {
     }
 }
 
-/// Calls both, turn about so that both see the same machine, until the time is over. Both give what they made, so that
-/// it can be compared and is not left out. The mean times of a call.
-pub fn time_both<T: PartialEq>(
+fn in_two_places(ratio: f64) -> String {
+    format!("{:.2}", ratio)
+}
+
+/// What the work made, and how long it took.
+fn timed<T>(work: impl FnOnce() -> T) -> (T, Duration) {
+    let start = Instant::now();
+    let made = work();
+    (made, start.elapsed())
+}
+
+/// Calls of each, at least.
+const CALLS: u32 = 3;
+
+/// Calls both, turn about so that both see the same machine, until the time is over. Both give what they made, which
+/// is compared, and how long they took.
+fn time_both<T: PartialEq>(
     time: Duration,
-    mut ours: impl FnMut() -> T,
-    mut theirs: impl FnMut() -> T,
-) -> Result<(Duration, Duration), Failure> {
-    let (mut our_time, mut their_time, mut calls) = (Duration::ZERO, Duration::ZERO, 0);
-    while calls == 0 || our_time + their_time < time {
-        let start = Instant::now();
-        let ours = ours();
-        our_time += start.elapsed();
-        let start = Instant::now();
-        let theirs = theirs();
-        their_time += start.elapsed();
-        if ours != theirs {
+    mut ours: impl FnMut() -> (T, Duration),
+    mut theirs: impl FnMut() -> (T, Duration),
+) -> Result<Times, Failure> {
+    let mut least = Times { ours: Duration::MAX, theirs: Duration::MAX };
+    let (start, mut calls) = (Instant::now(), 0);
+    while calls < CALLS || start.elapsed() < time {
+        let ((our_result, our_time), (their_result, their_time)) = (ours(), theirs());
+        if our_result != their_result {
             return Err(Failure::Failed("both were timed, and they differ".to_string()));
         }
+        least = Times { ours: least.ours.min(our_time), theirs: least.theirs.min(their_time) };
         calls += 1;
     }
-    Ok((our_time / calls, their_time / calls))
-}
-
-fn read_rounds(table: &mut Table, random: &mut Random, time: Duration) -> Outcome {
-    for pairs in [8, 32, 128, 512] {
-        let bits: Vec<u32> = (0..pairs).map(|_| random.between(1, 12) as u32).collect();
-        let set = sets::with_bits(random, &bits);
-        table.add(read_set(format!("{} pairs of 1 to 12 bits", pairs), &set, time)?);
-    }
-    for pairs in [2048, 8192] {
-        let set = sets::with_bits(random, &vec![1; pairs]);
-        table.add(read_set(format!("{} pairs of one bit", pairs), &set, time)?);
-    }
-    let bits = sets::bits_summing_to(random, 8192, |random| random.pick(&[1, 2, 4, 8, 16, 32]));
-    let set = sets::with_bits(random, &bits);
-    table.add(read_set(format!("8192 bits in {} pairs", bits.len()), &set, time)?);
-    Ok(())
-}
-
-fn read_set(name: String, set: &[u32], time: Duration) -> Result<Row, Failure> {
-    let map: BTreeMap<u32, u32> = set.chunks(2).map(|pair| (pair[0], pair[1])).collect();
-    let mut room = vec![0; juolgesot::SET_ROOM];
-    let mut out = vec![0; 32 * juolgesot::ROUND_WORDS];
-    let ours = || juolgesot::read_rounds_into(set, &mut room, &mut out).unwrap_or(0);
-    let theirs = || {
-        let section = reference::lanes_of_map(&map).map(|lanes| model::rounds::section(&lanes));
-        section.map_or(0, |words| words.len() / juolgesot::ROUND_WORDS)
-    };
-    let (ours, theirs) = time_both(time, ours, theirs)?;
-    Ok(Row { group: "read rounds", name, size: set.len() as f64, ours, theirs })
+    Ok(least)
 }

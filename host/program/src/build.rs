@@ -1,5 +1,7 @@
 //! `juolgesot build`.
 
+use crate::files;
+use crate::progress::while_working;
 use crate::{Failure, Outcome};
 
 pub const HELP: &str = "
@@ -9,10 +11,7 @@ Builds the script of the plan record in the file PLAN and writes it to OUT. A pl
 refusal's number and place. The files' forms are in host/README.md.
 ";
 
-#[cfg(has_plans)]
 pub fn call(words: &[String]) -> Outcome {
-    use crate::files;
-    use crate::progress::while_working;
     let words = crate::Words::read(words, &[])?;
     let (plan, out) = match &words.plain[..] {
         [plan, out] => (plan, out),
@@ -30,12 +29,5 @@ pub fn call(words: &[String]) -> Outcome {
         script.state_words,
         script.sram_words
     );
-    let juolgesot::Script { starts, words, state_words, sram_words } = script;
-    let script = plan::Script { starts, words, state_words, sram_words };
     files::write(out, &plan::script_file::bytes(blocks.into(), &script))
-}
-
-#[cfg(not(has_plans))]
-pub fn call(_: &[String]) -> Outcome {
-    Err(Failure::Lacking("build"))
 }

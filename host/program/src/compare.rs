@@ -13,7 +13,6 @@ Every lent word is looked at too. The first difference of a plan is told by majo
 lane. Exit status 0 only where there is none.
 ";
 
-#[cfg(has_plans)]
 pub fn call(words: &[String]) -> Outcome {
     let words = crate::Words::read(words, &["--made"])?;
     ::compare::silence_expected_panics();
@@ -37,7 +36,7 @@ pub fn call(words: &[String]) -> Outcome {
     table.finish()
 }
 
-#[cfg(all(has_plans, has_gem))]
+#[cfg(has_gem)]
 fn designs(table: &mut Table) -> Outcome {
     use netlists::designs;
     let mut progress = crate::progress::Progress::of("netlists through GEM");
@@ -58,7 +57,7 @@ fn designs(table: &mut Table) -> Outcome {
     Ok(())
 }
 
-#[cfg(all(has_plans, not(has_gem)))]
+#[cfg(not(has_gem))]
 fn designs(_: &mut Table) -> Outcome {
     Err(Failure::Failed(
         "GEM's sources were missing when this was built, so there are no netlists: give plan records"
@@ -67,7 +66,6 @@ fn designs(_: &mut Table) -> Outcome {
 }
 
 /// The lines so far.
-#[cfg(has_plans)]
 struct Table {
     checker: ::compare::plan_checker::PlanChecker,
     progress: crate::progress::Progress,
@@ -76,7 +74,6 @@ struct Table {
     different: u32,
 }
 
-#[cfg(has_plans)]
 impl Table {
     fn new() -> Self {
         let progress = crate::progress::Progress::of("plans");
@@ -123,9 +120,4 @@ impl Table {
             different => Err(Failure::Failed(format!("{} plans differ", different))),
         }
     }
-}
-
-#[cfg(not(has_plans))]
-pub fn call(_: &[String]) -> Outcome {
-    Err(Failure::Lacking("build"))
 }

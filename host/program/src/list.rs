@@ -1,6 +1,7 @@
 //! `juolgesot list`.
 
 use crate::{Failure, Outcome};
+use std::io::{Read, Write};
 
 pub const HELP: &str = "
 usage: juolgesot list [FILE]
@@ -10,9 +11,7 @@ or 2 staged, and a four-byte little-endian position each; then a byte 0. A line 
 Exit status 0 where the records are in form and have a packing.
 ";
 
-#[cfg(has_listing)]
 pub fn call(words: &[String]) -> Outcome {
-    use std::io::{Read, Write};
     let words = crate::Words::read(words, &[])?;
     let records = match &words.plain[..] {
         [path] => crate::files::read(path)?,
@@ -31,9 +30,4 @@ pub fn call(words: &[String]) -> Outcome {
         return Err(Failure::Failed("the records were refused".to_string()));
     }
     Ok(())
-}
-
-#[cfg(not(has_listing))]
-pub fn call(_: &[String]) -> Outcome {
-    Err(Failure::Lacking("the listing"))
 }

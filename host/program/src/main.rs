@@ -1,20 +1,12 @@
 //! `juolgesot`: the library from a shell, and what is shown with it.
 
-#![cfg_attr(not(all(has_plans, has_run)), allow(dead_code))]
-
-mod files;
-mod progress;
-
-#[cfg(has_plans)]
-mod bench_plans;
-#[cfg(has_run)]
-mod bench_run;
-
 mod bench;
 mod build;
 mod chart;
 mod compare;
+mod files;
 mod list;
+mod progress;
 mod replay;
 mod run;
 
@@ -26,8 +18,6 @@ pub enum Failure {
     Usage(String),
     /// It was, and something is not as it should be.
     Failed(String),
-    /// The archive has not got the functions that it needs: which.
-    Lacking(&'static str),
 }
 
 type Outcome = Result<(), Failure>;
@@ -98,10 +88,6 @@ fn main() -> ExitCode {
             eprintln!("juolgesot {}: {}", name, what);
             ExitCode::from(1)
         }
-        Err(Failure::Lacking(what)) => {
-            eprintln!("juolgesot {}: the archive has not got {} yet; nothing was done", name, what);
-            ExitCode::from(3)
-        }
     }
 }
 
@@ -110,7 +96,7 @@ fn overview() -> String {
     for verb in &VERBS {
         text += &format!("  {:8} {}\n", verb.name, verb.summary);
     }
-    text + "\nExit status: 0 all is well; 1 it is not; 2 not asked rightly; 3 the archive lacks a function.\n"
+    text + "\nExit status: 0 all is well; 1 it is not; 2 not asked rightly.\n"
 }
 
 /// The words of a call: those that stand by themselves, and the values of options (`--name VALUE`).

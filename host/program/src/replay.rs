@@ -1,6 +1,10 @@
 //! `juolgesot replay`.
 
+use crate::files;
+use crate::progress::{while_working, Progress};
 use crate::{Failure, Outcome};
+use ::replay::{traffic, Counts, Netlist, Replay, TRAFFIC};
+use filter::Cycle;
 
 pub const HELP: &str = "
 usage: juolgesot replay [--traffic FILE] [--plan FILE --ports FILE] [--script FILE] [--lookups N]
@@ -17,44 +21,16 @@ first difference with the cycle and the pin.
 --lookups  stop after so many
 ";
 
-#[cfg(has_run)]
 pub fn call(words: &[String]) -> Outcome {
-    use crate::files;
-    use crate::progress::Progress;
-    use ::replay::{traffic, Netlist, Replay, TRAFFIC};
-
     let words = crate::Words::read(words, &["--traffic", "--plan", "--ports", "--script", "--lookups"])?;
     if !words.plain.is_empty() {
         return Err(Failure::Usage(format!("what is '{}'?", words.plain[0])));
     }
-    let text = |path: &str| files::read(path).map(|bytes| String::from_utf8_lossy(&bytes).into_owned());
-    let netlist = match (words.option("--plan"), words.option("--ports")) {
-        (None, None) => Netlist::stored(),
-        (Some(plan), Some(ports)) => Netlist { record: files::read(plan)?, ports: text(ports)? },
-        _ => return Err(Failure::Usage("--plan and --ports belong together".to_string())),
-    };
-    let events = match words.option("--traffic") {
-        Some(path) => traffic::read(&text(path)?),
-        None => traffic::read(TRAFFIC),
-    };
-    let mut cycles = traffic::cycles(&events.map_err(Failure::Failed)?);
-    if let Some(most) = words.number("--lookups")? {
-        let looks_up =
-            |cycle: &filter::Cycle| cycle.ports.iter().filter(|(_, looks_up)| *looks_up).count() as u64;
-        let mut so_far = 0;
-        let end = cycles.iter().position(|cycle| {
-            so_far += looks_up(cycle);
-            so_far >= most
-        });
-        cycles.truncate(end.map_or(cycles.len(), |end| end + 1));
-    }
-
+    let netlist = netlist(&words)?;
+    let cycles = cycles(&words)?;
     let script = match words.option("--script") {
-        Some(path) => {
-            let (_, plan::Script { starts, words, state_words, sram_words }) = files::script(path)?;
-            juolgesot::Script { starts, words, state_words, sram_words }
-        }
-        None => built(&netlist.record)?,
+        Some(path) => files::script(path)?.1,
+        None => while_working("building", || juolgesot::build(&netlist.record))?,
     };
     println!("filter: a script of {} words, {} state words", script.words.len(), script.state_words);
     let mut replay = Replay::new(&netlist, script).map_err(Failure::Failed)?;
@@ -63,7 +39,42 @@ pub fn call(words: &[String]) -> Outcome {
         replay.cycle(cycle).map_err(|what| Failure::Failed(format!("DIFFERENCE: {}", what)))?;
         progress.tell(number as u64 + 1, cycles.len() as u64);
     }
-    let counts = replay.counts;
+    print(&replay.counts);
+    println!("no difference from the software model in any answer or register, {:.1} s", progress.seconds());
+    Ok(())
+}
+
+fn text(path: &str) -> Result<String, Failure> {
+    files::read(path).map(|bytes| String::from_utf8_lossy(&bytes).into_owned())
+}
+
+fn netlist(words: &crate::Words) -> Result<Netlist, Failure> {
+    match (words.option("--plan"), words.option("--ports")) {
+        (None, None) => Ok(Netlist::stored()),
+        (Some(plan), Some(ports)) => Ok(Netlist { record: files::read(plan)?, ports: text(ports)? }),
+        _ => Err(Failure::Usage("--plan and --ports belong together".to_string())),
+    }
+}
+
+/// The cycles of the traffic, up to the last look-up that is asked for.
+fn cycles(words: &crate::Words) -> Result<Vec<Cycle>, Failure> {
+    let events = match words.option("--traffic") {
+        Some(path) => traffic::read(&text(path)?),
+        None => traffic::read(TRAFFIC),
+    };
+    let mut cycles = traffic::cycles(&events.map_err(Failure::Failed)?);
+    if let Some(most) = words.number("--lookups")? {
+        let mut so_far = 0;
+        let end = cycles.iter().position(|cycle| {
+            so_far += cycle.ports.iter().filter(|(_, looks_up)| *looks_up).count() as u64;
+            so_far >= most
+        });
+        cycles.truncate(end.map_or(cycles.len(), |end| end + 1));
+    }
+    Ok(cycles)
+}
+
+fn print(counts: &Counts) {
     println!("cycles       {:8}", counts.cycles);
     println!("inserted     {:8}", counts.inserts);
     println!("looked up    {:8}", counts.looked_up);
@@ -76,21 +87,4 @@ pub fn call(words: &[String]) -> Outcome {
         "false maybe  {:8}   flash did not hold the key ({} found)",
         counts.false_maybe, counts.found_in_flash
     );
-    println!("no difference from the software model in any answer or register, {:.1} s", progress.seconds());
-    Ok(())
-}
-
-#[cfg(all(has_plans, has_run))]
-fn built(record: &[u8]) -> Result<juolgesot::Script, Failure> {
-    Ok(crate::progress::while_working("building", || juolgesot::build(record))?)
-}
-
-#[cfg(all(not(has_plans), has_run))]
-fn built(_: &[u8]) -> Result<juolgesot::Script, Failure> {
-    Err(Failure::Lacking("build"))
-}
-
-#[cfg(not(has_run))]
-pub fn call(_: &[String]) -> Outcome {
-    Err(Failure::Lacking("run"))
 }

@@ -1,6 +1,10 @@
 //! `juolgesot run`.
 
+use crate::files;
+use crate::progress::while_working;
 use crate::{Failure, Outcome};
+use plan::script_file::words_of;
+use std::ops::Range;
 
 pub const HELP: &str = "
 usage: juolgesot run SCRIPT OLD OUT [--new FILE] [--stage N [--turns FILE]]
@@ -11,11 +15,7 @@ in a text. --new: what the new state holds before (default: zeros). States are l
 what `juolgesot build` wrote. Prints the turns left of each major stage; exit status 0 only where none is left.
 ";
 
-#[cfg(has_run)]
 pub fn call(words: &[String]) -> Outcome {
-    use crate::files;
-    use crate::progress::while_working;
-    use plan::script_file::words_of;
     let words = crate::Words::read(words, &["--new", "--stage", "--turns"])?;
     let (script_path, old_path, out) = match &words.plain[..] {
         [script, old, out] => (script, old, out),
@@ -28,12 +28,7 @@ pub fn call(words: &[String]) -> Outcome {
         Some(path) => words_of(&files::read(path)?),
         None => vec![0; (built.state_words as usize).max(old.len())],
     };
-    let all = (built.starts.len() - 1) / blocks;
-    let stages = match words.number("--stage")? {
-        Some(stage) if (stage as usize) < all => stage as usize..stage as usize + 1,
-        Some(stage) => return Err(Failure::Usage(format!("there are {} major stages, no {}", all, stage))),
-        None => 0..all,
-    };
+    let stages = stages(&words, (built.starts.len() - 1) / blocks)?;
     let given = match words.option("--turns") {
         Some(_) if stages.len() != 1 => return Err(Failure::Usage("--turns needs --stage".to_string())),
         Some(path) => Some(turns_of(&files::read(path)?)?),
@@ -57,14 +52,17 @@ pub fn call(words: &[String]) -> Outcome {
     Ok(())
 }
 
-#[cfg(has_run)]
+/// The major stages to run, of so many.
+fn stages(words: &crate::Words, all: usize) -> Result<Range<usize>, Failure> {
+    match words.number("--stage")? {
+        Some(stage) if (stage as usize) < all => Ok(stage as usize..stage as usize + 1),
+        Some(stage) => Err(Failure::Usage(format!("there are {} major stages, no {}", all, stage))),
+        None => Ok(0..all),
+    }
+}
+
 fn turns_of(text: &[u8]) -> Result<Vec<u32>, Failure> {
     let text = String::from_utf8_lossy(text);
     let word = |word: &str| word.parse().map_err(|_| Failure::Failed(format!("'{}' is no block", word)));
     text.split_whitespace().map(word).collect()
-}
-
-#[cfg(not(has_run))]
-pub fn call(_: &[String]) -> Outcome {
-    Err(Failure::Lacking("run"))
 }

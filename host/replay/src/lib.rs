@@ -8,7 +8,7 @@ use filter::{Answer, Cycle, Filter};
 use juolgesot::Script;
 use machine::Machine;
 use plan::packed;
-use ports::Ports;
+use ports::{Place, Ports};
 use std::collections::HashSet;
 
 /// The filter that comes with the replay, as GEM staged and placed it (host/oracle/bin/make_filter.rs).
@@ -82,19 +82,12 @@ impl Replay {
             let place = self.ports.maybe(port);
             let maybe = place.get(self.machine.old());
             if maybe != (*expected == Some(Answer::Maybe)) {
+                let key = cycle.ports[port].0;
                 return Err(format!(
-                    "cycle {}, port {}, {} ({}): the gates say {} for key {:#010x}, the software model says {}",
+                    "cycle {}, port {}, {}",
                     number,
                     port,
-                    place.pin,
-                    place.position,
-                    if maybe { "maybe" } else { "no" },
-                    cycle.ports[port].0,
-                    match expected {
-                        Some(Answer::Maybe) => "maybe",
-                        Some(Answer::No) => "no",
-                        None => "that nothing is looked up",
-                    }
+                    differs(place, maybe, key, *expected)
                 ));
             }
             if expected.is_some() {
@@ -155,4 +148,20 @@ impl Replay {
         }
         Ok(())
     }
+}
+
+/// How an answer of the gates differs from the software model's.
+fn differs(place: Place, maybe: bool, key: u32, expected: Option<Answer>) -> String {
+    format!(
+        "{} ({}): the gates say {} for key {:#010x}, the software model says {}",
+        place.pin,
+        place.position,
+        if maybe { "maybe" } else { "no" },
+        key,
+        match expected {
+            Some(Answer::Maybe) => "maybe",
+            Some(Answer::No) => "no",
+            None => "that nothing is looked up",
+        }
+    )
 }

@@ -1,71 +1,55 @@
 //! Compares the library's listing with the lines made from the reference's lanes.
 //!
-//! compare_listing [SEED]    stops at the first difference
+//! compare_listing [--long] [SEED]    stops at the first difference
 
-use compare::list_checker::difference;
-use compare::tally::Tally;
+use compare::comparison::{Amount, Comparison};
+use compare::list_checker::ListChecker;
 use juolgesot::LIST_ROOM;
 use random::Random;
-use std::time::Instant;
 
 const SEED: u64 = 20_240_613;
 
 fn main() {
-    compare::silence_expected_panics();
-    let seed = std::env::args().nth(1).and_then(|word| word.parse().ok()).unwrap_or(SEED);
-    println!("reference: {}; seed {}", reference::NAME, seed);
-    let start = Instant::now();
-    let mut random = Random::new(seed);
-    let mut kinds = Tally::new("listings by kind");
-    let mut answers = Tally::new("listings by answer");
-    let mut check = |kind: &str, records: &[u8], room: usize, spare: isize| {
-        match difference(records, room, spare) {
-            Ok(answer) => answers.count(&answer),
-            Err(what) => {
-                println!("DIFFERENCE ({}): {}", kind, what);
-                println!("records: {:?}", &records[..records.len().min(400)]);
-                std::process::exit(1);
-            }
-        }
-        kinds.count(kind);
-    };
-
+    let mut comparison = Comparison::begin("compare_listing", reference::NAME, SEED);
+    let mut checker = ListChecker::new();
     if juolgesot::list(&example()).as_deref() != Ok(EXAMPLE_TEXT.as_bytes()) {
         println!("DIFFERENCE: the listing of document 01 is not its text");
         std::process::exit(1);
     }
-    check("the listing of document 01", &example(), LIST_ROOM, 0);
-    check("no records", &[], LIST_ROOM, 0);
-    check("end at once", &[0], LIST_ROOM, 0);
-    for _ in 0..3_000 {
-        let records = random_records(&mut random);
+    checker.check("the listing of document 01", &example(), LIST_ROOM, 0);
+    checker.check("no records", &[], LIST_ROOM, 0);
+    checker.check("end at once", &[0], LIST_ROOM, 0);
+    random_listings(&mut checker, &mut comparison.random, comparison.amount);
+    boundaries(&mut checker, &mut comparison.random);
+    checker.answers.sort();
+    comparison.finish("listings", &[&checker.kinds, &checker.answers]);
+}
+
+fn random_listings(checker: &mut ListChecker, random: &mut Random, amount: Amount) {
+    for _ in 0..amount.of(3_000, 1_000) {
+        let records = random_records(random);
         let spare = random.pick(&[0, 0, 1, 100]);
-        check("random", &records, LIST_ROOM, spare);
-        let damaged = damaged(&mut random, &records);
-        check("damaged", &damaged, LIST_ROOM, spare);
+        checker.check("random", &records, LIST_ROOM, spare);
+        let damaged = damaged(random, &records);
+        checker.check("damaged", &damaged, LIST_ROOM, spare);
         let short = -(random.between(1, 12) as isize);
-        check("short result", &records, LIST_ROOM, short);
-        check("short result, damaged", &damaged, LIST_ROOM, short);
+        checker.check("short result", &records, LIST_ROOM, short);
+        checker.check("short result, damaged", &damaged, LIST_ROOM, short);
         let room = random.pick(&[0, 1, LIST_ROOM - 1]);
-        check("short room", &damaged, room, 0);
+        checker.check("short room", &damaged, room, 0);
     }
+}
+
+fn boundaries(checker: &mut ListChecker, random: &mut Random) {
     for positions in [8191, 8192, 8193, 8194] {
         for spread in [1, 2, 7, 40, 1 << 19] {
-            let records = records_of(&mut random, positions, spread);
-            check(&format!("{} positions", positions), &records, LIST_ROOM, 0);
+            let records = records_of(random, positions, spread);
+            checker.check(&format!("{} positions", positions), &records, LIST_ROOM, 0);
         }
     }
     for words in [256, 257, 300, 481] {
-        check("words of 17 bits", &seventeen_bits(words), LIST_ROOM, 0);
+        checker.check("words of 17 bits", &seventeen_bits(words), LIST_ROOM, 0);
     }
-    kinds.print();
-    answers.sort();
-    answers.print();
-    println!(
-        "compare_listing: {} listings, no difference, {:.1} s",
-        kinds.total(),
-        start.elapsed().as_secs_f64()
-    );
 }
 
 /// What document 01 prints for `example`.

@@ -3,6 +3,7 @@
 //! compare_plans [SEED]    stops at the first difference. The designs are compared by `juolgesot compare`.
 
 use compare::came::Came;
+use compare::comparison::Comparison;
 use compare::marked::{m10, m6, m8, plain_part};
 use compare::plan_checker::{Expected, More, PlanChecker};
 use compare::plan_damage::{self, Change};
@@ -17,30 +18,20 @@ const TIMES: u32 = 3;
 const MOST_PLANS: usize = 200;
 
 fn main() {
-    compare::silence_expected_panics();
-    let seed = std::env::args().nth(1).and_then(|word| word.parse().ok()).unwrap_or(SEED);
-    println!("reference: {}; seed {}", reference::NAME, seed);
-    let start = Instant::now();
-    let mut random = Random::new(seed);
+    let mut comparison = Comparison::begin("compare_plans", reference::NAME, SEED);
+    let random = &mut comparison.random;
     let mut checker = PlanChecker::new();
     marked(&mut checker);
-    random_plans(&mut checker, &mut random);
-    unpackable(&mut checker, &mut random);
+    random_plans(&mut checker, random);
+    unpackable(&mut checker, random);
     boundaries(&mut checker);
-    short_results(&mut checker, &mut random);
-    short_rooms(&mut checker, &mut random);
-    damaged_plans(&mut checker, &mut random);
+    short_results(&mut checker, random);
+    short_rooms(&mut checker, random);
+    damaged_plans(&mut checker, random);
     large_sums(&mut checker);
 
     checker.answers.sort();
-    for tally in [&checker.kinds, &checker.answers, &checker.gem] {
-        tally.print();
-    }
-    println!(
-        "compare_plans: {} plans, no difference, {:.1} s",
-        checker.kinds.total(),
-        start.elapsed().as_secs_f64()
-    );
+    comparison.finish("plans", &[&checker.kinds, &checker.answers, &checker.gem]);
 }
 
 /// Plans of M6, M8 and M10.

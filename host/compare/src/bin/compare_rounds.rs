@@ -1,46 +1,33 @@
 //! Compares the library's read rounds with the reference's on every kind of read set.
 //!
-//! compare_rounds [SEED]    stops at the first difference
+//! compare_rounds [--long] [SEED]    stops at the first difference
 
 use compare::checker::{Checker, Lent, OutLength};
+use compare::comparison::{Amount, Comparison};
 use compare::damage;
 use compare::sets;
 use juolgesot::SET_ROOM;
 use random::Random;
-use std::time::Instant;
 
 const SEED: u64 = 20_240_611;
 
 fn main() {
-    compare::silence_expected_panics();
-    let seed = std::env::args().nth(1).and_then(|word| word.parse().ok()).unwrap_or(SEED);
-    println!("reference: {}; seed {}", reference::NAME, seed);
-    compare_all(&mut Random::new(seed));
-}
-
-fn compare_all(random: &mut Random) {
-    let start = Instant::now();
+    let mut comparison = Comparison::begin("compare_rounds", reference::NAME, SEED);
+    let (random, amount) = (&mut comparison.random, comparison.amount);
     let mut checker = Checker::new();
     for set in sets::marked() {
         checker.check("M1 to M5", &set, Lent::default());
     }
-    sets::every_small_set(|set| checker.check("every set of up to 3 words", set, Lent::default()));
-    random_sets(&mut checker, random);
-    boundary_sets(&mut checker, random);
-    damaged_sets(&mut checker, random);
-    short_results(&mut checker, random);
-    short_rooms(&mut checker, random);
+    small_sets(&mut checker, random, amount);
+    random_sets(&mut checker, random, amount);
+    boundary_sets(&mut checker, random, amount);
+    damaged_sets(&mut checker, random, amount);
+    short_results(&mut checker, random, amount);
+    short_rooms(&mut checker, random, amount);
 
     checker.tries.sort();
     checker.rounds.sort();
-    for tally in [&checker.kinds, &checker.answers, &checker.tries, &checker.rounds] {
-        tally.print();
-    }
-    println!(
-        "compare_rounds: {} read sets, no difference, {:.1} s",
-        checker.kinds.total(),
-        start.elapsed().as_secs_f64()
-    );
+    comparison.finish("read sets", &[&checker.kinds, &checker.answers, &checker.tries, &checker.rounds]);
 }
 
 /// Any room but a short one, any result room that is enough.
@@ -52,30 +39,40 @@ fn any_lent(random: &mut Random) -> Lent {
     }
 }
 
-fn random_sets(checker: &mut Checker, random: &mut Random) {
-    for _ in 0..60_000 {
+/// Of those of three words, one in so many.
+fn small_sets(checker: &mut Checker, random: &mut Random, amount: Amount) {
+    let one_in = amount.of(1, 8);
+    sets::every_small_set(|set| {
+        if set.len() < 6 || random.chance(one_in) {
+            checker.check("every set of up to 3 words", set, Lent::default());
+        }
+    });
+}
+
+fn random_sets(checker: &mut Checker, random: &mut Random, amount: Amount) {
+    for _ in 0..amount.of(60_000, 15_000) {
         let pairs = random.between(1, 40);
         let set = if random.chance(2) { sets::any(random, pairs) } else { sets::wide(random, pairs) };
         checker.check("random, 1 to 40 pairs", &set, any_lent(random));
     }
-    for _ in 0..4_000 {
+    for _ in 0..amount.of(4_000, 1_500) {
         let pairs = random.between(41, 500);
         let set = if random.chance(2) { sets::any(random, pairs) } else { sets::wide(random, pairs) };
         checker.check("random, 41 to 500 pairs", &set, any_lent(random));
     }
-    for _ in 0..1_000 {
+    for _ in 0..amount.of(1_000, 300) {
         let set = sets::few_then_many(random);
         checker.check("few bits, then many", &set, any_lent(random));
     }
-    for _ in 0..1_000 {
+    for _ in 0..amount.of(1_000, 300) {
         let set = sets::runs(random);
         checker.check("runs of equal bit counts", &set, any_lent(random));
     }
 }
 
-fn boundary_sets(checker: &mut Checker, random: &mut Random) {
+fn boundary_sets(checker: &mut Checker, random: &mut Random, amount: Amount) {
     for pairs in [1, 2, 3, 255, 256, 257, 258, 511, 512, 513] {
-        for _ in 0..400 {
+        for _ in 0..amount.of(400, 100) {
             let set = if random.chance(2) { sets::any(random, pairs) } else { sets::wide(random, pairs) };
             checker.check(&format!("{} pairs", pairs), &set, any_lent(random));
         }
@@ -91,21 +88,21 @@ fn boundary_sets(checker: &mut Checker, random: &mut Random) {
         }
     }
     for total in [8190, 8191, 8192, 8193] {
-        for _ in 0..150 {
+        for _ in 0..amount.of(150, 40) {
             let set = sets::of_total(random, total);
             checker.check(&format!("{} bits in all", total), &set, any_lent(random));
         }
     }
-    for _ in 0..600 {
+    for _ in 0..amount.of(600, 150) {
         let total = random.between(6_000, 8_189);
         let set = sets::of_total(random, total);
         checker.check("6000 to 8189 bits in all", &set, any_lent(random));
     }
 }
 
-fn damaged_sets(checker: &mut Checker, random: &mut Random) {
+fn damaged_sets(checker: &mut Checker, random: &mut Random, amount: Amount) {
     for kind in damage::KINDS {
-        for round in 0..2_000 {
+        for round in 0..amount.of(2_000, 500) {
             let pairs = if round % 50 == 0 { random.between(200, 8192) } else { random.between(1, 20) };
             let set = sets::any(random, pairs);
             let set = damage::damaged(random, &set, kind);
@@ -130,8 +127,8 @@ fn damaged_sets(checker: &mut Checker, random: &mut Random) {
 }
 
 /// Result rooms around the length that is needed; 3 and 4 come before 14.
-fn short_results(checker: &mut Checker, random: &mut Random) {
-    for round in 0..6_000 {
+fn short_results(checker: &mut Checker, random: &mut Random, amount: Amount) {
+    for round in 0..amount.of(6_000, 2_000) {
         let set = match round % 20 {
             0 => sets::of_total(random, 5_000),
             1 => sets::wide(random, 257),
@@ -153,8 +150,8 @@ fn short_results(checker: &mut Checker, random: &mut Random) {
 }
 
 /// Working rooms that are too short, with good and with damaged sets: 32 comes first.
-fn short_rooms(checker: &mut Checker, random: &mut Random) {
-    for round in 0..6_000 {
+fn short_rooms(checker: &mut Checker, random: &mut Random, amount: Amount) {
+    for round in 0..amount.of(6_000, 2_000) {
         let pairs = if round % 100 == 0 { random.between(8000, 8300) } else { random.between(1, 30) };
         let mut set = sets::any(random, pairs);
         if random.chance(3) {

@@ -3,6 +3,7 @@
 //! compare_run [PLANS] [SEED]    PLANS is what make_plans wrote; stops at the first difference
 
 use compare::came::Came;
+use compare::comparison::Comparison;
 use compare::marked::m10;
 use compare::plans::{self, Size};
 use compare::run_checker::RunChecker;
@@ -12,7 +13,6 @@ use model::record::{self, EMPTY};
 use model::value::Values;
 use plan::stored;
 use random::Random;
-use std::time::Instant;
 
 const SEED: u64 = 20_240_615;
 /// How often each damage is to bring about its refusal, and the scripts that are tried for it.
@@ -20,41 +20,31 @@ const TIMES: u32 = 12;
 const MOST_SCRIPTS: usize = 200;
 
 fn main() {
-    let mut words: Vec<String> = std::env::args().skip(1).collect();
-    let seed = words.last().and_then(|word| word.parse().ok());
-    if seed.is_some() {
-        words.pop();
-    }
-    let seed = seed.unwrap_or(SEED);
-    println!("reference: host/model; seed {}", seed);
-    let start = Instant::now();
-    let mut random = Random::new(seed);
+    let mut comparison = Comparison::begin("compare_run", "host/model", SEED);
+    let random = &mut comparison.random;
     let mut checker = RunChecker::new();
-    let mut bits = 0;
-    if let Some(path) = words.first() {
-        let cases = stored::read(&std::fs::read(path).expect("the plans can be read"));
-        for case in cases.iter().filter(|case| !case.staged_duplicate) {
-            let held = record::words(&case.record);
-            let accepted = accept(case.record.len(), &held).expect("a plan in order");
-            bits +=
-                full_run(&mut checker, &mut random, "netlists through GEM", &accepted, &case.script.words);
-        }
-        println!("netlists: every stored bit has its pin's value by the gates ({} bits)", bits);
+    if let Some(path) = comparison.words.first() {
+        netlists(&mut checker, random, path);
     }
     marked(&mut checker);
-    random_scripts(&mut checker, &mut random);
-    damaged_scripts(&mut checker, &mut random);
-    short_rooms(&mut checker, &mut random);
+    random_scripts(&mut checker, random);
+    damaged_scripts(&mut checker, random);
+    short_rooms(&mut checker, random);
 
     checker.answers.sort();
-    for tally in [&checker.kinds, &checker.answers] {
-        tally.print();
+    comparison.finish("runs", &[&checker.kinds, &checker.answers]);
+}
+
+/// The scripts that GEM made.
+fn netlists(checker: &mut RunChecker, random: &mut Random, path: &str) {
+    let cases = stored::read(&std::fs::read(path).expect("the plans can be read"));
+    let mut bits = 0;
+    for case in cases.iter().filter(|case| !case.staged_duplicate) {
+        let held = record::words(&case.record);
+        let accepted = accept(case.record.len(), &held).expect("a plan in order");
+        bits += full_run(checker, random, "netlists through GEM", &accepted, &case.script.words);
     }
-    println!(
-        "compare_run: {} runs, no difference, {:.1} s",
-        checker.kinds.total(),
-        start.elapsed().as_secs_f64()
-    );
+    println!("netlists: every stored bit has its pin's value by the gates ({} bits)", bits);
 }
 
 /// Runs a script's major stages one after another, each to its end and before that in other orders and with other
@@ -158,7 +148,7 @@ fn small_case(random: &mut Random) -> (Case, Vec<PartPlace>) {
     }
 }
 
-/// Each damage until its refusal has come three times, and then damages at random.
+/// Each damage until its refusal has come so many times, and then damages at random.
 fn damaged_scripts(checker: &mut RunChecker, random: &mut Random) {
     let damages = run_damage::damages();
     let mut came = Came::new(TIMES);

@@ -2,6 +2,7 @@
 //!
 //! compare_value [SEED]    stops at the first difference
 
+use compare::comparison::Comparison;
 use compare::marked::m10;
 use compare::plan_damage;
 use compare::plans::{self, Size};
@@ -9,31 +10,21 @@ use compare::run_damage::state;
 use compare::value_checker::{few_paths, Question, ValueChecker};
 use plan::{Plan, EMPTY};
 use random::Random;
-use std::time::Instant;
 
 const SEED: u64 = 20_240_616;
 const SIZE: Size = Size { majors: 3, parts: 3, stages: 3, inputs: 300, wide: false };
 
 fn main() {
-    let seed = std::env::args().nth(1).and_then(|word| word.parse().ok()).unwrap_or(SEED);
-    println!("reference: host/model; seed {}", seed);
-    let start = Instant::now();
-    let mut random = Random::new(seed);
+    let mut comparison = Comparison::begin("compare_value", "host/model", SEED);
+    let random = &mut comparison.random;
     let mut checker = ValueChecker::new();
     marked(&mut checker);
     for index in 0..24 {
-        let plan = plans::any(&mut random, Size { wide: index % 4 == 0, ..SIZE });
-        values_of(&mut checker, &mut random, "random plans", &plan, &plan.record());
+        let plan = plans::any(random, Size { wide: index % 4 == 0, ..SIZE });
+        values_of(&mut checker, random, "random plans", &plan, &plan.record());
     }
-    damaged(&mut checker, &mut random);
-    for tally in [&checker.kinds, &checker.answers] {
-        tally.print();
-    }
-    println!(
-        "compare_value: {} values, no difference, {:.1} s",
-        checker.kinds.total(),
-        start.elapsed().as_secs_f64()
-    );
+    damaged(&mut checker, random);
+    comparison.finish("values", &[&checker.kinds, &checker.answers]);
 }
 
 /// M10's pins, for every old word of two bits.

@@ -1,4 +1,4 @@
-//! Random and damaged inputs over every exported function that there is.
+//! Random and damaged inputs over every exported function.
 //!
 //! fuzz [CASES] [SEED]
 //!
@@ -6,19 +6,13 @@
 //! slice; a touch of a page beside one ends the program. Stops at the first difference.
 
 use compare::checker::{Checker, Lent, OutLength};
-#[cfg(has_listing)]
-use compare::list_checker;
-#[cfg(has_plans)]
+use compare::list_checker::ListChecker;
 use compare::plan_checker::{More, PlanChecker};
-#[cfg(any(has_plans, has_run, has_value))]
 use compare::plans::{self, Size};
-#[cfg(has_run)]
 use compare::run_checker::RunChecker;
-#[cfg(has_run)]
 use compare::run_damage::{self, Case};
 use compare::sets;
 use compare::tally::Tally;
-#[cfg(has_value)]
 use compare::value_checker::{few_paths, Question, ValueChecker};
 use random::Random;
 use std::time::{Duration, Instant};
@@ -26,7 +20,6 @@ use std::time::{Duration, Instant};
 const SEED: u64 = 20_240_618;
 const CASES: u64 = 20_000;
 /// How many cases a plan or a script is damaged for before others are made.
-#[cfg(any(has_plans, has_run, has_value))]
 const REUSE: usize = 300;
 
 fn main() {
@@ -54,28 +47,20 @@ struct Fuzz {
     random: Random,
     functions: Tally,
     rounds: Checker,
-    #[cfg(has_listing)]
-    listings: Tally,
-    #[cfg(has_plans)]
+    listings: ListChecker,
     plans: PlanChecker,
-    #[cfg(has_run)]
     runs: RunChecker,
-    #[cfg(has_value)]
     values: ValueChecker,
-    #[cfg(any(has_plans, has_value))]
     records: Pool<Vec<u32>>,
-    #[cfg(has_run)]
     scripts: Pool<Case>,
 }
 
 /// Something that is damaged again and again before another is made.
-#[cfg(any(has_plans, has_run, has_value))]
 struct Pool<T> {
     held: Option<T>,
     left: usize,
 }
 
-#[cfg(any(has_plans, has_run, has_value))]
 impl<T: Clone> Pool<T> {
     fn new() -> Self {
         Pool { held: None, left: 0 }
@@ -97,30 +82,20 @@ impl Fuzz {
             random: Random::new(seed),
             functions: Tally::new("cases by function"),
             rounds: Checker::new(),
-            #[cfg(has_listing)]
-            listings: Tally::new("listings by answer"),
-            #[cfg(has_plans)]
+            listings: ListChecker::new(),
             plans: PlanChecker::new(),
-            #[cfg(has_run)]
             runs: RunChecker::new(),
-            #[cfg(has_value)]
             values: ValueChecker::new(),
-            #[cfg(any(has_plans, has_value))]
             records: Pool::new(),
-            #[cfg(has_run)]
             scripts: Pool::new(),
         }
     }
 
     fn print_answers(&mut self) {
         self.rounds.answers.print();
-        #[cfg(has_listing)]
-        self.listings.print();
-        #[cfg(has_plans)]
+        self.listings.answers.print();
         self.plans.answers.print();
-        #[cfg(has_run)]
         self.runs.answers.print();
-        #[cfg(has_value)]
         self.values.answers.print();
     }
 
@@ -128,13 +103,9 @@ impl Fuzz {
     fn case(&mut self) {
         let start = Instant::now();
         let name = match self.random.below(100) {
-            #[cfg(has_listing)]
             0..=34 => self.list(),
-            #[cfg(has_plans)]
             35..=37 => self.plan(),
-            #[cfg(has_run)]
             38..=40 => self.run(),
-            #[cfg(has_value)]
             41..=43 => self.value(),
             _ => self.read_rounds(),
         };
@@ -164,7 +135,6 @@ impl Fuzz {
         "read_rounds"
     }
 
-    #[cfg(has_listing)]
     fn list(&mut self) -> &'static str {
         let random = &mut self.random;
         let positions = if random.chance(300) { random.between(100, 8300) } else { random.between(0, 30) };
@@ -184,19 +154,11 @@ impl Fuzz {
         }
         let room = if random.chance(12) { random.below(16_384) } else { 16_384 };
         let spare = random.pick(&[0, 0, 0, 1, 50, -1, -3, -1000]);
-        match list_checker::difference(&records, room, spare) {
-            Ok(answer) => self.listings.count(&answer),
-            Err(what) => {
-                println!("DIFFERENCE (list): {}", what);
-                println!("records: {:?}", &records[..records.len().min(400)]);
-                std::process::exit(1);
-            }
-        }
+        self.listings.check("fuzz", &records, room, spare);
         "list"
     }
 
     /// A damaged plan record: its bytes.
-    #[cfg(any(has_plans, has_value))]
     fn record(&mut self) -> Vec<u8> {
         let random = &mut self.random;
         if random.chance(4) {
@@ -225,7 +187,6 @@ impl Fuzz {
         bytes
     }
 
-    #[cfg(has_plans)]
     fn plan(&mut self) -> &'static str {
         let record = self.record();
         let random = &mut self.random;
@@ -239,7 +200,6 @@ impl Fuzz {
         "plan_sizes and build"
     }
 
-    #[cfg(has_run)]
     fn run(&mut self) -> &'static str {
         let random = &mut self.random;
         let mut case = self.scripts.next(|| loop {
@@ -272,7 +232,6 @@ impl Fuzz {
         "run"
     }
 
-    #[cfg(has_value)]
     fn value(&mut self) -> &'static str {
         let record = self.record();
         let random = &mut self.random;
@@ -295,7 +254,6 @@ impl Fuzz {
 }
 
 /// A word of the record: often a pin.
-#[cfg(has_value)]
 fn random_pin(random: &mut Random, record: &[u8]) -> u32 {
     let words = record.len() / 4;
     if words == 0 {

@@ -1,0 +1,65 @@
+//! The plans that are timed, and their scripts.
+
+use ::compare::plan_checker::Expected;
+use ::compare::plans::{self, Size};
+use plan::{Part, Plan, Script, EMPTY, LEVEL_0};
+use random::Random;
+use std::collections::HashSet;
+
+pub struct Input {
+    pub name: String,
+    pub plan: Plan,
+    pub script: Script,
+}
+
+/// Three netlists, then plans whose number of parts doubles.
+pub fn all(random: &mut Random) -> Vec<Input> {
+    let mut inputs = netlists();
+    let one = one_part(random);
+    inputs.extend([1, 2, 4, 8, 16].iter().map(|&parts| copies(&one, parts)));
+    inputs
+}
+
+/// Through GEM's staging, partitioning and flattening.
+#[cfg(has_gem)]
+fn netlists() -> Vec<Input> {
+    let designs = netlists::designs::small_mid_and_large();
+    let input = |(size, design): (&str, &netlists::designs::Design)| {
+        let from_gem::Made { plan, script, .. } = from_gem::make(design);
+        Input { name: format!("{} netlist: {}", size, design.name), plan, script }
+    };
+    ["small", "mid", "large"].iter().copied().zip(&designs).map(input).collect()
+}
+
+#[cfg(not(has_gem))]
+fn netlists() -> Vec<Input> {
+    println!("\nGEM's sources were missing when this was built: there are no netlists.");
+    Vec::new()
+}
+
+/// Different pins that the part reads, at least.
+const PINS_READ: usize = 500;
+
+/// A random plan of one part of two stages, every slot of its first one filled, on two blocks.
+fn one_part(random: &mut Random) -> Plan {
+    let is_full = |part: &Part| {
+        let read: HashSet<u32> = part.stages[0].slots[LEVEL_0..].iter().copied().collect();
+        part.stages.len() == 2 && read.len() >= PINS_READ && !read.contains(&EMPTY)
+    };
+    loop {
+        let size = Size { majors: 1, parts: 1, stages: 2, inputs: 3000, wide: false };
+        let mut plan = plans::any(random, size);
+        plan.blocks = 2;
+        if is_full(&plan.stages[0][0]) && Expected::of(&plan.record()).answer.is_ok() {
+            return plan;
+        }
+    }
+}
+
+/// The plan's part so many times, so that each part is as much work as another.
+fn copies(plan: &Plan, parts: usize) -> Input {
+    let mut plan = plan.clone();
+    plan.stages[0] = vec![plan.stages[0][0].clone(); parts];
+    let script = Expected::of(&plan.record()).answer.expect("as one part is in order, so are its copies");
+    Input { name: format!("random, {} part{}", parts, if parts == 1 { "" } else { "s" }), plan, script }
+}

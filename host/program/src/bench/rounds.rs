@@ -1,0 +1,45 @@
+//! Times of read rounds.
+
+use super::{in_two_places, in_words, time_both, timed, Row, Table, Times};
+use crate::{Failure, Outcome};
+use ::compare::sets;
+use random::Random;
+use std::collections::BTreeMap;
+use std::time::Duration;
+
+pub fn rows(table: &mut Table, random: &mut Random, time: Duration) -> Outcome {
+    table.begin(&["read rounds", "ours", reference::NAME, "ratio"]);
+    for (name, set) in read_sets(random) {
+        let times = times(&set, time)?;
+        let cells = [in_words(times.ours), in_words(times.theirs), in_two_places(times.ratio())];
+        table.add(Row { group: "read rounds", name, times }, &cells);
+    }
+    Ok(())
+}
+
+fn read_sets(random: &mut Random) -> Vec<(String, Vec<u32>)> {
+    let mut read_sets = Vec::new();
+    for pairs in [8, 32, 128, 512] {
+        let bits: Vec<u32> = (0..pairs).map(|_| random.between(1, 12) as u32).collect();
+        read_sets.push((format!("{} pairs of 1 to 12 bits", pairs), sets::with_bits(random, &bits)));
+    }
+    for pairs in [2048, 8192] {
+        read_sets.push((format!("{} pairs of one bit", pairs), sets::with_bits(random, &vec![1; pairs])));
+    }
+    let bits = sets::bits_summing_to(random, 8192, |random| random.pick(&[1, 2, 4, 8, 16, 32]));
+    read_sets.push((format!("8192 bits in {} pairs", bits.len()), sets::with_bits(random, &bits)));
+    read_sets
+}
+
+/// Both make the read section; their map is made before.
+fn times(set: &[u32], time: Duration) -> Result<Times, Failure> {
+    let map: BTreeMap<u32, u32> = set.chunks(2).map(|pair| (pair[0], pair[1])).collect();
+    let mut room = vec![0; juolgesot::SET_ROOM];
+    let mut out = vec![0; 32 * juolgesot::ROUND_WORDS];
+    let ours = || {
+        let (rounds, took) = timed(|| juolgesot::read_rounds_into(set, &mut room, &mut out));
+        (rounds.ok().map(|rounds| out[..juolgesot::ROUND_WORDS * rounds].to_vec()), took)
+    };
+    let theirs = || timed(|| reference::lanes_of_map(&map).map(|lanes| model::rounds::section(&lanes)));
+    time_both(time, ours, theirs)
+}
