@@ -1,8 +1,8 @@
 //! Compares the library's listing with the lines made from the reference's lanes.
 //!
-//! compare_listing [--long] [SEED]    stops at the first difference
+//! compare_listing [SEED]    stops at the first difference
 
-use compare::comparison::{Amount, Comparison};
+use compare::comparison::Comparison;
 use compare::list_checker::ListChecker;
 use juolgesot::LIST_ROOM;
 use random::Random;
@@ -19,14 +19,14 @@ fn main() {
     checker.check("the listing of document 01", &example(), LIST_ROOM, 0);
     checker.check("no records", &[], LIST_ROOM, 0);
     checker.check("end at once", &[0], LIST_ROOM, 0);
-    random_listings(&mut checker, &mut comparison.random, comparison.amount);
+    random_listings(&mut checker, &mut comparison.random);
     boundaries(&mut checker, &mut comparison.random);
     checker.answers.sort();
     comparison.finish("listings", &[&checker.kinds, &checker.answers]);
 }
 
-fn random_listings(checker: &mut ListChecker, random: &mut Random, amount: Amount) {
-    for _ in 0..amount.of(3_000, 1_000) {
+fn random_listings(checker: &mut ListChecker, random: &mut Random) {
+    for _ in 0..3_000 {
         let records = random_records(random);
         let spare = random.pick(&[0, 0, 1, 100]);
         checker.check("random", &records, LIST_ROOM, spare);

@@ -1,9 +1,9 @@
 //! Compares the library's read rounds with the reference's on every kind of read set.
 //!
-//! compare_rounds [--long] [SEED]    stops at the first difference
+//! compare_rounds [SEED]    stops at the first difference
 
 use compare::checker::{Checker, Lent, OutLength};
-use compare::comparison::{Amount, Comparison};
+use compare::comparison::Comparison;
 use compare::damage;
 use compare::sets;
 use juolgesot::SET_ROOM;
@@ -13,17 +13,17 @@ const SEED: u64 = 20_240_611;
 
 fn main() {
     let mut comparison = Comparison::begin("compare_rounds", reference::NAME, SEED);
-    let (random, amount) = (&mut comparison.random, comparison.amount);
+    let random = &mut comparison.random;
     let mut checker = Checker::new();
     for set in sets::marked() {
         checker.check("M1 to M5", &set, Lent::default());
     }
-    small_sets(&mut checker, random, amount);
-    random_sets(&mut checker, random, amount);
-    boundary_sets(&mut checker, random, amount);
-    damaged_sets(&mut checker, random, amount);
-    short_results(&mut checker, random, amount);
-    short_rooms(&mut checker, random, amount);
+    sets::every_small_set(|set| checker.check("every set of up to 3 words", set, Lent::default()));
+    random_sets(&mut checker, random);
+    boundary_sets(&mut checker, random);
+    damaged_sets(&mut checker, random);
+    short_results(&mut checker, random);
+    short_rooms(&mut checker, random);
 
     checker.tries.sort();
     checker.rounds.sort();
@@ -39,40 +39,30 @@ fn any_lent(random: &mut Random) -> Lent {
     }
 }
 
-/// Of those of three words, one in so many.
-fn small_sets(checker: &mut Checker, random: &mut Random, amount: Amount) {
-    let one_in = amount.of(1, 8);
-    sets::every_small_set(|set| {
-        if set.len() < 6 || random.chance(one_in) {
-            checker.check("every set of up to 3 words", set, Lent::default());
-        }
-    });
-}
-
-fn random_sets(checker: &mut Checker, random: &mut Random, amount: Amount) {
-    for _ in 0..amount.of(60_000, 15_000) {
+fn random_sets(checker: &mut Checker, random: &mut Random) {
+    for _ in 0..60_000 {
         let pairs = random.between(1, 40);
         let set = if random.chance(2) { sets::any(random, pairs) } else { sets::wide(random, pairs) };
         checker.check("random, 1 to 40 pairs", &set, any_lent(random));
     }
-    for _ in 0..amount.of(4_000, 1_500) {
+    for _ in 0..4_000 {
         let pairs = random.between(41, 500);
         let set = if random.chance(2) { sets::any(random, pairs) } else { sets::wide(random, pairs) };
         checker.check("random, 41 to 500 pairs", &set, any_lent(random));
     }
-    for _ in 0..amount.of(1_000, 300) {
+    for _ in 0..1_000 {
         let set = sets::few_then_many(random);
         checker.check("few bits, then many", &set, any_lent(random));
     }
-    for _ in 0..amount.of(1_000, 300) {
+    for _ in 0..1_000 {
         let set = sets::runs(random);
         checker.check("runs of equal bit counts", &set, any_lent(random));
     }
 }
 
-fn boundary_sets(checker: &mut Checker, random: &mut Random, amount: Amount) {
+fn boundary_sets(checker: &mut Checker, random: &mut Random) {
     for pairs in [1, 2, 3, 255, 256, 257, 258, 511, 512, 513] {
-        for _ in 0..amount.of(400, 100) {
+        for _ in 0..400 {
             let set = if random.chance(2) { sets::any(random, pairs) } else { sets::wide(random, pairs) };
             checker.check(&format!("{} pairs", pairs), &set, any_lent(random));
         }
@@ -88,21 +78,21 @@ fn boundary_sets(checker: &mut Checker, random: &mut Random, amount: Amount) {
         }
     }
     for total in [8190, 8191, 8192, 8193] {
-        for _ in 0..amount.of(150, 40) {
+        for _ in 0..150 {
             let set = sets::of_total(random, total);
             checker.check(&format!("{} bits in all", total), &set, any_lent(random));
         }
     }
-    for _ in 0..amount.of(600, 150) {
+    for _ in 0..600 {
         let total = random.between(6_000, 8_189);
         let set = sets::of_total(random, total);
         checker.check("6000 to 8189 bits in all", &set, any_lent(random));
     }
 }
 
-fn damaged_sets(checker: &mut Checker, random: &mut Random, amount: Amount) {
+fn damaged_sets(checker: &mut Checker, random: &mut Random) {
     for kind in damage::KINDS {
-        for round in 0..amount.of(2_000, 500) {
+        for round in 0..2_000 {
             let pairs = if round % 50 == 0 { random.between(200, 8192) } else { random.between(1, 20) };
             let set = sets::any(random, pairs);
             let set = damage::damaged(random, &set, kind);
@@ -127,8 +117,8 @@ fn damaged_sets(checker: &mut Checker, random: &mut Random, amount: Amount) {
 }
 
 /// Result rooms around the length that is needed; 3 and 4 come before 14.
-fn short_results(checker: &mut Checker, random: &mut Random, amount: Amount) {
-    for round in 0..amount.of(6_000, 2_000) {
+fn short_results(checker: &mut Checker, random: &mut Random) {
+    for round in 0..6_000 {
         let set = match round % 20 {
             0 => sets::of_total(random, 5_000),
             1 => sets::wide(random, 257),
@@ -150,8 +140,8 @@ fn short_results(checker: &mut Checker, random: &mut Random, amount: Amount) {
 }
 
 /// Working rooms that are too short, with good and with damaged sets: 32 comes first.
-fn short_rooms(checker: &mut Checker, random: &mut Random, amount: Amount) {
-    for round in 0..amount.of(6_000, 2_000) {
+fn short_rooms(checker: &mut Checker, random: &mut Random) {
+    for round in 0..6_000 {
         let pairs = if round % 100 == 0 { random.between(8000, 8300) } else { random.between(1, 30) };
         let mut set = sets::any(random, pairs);
         if random.chance(3) {
