@@ -12,11 +12,11 @@ use lib.ListN.{length}
 use Rattle.words.specs.Sum.{sumTo}
 use Rattle.words.proofs.SumLaws.{sum-le}
 use Rattle.record.specs.Tests.{allBelow}
-use Rattle.record.specs.Record.{blocksOf, majorsOf, gatesOf, layoutOf, positionsOf, countAt, partsBefore, partsOf, gatePin, gateFirst, gateSecond, layoutPin, positionPin, positionStaged, stagesOf, endpointsOf, locationsOf, bodyWords, bodyAt, endpointKind, endpointX, endpointY}
+use Rattle.record.specs.Record.{blocksOf, majorsOf, gatesOf, layoutOf, positionsOf, countAt, partsBefore, partsOf, gatePin, gateFirst, gateSecond, layoutPin, positionPin, positionStaged, headBase, stagesOf, endpointsOf, locationsOf, bodyWords, bodyAt, endpointKind, endpointX, endpointY}
 use Rattle.record.specs.Form.{empty, headForm, countsForm, partForm, lengthForm, gateForm, layoutForm, positionForm, endpointNumbers, endpointForm, listsForm, planForm}
 use Rattle.record.specs.Body.{Headed, Measured, BodyReady}
 use Rattle.record.proofs.TestLaws.{and-true, all-at, not-both}
-use Rattle.record.proofs.RecordLaws.{body-more, body-mono}
+use Rattle.record.proofs.RecordLaws.{body-first, body-more, body-mono}
 
 -- ---- the head
 
@@ -97,6 +97,10 @@ part-in d headed p l = part-ranges d p (all-at (partForm d) (partsOf d) p (heade
 module _ (d : List ℕ) (sizes : Measured d) where
   pub body-in : (p : ℕ) → p ≤ partsOf d → bodyAt d p ≤ length d / 4
   body-in p l = omega (arith, body-mono d p (partsOf d) l, length-exact d (sizes .whole) .1)
+
+  -- so it has what stands before the part heads
+  pub heads-in : headBase d ≤ length d / 4
+  heads-in = omega (arith, body-first d, body-in 0 (omega arith))
 
   pub body-ready : (p at : ℕ) → p < partsOf d → at ≡ bodyAt d p → BodyReady d p at
   body-ready p at l h =

@@ -11,7 +11,7 @@ use lib.ListN.{length, getD}
 use Rattle.words.specs.Sum.{sumTo}
 use Rattle.words.proofs.SumLaws.{sum-more}
 use Rattle.words.proofs.BitLaws.{lt-or-ge}
-use Rattle.record.specs.Record.{wordAt, countAt, partsBefore, partsOf, headBase, stagesOf, endpointsOf, locationsIn, locationsOf, stageLocations, bodyWords, bodyAt, countBase, slotBase, locationBase, tableBase}
+use Rattle.record.specs.Record.{wordAt, gatesOf, layoutOf, positionsOf, gateBase, layoutBase, positionBase, countAt, partsBefore, partsOf, headBase, stagesOf, endpointsOf, locationsIn, locationsOf, stageLocations, bodyWords, bodyAt, countBase, slotBase, locationBase, tableBase}
 
 pub word-there : (d : List ℕ) (i : ℕ) → 4 * i + 4 ≤ length d
     → wordAt d i ≡ getD d (4 * i) 0 + 256 * getD d (4 * i + 1) 0 + 65536 * getD d (4 * i + 2) 0 + 16777216 * getD d (4 * i + 3) 0
@@ -29,6 +29,20 @@ word-lt d i h =
     (λ l. omega (arith, word-missing d i l))
     (λ l. omega (arith, word-there d i l, h (4 * i), h (4 * i + 1), h (4 * i + 2), h (4 * i + 3)))
     (lt-or-ge (length d) (4 * i + 4))
+
+-- ---- the lists before the part heads: their words are before those of the heads
+
+pub gate-before : (d : List ℕ) (g : ℕ) → g < gatesOf d → gateBase d + 3 * g + 2 < headBase d
+unfolding headBase positionBase layoutBase
+gate-before d g h = omega arith
+
+pub layout-before : (d : List ℕ) (i : ℕ) → i < layoutOf d → layoutBase d + i < headBase d
+unfolding headBase positionBase
+layout-before d i h = omega arith
+
+pub position-before : (d : List ℕ) (i : ℕ) → i < positionsOf d → positionBase d + 3 * i + 2 < headBase d
+unfolding headBase
+position-before d i h = omega arith
 
 -- ---- sums over the record's counts: one more
 

@@ -8,6 +8,7 @@ use crate::places::head_base;
 use crate::places::locations_in;
 use crate::places::parts_before;
 use crate::places::word_at;
+use crate::places::word_in;
 
 // One part's numbers, and the words where its lists begin: endpoints, locations of each stage, slots, locations, tables, and the next body.
 pub struct Body {
@@ -69,7 +70,7 @@ pub fn endpoint_kind(d: &[u8], p: usize, body: Body, i: usize) -> u32
     requires { ⌜ BodyOf (now d) p body × (i < body .endpoints) ⌝ }
     ensures { λ r. ⌜ r ≡ endpointKind (now (d .entry)) p i ⌝ }
 {
-    word_at(d, body.at + 3 * i)
+    word_in(d, body.at + 3 * i)
 }
 
 // The first number of endpoint i.
@@ -77,7 +78,7 @@ pub fn endpoint_x(d: &[u8], p: usize, body: Body, i: usize) -> u32
     requires { ⌜ BodyOf (now d) p body × (i < body .endpoints) ⌝ }
     ensures { λ r. ⌜ r ≡ endpointX (now (d .entry)) p i ⌝ }
 {
-    word_at(d, body.at + 3 * i + 1)
+    word_in(d, body.at + 3 * i + 1)
 }
 
 // The second number of endpoint i.
@@ -85,7 +86,7 @@ pub fn endpoint_y(d: &[u8], p: usize, body: Body, i: usize) -> u32
     requires { ⌜ BodyOf (now d) p body × (i < body .endpoints) ⌝ }
     ensures { λ r. ⌜ r ≡ endpointY (now (d .entry)) p i ⌝ }
 {
-    word_at(d, body.at + 3 * i + 2)
+    word_in(d, body.at + 3 * i + 2)
 }
 
 // How many locations stage s has.
@@ -93,7 +94,7 @@ pub fn stage_locations(d: &[u8], p: usize, body: Body, s: usize) -> u32
     requires { ⌜ BodyOf (now d) p body × (s < body .stages) ⌝ }
     ensures { λ r. ⌜ r ≡ stageLocations (now (d .entry)) p s ⌝ }
 {
-    word_at(d, body.counts + s)
+    word_in(d, body.counts + s)
 }
 
 // The pin at index q of stage s.
@@ -101,7 +102,7 @@ pub fn slot(d: &[u8], p: usize, body: Body, s: usize, q: usize) -> u32
     requires { ⌜ BodyOf (now d) p body × (s < body .stages) × (1 ≤ q) × (q ≤ 16383) ⌝ }
     ensures { λ r. ⌜ r ≡ slotAt (now (d .entry)) p s q ⌝ }
 {
-    word_at(d, body.slots + 16383 * s + (q - 1))
+    word_in(d, body.slots + 16383 * s + (q - 1))
 }
 
 // Location l, counted over the stages.
@@ -109,7 +110,7 @@ pub fn location(d: &[u8], p: usize, body: Body, l: usize) -> u32
     requires { ⌜ BodyOf (now d) p body × (l < body .locations) ⌝ }
     ensures { λ r. ⌜ r ≡ locationAt (now (d .entry)) p l ⌝ }
 {
-    word_at(d, body.places + l)
+    word_in(d, body.places + l)
 }
 
 // Word i of the two tables.
@@ -117,5 +118,5 @@ pub fn table_word(d: &[u8], p: usize, body: Body, i: usize) -> u32
     requires { ⌜ BodyOf (now d) p body × (i < 17664) ⌝ }
     ensures { λ r. ⌜ r ≡ tableAt (now (d .entry)) p i ⌝ }
 {
-    word_at(d, body.tables + i)
+    word_in(d, body.tables + i)
 }

@@ -2,8 +2,9 @@
 // lists hold comes last, when they are known to be there. So past the 64 counts no loop runs longer than the record, and each ends at the first fault.
 ghost use mathlib.Core.Path.{_≡_};
 ghost use mathlib.Core.Bool.{_&&_, _||_};
-ghost use Prim.Native.Nat.{_^_, _≤_, _<_};
+ghost use Prim.Native.Nat.{_+_, _*_, _/_, _^_, _≤_, _<_};
 ghost use lib.Dec.{leb};
+ghost use lib.ListN.{length};
 ghost use Rattle.record.specs.Record.{majorsOf, partsOf, gatesOf, layoutOf, positionsOf, endpointsOf, gateBase, layoutBase, positionBase, headBase};
 ghost use Rattle.record.specs.Tests.{allBelow};
 ghost use Rattle.record.specs.Form.{headForm, countsForm, partForm, lengthForm, gateForm, layoutForm, positionForm, endpointNumbers, endpointForm, listsForm, planForm, isPin, isPinIv};
@@ -21,6 +22,7 @@ use crate::places::head_base;
 use crate::places::layout_base;
 use crate::places::position_base;
 use crate::places::word_at;
+use crate::places::word_in;
 
 // Both of two truths.
 fn both(a: bool, b: bool) -> bool
@@ -132,18 +134,19 @@ fn length_form(d: &[u8]) -> bool
 
 // Gate g, given where the gates begin.
 fn gate_form(d: &[u8], gates: usize, g: usize) -> bool
-    requires { ⌜ (gates ≡ gateBase (now d)) × (gates < 2 ^ 33) × (g < 2 ^ 32) ⌝ }
+    requires { ⌜ (gates ≡ gateBase (now d)) × (gates + 3 * g + 2 < length (now d) / 4) ⌝ }
     ensures { λ r. ⌜ r ≡ gateForm (now (d .entry)) g ⌝ }
 {
     let at = gates + 3 * g;
     both(
-        both(is_pin(word_at(d, at)), is_pin_iv(word_at(d, at + 1))),
-        is_pin_iv(word_at(d, at + 2)),
+        both(is_pin(word_in(d, at)), is_pin_iv(word_in(d, at + 1))),
+        is_pin_iv(word_in(d, at + 2)),
     )
 }
 
 // The gate list.
 fn gates_form(d: &[u8]) -> bool
+    requires { ⌜ headBase (now d) ≤ length (now d) / 4 ⌝ }
     ensures { λ r. ⌜ r ≡ allBelow (gateForm (now (d .entry))) (gatesOf (now (d .entry))) ⌝ }
 {
     let base = gate_base(d);
@@ -158,15 +161,16 @@ fn gates_form(d: &[u8]) -> bool
 
 // Entry i of the input layout, given where it begins.
 fn layout_form(d: &[u8], layout: usize, i: usize) -> bool
-    requires { ⌜ (layout ≡ layoutBase (now d)) × (layout < 2 ^ 35) × (i < 2 ^ 32) ⌝ }
+    requires { ⌜ (layout ≡ layoutBase (now d)) × (layout + i < length (now d) / 4) ⌝ }
     ensures { λ r. ⌜ r ≡ layoutForm (now (d .entry)) i ⌝ }
 {
-    let x = word_at(d, layout + i);
+    let x = word_in(d, layout + i);
     either(is_pin(x), x == 4294967295)
 }
 
 // The input layout.
 fn layouts_form(d: &[u8]) -> bool
+    requires { ⌜ headBase (now d) ≤ length (now d) / 4 ⌝ }
     ensures { λ r. ⌜ r ≡ allBelow (layoutForm (now (d .entry))) (layoutOf (now (d .entry))) ⌝ }
 {
     let base = layout_base(d);
@@ -181,15 +185,16 @@ fn layouts_form(d: &[u8]) -> bool
 
 // Position i, given where the positions begin.
 fn position_form(d: &[u8], positions: usize, i: usize) -> bool
-    requires { ⌜ (positions ≡ positionBase (now d)) × (positions < 2 ^ 36) × (i < 2 ^ 32) ⌝ }
+    requires { ⌜ (positions ≡ positionBase (now d)) × (positions + 3 * i + 2 < length (now d) / 4) ⌝ }
     ensures { λ r. ⌜ r ≡ positionForm (now (d .entry)) i ⌝ }
 {
     let at = positions + 3 * i;
-    both(is_pin(word_at(d, at)), word_at(d, at + 2) <= 1)
+    both(is_pin(word_in(d, at)), word_in(d, at + 2) <= 1)
 }
 
 // The position list.
 fn positions_form(d: &[u8]) -> bool
+    requires { ⌜ headBase (now d) ≤ length (now d) / 4 ⌝ }
     ensures { λ r. ⌜ r ≡ allBelow (positionForm (now (d .entry))) (positionsOf (now (d .entry))) ⌝ }
 {
     let base = position_base(d);

@@ -1,6 +1,7 @@
 // The words of a plan record, and where its lists begin.
 ghost use mathlib.Core.Path.{_≡_};
-ghost use Prim.Native.Nat.{_+_, _*_, _^_, _≤_, _<_};
+ghost use Prim.Native.Nat.{_+_, _*_, _/_, _^_, _≤_, _<_};
+ghost use lib.ListN.{length};
 ghost use Rattle.record.specs.Record.{wordAt, partsBefore, gateBase, layoutBase, positionBase, headBase, locationsIn, bodyWords};
 ghost use Rattle.record.specs.Form.{roomWords};
 
@@ -11,15 +12,19 @@ fn word_of(a: u8, b: u8, c: u8, e: u8) -> u32
     a as u32 + 256 * (b as u32) + 65536 * (c as u32) + 16777216 * (e as u32)
 }
 
+// Word i of a record that has it.
+pub fn word_in(d: &[u8], i: usize) -> u32
+    requires { ⌜ i < length (now d) / 4 ⌝ }
+    ensures { λ r. ⌜ r ≡ wordAt (now (d .entry)) i ⌝ }
+{
+    word_of(d[4 * i], d[4 * i + 1], d[4 * i + 2], d[4 * i + 3])
+}
+
 // Word i of a record; 0 where the record does not have the whole of it.
 pub fn word_at(d: &[u8], i: usize) -> u32
     ensures { λ r. ⌜ r ≡ wordAt (now (d .entry)) i ⌝ }
 {
-    if i < d.len() / 4 {
-        word_of(d[4 * i], d[4 * i + 1], d[4 * i + 2], d[4 * i + 3])
-    } else {
-        0
-    }
+    if i < d.len() / 4 { word_in(d, i) } else { 0 }
 }
 
 // Where the gates begin.

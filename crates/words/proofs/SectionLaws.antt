@@ -14,8 +14,9 @@ use lib.Bits.{bitAnd, bitOr, and-mask, or-shifted, or-shifted-r}
 use lib.Dec.{eqb}
 use lib.ListN.{length, getD, set, length-set, length-append, List·getD-append}
 use lib.Pow.{pow-pos, shl-exact}
-use lib.Seq.{getD-set-same, getD-set-other, getD-at, ext-getD}
+use lib.Seq.{sets, length-sets, getD-set-same, getD-set-other, getD-at, ext-getD}
 use Rattle.words.specs.Section.{placeOf, entryOf, halfOf, withHalf, halfAt, putHalf, listOf, sectionOf}
+use Rattle.words.proofs.ListLaws.{sets-append}
 
 -- ---- lists from a function of the index
 
@@ -214,7 +215,7 @@ place-pair n i j hi hj e =
     omega arith
 
 -- a word more of a section that is filled pair by pair
-pub pair-more : (n : ℕ) (f : ℕ → ℕ) (s : List ℕ) (p : ℕ) → ((j : ℕ) → j < 32 * n → f j < 2 ^ 16) → 16 * n ≤ length s → p < 16 * n
+pair-more : (n : ℕ) (f : ℕ → ℕ) (s : List ℕ) (p : ℕ) → ((j : ℕ) → j < 32 * n → f j < 2 ^ 16) → 16 * n ≤ length s → p < 16 * n
     → ((i : ℕ) → i < 2 * p → halfAt n s i ≡ f i)
     → (i : ℕ) → i < 2 * (p + 1) → halfAt n (set s (placeOf n (2 * p)) (f (2 * p + 1) * 2 ^ 16 + f (2 * p))) i ≡ f i
 unfolding halfAt
@@ -238,6 +239,85 @@ pair-more n f s p small room h done i l = by (ℕ-discrete (placeOf n i) w)
     by (no d) =
         let other : i / 2 ≢ p = λ e. d (place-even n i ∙ ap (λ (q : ℕ). placeOf n (2 * q)) e) in
         ap (λ (y : ℕ). halfOf y (i % 2)) (getD-set-other s w (placeOf n i) x 0 d) ∙ done i (omega arith)
+
+-- ---- four words at a time: the words of eight entries are next to one another
+
+place-next : (n p m : ℕ) → p % 4 + m < 4 → placeOf n (2 * (p + m)) ≡ placeOf n (2 * p) + m
+unfolding placeOf
+place-next n p m h =
+    let k : 2 * (p + m) / 8 % 4 ≡ 2 * p / 8 % 4 = omega arith in
+    let t : 2 * (p + m) / 32 ≡ 2 * p / 32 = omega arith in
+    let l : 2 * (p + m) % 8 / 2 ≡ 2 * p % 8 / 2 + m = omega arith in
+    rw (k, t, l) (omega arith)
+
+-- the words of row k of lane t
+place-row : (n t k : ℕ) → k < 4 → placeOf n (2 * (16 * t + 4 * k)) ≡ k * (4 * n) + 4 * t
+unfolding placeOf
+place-row n t k h =
+    let a : 2 * (16 * t + 4 * k) / 8 % 4 ≡ k = omega arith in
+    let b : 2 * (16 * t + 4 * k) / 32 ≡ t = omega arith in
+    let e : 2 * (16 * t + 4 * k) % 8 / 2 ≡ 0 = omega arith in
+    rw (a, b, e) (omega arith)
+
+-- word h of those from entry 2p on
+abbrev pub pairFrom : (ℕ → ℕ) → ℕ → ℕ → ℕ
+pairFrom f p h = f (2 * (p + h) + 1) * 2 ^ 16 + f (2 * (p + h))
+
+-- the first 2p entries are in place
+pub record Filled (n : ℕ) (f : ℕ → ℕ) (s : List ℕ) (p : ℕ) : Type 0 where
+  pub long : length s ≡ 16 * n
+  pub done : (i : ℕ) → i < 2 * p → halfAt n s i ≡ f i
+
+module _ (n : ℕ) (f : ℕ → ℕ) (small : (j : ℕ) → j < 32 * n → f j < 2 ^ 16) where
+  run-more : (s : List ℕ) (p m : ℕ) → 16 * n ≤ length s → p + m ≤ 16 * n → p % 4 + m ≤ 4 → ((i : ℕ) → i < 2 * p → halfAt n s i ≡ f i)
+      → (i : ℕ) → i < 2 * (p + m) → halfAt n (sets s (placeOf n (2 * p)) (listOf (pairFrom f p) m)) i ≡ f i
+  unfolding listOf
+  run-more s p zero room fits row done i l = done i (omega arith)
+  run-more s p (suc m) room fits row done i l =
+      let g = pairFrom f p in
+      let w = placeOf n (2 * p) in
+      let next : placeOf n (2 * (p + m)) ≡ w + length (listOf g m) = omega (arith, place-next n p m (omega arith), length-listOf g m) in
+      let is : set (sets s w (listOf g m)) (placeOf n (2 * (p + m))) (g m) ≡ sets s w (listOf g (suc m)) =
+      ap (λ (x : ℕ). set (sets s w (listOf g m)) x (g m)) next ∙ sym (sets-append s w (listOf g m) (g m ∷ [])) in
+      subst (λ (u : List ℕ). halfAt n u i ≡ f i) is
+      (pair-more n f (sets s w (listOf g m)) (p + m) small (omega (arith, length-sets s w (listOf g m))) (omega arith) (run-more s p m room (omega arith) (omega arith) done) i (omega arith))
+
+  -- the four words of row k of lane t
+  row-more : (t k p w : ℕ) (s s′ : List ℕ) → t < n → k < 4 → p ≡ 16 * t + 4 * k → w ≡ k * (4 * n) + 4 * t
+      → s′ ≡ sets s w (listOf (pairFrom f p) 4) → Filled n f s (16 * t + 4 * k) → Filled n f s′ (16 * t + 4 * suc k)
+  row-more t k p w s s′ in-n in-k p-is w-is e filled =
+      let place : w ≡ placeOf n (2 * p) = w-is ∙ sym (ap (λ (x : ℕ). placeOf n (2 * x)) p-is ∙ place-row n t k in-k) in
+      let is : s′ ≡ sets s (placeOf n (2 * p)) (listOf (pairFrom f p) 4) = e ∙ ap (λ (x : ℕ). sets s x (listOf (pairFrom f p) 4)) place in
+      record {
+        long = ap length e ∙ length-sets s w (listOf (pairFrom f p) 4) ∙ filled .long;
+        done = λ i l. ap (λ (u : List ℕ). halfAt n u i) is ∙ run-more s p 4 (omega (arith, filled .long)) (omega arith) (omega arith) (λ i l. filled .done i (omega arith)) i (omega arith);
+      }
+
+  -- a lane more of a section that is filled lane by lane
+  pub lane-more : (t : ℕ) (s s₁ s₂ s₃ s₄ : List ℕ) → t < n
+      → s₁ ≡ sets s (4 * t) (listOf (pairFrom f (16 * t)) 4)
+      → s₂ ≡ sets s₁ (4 * n + 4 * t) (listOf (pairFrom f (16 * t + 4)) 4)
+      → s₃ ≡ sets s₂ (8 * n + 4 * t) (listOf (pairFrom f (16 * t + 8)) 4)
+      → s₄ ≡ sets s₃ (12 * n + 4 * t) (listOf (pairFrom f (16 * t + 12)) 4)
+      → Filled n f s (16 * t) → Filled n f s₄ (16 * (t + 1))
+  lane-more t s s₁ s₂ s₃ s₄ l e₁ e₂ e₃ e₄ filled =
+      let f₀ : Filled n f s (16 * t + 4 * 0) = subst (Filled n f s) (omega arith) filled in
+      let f₁ : Filled n f s₁ (16 * t + 4 * 1) = row-more t 0 (16 * t) (4 * t) s s₁ l (omega arith) (omega arith) (omega arith) e₁ f₀ in
+      let f₂ : Filled n f s₂ (16 * t + 4 * 2) = row-more t 1 (16 * t + 4) (4 * n + 4 * t) s₁ s₂ l (omega arith) (omega arith) (omega arith) e₂ f₁ in
+      let f₃ : Filled n f s₃ (16 * t + 4 * 3) = row-more t 2 (16 * t + 8) (8 * n + 4 * t) s₂ s₃ l (omega arith) (omega arith) (omega arith) e₃ f₂ in
+      let f₄ : Filled n f s₄ (16 * t + 4 * 4) = row-more t 3 (16 * t + 12) (12 * n + 4 * t) s₃ s₄ l (omega arith) (omega arith) (omega arith) e₄ f₃ in
+      subst (Filled n f s₄) (omega arith) f₄
+
+-- the four stores of the code are one run
+pub four-sets : (f : ℕ → ℕ) (s : List ℕ) (w p a b c e : ℕ)
+    → a ≡ f (2 * p + 1) * 2 ^ 16 + f (2 * p) → b ≡ pairFrom f p 1 → c ≡ pairFrom f p 2 → e ≡ pairFrom f p 3
+    → set (set (set (set s w a) (w + 1) b) (w + 2) c) (w + 3) e ≡ sets s w (listOf (pairFrom f p) 4)
+unfolding listOf
+four-sets f s w p a b c e ha hb hc he =
+    let w₁ : w + 1 ≡ suc w = omega arith in
+    let w₂ : w + 2 ≡ suc (suc w) = omega arith in
+    let w₃ : w + 3 ≡ suc (suc (suc w)) = omega arith in
+    rw (ha, hb, hc, he, w₁, w₂, w₃, add-zero p)
 
 -- ---- as the code reads and writes a half
 

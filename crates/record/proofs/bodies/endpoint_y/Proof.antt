@@ -7,21 +7,21 @@ use Rattle.record.specs.Record.{wordAt}
 use Rattle.record.proofs.bodies.endpoint_y.Statement.{statement}
 use Rattle.record.proofs.bodies.endpoint_y.Tie as tie
 
-mul-word-at : tie.Need-mul-word-at
-mul-word-at c = search needs
+mul-word-in : tie.Need-mul-word-in
+mul-word-in c = search needs
 
-add-word-at : tie.Need-add-word-at
-add-word-at c = search needs
+add-word-in : tie.Need-add-word-in
+add-word-in c = search needs
 
-add-word-at-2 : tie.Need-add-word-at-2
-add-word-at-2 c = search needs
+add-word-in-2 : tie.Need-add-word-in-2
+add-word-in-2 c = search needs
 
-word-at-requires : tie.Need-word-at-requires
-word-at-requires c κs = search needs
+word-in-requires : tie.Need-word-in-requires
+word-in-requires c κs = search needs
 
 returns : tie.Need-returns
-returns c = let o = c .before .before .before in c .word-at .ensures ∙ ap (λ (x : ℕ). wordAt (o .args .d .now) (x + 3 * o .args .i + 2)) (o .pre .0 .place)
+returns c = let o = c .before .before .before in c .word-in .ensures ∙ ap (λ (x : ℕ). wordAt (o .args .d .now) (x + 3 * o .args .i + 2)) (o .pre .0 .place)
 
 pub endpoint-y-spec : {M : Type 1} → statement M
 endpoint-y-spec =
-    tie.close (tie.spec mul-word-at add-word-at add-word-at-2 word-at-requires returns)
+    tie.close (tie.spec mul-word-in add-word-in add-word-in-2 word-in-requires returns)

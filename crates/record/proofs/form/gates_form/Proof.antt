@@ -9,6 +9,7 @@ use borrow.Author.Needs.{needs}
 use Rattle.record.specs.Tests.{allBelow}
 use Rattle.record.specs.Record.{gatesOf}
 use Rattle.record.specs.Form.{gateForm}
+use Rattle.record.proofs.RecordLaws.{gate-before}
 use Rattle.record.proofs.TestLaws.{all-on, all-less, all-fault}
 use Rattle.record.proofs.form.gates_form.Statement.{statement}
 use Rattle.record.proofs.form.gates_form.Tie as tie
@@ -33,7 +34,10 @@ unfolding allBelow
 loop-holds c = (omega arith, refl)
 
 gate-form-requires : tie.Need-gate-form-requires Inv-loop μ-loop
-gate-form-requires c κs = search needs
+gate-form-requires c κs =
+    let head = c .before in
+    let base = head .before .before in
+    (base .gate-base .ensures .0, omega (arith, gate-before (base .before .before .args .d .now) (head .loop .g) (omega arith)))
 
 returns : tie.Need-returns Inv-loop μ-loop
 returns c =

@@ -5,11 +5,11 @@ use Rattle.record.specs.Form.{layoutForm}
 use Rattle.record.proofs.form.layout_form.Statement.{statement}
 use Rattle.record.proofs.form.layout_form.Tie as tie
 
-add-word-at : tie.Need-add-word-at
-add-word-at c = search needs
+add-word-in : tie.Need-add-word-in
+add-word-in c = search needs
 
-word-at-requires : tie.Need-word-at-requires
-word-at-requires c κs = search needs
+word-in-requires : tie.Need-word-in-requires
+word-in-requires c κs = search needs
 
 is-pin-requires : tie.Need-is-pin-requires
 is-pin-requires c κs = search needs
@@ -23,4 +23,4 @@ returns c = cc
 
 pub layout-form-spec : {M : Type 1} → statement M
 layout-form-spec =
-    tie.close (tie.spec add-word-at word-at-requires is-pin-requires either-requires returns)
+    tie.close (tie.spec add-word-in word-in-requires is-pin-requires either-requires returns)

@@ -9,6 +9,7 @@ use borrow.Author.Needs.{needs}
 use Rattle.record.specs.Tests.{allBelow}
 use Rattle.record.specs.Record.{layoutOf}
 use Rattle.record.specs.Form.{layoutForm}
+use Rattle.record.proofs.RecordLaws.{layout-before}
 use Rattle.record.proofs.TestLaws.{all-on, all-less, all-fault}
 use Rattle.record.proofs.form.layouts_form.Statement.{statement}
 use Rattle.record.proofs.form.layouts_form.Tie as tie
@@ -33,7 +34,10 @@ unfolding allBelow
 loop-holds c = (omega arith, refl)
 
 layout-form-requires : tie.Need-layout-form-requires Inv-loop μ-loop
-layout-form-requires c κs = search needs
+layout-form-requires c κs =
+    let head = c .before in
+    let base = head .before .before in
+    (base .layout-base .ensures .0, omega (arith, layout-before (base .before .before .args .d .now) (head .loop .i) (omega arith)))
 
 returns : tie.Need-returns Inv-loop μ-loop
 returns c =

@@ -7,12 +7,12 @@ use borrow.Author.Needs.{needs}
 use Rattle.record.specs.Tests.{allBelow}
 use Rattle.record.specs.Record.{gatesOf, layoutOf, positionsOf}
 use Rattle.record.specs.Form.{gateForm, layoutForm, positionForm}
-use Rattle.record.proofs.FormLaws.{lists-are}
+use Rattle.record.proofs.FormLaws.{heads-in, lists-are}
 use Rattle.record.proofs.form.lists_form.Statement.{statement}
 use Rattle.record.proofs.form.lists_form.Tie as tie
 
 gates-form-requires : tie.Need-gates-form-requires
-gates-form-requires c κs = search needs
+gates-form-requires c κs = let o = c .before in heads-in (o .args .d .now) (o .pre)
 
 returns : tie.Need-returns
 returns c =
@@ -23,7 +23,7 @@ gates-right : (c : tie.Else1) → allBelow (gateForm (c .before .before .before 
 gates-right c = sym (c .before .gates-form .ensures) ∙ not-false _ (c .if1 .left)
 
 layouts-form-requires : tie.Need-layouts-form-requires
-layouts-form-requires c κs = search needs
+layouts-form-requires c κs = let o = c .before .before .before in heads-in (o .args .d .now) (o .pre)
 
 returns-2 : tie.Need-returns-2
 returns-2 c =
@@ -34,7 +34,7 @@ layout-right : (c : tie.Else2) → allBelow (layoutForm (c .before .before .befo
 layout-right c = sym (c .before .layouts-form .ensures) ∙ not-false _ (c .if2 .left)
 
 positions-form-requires : tie.Need-positions-form-requires
-positions-form-requires c κs = search needs
+positions-form-requires c κs = let o = c .before .before .before .before .before in heads-in (o .args .d .now) (o .pre)
 
 returns-3 : tie.Need-returns-3
 returns-3 c =

@@ -9,6 +9,7 @@ use borrow.Author.Needs.{needs}
 use Rattle.record.specs.Tests.{allBelow}
 use Rattle.record.specs.Record.{positionsOf}
 use Rattle.record.specs.Form.{positionForm}
+use Rattle.record.proofs.RecordLaws.{position-before}
 use Rattle.record.proofs.TestLaws.{all-on, all-less, all-fault}
 use Rattle.record.proofs.form.positions_form.Statement.{statement}
 use Rattle.record.proofs.form.positions_form.Tie as tie
@@ -33,7 +34,10 @@ unfolding allBelow
 loop-holds c = (omega arith, refl)
 
 position-form-requires : tie.Need-position-form-requires Inv-loop μ-loop
-position-form-requires c κs = search needs
+position-form-requires c κs =
+    let head = c .before in
+    let base = head .before .before in
+    (base .position-base .ensures .0, omega (arith, position-before (base .before .before .args .d .now) (head .loop .i) (omega arith)))
 
 returns : tie.Need-returns Inv-loop μ-loop
 returns c =
