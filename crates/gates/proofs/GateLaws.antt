@@ -16,7 +16,7 @@ use Rattle.sort.specs.Search.{Monotone, Between, least}
 use Rattle.sort.proofs.SearchLaws.{monotone-steps, least-between, search-found}
 use Rattle.record.specs.Record.{gatesOf, gatePin, gateFirst, gateSecond}
 use Rattle.record.specs.Tests.{firstFrom}
-use Rattle.record.proofs.TestLaws.{and-true, not-at, not-none, none-not, not-is}
+use Rattle.record.proofs.TestLaws.{not-both, and-true, true-and, not-at, not-none, none-not, not-is}
 use Rattle.gates.specs.Gates.{pinBefore, gateRight, badGate, gateOf}
 
 -- ---- refusal 6, gate by gate
@@ -121,16 +121,19 @@ module _ (d : List ℕ) (good : badGate d ≡ none) where
 
   -- ---- the search by halves ends at the pin's gate, where it has one
 
-  pub least-within : (x g : ℕ) → g ≡ least (gatePin d) (gatesOf d) x → g ≤ gatesOf d
-  least-within x g e = rw e (least-between (gatePin d) (gatesOf d) x pins-monotone .within)
+  -- the code's test of a gate, and what it says where it fails at the search's end
+  pub has-gate : (x g : ℕ) → (ltb g (gatesOf d) && eqb (gatePin d g) x) ≡ true → gateOf d x ≡ some g
+  has-gate x g h =
+      let (l, e) = and-true (ltb g (gatesOf d)) (eqb (gatePin d g) x) h in
+      gate-is x g (ltb-true _ _ l) (eqb-true _ _ e)
 
-  pub least-gate : (x g : ℕ) → g ≡ least (gatePin d) (gatesOf d) x → (g < gatesOf d → gatePin d g ≡ x → ⊥) → gateOf d x ≡ none
+  pub least-gate : (x g : ℕ) → g ≡ least (gatePin d) (gatesOf d) x → (ltb g (gatesOf d) && eqb (gatePin d g) x) ≡ false → gateOf d x ≡ none
   least-gate x g e n =
       none-gate d x
       (λ i l p.
       let b : Between (gatePin d) (gatesOf d) x g g = rw e (least-between (gatePin d) (gatesOf d) x pins-monotone) in
       let (k, q) = search-found (gatePin d) (gatesOf d) x g i pins-monotone b l p in
-      n k q)
+      not-both _ (true-and _ _ (lt-ltb g (gatesOf d) k) (eq-eqb (gatePin d g) x q)) n)
 
 -- ---- on bits the code's operations are the definition's
 

@@ -1,8 +1,10 @@
 // The gate list: its form, a gate by its pin, the value of a pin. Document 01, refusal 6 and "The run".
 ghost use mathlib.Core.Path.{_≡_};
+ghost use mathlib.Core.Bool.{_&&_};
 ghost use mathlib.Core.Option.{none};
 ghost use Prim.Native.Nat.{_+_, _%_, _<_, min};
 ghost use lib.Bits.{differ};
+ghost use lib.Dec.{ltb, eqb};
 ghost use lib.ListN.{length};
 ghost use Rattle.sort.specs.Search.{least};
 ghost use Rattle.pinmap.specs.PinMap.{look};
@@ -12,6 +14,7 @@ ghost use Rattle.gates.specs.Values.{gateListOf, gateFoundOf, gateWords,
 use pinmap::Found;
 use record::places::gate_base;
 use record::places::word_at;
+use std::num::wrapping_sub_u32;
 use words::bits::bit_at;
 use words::bits::set_bit;
 use words::clear::clear;
@@ -101,16 +104,24 @@ fn first_not_below(d: &[u8], pin: Pin) -> u32
     low
 }
 
-// The gate of a pin.
+// Whether there is a gate g, and it has this pin.
+fn has_pin(d: &[u8], g: u32, pin: Pin) -> bool
+    ensures { λ r. ⌜ r ≡ (ltb g (gatesOf (now (d .entry))) && eqb (gatePin (now (d .entry)) g) (pin .0)) ⌝ }
+{
+    g < word_at(d, 2) && gate_pin(d, g).0 == pin.0
+}
+
+// The gate of a pin. Gates' pins are nearly always consecutive numbers, so that the gate they give is looked at first.
 pub fn find_gate(d: &[u8], pin: Pin) -> GateFound
     requires { ⌜ badGate (now d) ≡ none ⌝ }
     ensures { λ r. ⌜ r ≡ gateFoundOf (gateOf (now (d .entry)) (pin .0)) ⌝ }
 {
-    let g = first_not_below(d, pin);
-    if g == word_at(d, 2) {
-        return GateFound::Missing;
+    let guess = wrapping_sub_u32(pin.0, gate_pin(d, 0).0);
+    if has_pin(d, guess, pin) {
+        return GateFound::Gate(guess);
     }
-    if gate_pin(d, g).0 == pin.0 {
+    let g = first_not_below(d, pin);
+    if has_pin(d, g, pin) {
         GateFound::Gate(g)
     } else {
         GateFound::Missing

@@ -27,12 +27,17 @@ pub enum Found {
     Missing,
 }
 
-// The slot that probing for a pin begins at.
+// The slot that probing for a pin begins at. The tables of a build have 16384 slots: a remainder by a number known here is a mask.
 fn home_slot(slots: usize, p: Pin) -> usize
     requires { ⌜ 0 < slots ⌝ }
     ensures { λ r. ⌜ r ≡ home slots (p .0) ⌝ }
 {
-    (p.0 as u64 * 2654435769 % 4294967296 % slots as u64) as usize
+    let scattered = p.0 as u64 * 2654435769 % 4294967296;
+    if slots == 16384 {
+        (scattered % 16384) as usize
+    } else {
+        (scattered % slots as u64) as usize
+    }
 }
 
 // The next slot round.

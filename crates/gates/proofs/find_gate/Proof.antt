@@ -1,52 +1,52 @@
--- `gates::find_gate` meets its contract: where the pin has a gate the search by halves ends at it.
+-- `gates::find_gate` meets its contract: a gate that has the pin is the pin's gate, and where the pin has a gate the search by halves ends at it.
 -- Assumes nothing.
-use mathlib.Core.Path.{_≡_, sym, ap}
-use Prim.Native.Nat.{_<_}
-use native.Mathlib.Omega.{arith}
+use mathlib.Core.Path.{sym, ap, _∙_}
 use borrow.Author.Needs.{needs}
-use Rattle.record.specs.Record.{gatesOf, gatePin}
 use Rattle.gates.specs.Values.{gateFoundOf}
-use Rattle.gates.proofs.GateLaws.{least-within, least-gate, gate-is}
+use Rattle.gates.proofs.GateLaws.{has-gate, least-gate}
 use Rattle.gates.proofs.find_gate.Statement.{statement}
 use Rattle.gates.proofs.find_gate.Tie as tie
-
-first-not-below-requires : tie.Need-first-not-below-requires
-first-not-below-requires c κs = search needs
-
-word-at-requires : tie.Need-word-at-requires
-word-at-requires c κs = search needs
-
-returns : tie.Need-returns
-returns c =
-    let f = c .before .before in
-    let s = f .before .before in
-    ap gateFoundOf (sym (least-gate (s .args .d .now) (s .pre) (s .args .pin .0) _ (f .first-not-below .ensures) (λ h e. omega arith)))
 
 gate-pin-requires : tie.Need-gate-pin-requires
 gate-pin-requires c κs = search needs
 
+wrapping-sub-u32-requires : tie.Need-wrapping-sub-u32-requires
+wrapping-sub-u32-requires c κs = search needs
+
+has-pin-requires : tie.Need-has-pin-requires
+has-pin-requires c κs = search needs
+
+returns : tie.Need-returns
+returns c =
+    let s = c .before .before .before .before .before in
+    ap gateFoundOf (sym (has-gate (s .args .d .now) (s .pre) (s .args .pin .0) _ (sym (c .before .has-pin .ensures) ∙ c .if1 .taken)))
+
+first-not-below-requires : tie.Need-first-not-below-requires
+first-not-below-requires c κs = search needs
+
+has-pin-requires-2 : tie.Need-has-pin-requires-2
+has-pin-requires-2 c κs = search needs
+
 returns-2 : tie.Need-returns-2
 returns-2 c =
-    let f = c .before .before .before .before .before .before in
-    let s = f .before .before in
-    let d = s .args .d .now in
-    let h : f .first-not-below .result < gatesOf d = omega (arith, least-within d (s .pre) (s .args .pin .0) _ (f .first-not-below .ensures)) in
-    let e : gatePin d (f .first-not-below .result) ≡ s .args .pin .0 = omega arith in
-    ap gateFoundOf (sym (gate-is d (s .pre) (s .args .pin .0) _ h e))
+    let s = c .before .before .before .before .before .before .before .before in
+    ap gateFoundOf (sym (has-gate (s .args .d .now) (s .pre) (s .args .pin .0) _ (sym (c .before .has-pin2 .ensures) ∙ c .if2 .taken)))
 
 returns-3 : tie.Need-returns-3
 returns-3 c =
-    let f = c .before .before .before .before .before .before in
-    let s = f .before .before in
-    ap gateFoundOf (sym (least-gate (s .args .d .now) (s .pre) (s .args .pin .0) _ (f .first-not-below .ensures) (λ h e. omega arith)))
+    let s = c .before .before .before .before .before .before .before .before in
+    let f = c .before .before .first-not-below .ensures in
+    ap gateFoundOf (sym (least-gate (s .args .d .now) (s .pre) (s .args .pin .0) _ f (sym (c .before .has-pin2 .ensures) ∙ c .if2 .left)))
 
 pub find-gate-spec : {M : Type 1} → statement M
 find-gate-spec =
     tie.close
     (tie.spec
-    first-not-below-requires
-    word-at-requires
-    returns
     gate-pin-requires
+    wrapping-sub-u32-requires
+    has-pin-requires
+    returns
+    first-not-below-requires
+    has-pin-requires-2
     returns-2
     returns-3)
