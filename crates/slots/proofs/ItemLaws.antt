@@ -19,13 +19,6 @@ use Rattle.slots.specs.declared.PartFault.{PartFault}
 use Rattle.slots.specs.declared.PartFault.the-variants as part-fault
 use Rattle.slots.specs.declared.PlanFault.the-variants as plan-fault
 
--- the answer from the first item on is the part's
-pub items-all : (d : List ℕ) (right : ℕ → ℕ → Bool) (p n : ℕ) → n ≡ stagesOf d p → firstFrom (overItems right) (8192 * n - 0) 0 ≡ badItem d right p
-unfolding badItem
-items-all d right p n h =
-    let e : 8192 * n - 0 ≡ 8192 * stagesOf d p = omega arith in
-    ap (λ (m : ℕ). firstFrom (overItems right) m 0) e
-
 -- ---- a run of items, then the others
 
 passed : (f : ℕ → Bool) (m k i : ℕ) → m ≡ k + 1 → f i ≡ true → firstFrom f m i ≡ firstFrom f k (i + 1)
@@ -79,7 +72,24 @@ module _ (right : ℕ → ℕ → Bool) (t j : ℕ) (answer : Option ℕ) (so-fa
       let z : 8192 - j ≡ 0 = omega arith in
       sym (ap (λ (m : ℕ). firstFrom (overItems right) m (8192 * t + j)) z ∙ first-none (overItems right) (8192 * t + j)) ∙ so-far
 
--- ---- the stages of a part, one run after the other: the answer from stage s + 1 on
+-- item 0 is right, and the others are left; or it is refused
+module _ (right : ℕ → ℕ → Bool) (t : ℕ) where
+  pub zero-right : right t 0 ≡ true → firstFrom (overItems right) 8191 (8192 * t + 1) ≡ firstFrom (overItems right) 8192 (8192 * t)
+  zero-right e = stage-next right t 0 _ (stage-start (overItems right) (8192 * t)) (omega arith) e
+
+  pub zero-fault : right t 0 ≡ false → some (8192 * t) ≡ firstFrom (overItems right) 8192 (8192 * t)
+  zero-fault e =
+      let z : 8192 * t ≡ 8192 * t + 0 = omega arith in
+      ap some z ∙ stage-fault right t 0 _ (stage-start (overItems right) (8192 * t)) (omega arith) e
+
+-- ---- the stages of a part, one run after the other: from stage 0 on, and from stage 1 on where stage 0 has nothing to refuse
+
+pub stages-all : (d : List ℕ) (right : ℕ → ℕ → Bool) (p n : ℕ) → n ≡ stagesOf d p
+    → firstFrom (overItems right) (8192 * n - 8192 * 0) (8192 * 0) ≡ badItem d right p
+unfolding badItem
+stages-all d right p n h =
+    let e : 8192 * n - 8192 * 0 ≡ 8192 * stagesOf d p = omega arith in
+    ap (λ (m : ℕ). firstFrom (overItems right) m 0) e
 
 pub stages-first : (d : List ℕ) (right : ℕ → ℕ → Bool) (p n : ℕ) → n ≡ stagesOf d p → 0 < n → ((j : ℕ) → right 0 j ≡ true)
     → firstFrom (overItems right) (8192 * n - 8192 * (0 + 1)) (8192 * (0 + 1)) ≡ badItem d right p
