@@ -106,7 +106,8 @@ filled-holds n puts l = holds-puts (replicate n 0) [] puts (holds-none n) (rw le
 pub positions-hold : (d : List ℕ) (p s n : ℕ) → 16384 ≤ n → Holds (filled n (positionPuts d p s)) (positionPuts d p s)
 unfolding positionPuts
 positions-hold d p s n h =
-    filled-holds n (positionPuts d p s) (omega (arith, held-length (λ i. slotAt d p s (i + 1)) (λ i. i + 1) 8191))
+    let l : length (positionPuts d p s) ≤ 8191 = held-length _ _ 8191 in
+    filled-holds n (positionPuts d p s) (omega arith)
 
 pub reads-hold : (d : List ℕ) (p n : ℕ) → 16384 ≤ n → Holds (filled n (readPuts d p)) (readPuts d p)
 unfolding readPuts
