@@ -72,6 +72,22 @@ module _ (right : ℕ → ℕ → Bool) (t j : ℕ) (answer : Option ℕ) (so-fa
       let z : 8192 - j ≡ 0 = omega arith in
       sym (ap (λ (m : ℕ). firstFrom (overItems right) m (8192 * t + j)) z ∙ first-none (overItems right) (8192 * t + j)) ∙ so-far
 
+-- items that are right, one after the other, and eight from an eighth one on
+stage-run : (right : ℕ → ℕ → Bool) (t j : ℕ) (answer : Option ℕ) → firstFrom (overItems right) (8192 - j) (8192 * t + j) ≡ answer
+    → (n : ℕ) → j + n ≤ 8192 → ((k : ℕ) → k < n → right t (j + k) ≡ true) → firstFrom (overItems right) (8192 - (j + n)) (8192 * t + (j + n)) ≡ answer
+stage-run right t j answer h zero l e =
+    let z : j + 0 ≡ j = omega arith in
+    ap (λ (i : ℕ). firstFrom (overItems right) (8192 - i) (8192 * t + i)) z ∙ h
+stage-run right t j answer h (suc n) l e =
+    let z : j + suc n ≡ j + n + 1 = omega arith in
+    ap (λ (i : ℕ). firstFrom (overItems right) (8192 - i) (8192 * t + i)) z
+    ∙ stage-next right t (j + n) answer (stage-run right t j answer h n (omega arith) (λ k u. e k (omega arith))) (omega arith) (e n (omega arith))
+
+pub stage-eight : (right : ℕ → ℕ → Bool) (t j : ℕ) (answer : Option ℕ) → firstFrom (overItems right) (8192 - j) (8192 * t + j) ≡ answer
+    → j < 8192 → (j % 8 ≡ 0) × ((k : ℕ) → k < 8 → right t (j + k) ≡ true)
+    → (j + 8 ≤ 8192) × (firstFrom (overItems right) (8192 - (j + 8)) (8192 * t + (j + 8)) ≡ answer)
+stage-eight right t j answer h l (m, e) = let b : j + 8 ≤ 8192 = omega arith in (b, stage-run right t j answer h 8 b e)
+
 -- item 0 is right, and the others are left; or it is refused
 module _ (right : ℕ → ℕ → Bool) (t : ℕ) where
   pub zero-right : right t 0 ≡ true → firstFrom (overItems right) 8191 (8192 * t + 1) ≡ firstFrom (overItems right) 8192 (8192 * t)

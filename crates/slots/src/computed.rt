@@ -11,6 +11,7 @@ ghost use Rattle.slots.specs.Puts.{readPuts, FilledWith};
 ghost use Rattle.slots.specs.Answers.{overItems, partFaultOf, planFaultOf};
 use crate::PartFault;
 use crate::PlanFault;
+use crate::runs::eighth_empty;
 use crate::tables::fill_reads;
 use crate::tables::top_power;
 use pinmap::Found;
@@ -48,7 +49,9 @@ fn eleven_items(d: &[u8], p: usize, body: Body, s: usize, table: &[u32]) -> Part
 {
     let mut q = 1;
     while q < 8192 {
-        if eleven_right(d, p, body, s, q, table) {
+        if eighth_empty(d, p, body, s, q) {
+            q += 8;
+        } else if eleven_right(d, p, body, s, q, table) {
             q += 1;
         } else {
             return PartFault::Item(8192 * s + q);

@@ -11,6 +11,7 @@ ghost use Rattle.slots.specs.Puts.{positionPuts, FilledWith};
 ghost use Rattle.slots.specs.Answers.{overItems, partFaultOf, planFaultOf};
 use crate::PartFault;
 use crate::PlanFault;
+use crate::runs::eighth_empty;
 use crate::tables::fill_positions;
 use pinmap::Found;
 use record::bodies::Body;
@@ -44,7 +45,9 @@ fn ten_items(d: &[u8], p: usize, body: Body, s: usize, table: &[u32]) -> PartFau
 {
     let mut j = 0;
     while j < 8192 {
-        if ten_right(d, p, body, s, j, table) {
+        if eighth_empty(d, p, body, s + 1, 8192 + j) {
+            j += 8;
+        } else if ten_right(d, p, body, s, j, table) {
             j += 1;
         } else {
             return PartFault::Item(8192 * (s + 1) + j);

@@ -1,6 +1,6 @@
 // Refusal 9: a slot pin out of range, or at a position neither empty, slot a's pin, nor the right gate.
 ghost use mathlib.Core.Path.{_≡_};
-ghost use mathlib.Core.Bool.{true};
+ghost use mathlib.Core.Bool.{true, _&&_};
 ghost use mathlib.Core.Option.{none};
 ghost use Prim.Native.Nat.{_+_, _*_, _<_};
 ghost use Rattle.record.specs.Body.{BodyOf};
@@ -8,9 +8,10 @@ ghost use Rattle.record.specs.Form.{planForm};
 ghost use Rattle.record.specs.Tests.{firstFrom};
 ghost use Rattle.gates.specs.Gates.{badGate, gateOf};
 ghost use Rattle.slots.specs.Slots.{feeds, pinRight, slotRight, nineRight, badItem};
-ghost use Rattle.slots.specs.Answers.{overItems, partFaultOf, planFaultOf};
+ghost use Rattle.slots.specs.Answers.{overItems, partFaultOf, planFaultOf, eighthEmpty};
 use crate::PartFault;
 use crate::PlanFault;
+use crate::runs::eighth_empty;
 use crate::tables::top_power;
 use gates::GateFound;
 use gates::find_gate;
@@ -86,6 +87,17 @@ fn nine_right(d: &[u8], p: usize, body: Body, s: usize, x: usize) -> bool
     false
 }
 
+// Whether eight slots of level 0 and eight positions, from an eighth x on, are empty.
+fn nine_empty(d: &[u8], p: usize, body: Body, s: usize, x: usize) -> bool
+    requires { ⌜ BodyOf (now d) p body × (s < body .stages) × (0 < x) × (x < 8192) ⌝ }
+    ensures { λ r. ⌜ r ≡ (eighthEmpty (now (d .entry)) p s x && eighthEmpty (now (d .entry)) p s (8192 + x)) ⌝ }
+{
+    if eighth_empty(d, p, body, s, x) {
+        return eighth_empty(d, p, body, s, 8192 + x);
+    }
+    false
+}
+
 // The lowest item of stage s but for item 0 that is refused.
 fn nine_later(d: &[u8], p: usize, body: Body, s: usize) -> PartFault
     requires { ⌜ BodyOf (now d) p body × (s < body .stages) × (badGate (now d) ≡ none) ⌝ }
@@ -93,7 +105,9 @@ fn nine_later(d: &[u8], p: usize, body: Body, s: usize) -> PartFault
 {
     let mut x = 1;
     while x < 8192 {
-        if nine_right(d, p, body, s, x) {
+        if nine_empty(d, p, body, s, x) {
+            x += 8;
+        } else if nine_right(d, p, body, s, x) {
             x += 1;
         } else {
             return PartFault::Item(8192 * s + x);

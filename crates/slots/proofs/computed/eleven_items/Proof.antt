@@ -7,8 +7,9 @@ use borrow.Author.Needs.{needs}
 use Rattle.record.specs.Tests.{firstFrom}
 use Rattle.slots.specs.Slots.{elevenRight}
 use Rattle.slots.specs.Answers.{overItems, partFaultOf}
-use Rattle.slots.proofs.ItemLaws.{zero-right, stage-next, stage-fault, stage-end}
+use Rattle.slots.proofs.ItemLaws.{zero-right, stage-next, stage-eight, stage-fault, stage-end}
 use Rattle.slots.proofs.RightLaws.{eleven-zero}
+use Rattle.slots.proofs.RunLaws.{eleven-eight}
 use Rattle.slots.proofs.computed.eleven_items.Statement.{statement}
 use Rattle.slots.proofs.computed.eleven_items.Tie as tie
 
@@ -25,8 +26,8 @@ loop-holds c =
     let o = c .before .before .args in
     (omega arith, omega arith, zero-right (elevenRight (o .d .now) (o .p)) (o .s) (eleven-zero (o .d .now) (o .p) (o .s)))
 
-eleven-right-requires : tie.Need-eleven-right-requires Inv-loop μ-loop
-eleven-right-requires c κs = search needs
+eighth-empty-requires : tie.Need-eighth-empty-requires Inv-loop μ-loop
+eighth-empty-requires c κs = search needs
 
 add-q : tie.Need-add-q Inv-loop μ-loop
 add-q c = search needs
@@ -38,19 +39,38 @@ loop-again : tie.Need-loop-again Inv-loop μ-loop
 loop-again c =
     let l = c .before .before .before in
     let o = l .before .before .before .args in
-    (omega arith, omega arith, stage-next (elevenRight (o .d .now) (o .p)) (o .s) (l .loop .q) _ (l .loop .inv .2) (c .before .before .loop-test .taken) (sym (c .before .eleven-right .ensures) ∙ c .if1 .taken))
+    let eight = eleven-eight (o .d .now) (o .p) (o .s) (l .loop .q) (l .loop .inv .0) (sym (c .before .eighth-empty .ensures) ∙ c .if1 .taken) in
+    let (fits, on) = stage-eight (elevenRight (o .d .now) (o .p)) (o .s) (l .loop .q) _ (l .loop .inv .2) (c .before .before .loop-test .taken) eight in
+    (omega arith, fits, on)
 
-mul-t9 : tie.Need-mul-t9 Inv-loop μ-loop
-mul-t9 c = search needs
+eleven-right-requires : tie.Need-eleven-right-requires Inv-loop μ-loop
+eleven-right-requires c κs = search needs
 
-add-t10 : tie.Need-add-t10 Inv-loop μ-loop
-add-t10 c = search needs
+add-q-2 : tie.Need-add-q-2 Inv-loop μ-loop
+add-q-2 c = search needs
+
+loop-less-2 : tie.Need-loop-less-2 Inv-loop μ-loop
+loop-less-2 c = search needs
+
+loop-again-2 : tie.Need-loop-again-2 Inv-loop μ-loop
+loop-again-2 c =
+    let t = c .before .before .before .before in
+    let l = t .before in
+    let o = l .before .before .before .args in
+    (omega arith, omega arith, stage-next (elevenRight (o .d .now) (o .p)) (o .s) (l .loop .q) _ (l .loop .inv .2) (t .loop-test .taken) (sym (c .before .eleven-right .ensures) ∙ c .if2 .taken))
+
+mul-t10 : tie.Need-mul-t10 Inv-loop μ-loop
+mul-t10 c = search needs
+
+add-t11 : tie.Need-add-t11 Inv-loop μ-loop
+add-t11 c = search needs
 
 returns : tie.Need-returns Inv-loop μ-loop
 returns c =
-    let l = c .before .before .before in
+    let t = c .before .before .before .before in
+    let l = t .before in
     let o = l .before .before .before .args in
-    ap partFaultOf (stage-fault (elevenRight (o .d .now) (o .p)) (o .s) (l .loop .q) _ (l .loop .inv .2) (c .before .before .loop-test .taken) (sym (c .before .eleven-right .ensures) ∙ c .if1 .left))
+    ap partFaultOf (stage-fault (elevenRight (o .d .now) (o .p)) (o .s) (l .loop .q) _ (l .loop .inv .2) (t .loop-test .taken) (sym (c .before .eleven-right .ensures) ∙ c .if2 .left))
 
 returns-2 : tie.Need-returns-2 Inv-loop μ-loop
 returns-2 c =
@@ -65,11 +85,15 @@ eleven-items-spec =
     Inv-loop
     μ-loop
     loop-holds
-    eleven-right-requires
+    eighth-empty-requires
     add-q
     loop-less
     loop-again
-    mul-t9
-    add-t10
+    eleven-right-requires
+    add-q-2
+    loop-less-2
+    loop-again-2
+    mul-t10
+    add-t11
     returns
     returns-2)

@@ -7,7 +7,8 @@ use borrow.Author.Needs.{needs}
 use Rattle.record.specs.Tests.{firstFrom}
 use Rattle.slots.specs.Slots.{nineRight}
 use Rattle.slots.specs.Answers.{overItems, partFaultOf}
-use Rattle.slots.proofs.ItemLaws.{stage-next, stage-fault, stage-end}
+use Rattle.slots.proofs.ItemLaws.{stage-next, stage-eight, stage-fault, stage-end}
+use Rattle.slots.proofs.RunLaws.{nine-eight}
 use Rattle.slots.proofs.standing.nine_later.Statement.{statement}
 use Rattle.slots.proofs.standing.nine_later.Tie as tie
 
@@ -22,8 +23,8 @@ abbrev μ-loop : tie.MeasureT-loop
 loop-holds : tie.Need-loop-holds Inv-loop μ-loop
 loop-holds c = (omega arith, omega arith, refl)
 
-nine-right-requires : tie.Need-nine-right-requires Inv-loop μ-loop
-nine-right-requires c κs = search needs
+nine-empty-requires : tie.Need-nine-empty-requires Inv-loop μ-loop
+nine-empty-requires c κs = search needs
 
 add-x : tie.Need-add-x Inv-loop μ-loop
 add-x c = search needs
@@ -35,19 +36,38 @@ loop-again : tie.Need-loop-again Inv-loop μ-loop
 loop-again c =
     let l = c .before .before .before in
     let o = l .before .before .args in
-    (omega arith, omega arith, stage-next (nineRight (o .d .now) (o .p)) (o .s) (l .loop .x) _ (l .loop .inv .2) (c .before .before .loop-test .taken) (sym (c .before .nine-right .ensures) ∙ c .if1 .taken))
+    let eight = nine-eight (o .d .now) (o .p) (o .s) (l .loop .x) (l .loop .inv .0) (sym (c .before .nine-empty .ensures) ∙ c .if1 .taken) in
+    let (fits, on) = stage-eight (nineRight (o .d .now) (o .p)) (o .s) (l .loop .x) _ (l .loop .inv .2) (c .before .before .loop-test .taken) eight in
+    (omega arith, fits, on)
 
-mul-t8 : tie.Need-mul-t8 Inv-loop μ-loop
-mul-t8 c = search needs
+nine-right-requires : tie.Need-nine-right-requires Inv-loop μ-loop
+nine-right-requires c κs = search needs
 
-add-t9 : tie.Need-add-t9 Inv-loop μ-loop
-add-t9 c = search needs
+add-x-2 : tie.Need-add-x-2 Inv-loop μ-loop
+add-x-2 c = search needs
+
+loop-less-2 : tie.Need-loop-less-2 Inv-loop μ-loop
+loop-less-2 c = search needs
+
+loop-again-2 : tie.Need-loop-again-2 Inv-loop μ-loop
+loop-again-2 c =
+    let t = c .before .before .before .before in
+    let l = t .before in
+    let o = l .before .before .args in
+    (omega arith, omega arith, stage-next (nineRight (o .d .now) (o .p)) (o .s) (l .loop .x) _ (l .loop .inv .2) (t .loop-test .taken) (sym (c .before .nine-right .ensures) ∙ c .if2 .taken))
+
+mul-t9 : tie.Need-mul-t9 Inv-loop μ-loop
+mul-t9 c = search needs
+
+add-t10 : tie.Need-add-t10 Inv-loop μ-loop
+add-t10 c = search needs
 
 returns : tie.Need-returns Inv-loop μ-loop
 returns c =
-    let l = c .before .before .before in
+    let t = c .before .before .before .before in
+    let l = t .before in
     let o = l .before .before .args in
-    ap partFaultOf (stage-fault (nineRight (o .d .now) (o .p)) (o .s) (l .loop .x) _ (l .loop .inv .2) (c .before .before .loop-test .taken) (sym (c .before .nine-right .ensures) ∙ c .if1 .left))
+    ap partFaultOf (stage-fault (nineRight (o .d .now) (o .p)) (o .s) (l .loop .x) _ (l .loop .inv .2) (t .loop-test .taken) (sym (c .before .nine-right .ensures) ∙ c .if2 .left))
 
 returns-2 : tie.Need-returns-2 Inv-loop μ-loop
 returns-2 c =
@@ -62,11 +82,15 @@ nine-later-spec =
     Inv-loop
     μ-loop
     loop-holds
-    nine-right-requires
+    nine-empty-requires
     add-x
     loop-less
     loop-again
-    mul-t8
-    add-t9
+    nine-right-requires
+    add-x-2
+    loop-less-2
+    loop-again-2
+    mul-t9
+    add-t10
     returns
     returns-2)
