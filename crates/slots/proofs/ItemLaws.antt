@@ -19,13 +19,6 @@ use Rattle.slots.specs.declared.PartFault.{PartFault}
 use Rattle.slots.specs.declared.PartFault.the-variants as part-fault
 use Rattle.slots.specs.declared.PlanFault.the-variants as plan-fault
 
--- the answer from the first item on is the part's
-pub items-all : (d : List ℕ) (right : ℕ → ℕ → Bool) (p n : ℕ) → n ≡ stagesOf d p → firstFrom (overItems right) (8192 * n - 0) 0 ≡ badItem d right p
-unfolding badItem
-items-all d right p n h =
-    let e : 8192 * n - 0 ≡ 8192 * stagesOf d p = omega arith in
-    ap (λ (m : ℕ). firstFrom (overItems right) m 0) e
-
 -- ---- a run of items, then the others
 
 passed : (f : ℕ → Bool) (m k i : ℕ) → m ≡ k + 1 → f i ≡ true → firstFrom f m i ≡ firstFrom f k (i + 1)
@@ -79,7 +72,40 @@ module _ (right : ℕ → ℕ → Bool) (t j : ℕ) (answer : Option ℕ) (so-fa
       let z : 8192 - j ≡ 0 = omega arith in
       sym (ap (λ (m : ℕ). firstFrom (overItems right) m (8192 * t + j)) z ∙ first-none (overItems right) (8192 * t + j)) ∙ so-far
 
--- ---- the stages of a part, one run after the other: the answer from stage s + 1 on
+-- items that are right, one after the other, and eight from an eighth one on
+stage-run : (right : ℕ → ℕ → Bool) (t j : ℕ) (answer : Option ℕ) → firstFrom (overItems right) (8192 - j) (8192 * t + j) ≡ answer
+    → (n : ℕ) → j + n ≤ 8192 → ((k : ℕ) → k < n → right t (j + k) ≡ true) → firstFrom (overItems right) (8192 - (j + n)) (8192 * t + (j + n)) ≡ answer
+stage-run right t j answer h zero l e =
+    let z : j + 0 ≡ j = omega arith in
+    ap (λ (i : ℕ). firstFrom (overItems right) (8192 - i) (8192 * t + i)) z ∙ h
+stage-run right t j answer h (suc n) l e =
+    let z : j + suc n ≡ j + n + 1 = omega arith in
+    ap (λ (i : ℕ). firstFrom (overItems right) (8192 - i) (8192 * t + i)) z
+    ∙ stage-next right t (j + n) answer (stage-run right t j answer h n (omega arith) (λ k u. e k (omega arith))) (omega arith) (e n (omega arith))
+
+pub stage-eight : (right : ℕ → ℕ → Bool) (t j : ℕ) (answer : Option ℕ) → firstFrom (overItems right) (8192 - j) (8192 * t + j) ≡ answer
+    → j < 8192 → (j % 8 ≡ 0) × ((k : ℕ) → k < 8 → right t (j + k) ≡ true)
+    → (j + 8 ≤ 8192) × (firstFrom (overItems right) (8192 - (j + 8)) (8192 * t + (j + 8)) ≡ answer)
+stage-eight right t j answer h l (m, e) = let b : j + 8 ≤ 8192 = omega arith in (b, stage-run right t j answer h 8 b e)
+
+-- item 0 is right, and the others are left; or it is refused
+module _ (right : ℕ → ℕ → Bool) (t : ℕ) where
+  pub zero-right : right t 0 ≡ true → firstFrom (overItems right) 8191 (8192 * t + 1) ≡ firstFrom (overItems right) 8192 (8192 * t)
+  zero-right e = stage-next right t 0 _ (stage-start (overItems right) (8192 * t)) (omega arith) e
+
+  pub zero-fault : right t 0 ≡ false → some (8192 * t) ≡ firstFrom (overItems right) 8192 (8192 * t)
+  zero-fault e =
+      let z : 8192 * t ≡ 8192 * t + 0 = omega arith in
+      ap some z ∙ stage-fault right t 0 _ (stage-start (overItems right) (8192 * t)) (omega arith) e
+
+-- ---- the stages of a part, one run after the other: from stage 0 on, and from stage 1 on where stage 0 has nothing to refuse
+
+pub stages-all : (d : List ℕ) (right : ℕ → ℕ → Bool) (p n : ℕ) → n ≡ stagesOf d p
+    → firstFrom (overItems right) (8192 * n - 8192 * 0) (8192 * 0) ≡ badItem d right p
+unfolding badItem
+stages-all d right p n h =
+    let e : 8192 * n - 8192 * 0 ≡ 8192 * stagesOf d p = omega arith in
+    ap (λ (m : ℕ). firstFrom (overItems right) m 0) e
 
 pub stages-first : (d : List ℕ) (right : ℕ → ℕ → Bool) (p n : ℕ) → n ≡ stagesOf d p → 0 < n → ((j : ℕ) → right 0 j ≡ true)
     → firstFrom (overItems right) (8192 * n - 8192 * (0 + 1)) (8192 * (0 + 1)) ≡ badItem d right p

@@ -19,7 +19,7 @@ use Rattle.record.specs.Record.{slotAt}
 use Rattle.record.specs.Form.{empty}
 use Rattle.record.specs.Tests.{someBelow}
 use Rattle.slots.specs.Slots.{standsIn, readsPin, highestBelow, highest}
-use Rattle.slots.specs.Puts.{heldAt, heldBelow, positionPuts, readPuts, filled, FilledWith, Zeros, foundIf, foundAt}
+use Rattle.slots.specs.Puts.{heldAt, heldBelow, positionPuts, readPuts, filled, FilledWith, foundIf, foundAt}
 
 -- ---- puts one after the other
 
@@ -106,7 +106,8 @@ filled-holds n puts l = holds-puts (replicate n 0) [] puts (holds-none n) (rw le
 pub positions-hold : (d : List ℕ) (p s n : ℕ) → 16384 ≤ n → Holds (filled n (positionPuts d p s)) (positionPuts d p s)
 unfolding positionPuts
 positions-hold d p s n h =
-    filled-holds n (positionPuts d p s) (omega (arith, held-length (λ i. slotAt d p s (i + 1)) (λ i. i + 1) 8191))
+    let l : length (positionPuts d p s) ≤ 8191 = held-length _ _ 8191 in
+    filled-holds n (positionPuts d p s) (omega arith)
 
 pub reads-hold : (d : List ℕ) (p n : ℕ) → 16384 ≤ n → Holds (filled n (readPuts d p)) (readPuts d p)
 unfolding readPuts
@@ -239,27 +240,3 @@ pub filled-with : (t u : List ℕ) (puts : List Entry) → 32768 ≤ length t �
 filled-with t u puts h e =
     let n : length u ≡ length t = ap length e ∙ filled-length (length t) puts in
     record { wide = omega arith; is = e ∙ ap (λ (m : ℕ). filled m puts) (sym n) }
-
-pub cleared : (t u v : List ℕ) (puts : List Entry) → u ≡ filled (length t) puts → v ≡ replicate (length u) 0 → v ≡ replicate (length t) 0
-cleared t u v puts e h = h ∙ ap (λ (m : ℕ). replicate m 0) (ap length e ∙ filled-length (length t) puts)
-
-pub clear-back : (t l u : List ℕ) → Zeros t → l ≡ t → u ≡ replicate (length l) 0 → u ≡ t
-clear-back t l u z e h = h ∙ (ap (λ (m : ℕ). replicate m 0) (ap length e) ∙ sym (z .is))
-
--- ---- a lent room that is clear: z, of n words, and t, which is it
-
-module _ (n : ℕ) (z t : List ℕ) (zeros : z ≡ replicate n 0) (same : t ≡ z) where
-  size : length t ≡ n
-  size = ap length (same ∙ zeros) ∙ length-replicate n 0
-
-  pub clear-wide : 32768 ≤ n → 32768 ≤ length t
-  clear-wide h = omega (arith, size)
-
-  pub clear-zeros : 32768 ≤ n → Zeros t
-  clear-zeros h = record { wide = clear-wide h; is = same ∙ (zeros ∙ ap (λ (m : ℕ). replicate m 0) (sym size)) }
-
-  pub clear-again : (u : List ℕ) → u ≡ replicate (length t) 0 → u ≡ z
-  clear-again u e = e ∙ (ap (λ (m : ℕ). replicate m 0) size ∙ sym zeros)
-
-  pub clear-length : (u : List ℕ) → u ≡ z → length u ≡ n
-  clear-length u e = ap length (e ∙ zeros) ∙ length-replicate n 0

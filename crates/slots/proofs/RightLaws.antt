@@ -1,7 +1,7 @@
 -- The tests of refusals 9, 10 and 11 in the code's terms: one law for each way out.
 -- Assumes nothing.
 use mathlib.Core.Path.{_≡_, refl, sym, ap, ap₂, _∙_}
-use mathlib.Core.Bool.{Bool, true, false, not, _&&_, _||_}
+use mathlib.Core.Bool.{Bool, true, false, not, _&&_, _||_, and-true}
 use mathlib.Core.List.{List}
 use mathlib.Core.Option.{Option}
 use Prim.Native.Nat.{ℕ, zero, suc, _+_, _*_, _/_, _^_, _≤_, _<_}
@@ -89,13 +89,14 @@ module _ (d : List ℕ) (p s x : ℕ) (r : Bool) (level : r ≡ pinRight (slotAt
   unfolding nineRight
   nine-level e = sym (rw (sym level ∙ e))
 
-  pub nine-zero : r ≡ true → x ≡ 0 → true ≡ nineRight d p s x
+  pub nine-position : r ≡ true → 0 < x → slotRight d p s x ≡ nineRight d p s x
   unfolding nineRight
-  nine-zero e z = sym (rw (sym level ∙ e, eq-eqb x 0 z))
+  nine-position e h = sym (rw (sym level ∙ e, ne-eqb x 0 (λ z. omega arith)))
 
-  pub nine-position : r ≡ true → (x ≡ 0 → ⊥) → slotRight d p s x ≡ nineRight d p s x
-  unfolding nineRight
-  nine-position e z = sym (rw (sym level ∙ e, ne-eqb x 0 z))
+-- item 0 has no position
+pub nine-zero : (d : List ℕ) (p s : ℕ) → nineRight d p s 0 ≡ pinRight (slotAt d p s 8192)
+unfolding nineRight
+nine-zero d p s = and-true (pinRight (slotAt d p s 8192))
 
 -- ---- 10
 
@@ -129,14 +130,17 @@ module _ (d t : List ℕ) (p s j x : ℕ) (pin : x ≡ slotAt d p (s + 1) (8192 
 
 -- ---- 11
 
-pub eleven-zero : (d : List ℕ) (p s q : ℕ) → q ≡ 0 → true ≡ elevenRight d p s q
+pub eleven-zero : (d : List ℕ) (p s : ℕ) → elevenRight d p s 0 ≡ true
 unfolding elevenRight
-eleven-zero d p s q h = sym (rw (eq-eqb q 0 h))
+eleven-zero d p s = refl
 
-module _ (d t : List ℕ) (p s q x : ℕ) (some-q : q ≡ 0 → ⊥) (pin : x ≡ slotAt d p s q) where
+module _ (d t : List ℕ) (p s q x : ℕ) (some-q : 0 < q) (pin : x ≡ slotAt d p s q) where
+  not-zero : eqb q 0 ≡ false
+  not-zero = ne-eqb q 0 (λ e. omega arith)
+
   pub eleven-empty : x ≡ empty → true ≡ elevenRight d p s q
   unfolding elevenRight
-  eleven-empty h = sym (rw (ne-eqb q 0 some-q, eq-eqb (slotAt d p s q) empty (sym pin ∙ h)))
+  eleven-empty h = sym (rw (not-zero, eq-eqb (slotAt d p s q) empty (sym pin ∙ h)))
 
   module _ (there : x ≡ empty → ⊥) (m a : ℕ) (power : m ≡ top q) (below : a ≡ slotAt d p s (q + m)) where
     carried-from : a ≡ slotA d p s q
@@ -146,14 +150,14 @@ module _ (d t : List ℕ) (p s q x : ℕ) (some-q : q ≡ 0 → ⊥) (pin : x �
     unfolding elevenRight
     eleven-carried h =
         let e : slotAt d p s q ≡ slotA d p s q = sym pin ∙ (h ∙ carried-from) in
-        sym (rw (ne-eqb q 0 some-q, ne-eqb (slotAt d p s q) empty (λ k. there (pin ∙ k)), eq-eqb (slotAt d p s q) (slotA d p s q) e))
+        sym (rw (not-zero, ne-eqb (slotAt d p s q) empty (λ k. there (pin ∙ k)), eq-eqb (slotAt d p s q) (slotA d p s q) e))
 
     module _ (differs : x ≡ a → ⊥) (held : FilledWith (readPuts d p) t) (r : Found) (found : r ≡ foundOf (look t x)) where
       by-reads : elevenRight d p s q ≡ not (readsPin d p x)
       unfolding elevenRight
       by-reads =
           let e : slotAt d p s q ≡ slotA d p s q → ⊥ = λ h. differs (pin ∙ (h ∙ sym carried-from)) in
-          rw (ne-eqb q 0 some-q, ne-eqb (slotAt d p s q) empty (λ k. there (pin ∙ k)), ne-eqb (slotAt d p s q) (slotA d p s q) e)
+          rw (not-zero, ne-eqb (slotAt d p s q) empty (λ k. there (pin ∙ k)), ne-eqb (slotAt d p s q) (slotA d p s q) e)
           (ap (λ (y : ℕ). not (readsPin d p y)) (sym pin))
 
       pub eleven-read : (v : ℕ) → r ≡ known-as.Value v → false ≡ elevenRight d p s q

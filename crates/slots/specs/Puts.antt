@@ -45,8 +45,3 @@ foundIf false v = none
 abbrev pub foundAt : ℕ → Option ℕ
 foundAt zero = none
 foundAt (suc q) = some (suc q)
-
--- a lent table that is clear
-pub record Zeros (table : List ℕ) : Type 0 where
-  pub wide : 32768 ≤ length table
-  pub is : table ≡ replicate (length table) 0

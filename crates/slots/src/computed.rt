@@ -1,15 +1,17 @@
 // Refusal 11: a part computes by gate a pin that it reads in stage 0.
 ghost use mathlib.Core.Path.{_≡_};
 ghost use mathlib.Core.Bool.{true};
-ghost use Prim.Native.Nat.{_+_, _*_, _≤_, _<_};
+ghost use Prim.Native.Nat.{_*_, _≤_, _<_};
 ghost use lib.ListN.{length, replicate};
 ghost use Rattle.record.specs.Body.{BodyOf};
 ghost use Rattle.record.specs.Form.{planForm};
+ghost use Rattle.record.specs.Tests.{firstFrom};
 ghost use Rattle.slots.specs.Slots.{elevenRight, badItem};
 ghost use Rattle.slots.specs.Puts.{readPuts, FilledWith};
-ghost use Rattle.slots.specs.Answers.{partFaultOf, planFaultOf};
+ghost use Rattle.slots.specs.Answers.{overItems, partFaultOf, planFaultOf};
 use crate::PartFault;
 use crate::PlanFault;
+use crate::runs::eighth_empty;
 use crate::tables::fill_reads;
 use crate::tables::top_power;
 use pinmap::Found;
@@ -24,12 +26,9 @@ use words::units::Pin;
 
 // Whether position q of stage s is empty or carried, or its pin is not read: the table holds the pins that the part reads.
 fn eleven_right(d: &[u8], p: usize, body: Body, s: usize, q: usize, table: &[u32]) -> bool
-    requires { ⌜ BodyOf (now d) p body × (s < body .stages) × (q < 8192) × FilledWith (readPuts (now d) p) (now table) ⌝ }
+    requires { ⌜ BodyOf (now d) p body × (s < body .stages) × (0 < q) × (q < 8192) × FilledWith (readPuts (now d) p) (now table) ⌝ }
     ensures { λ r. ⌜ r ≡ elevenRight (now (d .entry)) p s q ⌝ }
 {
-    if q == 0 {
-        return true;
-    }
     let pin = slot(d, p, body, s, q);
     if pin == EMPTY_PIN {
         return true;
@@ -43,42 +42,53 @@ fn eleven_right(d: &[u8], p: usize, body: Body, s: usize, q: usize, table: &[u32
     }
 }
 
-// The lowest item of part p that is refused.
-fn eleven_items(d: &[u8], p: usize, body: Body, table: &[u32]) -> PartFault
-    requires { ⌜ BodyOf (now d) p body × FilledWith (readPuts (now d) p) (now table) ⌝ }
-    ensures { λ r. ⌜ r ≡ partFaultOf (badItem (now (d .entry)) (elevenRight (now (d .entry)) p) p) ⌝ }
+// The lowest item of stage s that is refused: item 0 has no position.
+fn eleven_items(d: &[u8], p: usize, body: Body, s: usize, table: &[u32]) -> PartFault
+    requires { ⌜ BodyOf (now d) p body × (s < body .stages) × FilledWith (readPuts (now d) p) (now table) ⌝ }
+    ensures { λ r. ⌜ r ≡ partFaultOf (firstFrom (overItems (elevenRight (now (d .entry)) p)) 8192 (8192 * s)) ⌝ }
 {
-    let items = 8192 * body.stages;
-    let mut i = 0;
-    while i < items {
-        if eleven_right(d, p, body, i / 8192, i % 8192, table) {
-            i += 1;
+    let mut q = 1;
+    while q < 8192 {
+        if eighth_empty(d, p, body, s, q) {
+            q += 8;
+        } else if eleven_right(d, p, body, s, q, table) {
+            q += 1;
         } else {
-            return PartFault::Item(i);
+            return PartFault::Item(8192 * s + q);
         }
     }
     PartFault::Absent
 }
 
-// The same with a lent table, which is left clear.
+// The lowest item of part p that is refused.
+fn eleven_stages(d: &[u8], p: usize, body: Body, table: &[u32]) -> PartFault
+    requires { ⌜ BodyOf (now d) p body × FilledWith (readPuts (now d) p) (now table) ⌝ }
+    ensures { λ r. ⌜ r ≡ partFaultOf (badItem (now (d .entry)) (elevenRight (now (d .entry)) p) p) ⌝ }
+{
+    let mut s = 0;
+    while s < body.stages {
+        match eleven_items(d, p, body, s, table) {
+            PartFault::Absent => s += 1,
+            PartFault::Item(i) => return PartFault::Item(i),
+        }
+    }
+    PartFault::Absent
+}
+
+// The same with a lent table.
 fn eleven_part(d: &[u8], p: usize, body: Body, table: &mut [u32]) -> PartFault
     requires { ⌜ BodyOf (now d) p body × (0 < body .stages) × (32768 ≤ length (now table)) ⌝ }
     ensures { λ r. ⌜ r ≡ partFaultOf (badItem (now (d .entry)) (elevenRight (now (d .entry)) p) p) ⌝ }
-    ensures { λ r. ⌜ now (table .exit) ≡ replicate (length (now (table .entry))) 0 ⌝ }
 {
     fill_reads(d, p, body, table);
-    let fault = eleven_items(d, p, body, table);
-    clear(table);
-    fault
+    eleven_stages(d, p, body, table)
 }
 
-// Refusal 11 over the whole plan.
-pub fn refusal11(d: &[u8], room: &mut [u32]) -> PlanFault
+// The lowest place of the plan that is refused. The room is left with the last part's pins.
+fn eleven_parts(d: &[u8], room: &mut [u32]) -> PlanFault
     requires { ⌜ (planForm (now d) ≡ true) × (32768 ≤ length (now room)) ⌝ }
     ensures { λ r. ⌜ r ≡ planFaultOf (Rattle.slots.specs.Slots.refusal11 (now (d .entry))) ⌝ }
-    ensures { λ r. ⌜ now (room .exit) ≡ replicate (length (now (room .entry))) 0 ⌝ }
 {
-    clear(room);
     let parts = parts_of(d);
     let mut at = first_body(d);
     let mut p = 0;
@@ -93,4 +103,15 @@ pub fn refusal11(d: &[u8], room: &mut [u32]) -> PlanFault
         }
     }
     PlanFault::Absent
+}
+
+// Refusal 11 over the whole plan.
+pub fn refusal11(d: &[u8], room: &mut [u32]) -> PlanFault
+    requires { ⌜ (planForm (now d) ≡ true) × (32768 ≤ length (now room)) ⌝ }
+    ensures { λ r. ⌜ r ≡ planFaultOf (Rattle.slots.specs.Slots.refusal11 (now (d .entry))) ⌝ }
+    ensures { λ r. ⌜ now (room .exit) ≡ replicate (length (now (room .entry))) 0 ⌝ }
+{
+    let fault = eleven_parts(d, room);
+    clear(room);
+    fault
 }

@@ -7,10 +7,11 @@ ghost use Rattle.record.specs.Body.{BodyOf};
 ghost use Rattle.record.specs.Form.{planForm};
 ghost use Rattle.record.specs.Tests.{firstFrom};
 ghost use Rattle.slots.specs.Slots.{tenRight, badItem};
-ghost use Rattle.slots.specs.Puts.{positionPuts, FilledWith, Zeros};
+ghost use Rattle.slots.specs.Puts.{positionPuts, FilledWith};
 ghost use Rattle.slots.specs.Answers.{overItems, partFaultOf, planFaultOf};
 use crate::PartFault;
 use crate::PlanFault;
+use crate::runs::eighth_empty;
 use crate::tables::fill_positions;
 use pinmap::Found;
 use record::bodies::Body;
@@ -44,7 +45,9 @@ fn ten_items(d: &[u8], p: usize, body: Body, s: usize, table: &[u32]) -> PartFau
 {
     let mut j = 0;
     while j < 8192 {
-        if ten_right(d, p, body, s, j, table) {
+        if eighth_empty(d, p, body, s + 1, 8192 + j) {
+            j += 8;
+        } else if ten_right(d, p, body, s, j, table) {
             j += 1;
         } else {
             return PartFault::Item(8192 * (s + 1) + j);
@@ -53,23 +56,19 @@ fn ten_items(d: &[u8], p: usize, body: Body, s: usize, table: &[u32]) -> PartFau
     PartFault::Absent
 }
 
-// The same with a lent table, which is left clear.
+// The same with a lent table.
 fn ten_stage(d: &[u8], p: usize, body: Body, s: usize, table: &mut [u32]) -> PartFault
     requires { ⌜ BodyOf (now d) p body × (s + 1 < body .stages) × (32768 ≤ length (now table)) ⌝ }
     ensures { λ r. ⌜ r ≡ partFaultOf (firstFrom (overItems (tenRight (now (d .entry)) p)) 8192 (8192 * (s + 1))) ⌝ }
-    ensures { λ r. ⌜ now (table .exit) ≡ replicate (length (now (table .entry))) 0 ⌝ }
 {
     fill_positions(d, p, body, s, table);
-    let fault = ten_items(d, p, body, s, table);
-    clear(table);
-    fault
+    ten_items(d, p, body, s, table)
 }
 
-// The lowest item of part p that is refused: stage 0 has none. The table is clear before and after.
+// The lowest item of part p that is refused: stage 0 has none.
 fn ten_part(d: &[u8], p: usize, body: Body, table: &mut [u32]) -> PartFault
-    requires { ⌜ BodyOf (now d) p body × (0 < body .stages) × Zeros (now table) ⌝ }
+    requires { ⌜ BodyOf (now d) p body × (0 < body .stages) × (32768 ≤ length (now table)) ⌝ }
     ensures { λ r. ⌜ r ≡ partFaultOf (badItem (now (d .entry)) (tenRight (now (d .entry)) p) p) ⌝ }
-    ensures { λ r. ⌜ now (table .exit) ≡ now (table .entry) ⌝ }
 {
     let mut s = 0;
     while s + 1 < body.stages {
@@ -81,13 +80,11 @@ fn ten_part(d: &[u8], p: usize, body: Body, table: &mut [u32]) -> PartFault
     PartFault::Absent
 }
 
-// Refusal 10 over the whole plan.
-pub fn refusal10(d: &[u8], room: &mut [u32]) -> PlanFault
+// The lowest place of the plan that is refused. The room is left with the last stage's positions.
+fn ten_parts(d: &[u8], room: &mut [u32]) -> PlanFault
     requires { ⌜ (planForm (now d) ≡ true) × (32768 ≤ length (now room)) ⌝ }
     ensures { λ r. ⌜ r ≡ planFaultOf (Rattle.slots.specs.Slots.refusal10 (now (d .entry))) ⌝ }
-    ensures { λ r. ⌜ now (room .exit) ≡ replicate (length (now (room .entry))) 0 ⌝ }
 {
-    clear(room);
     let parts = parts_of(d);
     let mut at = first_body(d);
     let mut p = 0;
@@ -102,4 +99,15 @@ pub fn refusal10(d: &[u8], room: &mut [u32]) -> PlanFault
         }
     }
     PlanFault::Absent
+}
+
+// Refusal 10 over the whole plan.
+pub fn refusal10(d: &[u8], room: &mut [u32]) -> PlanFault
+    requires { ⌜ (planForm (now d) ≡ true) × (32768 ≤ length (now room)) ⌝ }
+    ensures { λ r. ⌜ r ≡ planFaultOf (Rattle.slots.specs.Slots.refusal10 (now (d .entry))) ⌝ }
+    ensures { λ r. ⌜ now (room .exit) ≡ replicate (length (now (room .entry))) 0 ⌝ }
+{
+    let fault = ten_parts(d, room);
+    clear(room);
+    fault
 }

@@ -1,15 +1,17 @@
 // Refusal 9: a slot pin out of range, or at a position neither empty, slot a's pin, nor the right gate.
 ghost use mathlib.Core.Path.{_≡_};
-ghost use mathlib.Core.Bool.{true};
+ghost use mathlib.Core.Bool.{true, _&&_};
 ghost use mathlib.Core.Option.{none};
-ghost use Prim.Native.Nat.{_<_};
+ghost use Prim.Native.Nat.{_+_, _*_, _<_};
 ghost use Rattle.record.specs.Body.{BodyOf};
 ghost use Rattle.record.specs.Form.{planForm};
+ghost use Rattle.record.specs.Tests.{firstFrom};
 ghost use Rattle.gates.specs.Gates.{badGate, gateOf};
 ghost use Rattle.slots.specs.Slots.{feeds, pinRight, slotRight, nineRight, badItem};
-ghost use Rattle.slots.specs.Answers.{partFaultOf, planFaultOf};
+ghost use Rattle.slots.specs.Answers.{overItems, partFaultOf, planFaultOf, eighthEmpty};
 use crate::PartFault;
 use crate::PlanFault;
+use crate::runs::eighth_empty;
 use crate::tables::top_power;
 use gates::GateFound;
 use gates::find_gate;
@@ -76,16 +78,53 @@ fn slot_right(d: &[u8], p: usize, body: Body, s: usize, q: usize) -> bool
 
 // Whether slot x of level 0 and position x are right.
 fn nine_right(d: &[u8], p: usize, body: Body, s: usize, x: usize) -> bool
-    requires { ⌜ BodyOf (now d) p body × (s < body .stages) × (x < 8192) × (badGate (now d) ≡ none) ⌝ }
+    requires { ⌜ BodyOf (now d) p body × (s < body .stages) × (0 < x) × (x < 8192) × (badGate (now d) ≡ none) ⌝ }
     ensures { λ r. ⌜ r ≡ nineRight (now (d .entry)) p s x ⌝ }
 {
     if pin_right(slot(d, p, body, s, 8192 + x)) {
-        if x == 0 {
-            return true;
-        }
         return slot_right(d, p, body, s, x);
     }
     false
+}
+
+// Whether eight slots of level 0 and eight positions, from an eighth x on, are empty.
+fn nine_empty(d: &[u8], p: usize, body: Body, s: usize, x: usize) -> bool
+    requires { ⌜ BodyOf (now d) p body × (s < body .stages) × (0 < x) × (x < 8192) ⌝ }
+    ensures { λ r. ⌜ r ≡ (eighthEmpty (now (d .entry)) p s x && eighthEmpty (now (d .entry)) p s (8192 + x)) ⌝ }
+{
+    if eighth_empty(d, p, body, s, x) {
+        return eighth_empty(d, p, body, s, 8192 + x);
+    }
+    false
+}
+
+// The lowest item of stage s but for item 0 that is refused.
+fn nine_later(d: &[u8], p: usize, body: Body, s: usize) -> PartFault
+    requires { ⌜ BodyOf (now d) p body × (s < body .stages) × (badGate (now d) ≡ none) ⌝ }
+    ensures { λ r. ⌜ r ≡ partFaultOf (firstFrom (overItems (nineRight (now (d .entry)) p)) 8191 (8192 * s + 1)) ⌝ }
+{
+    let mut x = 1;
+    while x < 8192 {
+        if nine_empty(d, p, body, s, x) {
+            x += 8;
+        } else if nine_right(d, p, body, s, x) {
+            x += 1;
+        } else {
+            return PartFault::Item(8192 * s + x);
+        }
+    }
+    PartFault::Absent
+}
+
+// The lowest item of stage s that is refused: item 0 has no position.
+fn nine_items(d: &[u8], p: usize, body: Body, s: usize) -> PartFault
+    requires { ⌜ BodyOf (now d) p body × (s < body .stages) × (badGate (now d) ≡ none) ⌝ }
+    ensures { λ r. ⌜ r ≡ partFaultOf (firstFrom (overItems (nineRight (now (d .entry)) p)) 8192 (8192 * s)) ⌝ }
+{
+    if pin_right(slot(d, p, body, s, 8192)) {
+        return nine_later(d, p, body, s);
+    }
+    PartFault::Item(8192 * s)
 }
 
 // The lowest item of part p that is refused.
@@ -93,13 +132,11 @@ fn nine_part(d: &[u8], p: usize, body: Body) -> PartFault
     requires { ⌜ BodyOf (now d) p body × (badGate (now d) ≡ none) ⌝ }
     ensures { λ r. ⌜ r ≡ partFaultOf (badItem (now (d .entry)) (nineRight (now (d .entry)) p) p) ⌝ }
 {
-    let items = 8192 * body.stages;
-    let mut i = 0;
-    while i < items {
-        if nine_right(d, p, body, i / 8192, i % 8192) {
-            i += 1;
-        } else {
-            return PartFault::Item(i);
+    let mut s = 0;
+    while s < body.stages {
+        match nine_items(d, p, body, s) {
+            PartFault::Absent => s += 1,
+            PartFault::Item(i) => return PartFault::Item(i),
         }
     }
     PartFault::Absent

@@ -2,21 +2,19 @@
 -- Assumes nothing.
 use native.Mathlib.Omega.{arith}
 use borrow.Author.Needs.{needs}
-use Rattle.slots.proofs.RightLaws.{eleven-zero, eleven-empty, eleven-carried, eleven-read, eleven-unread}
+use Rattle.slots.proofs.RightLaws.{eleven-empty, eleven-carried, eleven-read, eleven-unread}
 use Rattle.slots.proofs.computed.eleven_right.Statement.{statement}
 use Rattle.slots.proofs.computed.eleven_right.Tie as tie
-
-returns : tie.Need-returns
-returns c = eleven-zero _ _ _ _ (c .if1 .taken)
 
 slot-requires : tie.Need-slot-requires
 slot-requires c κs = search needs
 
-returns-2 : tie.Need-returns-2
-returns-2 c =
+returns : tie.Need-returns
+returns c =
     let a = c .before in
-    let o = a .before .before .before .before .args in
-    eleven-empty (o .d .now) (o .table .now) (o .p) (o .s) (o .q) (a .slot .result) (a .before .if1 .left) (a .slot .ensures) (c .if2 .taken)
+    let s = a .before .before .before in
+    let o = s .args in
+    eleven-empty (o .d .now) (o .table .now) (o .p) (o .s) (o .q) (a .slot .result) (s .pre .2) (a .slot .ensures) (c .if1 .taken)
 
 top-power-requires : tie.Need-top-power-requires
 top-power-requires c κs = search needs
@@ -26,15 +24,16 @@ add-slot c = omega (arith, c .top-power .ensures .1)
 
 slot-requires-2 : tie.Need-slot-requires-2
 slot-requires-2 c κs =
-    let s = c .before .before .before .before .before .before in
+    let s = c .before .before .before .before .before in
     (s .pre .0, s .pre .1, omega (arith, c .top-power .ensures .1), omega (arith, c .top-power .ensures .1))
 
-returns-3 : tie.Need-returns-3
-returns-3 c =
+returns-2 : tie.Need-returns-2
+returns-2 c =
     let m = c .before .before in
     let a = m .before .before in
-    let o = a .before .before .before .before .args in
-    eleven-carried (o .d .now) (o .table .now) (o .p) (o .s) (o .q) (a .slot .result) (a .before .if1 .left) (a .slot .ensures) (m .before .if2 .left) (m .top-power .result) (c .before .slot2 .result) (m .top-power .ensures .0) (c .before .slot2 .ensures) (c .if3 .taken)
+    let s = a .before .before .before in
+    let o = s .args in
+    eleven-carried (o .d .now) (o .table .now) (o .p) (o .s) (o .q) (a .slot .result) (s .pre .2) (a .slot .ensures) (m .before .if1 .left) (m .top-power .result) (c .before .slot2 .result) (m .top-power .ensures .0) (c .before .slot2 .ensures) (c .if2 .taken)
 
 look-up-requires : tie.Need-look-up-requires
 look-up-requires c κs = search needs
@@ -45,39 +44,38 @@ enum-told c = search needs
 enum-told-2 : tie.Need-enum-told-2
 enum-told-2 c = search needs
 
+returns-3 : tie.Need-returns-3
+returns-3 c =
+    let k = c .before .before in
+    let b = k .before .before in
+    let m = b .before in
+    let a = m .before .before in
+    let s = a .before .before .before in
+    let o = s .args in
+    eleven-read (o .d .now) (o .table .now) (o .p) (o .s) (o .q) (a .slot .result) (s .pre .2) (a .slot .ensures) (m .before .if1 .left) (m .top-power .result) (b .slot2 .result) (m .top-power .ensures .0) (b .slot2 .ensures) (k .before .if2 .left) (s .pre .4) (k .look-up .result) (k .look-up .ensures) _ (c .enum-told .given .1)
+
 returns-4 : tie.Need-returns-4
 returns-4 c =
     let k = c .before .before in
     let b = k .before .before in
     let m = b .before in
     let a = m .before .before in
-    let s = a .before .before .before .before in
+    let s = a .before .before .before in
     let o = s .args in
-    eleven-read (o .d .now) (o .table .now) (o .p) (o .s) (o .q) (a .slot .result) (a .before .if1 .left) (a .slot .ensures) (m .before .if2 .left) (m .top-power .result) (b .slot2 .result) (m .top-power .ensures .0) (b .slot2 .ensures) (k .before .if3 .left) (s .pre .3) (k .look-up .result) (k .look-up .ensures) _ (c .enum-told .given .1)
-
-returns-5 : tie.Need-returns-5
-returns-5 c =
-    let k = c .before .before in
-    let b = k .before .before in
-    let m = b .before in
-    let a = m .before .before in
-    let s = a .before .before .before .before in
-    let o = s .args in
-    eleven-unread (o .d .now) (o .table .now) (o .p) (o .s) (o .q) (a .slot .result) (a .before .if1 .left) (a .slot .ensures) (m .before .if2 .left) (m .top-power .result) (b .slot2 .result) (m .top-power .ensures .0) (b .slot2 .ensures) (k .before .if3 .left) (s .pre .3) (k .look-up .result) (k .look-up .ensures) (c .enum-told2 .given .1)
+    eleven-unread (o .d .now) (o .table .now) (o .p) (o .s) (o .q) (a .slot .result) (s .pre .2) (a .slot .ensures) (m .before .if1 .left) (m .top-power .result) (b .slot2 .result) (m .top-power .ensures .0) (b .slot2 .ensures) (k .before .if2 .left) (s .pre .4) (k .look-up .result) (k .look-up .ensures) (c .enum-told2 .given .1)
 
 pub eleven-right-spec : {M : Type 1} → statement M
 eleven-right-spec =
     tie.close
     (tie.spec
-    returns
     slot-requires
-    returns-2
+    returns
     top-power-requires
     add-slot
     slot-requires-2
-    returns-3
+    returns-2
     look-up-requires
     enum-told
     enum-told-2
-    returns-4
-    returns-5)
+    returns-3
+    returns-4)

@@ -1,121 +1,25 @@
--- `slots::later::refusal10` meets its contract. The loop's invariant: the lowest place from part p on is the plan's, and the room is clear again.
+-- `slots::later::refusal10` meets its contract. The room is cleared once, after the last part.
 -- Assumes nothing.
-use mathlib.Core.Path.{_≡_, refl, _∙_}
-use Prim.Native.Nat.{_-_, _≤_}
-use native.Mathlib.Omega.{arith}
+use mathlib.Core.Path.{ap, _∙_}
+use Prim.Native.Nat.{ℕ}
 use borrow.Author.Needs.{needs}
-use lib.ListN.{length}
-use Rattle.record.specs.Record.{partsOf, bodyAt}
-use Rattle.record.specs.Tests.{lowestFrom}
-use Rattle.slots.specs.Slots.{tenRight, badItem, refusal10}
-use Rattle.slots.proofs.PutLaws.{clear-zeros, clear-length}
-use Rattle.slots.proofs.ItemLaws.{parts-start, parts-fault, parts-next, parts-end, form-majors, form-ready, form-stages}
+use lib.ListN.{replicate}
 use Rattle.slots.proofs.later.refusal10.Statement.{statement}
 use Rattle.slots.proofs.later.refusal10.Tie as tie
 
-abbrev Inv-loop : tie.InvT-loop
-Inv-loop d room₀ parts at₀ p₀ room at p =
-    (p ≤ parts) × (at ≡ bodyAt d p) × (room ≡ room₀) × (lowestFrom (λ q. badItem d (tenRight d q) q) (parts - p) p ≡ refusal10 d)
+ten-parts-requires : tie.Need-ten-parts-requires
+ten-parts-requires c κs = search needs
 
-abbrev μ-loop : tie.MeasureT-loop
-μ-loop d room₀ parts at₀ p₀ room at p = parts - p
-
-clear-requires : tie.Need-clear-requires Inv-loop μ-loop
+clear-requires : tie.Need-clear-requires
 clear-requires c κs = search needs
 
-parts-of-requires : tie.Need-parts-of-requires Inv-loop μ-loop
-parts-of-requires c κs = let s = c .before .before .before .before .before .before in form-majors (s .args .d .now) (s .pre .0)
+same-length : tie.Need-same-length
+same-length c = search needs
 
-first-body-requires : tie.Need-first-body-requires Inv-loop μ-loop
-first-body-requires c κs = let s = c .before .before .before .before .before .before .before in form-majors (s .args .d .now) (s .pre .0)
-
-loop-holds : tie.Need-loop-holds Inv-loop μ-loop
-unfolding refusal10
-loop-holds c =
-    let d = c .before .before .before .before .before .before .before .before .args .d .now in
-    (omega arith, c .first-body .ensures .0, refl, parts-start (λ q. badItem d (tenRight d q) q) (c .before .parts-of .result) (partsOf d) (c .before .parts-of .ensures .0))
-
-body-at-requires : tie.Need-body-at-requires Inv-loop μ-loop
-body-at-requires c κs =
-    let l = c .before in
-    let s = l .before .before .before .before .before .before .before .before .before in
-    form-ready (s .args .d .now) (s .pre .0) _ (l .loop .p) (l .loop .at) (l .before .before .parts-of .ensures .0) (c .loop-test .taken) (l .loop .inv .1)
-
-ten-part-requires : tie.Need-ten-part-requires Inv-loop μ-loop
-ten-part-requires c κs =
-    let b = c .before in
-    let l = c .before .before .before in
-    let z = l .before .before .before .before .before in
-    let s = l .before .before .before .before .before .before .before .before .before in
-    let d = s .args .d .now in
-    (b .body-at .ensures, form-stages d (s .pre .0) _ (l .loop .p) _ (l .before .before .parts-of .ensures .0) (c .before .before .loop-test .taken) (b .body-at .ensures), clear-zeros (length (s .args .room .now)) (z .clear .last .0) (l .loop .room) (z .clear .ensures) (l .loop .inv .2) (s .pre .1))
-
-enum-told : tie.Need-enum-told Inv-loop μ-loop
-enum-told c = search needs
-
-add-p : tie.Need-add-p Inv-loop μ-loop
-add-p c = search needs
-
-loop-less : tie.Need-loop-less Inv-loop μ-loop
-loop-less c = search needs
-
-loop-again : tie.Need-loop-again Inv-loop μ-loop
-loop-again c =
-    let k = c .before .before .before .before in
-    let l = c .before .before .before .before .before .before .before .before in
-    let z = l .before .before .before .before .before in
-    let s = l .before .before .before .before .before .before .before .before .before in
-    let d = s .args .d .now in
-    (omega (arith, c .before .before .before .before .before .before .before .loop-test .taken), c .before .before .before .before .before .before .body-at .ensures .end, k .ten-part .ensures .1 ∙ l .loop .inv .2, parts-next (λ q. badItem d (tenRight d q) q) _ (l .loop .p) _ (l .loop .inv .3) (k .ten-part .result) (c .before .before .before .before .before .before .before .loop-test .taken) (k .ten-part .ensures .0) (c .enum-told .given .1))
-
-enum-known-i : tie.Need-enum-known-i Inv-loop μ-loop
-enum-known-i c = search needs
-
-same-length : tie.Need-same-length Inv-loop μ-loop
-same-length c =
-    let k = c .before .before .before .before .before in
-    let l = c .before .before .before .before .before .before .before .before .before in
-    let z = l .before .before .before .before .before in
-    let s = l .before .before .before .before .before .before .before .before .before in
-    clear-length (length (s .args .room .now)) (z .clear .last .0) (l .loop .room) (z .clear .ensures) (l .loop .inv .2) _ (k .ten-part .ensures .1 ∙ l .loop .inv .2)
-
-returns : tie.Need-returns Inv-loop μ-loop
+returns : tie.Need-returns
 returns c =
-    let k = c .before .before .before .before .before in
-    let l = c .before .before .before .before .before .before .before .before .before in
-    let z = l .before .before .before .before .before in
-    let s = l .before .before .before .before .before .before .before .before .before in
-    let d = s .args .d .now in
-    (parts-fault (λ q. badItem d (tenRight d q) q) _ (l .loop .p) _ (l .loop .inv .3) (k .ten-part .result) _ (c .before .before .before .before .before .before .before .before .loop-test .taken) (k .ten-part .ensures .0) (c .before .i .given .1), (k .ten-part .ensures .1 ∙ l .loop .inv .2) ∙ z .clear .ensures)
-
-same-length-2 : tie.Need-same-length-2 Inv-loop μ-loop
-same-length-2 c = search needs
-
-returns-2 : tie.Need-returns-2 Inv-loop μ-loop
-returns-2 c =
-    let l = c .before in
-    let z = l .before .before .before .before .before in
-    let d = l .before .before .before .before .before .before .before .before .before .args .d .now in
-    (parts-end (λ q. badItem d (tenRight d q) q) _ (l .loop .p) _ (l .loop .inv .3) (c .loop-test .left), l .loop .inv .2 ∙ z .clear .ensures)
+    let k = c .before .before .before .before .before .before in
+    (k .ten-parts .ensures, c .before .before .clear .ensures ∙ ap (λ (n : ℕ). replicate n 0) (c .before .before .before .before .before .room .given))
 
 pub refusal10-spec : {M : Type 1} → statement M
-refusal10-spec =
-    tie.close
-    (tie.spec
-    Inv-loop
-    μ-loop
-    clear-requires
-    parts-of-requires
-    first-body-requires
-    loop-holds
-    body-at-requires
-    ten-part-requires
-    enum-told
-    add-p
-    loop-less
-    loop-again
-    enum-known-i
-    same-length
-    returns
-    same-length-2
-    returns-2)
+refusal10-spec = tie.close (tie.spec ten-parts-requires clear-requires same-length returns)

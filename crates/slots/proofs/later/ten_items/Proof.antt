@@ -7,7 +7,8 @@ use borrow.Author.Needs.{needs}
 use Rattle.record.specs.Tests.{firstFrom}
 use Rattle.slots.specs.Slots.{tenRight}
 use Rattle.slots.specs.Answers.{overItems, partFaultOf}
-use Rattle.slots.proofs.ItemLaws.{stage-start, stage-next, stage-fault, stage-end}
+use Rattle.slots.proofs.ItemLaws.{stage-start, stage-next, stage-eight, stage-fault, stage-end}
+use Rattle.slots.proofs.RunLaws.{ten-eight}
 use Rattle.slots.proofs.later.ten_items.Statement.{statement}
 use Rattle.slots.proofs.later.ten_items.Tie as tie
 
@@ -21,8 +22,14 @@ abbrev μ-loop : tie.MeasureT-loop
 loop-holds : tie.Need-loop-holds Inv-loop μ-loop
 loop-holds c = (omega arith, stage-start _ _)
 
-ten-right-requires : tie.Need-ten-right-requires Inv-loop μ-loop
-ten-right-requires c κs = search needs
+add-eighth-empty : tie.Need-add-eighth-empty Inv-loop μ-loop
+add-eighth-empty c = search needs
+
+add-eighth-empty-2 : tie.Need-add-eighth-empty-2 Inv-loop μ-loop
+add-eighth-empty-2 c = search needs
+
+eighth-empty-requires : tie.Need-eighth-empty-requires Inv-loop μ-loop
+eighth-empty-requires c κs = search needs
 
 add-j : tie.Need-add-j Inv-loop μ-loop
 add-j c = search needs
@@ -34,22 +41,41 @@ loop-again : tie.Need-loop-again Inv-loop μ-loop
 loop-again c =
     let l = c .before .before .before in
     let o = l .before .before .before .args in
-    (omega arith, stage-next (tenRight (o .d .now) (o .p)) (o .s + 1) (l .loop .j) _ (l .loop .inv .1) (c .before .before .loop-test .taken) (sym (c .before .ten-right .ensures) ∙ c .if1 .taken))
+    let eight = ten-eight (o .d .now) (o .p) (o .s) (l .loop .j) (sym (c .before .eighth-empty .ensures) ∙ c .if1 .taken) in
+    let (fits, on) = stage-eight (tenRight (o .d .now) (o .p)) (o .s + 1) (l .loop .j) _ (l .loop .inv .1) (c .before .before .loop-test .taken) eight in
+    (fits, on)
 
-add-t9 : tie.Need-add-t9 Inv-loop μ-loop
-add-t9 c = search needs
+ten-right-requires : tie.Need-ten-right-requires Inv-loop μ-loop
+ten-right-requires c κs = search needs
 
-mul-t10 : tie.Need-mul-t10 Inv-loop μ-loop
-mul-t10 c = search needs
+add-j-2 : tie.Need-add-j-2 Inv-loop μ-loop
+add-j-2 c = search needs
 
-add-t11 : tie.Need-add-t11 Inv-loop μ-loop
-add-t11 c = search needs
+loop-less-2 : tie.Need-loop-less-2 Inv-loop μ-loop
+loop-less-2 c = search needs
+
+loop-again-2 : tie.Need-loop-again-2 Inv-loop μ-loop
+loop-again-2 c =
+    let t = c .before .before .before .before in
+    let l = t .before in
+    let o = l .before .before .before .args in
+    (omega arith, stage-next (tenRight (o .d .now) (o .p)) (o .s + 1) (l .loop .j) _ (l .loop .inv .1) (t .loop-test .taken) (sym (c .before .ten-right .ensures) ∙ c .if2 .taken))
+
+add-t12 : tie.Need-add-t12 Inv-loop μ-loop
+add-t12 c = search needs
+
+mul-t13 : tie.Need-mul-t13 Inv-loop μ-loop
+mul-t13 c = search needs
+
+add-t14 : tie.Need-add-t14 Inv-loop μ-loop
+add-t14 c = search needs
 
 returns : tie.Need-returns Inv-loop μ-loop
 returns c =
-    let l = c .before .before .before in
+    let t = c .before .before .before .before in
+    let l = t .before in
     let o = l .before .before .before .args in
-    ap partFaultOf (stage-fault (tenRight (o .d .now) (o .p)) (o .s + 1) (l .loop .j) _ (l .loop .inv .1) (c .before .before .loop-test .taken) (sym (c .before .ten-right .ensures) ∙ c .if1 .left))
+    ap partFaultOf (stage-fault (tenRight (o .d .now) (o .p)) (o .s + 1) (l .loop .j) _ (l .loop .inv .1) (t .loop-test .taken) (sym (c .before .ten-right .ensures) ∙ c .if2 .left))
 
 returns-2 : tie.Need-returns-2 Inv-loop μ-loop
 returns-2 c =
@@ -64,12 +90,18 @@ ten-items-spec =
     Inv-loop
     μ-loop
     loop-holds
-    ten-right-requires
+    add-eighth-empty
+    add-eighth-empty-2
+    eighth-empty-requires
     add-j
     loop-less
     loop-again
-    add-t9
-    mul-t10
-    add-t11
+    ten-right-requires
+    add-j-2
+    loop-less-2
+    loop-again-2
+    add-t12
+    mul-t13
+    add-t14
     returns
     returns-2)

@@ -1,6 +1,6 @@
--- `slots::later::ten_part` meets its contract. The loop's invariant: the answer from stage s + 1 on is the part's, and the table is clear again.
+-- `slots::later::ten_part` meets its contract. The loop's invariant: the answer from stage s + 1 on is the part's.
 -- Assumes nothing.
-use mathlib.Core.Path.{_≡_, refl, ap}
+use mathlib.Core.Path.{_≡_, refl, ap, _∙_}
 use Prim.Native.Nat.{_+_, _*_, _-_, _<_}
 use native.Mathlib.Omega.{arith}
 use borrow.Author.Needs.{needs}
@@ -9,14 +9,13 @@ use Rattle.record.specs.Tests.{firstFrom}
 use Rattle.slots.specs.Slots.{tenRight, badItem}
 use Rattle.slots.specs.Answers.{overItems, partFaultOf}
 use Rattle.slots.proofs.ItemLaws.{stages-first, stages-next, stages-fault, stages-end, fault-some, fault-none}
-use Rattle.slots.proofs.PutLaws.{clear-back}
 use Rattle.slots.proofs.SlotLaws.{ten-first}
 use Rattle.slots.proofs.later.ten_part.Statement.{statement}
 use Rattle.slots.proofs.later.ten_part.Tie as tie
 
 abbrev Inv-loop : tie.InvT-loop
 Inv-loop d p body table₀ s₀ table s =
-    (s < body .stages) × (table ≡ table₀)
+    (s < body .stages) × (length table ≡ length table₀)
     × (firstFrom (overItems (tenRight d p)) (8192 * body .stages - 8192 * (s + 1)) (8192 * (s + 1)) ≡ badItem d (tenRight d p) p)
 
 abbrev μ-loop : tie.MeasureT-loop
@@ -35,7 +34,7 @@ ten-stage-requires : tie.Need-ten-stage-requires Inv-loop μ-loop
 ten-stage-requires c κs =
     let l = c .before .before .before in
     let s = l .before .before .before in
-    (s .pre .0, c .before .if1 .taken, omega (arith, ap length (l .loop .inv .1), s .pre .2 .wide))
+    (s .pre .0, c .before .if1 .taken, omega (arith, l .loop .inv .1, s .pre .2))
 
 enum-told : tie.Need-enum-told Inv-loop μ-loop
 enum-told c = search needs
@@ -52,13 +51,13 @@ loop-again c =
     let l = c .before .before .before .before .before .before .before .before in
     let s = l .before .before .before in
     let o = s .args in
-    (c .before .before .before .before .before .before .if1 .taken, clear-back (o .table .now) (l .loop .table) _ (s .pre .2) (l .loop .inv .1) (k .ten-stage .ensures .1), stages-next (overItems (tenRight (o .d .now) (o .p))) (o .body .stages) (l .loop .s + 1) _ (c .before .before .before .before .before .before .if1 .taken) (l .loop .inv .2) (fault-none _ (k .ten-stage .result) (k .ten-stage .ensures .0) (c .enum-told .given .1)))
+    (c .before .before .before .before .before .before .if1 .taken, c .before .before .before .table .given ∙ l .loop .inv .1, stages-next (overItems (tenRight (o .d .now) (o .p))) (o .body .stages) (l .loop .s + 1) _ (c .before .before .before .before .before .before .if1 .taken) (l .loop .inv .2) (fault-none _ (k .ten-stage .result) (k .ten-stage .ensures) (c .enum-told .given .1)))
 
 enum-known-i : tie.Need-enum-known-i Inv-loop μ-loop
 enum-known-i c = search needs
 
 same-length : tie.Need-same-length Inv-loop μ-loop
-same-length c = search needs
+same-length c = c .before .before .before .before .table .given ∙ c .before .before .before .before .before .before .before .before .before .loop .inv .1
 
 returns : tie.Need-returns Inv-loop μ-loop
 returns c =
@@ -66,7 +65,7 @@ returns c =
     let l = c .before .before .before .before .before .before .before .before .before in
     let s = l .before .before .before in
     let o = s .args in
-    (ap partFaultOf (stages-fault (overItems (tenRight (o .d .now) (o .p))) (o .body .stages) (l .loop .s + 1) _ (c .before .before .before .before .before .before .before .if1 .taken) (l .loop .inv .2) _ (fault-some _ (k .ten-stage .result) _ (k .ten-stage .ensures .0) (c .before .i .given .1))), clear-back (o .table .now) (l .loop .table) _ (s .pre .2) (l .loop .inv .1) (k .ten-stage .ensures .1))
+    (ap partFaultOf (stages-fault (overItems (tenRight (o .d .now) (o .p))) (o .body .stages) (l .loop .s + 1) _ (c .before .before .before .before .before .before .before .if1 .taken) (l .loop .inv .2) _ (fault-some _ (k .ten-stage .result) _ (k .ten-stage .ensures) (c .before .i .given .1))))
 
 same-length-2 : tie.Need-same-length-2 Inv-loop μ-loop
 same-length-2 c = search needs
@@ -75,7 +74,7 @@ returns-2 : tie.Need-returns-2 Inv-loop μ-loop
 returns-2 c =
     let l = c .before .before in
     let o = l .before .before .before .args in
-    (ap partFaultOf (stages-end (overItems (tenRight (o .d .now) (o .p))) (o .body .stages) (l .loop .s + 1) _ (c .if1 .left) (l .loop .inv .2)), l .loop .inv .1)
+    (ap partFaultOf (stages-end (overItems (tenRight (o .d .now) (o .p))) (o .body .stages) (l .loop .s + 1) _ (c .if1 .left) (l .loop .inv .2)))
 
 pub ten-part-spec : {M : Type 1} → statement M
 ten-part-spec =

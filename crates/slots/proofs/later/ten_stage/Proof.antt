@@ -1,8 +1,8 @@
--- `slots::later::ten_stage` meets its contract. The table holds the positions of the stage before while the slots are asked for, then it is cleared.
+-- `slots::later::ten_stage` meets its contract. The table holds the positions of the stage before while the slots are asked for.
 -- Assumes nothing.
 use borrow.Author.Needs.{needs}
 use Rattle.slots.specs.Puts.{positionPuts}
-use Rattle.slots.proofs.PutLaws.{filled-with, cleared}
+use Rattle.slots.proofs.PutLaws.{filled-with}
 use Rattle.slots.proofs.later.ten_stage.Statement.{statement}
 use Rattle.slots.proofs.later.ten_stage.Tie as tie
 
@@ -15,18 +15,12 @@ ten-items-requires c κs =
     let o = s .args in
     (s .pre .0, s .pre .1, filled-with (o .table .now) _ (positionPuts (o .d .now) (o .p) (o .s)) (s .pre .2) (c .before .before .before .fill-positions .ensures))
 
-clear-requires : tie.Need-clear-requires
-clear-requires c κs = search needs
-
 same-length : tie.Need-same-length
 same-length c = search needs
 
 returns : tie.Need-returns
-returns c =
-    let o = c .before .before .before .before .before .before .before .before .before .before .before .before .args in
-    (c .before .before .before .before .ten-items .ensures, cleared (o .table .now) _ _ (positionPuts (o .d .now) (o .p) (o .s)) (c .before .before .before .before .before .before .before .before .fill-positions .ensures) (c .before .before .clear .ensures))
+returns c = search needs
 
 pub ten-stage-spec : {M : Type 1} → statement M
 ten-stage-spec =
-    tie.close
-    (tie.spec fill-positions-requires ten-items-requires clear-requires same-length returns)
+    tie.close (tie.spec fill-positions-requires ten-items-requires same-length returns)

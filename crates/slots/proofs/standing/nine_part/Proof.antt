@@ -1,57 +1,63 @@
--- `slots::standing::nine_part` meets its contract. The loop's invariant: the answer from item i on is the part's.
+-- `slots::standing::nine_part` meets its contract. The loop's invariant: the answer from stage s on is the part's.
 -- Assumes nothing.
-use mathlib.Core.Path.{_≡_, sym, ap, _∙_}
-use Prim.Native.Nat.{_-_, _≤_}
+use mathlib.Core.Path.{_≡_, ap}
+use Prim.Native.Nat.{_*_, _-_, _≤_}
 use native.Mathlib.Omega.{arith}
 use borrow.Author.Needs.{needs}
 use Rattle.record.specs.Tests.{firstFrom}
-use Rattle.record.proofs.TestLaws.{first-fault, first-next, first-end}
 use Rattle.slots.specs.Slots.{nineRight, badItem}
 use Rattle.slots.specs.Answers.{overItems, partFaultOf}
-use Rattle.slots.proofs.ItemLaws.{items-all}
+use Rattle.slots.proofs.ItemLaws.{stages-all, stages-next, stages-fault, stages-end, fault-some, fault-none}
 use Rattle.slots.proofs.standing.nine_part.Statement.{statement}
 use Rattle.slots.proofs.standing.nine_part.Tie as tie
 
 abbrev Inv-loop : tie.InvT-loop
-Inv-loop d p body items i₀ i = (i ≤ items) × (firstFrom (overItems (nineRight d p)) (items - i) i ≡ badItem d (nineRight d p) p)
+Inv-loop d p body s₀ s =
+    (s ≤ body .stages) × (firstFrom (overItems (nineRight d p)) (8192 * body .stages - 8192 * s) (8192 * s) ≡ badItem d (nineRight d p) p)
 
 abbrev μ-loop : tie.MeasureT-loop
-μ-loop d p body items i₀ i = items - i
-
-mul-items : tie.Need-mul-items Inv-loop μ-loop
-mul-items c = search needs
+μ-loop d p body s₀ s = body .stages - s
 
 loop-holds : tie.Need-loop-holds Inv-loop μ-loop
 loop-holds c =
-    let s = c .before .before in
-    (omega arith, items-all (s .args .d .now) (nineRight (s .args .d .now) (s .args .p)) (s .args .p) (s .args .body .stages) (s .pre .0 .stages))
+    let s = c .before in
+    let o = s .args in
+    (omega arith, stages-all (o .d .now) (nineRight (o .d .now) (o .p)) (o .p) (o .body .stages) (s .pre .0 .stages))
 
-nine-right-requires : tie.Need-nine-right-requires Inv-loop μ-loop
-nine-right-requires c κs = search needs
+nine-items-requires : tie.Need-nine-items-requires Inv-loop μ-loop
+nine-items-requires c κs = search needs
 
-add-i : tie.Need-add-i Inv-loop μ-loop
-add-i c = search needs
+enum-told : tie.Need-enum-told Inv-loop μ-loop
+enum-told c = search needs
+
+add-s : tie.Need-add-s Inv-loop μ-loop
+add-s c = search needs
 
 loop-less : tie.Need-loop-less Inv-loop μ-loop
 loop-less c = search needs
 
 loop-again : tie.Need-loop-again Inv-loop μ-loop
 loop-again c =
-    let l = c .before .before .before in
-    let o = l .before .before .before .args in
-    (omega arith, sym (first-next (overItems (nineRight (o .d .now) (o .p))) _ (l .loop .i) (c .before .before .loop-test .taken) (sym (c .before .nine-right .ensures) ∙ c .if1 .taken)) ∙ l .loop .inv .1)
+    let k = c .before .before in
+    let l = k .before .before .before in
+    let o = l .before .before .args in
+    (omega (arith, k .before .if1 .taken), stages-next (overItems (nineRight (o .d .now) (o .p))) (o .body .stages) (l .loop .s) _ (k .before .if1 .taken) (l .loop .inv .1) (fault-none _ (k .nine-items .result) (k .nine-items .ensures) (c .enum-told .given .1)))
+
+enum-known-i : tie.Need-enum-known-i Inv-loop μ-loop
+enum-known-i c = search needs
 
 returns : tie.Need-returns Inv-loop μ-loop
 returns c =
-    let l = c .before .before .before in
-    let o = l .before .before .before .args in
-    ap partFaultOf (sym (first-fault (overItems (nineRight (o .d .now) (o .p))) _ (l .loop .i) (c .before .before .loop-test .taken) (sym (c .before .nine-right .ensures) ∙ c .if1 .left)) ∙ l .loop .inv .1)
+    let k = c .before .before .before in
+    let l = k .before .before .before in
+    let o = l .before .before .args in
+    ap partFaultOf (stages-fault (overItems (nineRight (o .d .now) (o .p))) (o .body .stages) (l .loop .s) _ (k .before .if1 .taken) (l .loop .inv .1) _ (fault-some _ (k .nine-items .result) _ (k .nine-items .ensures) (c .before .i .given .1)))
 
 returns-2 : tie.Need-returns-2 Inv-loop μ-loop
 returns-2 c =
-    let l = c .before in
-    let o = l .before .before .before .args in
-    ap partFaultOf (sym (first-end (overItems (nineRight (o .d .now) (o .p))) _ (l .loop .i) (c .loop-test .left)) ∙ l .loop .inv .1)
+    let l = c .before .before in
+    let o = l .before .before .args in
+    ap partFaultOf (stages-end (overItems (nineRight (o .d .now) (o .p))) (o .body .stages) (l .loop .s) _ (c .if1 .left) (l .loop .inv .1))
 
 pub nine-part-spec : {M : Type 1} → statement M
 nine-part-spec =
@@ -59,11 +65,12 @@ nine-part-spec =
     (tie.spec
     Inv-loop
     μ-loop
-    mul-items
     loop-holds
-    nine-right-requires
-    add-i
+    nine-items-requires
+    enum-told
+    add-s
     loop-less
     loop-again
+    enum-known-i
     returns
     returns-2)

@@ -3,7 +3,7 @@
 use mathlib.Core.Path.{ap, _∙_}
 use borrow.Author.Needs.{needs}
 use Rattle.slots.specs.Slots.{pinRight}
-use Rattle.slots.proofs.RightLaws.{nine-level, nine-zero, nine-position}
+use Rattle.slots.proofs.RightLaws.{nine-level, nine-position}
 use Rattle.slots.proofs.standing.nine_right.Statement.{statement}
 use Rattle.slots.proofs.standing.nine_right.Tie as tie
 
@@ -16,23 +16,18 @@ slot-requires c κs = search needs
 pin-right-requires : tie.Need-pin-right-requires
 pin-right-requires c κs = search needs
 
-returns : tie.Need-returns
-returns c =
-    let r = c .before .before in
-    let o = r .before .before .before .args in
-    nine-zero (o .d .now) (o .p) (o .s) (o .x) (r .pin-right .result) (r .pin-right .ensures ∙ ap pinRight (r .before .slot .ensures)) (c .before .if1 .taken) (c .if2 .taken)
-
 slot-right-requires : tie.Need-slot-right-requires
 slot-right-requires c κs = search needs
 
+returns : tie.Need-returns
+returns c =
+    let r = c .before .before in
+    let s = r .before .before .before in
+    let o = s .args in
+    c .slot-right .ensures ∙ nine-position (o .d .now) (o .p) (o .s) (o .x) (r .pin-right .result) (r .pin-right .ensures ∙ ap pinRight (r .before .slot .ensures)) (c .before .if1 .taken) (s .pre .2)
+
 returns-2 : tie.Need-returns-2
 returns-2 c =
-    let r = c .before .before .before in
-    let o = r .before .before .before .args in
-    c .slot-right .ensures ∙ nine-position (o .d .now) (o .p) (o .s) (o .x) (r .pin-right .result) (r .pin-right .ensures ∙ ap pinRight (r .before .slot .ensures)) (c .before .before .if1 .taken) (c .before .if2 .left)
-
-returns-3 : tie.Need-returns-3
-returns-3 c =
     let r = c .before in
     let o = r .before .before .before .args in
     nine-level (o .d .now) (o .p) (o .s) (o .x) (r .pin-right .result) (r .pin-right .ensures ∙ ap pinRight (r .before .slot .ensures)) (c .if1 .left)
@@ -44,7 +39,6 @@ nine-right-spec =
     add-slot
     slot-requires
     pin-right-requires
-    returns
     slot-right-requires
-    returns-2
-    returns-3)
+    returns
+    returns-2)
