@@ -1,4 +1,5 @@
 pub mod CopyLaws
+pub mod InsertionLaws
 pub mod MergeLaws
 pub mod OutcomeLaws
 pub mod SearchLaws
