@@ -15,7 +15,7 @@ use Rattle.machine.specs.Part.{stagesAt, normalAt}
 use Rattle.machine.specs.Turn.{Block, begins, ended}
 use Rattle.machine.specs.Run.{blocksFrom}
 use Rattle.turns.specs.Block.{held, blockIn}
-use Rattle.turns.proofs.FillLaws.{take-sets, sets-in, sets-under, sets-over, put-is}
+use Rattle.turns.proofs.SetsLaws.{take-sets, sets-in, sets-under, sets-over, put-is}
 use Rattle.run.specs.States.{roomOf, partOf, phaseOf, stageOf, stateWords, blockOf, blocksIn}
 
 -- ---- parts of lists

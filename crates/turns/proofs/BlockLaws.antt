@@ -14,9 +14,9 @@ use Rattle.machine.specs.Turn.{Block, readRow, stageRow, captured, begins, ende
 use Rattle.machine.proofs.StageLaws.{stage-length}
 use Rattle.machine.proofs.TurnLaws.{read-length, captured-length}
 use Rattle.words.proofs.SectionLaws.{length-listOf}
-use Rattle.turns.specs.Gather.{gatheredRow}
+use Rattle.stage.specs.Gather.{gatheredRow}
 use Rattle.turns.specs.Block.{held, blockIn, roomRead, roomStaged, roomTurned}
-use Rattle.turns.proofs.FillLaws.{take-sets, sets-in, sets-part, put-is, take-zeros}
+use Rattle.turns.proofs.SetsLaws.{take-sets, sets-in, sets-part, put-is, take-zeros}
 use Rattle.turns.proofs.CaptureLaws.{capture-ext}
 
 -- ---- the rooms
