@@ -9,6 +9,7 @@ use lib.ListN.{length, getD, take, replicate}
 use lib.Seq.{take-take}
 use Rattle.words.specs.Edition.{partWords}
 use Rattle.words.specs.Sum.{sumTo}
+use Rattle.words.proofs.ListLaws.{zeros-front}
 use Rattle.words.proofs.SumLaws.{sum-more}
 use Rattle.record.specs.Record.{wordAt, blocksOf, majorsOf, countAt, partsOf, headBase}
 use Rattle.record.proofs.RecordLaws.{stages-at}
@@ -16,7 +17,6 @@ use Rattle.counts.specs.Counts.{srams}
 use Rattle.blocks.specs.Blocks.{sramOf, stateWords, sramWords}
 use Rattle.blocks.specs.Table.{cell}
 use Rattle.positions.specs.Places.{Judgeable}
-use Rattle.blocks.proofs.StageLaws.{zeros-front}
 use Rattle.assembly.specs.Assembly.{scriptWords}
 use Rattle.assembly.specs.Steps.{lengthOf, emptyBlocks}
 use Rattle.assembly.proofs.LengthLaws.{words-sum}

@@ -5,8 +5,8 @@ use mathlib.Core.List.{List, [], _∷_, _++_, append-assoc}
 use Prim.Native.Nat.{ℕ, suc, _+_, _≤_, _<_}
 use native.Mathlib.Numerals.{add-one}
 use native.Mathlib.Omega.{arith}
-use lib.ListN.{length, getD, take, drop, set, replicate, length-replicate, getD-replicate}
-use lib.Seq.{sets, sets-eq, getD-set-other, getD-take, length-take-le, take-at, drop-at, take-set-le, take-take, drop-drop, ext-getD}
+use lib.ListN.{length, getD, take, drop, set}
+use lib.Seq.{sets, sets-eq, getD-set-other, getD-take, length-take-le, take-at, drop-at, take-set-le, take-take}
 use Rattle.words.specs.Section.{listOf}
 use Rattle.words.proofs.ListLaws.{sets-append}
 use Rattle.words.proofs.SectionLaws.{length-listOf, listOf-is}
@@ -46,16 +46,3 @@ sets-in l a vs h =
 
 pub sets-part : (m : ℕ) (l : List ℕ) (a : ℕ) (vs : List ℕ) → m ≤ length vs → a + length vs ≤ length l → take m (drop a (sets l a vs)) ≡ take m vs
 sets-part m l a vs h g = sym (take-take m (length vs) (drop a (sets l a vs)) h) ∙ ap (take m) (sets-in l a vs g)
-
--- a part of k words that is lent and comes back as vs
-pub put-is : (l : List ℕ) (a k : ℕ) (vs : List ℕ) → a + k ≤ length l → length vs ≡ k → take a l ++ (vs ++ drop k (drop a l)) ≡ sets l a vs
-put-is l a k vs h e =
-    let d : drop k (drop a l) ≡ drop (a + length vs) l = drop-drop k a l ∙ ap (λ (i : ℕ). drop (a + i) l) (sym e) in
-    ap (λ (s : List ℕ). take a l ++ (vs ++ s)) d ∙ sym (append-assoc (take a l) vs (drop (a + length vs) l)) ∙ sym (sets-eq vs l a (omega arith))
-
-pub take-zeros : (n m : ℕ) → n ≤ m → take n (replicate {A = ℕ} m 0) ≡ replicate n 0
-take-zeros n m h =
-    let all : List ℕ = replicate m 0 in
-    let long : length (take n all) ≡ n = length-take-le n all (omega (arith, length-replicate {A = ℕ} m 0)) in
-    ext-getD 0 (take n all) (replicate n 0) (long ∙ sym (length-replicate {A = ℕ} n 0))
-    (λ i l. getD-take n all i 0 (omega arith) ∙ getD-replicate m i 0 0 (omega arith) ∙ sym (getD-replicate n i 0 0 (omega arith)))
