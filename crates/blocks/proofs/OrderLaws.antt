@@ -11,7 +11,7 @@ use lib.Dec.{eqb, ltb}
 use Rattle.words.specs.Sum.{sumTo}
 use Rattle.words.proofs.SumLaws.{sum-ext}
 use Rattle.record.specs.Tests.{someBelow}
-use Rattle.record.proofs.TestLaws.{not-both, some-found, some-none}
+use Rattle.record.proofs.TestLaws.{not-both, not-true-false, some-found, some-none}
 use Rattle.blocks.specs.Blocks.{comesBefore, takenBefore}
 use Rattle.blocks.specs.Sums.{given, inBlock}
 use Rattle.blocks.proofs.TotalLaws.{three, same-or, given-le, given-true, given-false, sum-zero, sum-const, sum-add, sum-mono, sum-split, sum-swap, sum-only, sum-meets}
@@ -21,10 +21,6 @@ use Rattle.blocks.proofs.TotalLaws.{three, same-or, given-le, given-tru
 -- part j comes before part i, in words
 abbrev pub Before : (ℕ → ℕ) → ℕ → ℕ → Type 0
 Before block i j = (block j < block i) ⊎ ((block j ≡ block i) × (j < i))
-
-not-true-false : (b : Bool) → (b ≡ true → ⊥) → b ≡ false
-not-true-false true h = absurd (h refl)
-not-true-false false h = refl
 
 module _ (block : ℕ → ℕ) where
   pub before-is : (i j : ℕ) → comesBefore block i j ≡ true → Before block i j

@@ -12,6 +12,7 @@ use lib.ListN.{length, getD, take, drop, replicate, length-replicate, length-app
 use lib.Seq.{take-at}
 use Rattle.words.specs.Sum.{sumTo}
 use Rattle.words.specs.Section.{listOf}
+use Rattle.words.proofs.ListLaws.{zeros-front}
 use Rattle.words.proofs.SumLaws.{sum-more, sum-le, sum-ext}
 use Rattle.words.proofs.SectionLaws.{length-listOf, getD-listOf}
 use Rattle.record.specs.Record.{majorsOf, countAt, partsBefore, partsOf, stagesOf}
@@ -32,11 +33,6 @@ use Rattle.blocks.proofs.FillLaws.{put-long, put-here, put-word, put-ex
 use Rattle.blocks.proofs.StartLaws.{parts-next, state-next, state-mono, sram-next, sram-mono}
 
 -- ---- the first n of N zeros
-
-pub zeros-front : (N n : ℕ) → n ≤ N → take n (replicate {A = ℕ} N 0) ≡ replicate n 0
-zeros-front N zero h = refl
-zeros-front zero (suc n) h = absurd (omega arith)
-zeros-front (suc N) (suc n) h = rw (zeros-front N n (omega arith))
 
 pub zeros-long : (N n : ℕ) → n ≤ N → n ≡ length (take n (replicate {A = ℕ} N 0))
 zeros-long N n h = sym (ap length (zeros-front N n h) ∙ length-replicate n 0)

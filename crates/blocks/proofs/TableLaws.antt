@@ -69,6 +69,17 @@ module _ (d room : List ℕ) (s : ℕ) where
             (λ j a b e. omega (arith, rank-same d s s j i b l e .1));
       }
 
+-- the counts of part p, where words 0 to 5 of its row are as they were
+counted-kept : (d r r′ : List ℕ) (p : ℕ) → ((k : ℕ) → k < 6 → getD r′ (cell p k) 0 ≡ getD r (cell p k) 0) → Counted d r p → Counted d r′ p
+counted-kept d r r′ p same w = record {
+  body-low = same 0 (omega arith) ∙ w .body-low;
+  body-high = same 1 (omega arith) ∙ w .body-high;
+  locations = same 2 (omega arith) ∙ w .locations;
+  sram-count = same 3 (omega arith) ∙ w .sram-count;
+  duplicate-words = same 4 (omega arith) ∙ w .duplicate-words;
+  write-outs = same 5 (omega arith) ∙ w .write-outs;
+}
+
 -- ---- the first n major stages
 
 module _ (d room : List ℕ) where
@@ -111,17 +122,9 @@ module _ (d room : List ℕ) where
 
   -- the counts are as they were
   pub allot-counted : (n p : ℕ) → Counted d room p → Counted d (allotRows d room n) p
-  allot-counted n p w = record {
-    body-low = same 0 (omega arith) ∙ w .body-low;
-    body-high = same 1 (omega arith) ∙ w .body-high;
-    locations = same 2 (omega arith) ∙ w .locations;
-    sram-count = same 3 (omega arith) ∙ w .sram-count;
-    duplicate-words = same 4 (omega arith) ∙ w .duplicate-words;
-    write-outs = same 5 (omega arith) ∙ w .write-outs;
-  }
-    where
-      same : (k : ℕ) → k < 6 → getD (allotRows d room n) (cell p k) 0 ≡ getD room (cell p k) 0
-      same k l = allot-other n (cell p k) (λ r j a b e v. omega (arith, cell-same p r k j (omega arith) (omega arith) v .1))
+  allot-counted n p =
+      counted-kept d room (allotRows d room n) p
+      (λ k l. allot-other n (cell p k) (λ r j a b e v. omega (arith, cell-same p r k j (omega arith) (omega arith) v .1)))
 
 -- ---- the counts
 
@@ -203,17 +206,9 @@ module _ (d : List ℕ) where
         (lt-or-ge p n)
       where
         before : p < n → Counted d (countRows d room n) p → Counted d (countRow d (countRows d room n) n) p
-        before u w = record {
-          body-low = same 0 (omega arith) ∙ w .body-low;
-          body-high = same 1 (omega arith) ∙ w .body-high;
-          locations = same 2 (omega arith) ∙ w .locations;
-          sram-count = same 3 (omega arith) ∙ w .sram-count;
-          duplicate-words = same 4 (omega arith) ∙ w .duplicate-words;
-          write-outs = same 5 (omega arith) ∙ w .write-outs;
-        }
-          where
-            same : (k : ℕ) → k < 6 → getD (countRow d (countRows d room n) n) (cell p k) 0 ≡ getD (countRows d room n) (cell p k) 0
-            same k a = row-other (countRows d room n) n (cell p k) (λ j b v. omega (arith, cell-same p n k j (omega arith) (omega arith) v .0))
+        before u =
+            counted-kept d (countRows d room n) (countRow d (countRows d room n) n) p
+            (λ k a. row-other (countRows d room n) n (cell p k) (λ j b v. omega (arith, cell-same p n k j (omega arith) (omega arith) v .0)))
 
 -- ---- the whole table
 

@@ -72,7 +72,7 @@ pub fn fill_counts(d: &[u8], room: &mut [u32])
 }
 
 // The sum of word k over the rows of the first parts.
-fn column_sum(room: &[u32], parts: usize, k: usize) -> u64
+pub fn column_sum(room: &[u32], parts: usize, k: usize) -> u64
     requires { ⌜ (parts ≤ 262144) × (k < 16) × (65536 + 16 * parts ≤ length (now room)) ⌝ }
     ensures { λ r. ⌜ (r ≡ sumTo (λ p. getD (now (room .entry)) (cell p k) 0) parts) × (r < 2 ^ 50) ⌝ }
 {

@@ -208,26 +208,22 @@ module _ (n : ℕ) (d : List ℕ) (p last state sram : ℕ) (many : 16 ≤ n) (e
       let e : sectionAt n W o k + 16 * n + 4 * w + h ≡ sectionAt n W o k + (16 * n + (4 * w + h)) = omega arith in
       ap (λ (x : ℕ). getD W x 0) e ∙ in-stage k (16 * n + (4 * w + h)) a (omega arith)
 
+  -- bit q of word h of its lane, where that word of every lane has the bits f
+  lane-is : (f : ℕ → ℕ) (k h q : ℕ) → k < S → h < 4 → q < 32 * n → ((w : ℕ) → w < n → getD (stageSection n d p k) (16 * n + (4 * w + h)) 0 ≡ laneWord f w) → ((i : ℕ) → f i < 2)
+      → bit (laneWordAt n W o k (q / 32) h) (q % 32) ≡ f q
+  lane-is f k h q a b l word small = ap (λ (x : ℕ). bit x (q % 32)) (in-lane k (q / 32) h a (omega arith) b ∙ word (q / 32) (omega arith)) ∙ lane-bit f q small
+
   xora-is : (k q : ℕ) → k < S → q < 32 * n → bit (laneWordAt n W o k (q / 32) 0) (q % 32) ≡ xoraBit d p k q
   unfolding stageSection
-  xora-is k q h l =
-      let m : q / 32 < n = omega arith in
-      ap (λ (x : ℕ). bit x (q % 32)) (in-lane k (q / 32) 0 h m (omega arith) ∙ section-first _ _ _ n (stageEntry n d p k) (q / 32) m)
-      ∙ lane-bit (xoraBit d p k) q (xora-lt d p k)
+  xora-is k q a l = lane-is (xoraBit d p k) k 0 q a (omega arith) l (section-first _ _ _ n (stageEntry n d p k)) (xora-lt d p k)
 
   xorb-is : (k q : ℕ) → k < S → q < 32 * n → bit (laneWordAt n W o k (q / 32) 1) (q % 32) ≡ xorbBit d p k q
   unfolding stageSection
-  xorb-is k q h l =
-      let m : q / 32 < n = omega arith in
-      ap (λ (x : ℕ). bit x (q % 32)) (in-lane k (q / 32) 1 h m (omega arith) ∙ section-second _ _ _ n (stageEntry n d p k) (q / 32) m)
-      ∙ lane-bit (xorbBit d p k) q (xorb-lt d p k)
+  xorb-is k q a l = lane-is (xorbBit d p k) k 1 q a (omega arith) l (section-second _ _ _ n (stageEntry n d p k)) (xorb-lt d p k)
 
   orb-is : (k q : ℕ) → k < S → q < 32 * n → bit (laneWordAt n W o k (q / 32) 2) (q % 32) ≡ orbBit d p k q
   unfolding stageSection
-  orb-is k q h l =
-      let m : q / 32 < n = omega arith in
-      ap (λ (x : ℕ). bit x (q % 32)) (in-lane k (q / 32) 2 h m (omega arith) ∙ section-third _ _ _ n (stageEntry n d p k) (q / 32) m)
-      ∙ lane-bit (orbBit d p k) q (orb-lt d p k)
+  orb-is k q a l = lane-is (orbBit d p k) k 2 q a (omega arith) l (section-third _ _ _ n (stageEntry n d p k)) (orb-lt d p k)
 
   -- ---- all of it, where each number fits its half
 

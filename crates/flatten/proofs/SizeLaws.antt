@@ -9,14 +9,14 @@ use lib.ListN.{length, getD, take, replicate}
 use lib.Seq.{take-take}
 use Rattle.words.specs.Edition.{partWords}
 use Rattle.words.specs.Sum.{sumTo}
+use Rattle.words.proofs.ListLaws.{zeros-front}
 use Rattle.words.proofs.SumLaws.{sum-more}
 use Rattle.record.specs.Record.{wordAt, blocksOf, majorsOf, countAt, partsOf, headBase}
 use Rattle.record.proofs.RecordLaws.{stages-at}
-use Rattle.counts.specs.Counts.{srams}
-use Rattle.blocks.specs.Blocks.{sramOf, stateWords, sramWords}
+use Rattle.blocks.specs.Blocks.{stateWords, sramWords}
 use Rattle.blocks.specs.Table.{cell}
+use Rattle.blocks.specs.Fill.{Tallied}
 use Rattle.positions.specs.Places.{Judgeable}
-use Rattle.blocks.proofs.StageLaws.{zeros-front}
 use Rattle.assembly.specs.Assembly.{scriptWords}
 use Rattle.assembly.specs.Steps.{lengthOf, emptyBlocks}
 use Rattle.assembly.proofs.LengthLaws.{words-sum}
@@ -66,17 +66,9 @@ module _ (d room : List ℕ) (h : Sound d room) where
   parts-next p heads sum more l e a stages t b =
       ap₂ _+_ a (b ∙ ap₂ (partWords 256) (h .ready .rounds p l) (t ∙ stages-at d heads p e)) ∙ sym (sum-more (lengthOf 256 d) p)
 
-  pub sram-none : 0 ≡ sumTo (λ q. 8192 * srams d q) 0
-  unfolding sumTo
-  sram-none = refl
-
-  pub sram-next : (p sum : ℕ) → p < partsOf d → sum ≡ sumTo (λ q. 8192 * srams d q) p → sum + 8192 * getD room (cell p 3) 0 ≡ sumTo (λ q. 8192 * srams d q) (p + 1)
-  sram-next p sum l a =
-      ap₂ _+_ a (ap (λ (x : ℕ). 8192 * x) (h .ready .tabled .counted p l .sram-count)) ∙ sym (sum-more (λ q. 8192 * srams d q) p)
-
-  pub sram-all : (p sum : ℕ) → p ≡ partsOf d → sum ≡ sumTo (λ q. 8192 * srams d q) p → sum ≡ sramWords d
-  unfolding sramOf
-  sram-all p sum e a = a ∙ ap (sumTo (λ q. 8192 * srams d q)) e
+  -- as the sum of a column of the part table asks for it
+  pub tallied : Tallied d room
+  tallied = record { ready = record { form = plan-passed d room h .form; inside = h .ready .wide }; counted = h .ready .tabled .counted }
 
   -- ---- the whole
 

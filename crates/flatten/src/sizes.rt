@@ -10,6 +10,7 @@ ghost use Rattle.assembly.specs.Steps.{lengthOf, emptyBlocks};
 ghost use Rattle.layout.specs.Layout.{Sound};
 ghost use Rattle.flatten.specs.Flatten.{sizesOf};
 ghost use Rattle.flatten.specs.Answers.{sizesIn};
+use blocks::table::column_sum;
 use positions::planned::state_words;
 use record::bodies::parts_of;
 use record::places::head_base;
@@ -76,14 +77,7 @@ fn sram_words(d: &[u8], room: &[u32]) -> u64
     requires { ⌜ Sound (now d) (now room) ⌝ }
     ensures { λ r. ⌜ r ≡ sramWords (now (d .entry)) ⌝ }
 {
-    let parts = parts_of(d);
-    let mut sum: u64 = 0;
-    let mut p = 0;
-    while p < parts {
-        sum += 8192 * (room[65536 + 16 * p + 3] as u64);
-        p += 1;
-    }
-    sum
+    8192 * column_sum(room, parts_of(d), 3)
 }
 
 // The sizes of an accepted plan, whose part table stands in the room.

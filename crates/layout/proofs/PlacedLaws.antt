@@ -10,6 +10,7 @@ use borrow.Rule.Slice.PartMut.{putMid, mid-len}
 use lib.ListN.{length, getD, set, take, drop, replicate, length-append}
 use lib.Seq.{sets}
 use Rattle.words.proofs.BitLaws.{lt-or-ge}
+use Rattle.words.proofs.ListLaws.{put-sets}
 use Rattle.record.specs.Record.{blocksOf, countAt, partsBefore, partsOf}
 use Rattle.record.proofs.RecordLaws.{parts-more}
 use Rattle.record.proofs.FormLaws.{parts-in}
@@ -23,7 +24,7 @@ use Rattle.assembly.proofs.StepLaws as step
 use Rattle.assembly.proofs.RankLaws.{part-at, first-more, first-le, first-none, first-in, rank-found, row-at, rank-inside, rank-outside}
 use Rattle.assembly.proofs.LengthLaws.{part-length, empty-length}
 use Rattle.layout.specs.Layout.{rowScript, emptyWords, PartRoom, BlockAt}
-use Rattle.layout.proofs.StoreLaws.{sets-next, put-sets, stored-length}
+use Rattle.layout.proofs.StoreLaws.{sets-next, stored-length}
 
 pub empty-made : (l : List ℕ) (m : ℕ) → m ≡ 256 → l ≡ replicate m 0 → set l 1 1 ≡ emptyWords
 unfolding emptyWords
@@ -192,4 +193,4 @@ module _ (d room : List ℕ) (s b from : ℕ) (q : BlockAt d room s b from) wher
 
       pub empty-stored : (z : List ℕ) → length z ≡ length (take (at + 256 - at) (drop at l)) → z ≡ emptyWords → putMid at (at + 256 - at) l z ≡ sets l at (blockWords 256 d s xs)
       empty-stored z kept e =
-          put-sets l at (at + 256) z (omega arith) empty-in (kept ∙ mid-len at (at + 256) l empty-in) ∙ ap (sets l at) (e ∙ sym empty-words)
+          put-sets l at (at + 256 - at) z (omega (arith, empty-in)) (kept ∙ mid-len at (at + 256) l empty-in) ∙ ap (sets l at) (e ∙ sym empty-words)

@@ -9,6 +9,7 @@ use borrow.Rule.Slice.PartMut.{putMid, mid-len}
 use lib.ListN.{length, getD, take, drop, replicate, take-append-drop}
 use lib.Seq.{sets}
 use Rattle.words.specs.Edition.{partWords}
+use Rattle.words.proofs.ListLaws.{put-sets}
 use Rattle.record.specs.declared.bodies.Body.{Body}
 use Rattle.record.specs.Record.{partsOf, bodyAt}
 use Rattle.record.specs.Body.{BodyReady, BodyOf}
@@ -21,7 +22,6 @@ use Rattle.build.specs.Build.{Buildable}
 use Rattle.checks.proofs.PassedLaws.{Passed, passed, placed-lanes}
 use Rattle.assembly.specs.Steps.{lengthOf}
 use Rattle.layout.specs.Layout.{Sound, rowScript}
-use Rattle.layout.proofs.StoreLaws.{put-sets}
 
 module _ (d room : List ℕ) (h : Sound d room) where
   pub plan-passed : Passed 256 d
@@ -93,5 +93,5 @@ module _ (d room : List ℕ) (h : Sound d room) where
             → length out ≡ length (take (next - at) (drop at words)) → out ≡ partScript 256 d p (x .last) (x .state) (x .sram)
             → putMid at (next - at) words out ≡ sets words at (rowScript d room p last)
         part-written last (a, b, c) out kept e =
-            put-sets words at next out (omega (arith, is)) next-in (kept ∙ mid-len at next words next-in)
+            put-sets words at (next - at) out (omega (arith, is, next-in)) (kept ∙ mid-len at next words next-in)
             ∙ ap (sets words at) (e ∙ ap₂ (λ (u v : ℕ). partScript 256 d p u v (x .sram)) a b ∙ ap (partScript 256 d p last (getD room (cell p 7) 0)) c)

@@ -10,6 +10,7 @@ use borrow.Rule.Slice.PartMut.{putMid, mid-len}
 use lib.ListN.{length, set, take, drop, replicate, length-append, length-replicate}
 use lib.Seq.{sets}
 use Rattle.words.specs.Sum.{sumTo}
+use Rattle.words.proofs.ListLaws.{put-sets}
 use Rattle.record.specs.Record.{blocksOf, majorsOf, partsBefore}
 use Rattle.assembly.specs.Assembly.{blockWords, stageWords, majorWords, scriptWords, blockStart, stageStarts, majorStarts, scriptStarts}
 use Rattle.assembly.specs.Steps.{partsIn, firstRank}
@@ -20,7 +21,7 @@ use Rattle.assembly.proofs.LengthLaws.{words-length}
 use Rattle.assembly.proofs.StartLaws.{start-first, start-more, start-last, starts-none, starts-more, all-none, all-more, starts-are, stage-starts, major-starts, starts-length}
 use Rattle.layout.specs.declared.placed.Next.{Next}
 use Rattle.layout.specs.Layout.{BlockRoom, NextOf, StageRoom, PlanRoom}
-use Rattle.layout.proofs.StoreLaws.{sets-next, sets-behind, put-sets, stored-length}
+use Rattle.layout.proofs.StoreLaws.{sets-next, sets-behind, stored-length}
 use Rattle.layout.proofs.RowLaws.{plan-formed}
 
 -- ---- the blocks of a major stage
@@ -171,7 +172,7 @@ module _ (d room : List ℕ) (m w : ℕ) (q : PlanRoom d room m w) where
         let k : length (take (end + 2048 - end) (drop end l₁)) ≡ 8 * 256 = mid-len end (end + 2048) l₁ (omega (arith, end-fits)) ∙ omega arith in
         let zeros : z ≡ replicate (8 * 256) 0 = c ∙ ap (λ (i : ℕ). replicate i 0) k in
         let size : length z ≡ end + 2048 - end = omega (arith, ap length zeros ∙ length-replicate {A = ℕ} (8 * 256) 0) in
-        put-sets l₁ end (end + 2048) z (omega arith) (omega (arith, end-fits)) size
+        put-sets l₁ end (end + 2048 - end) z (omega (arith, end-fits)) size
         ∙ ap (sets l₁ end) zeros
         ∙ sets-behind l l₁ (sets l₁ end (replicate (8 * 256) 0)) (majorWords 256 d (majorsOf d)) (replicate (8 * 256) 0) end a is refl
         ∙ ap (sets l 0) (sym (script-is 256 d))

@@ -9,13 +9,14 @@ use mathlib.Core.Option.{Option, none, some}
 use Prim.Native.Nat.{ℕ, zero, suc, _+_, _-_, _≤_, _<_}
 use native.Mathlib.Nat.{add-zero}
 use native.Mathlib.Omega.{arith}
-use borrow.Author.Tests.{leb-true, ltb-true, eqb-true, eq-eqb, ne-eqb}
+use borrow.Author.Tests.{ltb-true, eqb-true, eq-eqb, ne-eqb}
 use lib.Dec.{leb, ltb, eqb}
 use lib.ListN.{length, getD}
 use Rattle.record.specs.Tests.{allBelow, firstNot}
 use Rattle.record.proofs.TestLaws.{and-true, all-at, not-none, not-both}
-use Rattle.machine.specs.Part.{stagesAt, lastAt, writeOutsAt, startAt, sramsAt, duplicatesAt, normalAt, endAt}
-use Rattle.machine.specs.Run.{turnsFrom, turnsAfter, entriesForm, locationsForm, lanesForm, readsForm, storesForm, partForm, partsForm, emptyBlock, blockForm, badBlock}
+use Rattle.machine.specs.Part.{stagesAt, lastAt, startAt, normalAt, endAt}
+use Rattle.machine.specs.Run.{turnsFrom, turnsAfter, partForm, partsForm, emptyBlock, blockForm, badBlock}
+use Rattle.form.proofs.FormLaws.{in-form}
 use Rattle.order.specs.Order.{partsFrom}
 
 -- ---- what the form says of one part: t is the number of words of the new state
@@ -23,49 +24,6 @@ use Rattle.order.specs.Order.{partsFrom}
 pub record Formed (W : List ℕ) (t o : ℕ) : Type 0 where
   pub stages : 1 ≤ stagesAt W o
   pub inside : 0 < normalAt W o → startAt W o + normalAt W o ≤ t
-
-module _ (n : ℕ) (W : List ℕ) (s t : ℕ) where
-  stores-inside : (o : ℕ) → storesForm n W s t o ≡ true → 0 < normalAt W o → startAt W o + normalAt W o ≤ t
-  unfolding storesForm
-  stores-inside o h any =
-      let x = startAt W o + normalAt W o in
-      let (_, c) = and-true (leb (sramsAt W o + duplicatesAt W o) (writeOutsAt W o) && leb (normalAt W o) n) (eqb (normalAt W o) 0 || (leb x s && leb x t)) h in
-      go (eqb (normalAt W o) 0) refl c
-    where
-      go : (b : Bool) → eqb (normalAt W o) 0 ≡ b → (b || (leb (startAt W o + normalAt W o) s && leb (startAt W o + normalAt W o) t)) ≡ true → startAt W o + normalAt W o ≤ t
-      go true e c = absurd (omega (arith, eqb-true (normalAt W o) 0 e))
-      go false e c = leb-true _ _ (and-true (leb (startAt W o + normalAt W o) s) _ c .1)
-
-  -- the part at o, which ends by e; word 1 says whether it ends there
-  record Part (e o : ℕ) : Type 0 where
-    pub formed : Formed W t o
-    pub last : lastAt W o ≡ elim (eqb (endAt n W o) e) [ true ↦ 1 | false ↦ 0 ]
-
-  part-in : (e o : ℕ) → partForm n W s t e o ≡ true → Part e o
-  unfolding partForm
-  part-in e o h =
-      let c₁ = leb (o + n) e in
-      let c₂ = leb 1 (stagesAt W o) in
-      let c₃ = leb (stagesAt W o) 255 in
-      let c₄ = leb (endAt n W o) e in
-      let c₅ = eqb (lastAt W o) (elim (eqb (endAt n W o) e) [ true ↦ 1 | false ↦ 0 ]) in
-      let c₆ = storesForm n W s t o in
-      let c₇ = locationsForm n W o in
-      let c₈ = lanesForm n W o in
-      let c₉ = readsForm n W s t o in
-      let h₉ = and-true (c₁ && c₂ && c₃ && c₄ && c₅ && c₆ && c₇ && c₈ && c₉) (entriesForm n W o) h .0 in
-      let h₈ = and-true (c₁ && c₂ && c₃ && c₄ && c₅ && c₆ && c₇ && c₈) c₉ h₉ .0 in
-      let h₇ = and-true (c₁ && c₂ && c₃ && c₄ && c₅ && c₆ && c₇) c₈ h₈ .0 in
-      let h₆ = and-true (c₁ && c₂ && c₃ && c₄ && c₅ && c₆) c₇ h₇ .0 in
-      let (h₅, stores) = and-true (c₁ && c₂ && c₃ && c₄ && c₅) c₆ h₆ in
-      let (h₄, last) = and-true (c₁ && c₂ && c₃ && c₄) c₅ h₅ in
-      let h₃ = and-true (c₁ && c₂ && c₃) c₄ h₄ .0 in
-      let h₂ = and-true (c₁ && c₂) c₃ h₃ .0 in
-      let any = and-true c₁ c₂ h₂ .1 in
-      record {
-        formed = record { stages = leb-true _ _ any; inside = stores-inside o stores };
-        last = eqb-true _ _ last;
-      }
 
 -- ---- parts end to end, the last of them among the first f
 
@@ -78,8 +36,8 @@ unfolding partsForm
 parts-chain n W s t e zero o h = absurd (not-both false h refl)
 parts-chain n W s t e (suc f) o h =
     let (first, rest) = and-true (partForm n W s t e o) (elim (eqb (endAt n W o) e) [ true ↦ true | false ↦ partsForm n W s t e f (endAt n W o) ]) h in
-    let p = part-in n W s t e o first in
-    (p .formed, go (eqb (endAt n W o) e) (p .last) rest (parts-chain n W s t e f (endAt n W o)))
+    let p = in-form n W s t o e first in
+    (record { stages = p .some; inside = λ any. p .stores .inside any .1 }, go (eqb (endAt n W o) e) (p .last) rest (parts-chain n W s t e f (endAt n W o)))
   where
     go : (b : Bool) → lastAt W o ≡ elim b [ true ↦ 1 | false ↦ 0 ] → elim b [ true ↦ true | false ↦ partsForm n W s t e f (endAt n W o) ] ≡ true
         → (partsForm n W s t e f (endAt n W o) ≡ true → Chain n W t f (endAt n W o)) → (lastAt W o ≡ 1) ⊎ ((lastAt W o ≡ 0) × Chain n W t f (endAt n W o))

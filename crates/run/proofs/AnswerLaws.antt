@@ -13,10 +13,10 @@ use Rattle.record.specs.Tests.{firstNot}
 use Rattle.record.proofs.TestLaws.{not-none}
 use Rattle.machine.specs.Turn.{Block}
 use Rattle.machine.specs.Run.{Running, blocksFrom, runFrom, runTurns, allLeft, badBlock, badTurn, blockForm, outcome, newAfter, roomAfter, refused}
-use Rattle.turns.specs.declared.refuse.Found.{Found}
-use Rattle.turns.specs.declared.refuse.Found.the-variants.{At, Nowhere}
-use Rattle.turns.specs.Found.{foundOf}
-use Rattle.turns.proofs.RefuseLaws.{blockGood, turnGood}
+use Rattle.form.specs.declared.refuse.Found.{Found}
+use Rattle.form.specs.declared.refuse.Found.the-variants.{At, Nowhere}
+use Rattle.form.specs.Found.{foundOf}
+use Rattle.form.proofs.RefuseLaws.{blockGood, turnGood}
 use Rattle.run.specs.declared.Ran.{Ran}
 use Rattle.run.specs.declared.Ran.the-variants.{Left}
 use Rattle.run.specs.Answers.{ranOf}

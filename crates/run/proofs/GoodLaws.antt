@@ -15,8 +15,8 @@ use Rattle.record.proofs.TestLaws.{not-both, and-true, or-cases, all-at}
 use Rattle.machine.specs.Part.{stagesAt, lastAt, endAt}
 use Rattle.machine.specs.Turn.{Block, begins, ended, afterRead, afterStage, afterStore, turned}
 use Rattle.machine.specs.Run.{partForm, partsForm, emptyBlock, blockForm}
-use Rattle.turns.specs.Block.{PartWell}
-use Rattle.turns.proofs.FormLaws.{InForm, in-form, parts-well, parts-next}
+use Rattle.form.specs.Well.{PartWell}
+use Rattle.form.proofs.FormLaws.{InForm, in-form, parts-well, parts-next}
 use Rattle.run.specs.Good.{Parts, Good}
 
 -- ---- the parts from word o to word e

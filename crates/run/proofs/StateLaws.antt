@@ -11,11 +11,12 @@ use lib.Dec.{eqb}
 use lib.ListN.{length, getD, take, drop, set, length-drop, length-set}
 use lib.Seq.{sets, length-sets, length-take-le, getD-take, getD-drop, getD-set-same, getD-set-other, ext-getD}
 use Rattle.words.proofs.BitLaws.{lt-or-ge}
+use Rattle.words.proofs.ListLaws.{put-sets}
 use Rattle.machine.specs.Part.{stagesAt, normalAt}
 use Rattle.machine.specs.Turn.{Block, begins, ended}
 use Rattle.machine.specs.Run.{blocksFrom}
 use Rattle.turns.specs.Block.{held, blockIn}
-use Rattle.turns.proofs.FillLaws.{take-sets, sets-in, sets-under, sets-over, put-is}
+use Rattle.turns.proofs.SetsLaws.{take-sets, sets-in, sets-under, sets-over}
 use Rattle.run.specs.States.{roomOf, partOf, phaseOf, stageOf, stateWords, blockOf, blocksIn}
 
 -- ---- parts of lists
@@ -52,7 +53,7 @@ lent room b r = take (1024 * b) room ++ (r ++ drop (size b) (drop (1024 * b) roo
 
 module _ (room : List ℕ) (b : ℕ) (r : List ℕ) (fits : 1024 * b + 1024 ≤ length room) (long : length r ≡ 1024) where
   lent-sets : lent room b r ≡ sets room (1024 * b) r
-  lent-sets = ap (λ (n : ℕ). take (1024 * b) room ++ (r ++ drop n (drop (1024 * b) room))) (size-is b) ∙ put-is room (1024 * b) 1024 r fits long
+  lent-sets = ap (λ (n : ℕ). take (1024 * b) room ++ (r ++ drop n (drop (1024 * b) room))) (size-is b) ∙ put-sets room (1024 * b) 1024 r fits long
 
   pub lent-long : length (lent room b r) ≡ length room
   lent-long = ap length lent-sets ∙ length-sets room (1024 * b) r

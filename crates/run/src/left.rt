@@ -7,7 +7,7 @@ ghost use Rattle.machine.specs.Run.{turnsAfter, turnsLeft, allLeft};
 ghost use Rattle.run.specs.States.{phaseOf, blockOf, blocksIn};
 ghost use Rattle.run.specs.Good.{PartsFrom, GoodIn, Goods};
 use crate::states::load_state;
-use turns::part;
+use form::part;
 
 // The turns of the parts of a block after the one at word `at`.
 fn turns_after(words: &[u32], at: usize) -> usize

@@ -13,10 +13,11 @@ use Rattle.machine.specs.Part.{stagesAt, lastAt, startAt, normalAt, endAt}
 use Rattle.machine.specs.Turn.{Block, readRow, stageRow, captured, begins, ended, afterRead, afterStage, afterStore, stored, turned, written}
 use Rattle.machine.proofs.StageLaws.{stage-length}
 use Rattle.machine.proofs.TurnLaws.{read-length, captured-length}
+use Rattle.words.proofs.ListLaws.{zeros-front, put-sets}
 use Rattle.words.proofs.SectionLaws.{length-listOf}
-use Rattle.turns.specs.Gather.{gatheredRow}
+use Rattle.stage.specs.Gather.{gatheredRow}
 use Rattle.turns.specs.Block.{held, blockIn, roomRead, roomStaged, roomTurned}
-use Rattle.turns.proofs.FillLaws.{take-sets, sets-in, sets-part, put-is, take-zeros}
+use Rattle.turns.proofs.SetsLaws.{take-sets, sets-in, sets-part}
 use Rattle.turns.proofs.CaptureLaws.{capture-ext}
 
 -- ---- the rooms
@@ -30,13 +31,13 @@ module _ (W : List ℕ) (o : ℕ) (room : List ℕ) (long : length room ≡ 1024
       → take 512 (r ++ drop 256 room) ++ (z ++ drop 256 (drop 512 (r ++ drop 256 room))) ≡ roomRead 256 W o old new room
   unfolding roomRead
   read-room-is old new r z e f =
-      put-is room₁ 512 256 z (omega (arith, long₁)) (ap length zeros ∙ length-replicate {A = ℕ} 256 0) ∙ ap₂ (λ (l v : List ℕ). sets l 512 v) (first ∙ ap (sets room 0) e) zeros
+      put-sets room₁ 512 256 z (omega (arith, long₁)) (ap length zeros ∙ length-replicate {A = ℕ} 256 0) ∙ ap₂ (λ (l v : List ℕ). sets l 512 v) (first ∙ ap (sets room 0) e) zeros
     where
       room₁ : List ℕ
       room₁ = r ++ drop 256 room
 
       first : room₁ ≡ sets room 0 r
-      first = put-is room 0 256 r (omega arith) (ap length e ∙ read-length 256 W o old new)
+      first = put-sets room 0 256 r (omega arith) (ap length e ∙ read-length 256 W o old new)
 
       long₁ : length room₁ ≡ 1024
       long₁ = ap length first ∙ length-sets room 0 r ∙ long
@@ -67,7 +68,7 @@ module _ (W : List ℕ) (o : ℕ) (room : List ℕ) (long : length room ≡ 1024
         is = e ∙ ap (λ (l : List ℕ). stageRow 256 13 W o k l ++ gatheredRow 256 W o k l) (take-take 256 512 room (omega arith))
 
         first : s ++ drop 512 room ≡ sets room 0 B
-        first = ap (λ (l : List ℕ). l ++ drop 512 room) is ∙ put-is room 0 512 B (omega arith) long-B
+        first = ap (λ (l : List ℕ). l ++ drop 512 room) is ∙ put-sets room 0 512 B (omega arith) long-B
 
         position : (i : ℕ) → i < 256 → getD (s ++ drop 512 room) i 0 ≡ getD S i 0
         position i h =
@@ -129,7 +130,7 @@ module _ (W old new : List ℕ) (o phase k : ℕ) (room : List ℕ) (long : leng
       caps =
           ap (λ (r : List ℕ). take (normalAt W o) (drop 512 r)) f
           ∙ sets-part (normalAt W o) (sets room 0 R) 512 Z (omega (arith, length-replicate {A = ℕ} 256 0)) (omega (arith, length-replicate {A = ℕ} 256 0, length-sets room 0 R))
-          ∙ take-zeros (normalAt W o) 256 few
+          ∙ zeros-front 256 (normalAt W o) few
 
   stage-row : (room′ : List ℕ) → room′ ≡ roomStaged 256 13 W o k room → take 256 room′ ≡ stageRow 256 13 W o k (take 256 room)
   unfolding roomStaged

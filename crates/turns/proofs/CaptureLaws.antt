@@ -14,7 +14,7 @@ use Rattle.words.proofs.SectionLaws.{length-listOf, listOf-ext}
 use Rattle.machine.specs.Part.{locationIn, normalAt}
 use Rattle.machine.specs.Turn.{captured}
 use Rattle.turns.specs.Capture.{capturedWord}
-use Rattle.turns.proofs.FillLaws.{sets-more, sets-under, sets-over}
+use Rattle.turns.proofs.SetsLaws.{sets-more, sets-under, sets-over}
 
 module _ (n : ℕ) (W : List ℕ) (o k : ℕ) where
   -- as the code tests it

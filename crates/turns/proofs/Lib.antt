@@ -1,14 +1,4 @@
-pub mod FillLaws
-pub mod HalfLaws
-pub mod GatherLaws
-pub mod LowLaws
-pub mod LevelLaws
-pub mod StageEndLaws
+pub mod SetsLaws
 pub mod AppendLaws
 pub mod CaptureLaws
 pub mod BlockLaws
-pub mod FormLaws
-pub mod EntryLaws
-pub mod TestCodeLaws
-pub mod BlockFormLaws
-pub mod RefuseLaws

@@ -2,13 +2,13 @@
 -- Assumes nothing.
 use mathlib.Core.Path.{_≡_}
 use mathlib.Core.List.{List, [], _++_}
-use Prim.Native.Nat.{ℕ, zero, suc, _+_, _<_, _≤_}
-use lib.ListN.{length, take, drop, replicate}
+use Prim.Native.Nat.{ℕ, zero, suc, _<_}
+use lib.ListN.{take, drop, replicate}
 use lib.Seq.{sets}
-use Rattle.machine.specs.Part.{stagesAt, lastAt, startAt, normalAt, endAt}
+use Rattle.machine.specs.Part.{stagesAt, normalAt}
 use Rattle.machine.specs.Turn.{Block, readRow, stageRow, captured}
-use Rattle.turns.specs.Well.{PartIn, Captures, Reads, EntriesIn}
-use Rattle.turns.specs.Gather.{gatheredRow}
+use Rattle.form.specs.Well.{PartWell}
+use Rattle.stage.specs.Gather.{gatheredRow}
 
 -- what the room holds counts from the read turn to the store turn
 unfoldable pub held : ℕ → List ℕ → List ℕ
@@ -38,17 +38,8 @@ roomTurned n L W o k old new zero room = roomRead n W o old new room
 roomTurned n L W o k old new (suc zero) room = roomStaged n L W o k room
 roomTurned n L W o k old new (suc (suc f)) room = room
 
--- ---- what a turn asks of the part at o, where the states have s and t words
+-- ---- what a turn asks of the block's state, where the states have s and t words
 
-pub record PartWell (n : ℕ) (W : List ℕ) (s t o : ℕ) : Type 0 where
-  pub part : PartIn n W o
-  pub reads : Reads n W o s t
-  pub entries : EntriesIn n W o
-  pub captures : Captures n W o
-  pub stores : 0 < normalAt W o → startAt W o + normalAt W o ≤ t
-  pub next : (lastAt W o ≡ 1 → ⊥) → endAt n W o < length W
-
--- and of the block's state
 pub record BlockWell (n : ℕ) (W : List ℕ) (s t part phase stage : ℕ) : Type 0 where
   pub well : phase < 3 → PartWell n W s t part
   pub within : phase ≡ 1 → stage < stagesAt W part

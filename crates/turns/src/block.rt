@@ -1,14 +1,14 @@
 // A block's turn. What it does is in the block's small state; its positions and captured words are in its 1024 words of room.
-use crate::part;
 use crate::read;
-use crate::stage;
 use crate::store;
+use form::part;
+use stage::stage_turn;
 ghost use mathlib.Core.Path.{_≡_};
 ghost use Prim.Native.Nat.{_<_};
 ghost use lib.ListN.{length};
 ghost use Rattle.machine.specs.Part.{stagesAt};
 ghost use Rattle.machine.specs.Turn.{begins, turned, written};
-ghost use Rattle.turns.specs.Well.{PartIn, Reads, EntriesIn, Captures};
+ghost use Rattle.form.specs.Well.{PartIn, Reads, EntriesIn, Captures};
 ghost use Rattle.turns.specs.Block.{blockIn, roomRead, roomStaged, roomTurned, BlockWell};
 use words::clear::clear;
 
@@ -33,7 +33,7 @@ fn stage_room(words: &[u32], at: usize, k: usize, room: &mut [u32])
     requires { ⌜ PartIn 256 (now words) at × EntriesIn 256 (now words) at × Captures 256 (now words) at × (k < stagesAt (now words) at) × (length (now room) ≡ 1024) ⌝ }
     ensures { λ _. ⌜ now (room .exit) ≡ roomStaged 256 13 (now (words .entry)) at k (now (room .entry)) ⌝ }
 {
-    stage::stage_turn(words, at, k, &mut room[0..512]);
+    stage_turn(words, at, k, &mut room[0..512]);
     store::capture(words, at, k, room);
 }
 

@@ -1,8 +1,4 @@
 // The run of a major stage: document 01, "The run". A part is read from the script's words where they stand.
 pub mod block;
-pub mod form;
-pub mod part;
 pub mod read;
-pub mod refuse;
-pub mod stage;
 pub mod store;

@@ -1,5 +1,5 @@
 // The read turn: document 01, "In the read turn the one-word window comes from the old state or the new, by bit 31. Unused lane bits are 0."
-use crate::part;
+use form::part;
 ghost use mathlib.Core.Path.{_≡_};
 ghost use Prim.Native.Nat.{_+_, _*_, _^_, _<_, _≤_};
 ghost use lib.ListN.{length, getD};
@@ -7,7 +7,7 @@ ghost use Rattle.words.specs.Bit.{pop};
 ghost use Rattle.reads.specs.ReadTurn.{appended, laneWord};
 ghost use Rattle.machine.specs.Part.{roundsAt, readWordAt, readMaskAt};
 ghost use Rattle.machine.specs.Turn.{stateWord, readRow};
-ghost use Rattle.turns.specs.Well.{PartIn, Reads};
+ghost use Rattle.form.specs.Well.{PartIn, Reads};
 ghost use Rattle.turns.specs.Window.{windowOf, Readable};
 
 // The one word that a read names, of the old state or the new by bit 31.

@@ -1,6 +1,6 @@
 // Captured words: document 01, "A write-out location w captures positions 32w..32w+31" and "The store turn puts normal captured words, as they
 // are, at state start onward." A block's room has its positions in words 0..255 and its captured words from word 512 on.
-use crate::part;
+use form::part;
 ghost use mathlib.Core.Path.{_≡_};
 ghost use Prim.Native.Nat.{_+_, _<_, _≤_};
 ghost use lib.ListN.{length, take, drop};
@@ -8,7 +8,7 @@ ghost use lib.Seq.{sets};
 ghost use Rattle.machine.specs.Part.{startAt, normalAt};
 ghost use Rattle.machine.specs.Turn.{captured};
 ghost use Rattle.turns.specs.Capture.{capturedWord};
-ghost use Rattle.turns.specs.Well.{PartIn, Captures};
+ghost use Rattle.form.specs.Well.{PartIn, Captures};
 
 // Captured word l after stage k.
 fn capture_word(words: &[u32], at: usize, k: usize, room: &[u32], l: usize) -> u32

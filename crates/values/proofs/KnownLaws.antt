@@ -11,6 +11,7 @@ use borrow.Author.Tests.{eq-eqb, ne-eqb, eqb-true, eqb-false, lt-ltb, le-ltb}
 use lib.Dec.{ltb, eqb}
 use lib.ListN.{length, take, drop, replicate, take-append-drop, length-append, length-drop, drop-of-length-le}
 use lib.Seq.{length-take-le, take-all, take-at, drop-at}
+use Rattle.words.proofs.ListLaws.{zeros-front}
 use Rattle.pinmap.specs.declared.Found.{Found}
 use Rattle.pinmap.specs.declared.Found.the-variants.{Value, Missing}
 use Rattle.pinmap.specs.PinMap.{Entry, entry, look, foundOf, putIn, lastPut, lastFrom, afterPuts}
@@ -21,7 +22,6 @@ use Rattle.record.specs.Record.{partsOf, slotAt}
 use Rattle.record.specs.Form.{empty}
 use Rattle.record.specs.Body.{BodyOf}
 use Rattle.record.specs.Tests.{someBelow}
-use Rattle.blocks.proofs.StageLaws.{zeros-front}
 use Rattle.slots.specs.Slots.{readsPin}
 use Rattle.slots.specs.Puts.{filled}
 use Rattle.slots.proofs.PutLaws.{puts-after, puts-length}

@@ -8,8 +8,8 @@ use Rattle.reads.specs.ReadTurn.{laneWord}
 use Rattle.words.proofs.SectionLaws.{listOf-is}
 use Rattle.machine.specs.Part.{roundsAt, readWordAt, readMaskAt}
 use Rattle.machine.specs.Turn.{stateWord, readRow}
-use Rattle.turns.specs.Fill.{Filled}
-use Rattle.turns.proofs.FillLaws.{filled-none, filled-more}
+use Rattle.stage.specs.Fill.{Filled}
+use Rattle.stage.proofs.FillLaws.{filled-none, filled-more}
 use Rattle.turns.proofs.read.read_turn.Statement.{statement}
 use Rattle.turns.proofs.read.read_turn.Tie as tie
 

@@ -8,7 +8,7 @@ use lib.ListN.{length, getD, length-set}
 use lib.Seq.{sets}
 use Rattle.words.specs.Section.{listOf}
 use Rattle.machine.specs.Part.{startAt, normalAt}
-use Rattle.turns.proofs.FillLaws.{stored-more, take-is}
+use Rattle.turns.proofs.SetsLaws.{stored-more, take-is}
 use Rattle.turns.proofs.store.store.Statement.{statement}
 use Rattle.turns.proofs.store.store.Tie as tie
 

@@ -1,0 +1,3 @@
+pub mod Well
+pub mod Form
+pub mod Found

@@ -1,0 +1,5 @@
+pub mod FillLaws
+pub mod GatherLaws
+pub mod LowLaws
+pub mod LevelLaws
+pub mod StageEndLaws
