@@ -22,7 +22,7 @@ use Rattle.machine.specs.Run.{Ran, ran, refused as notRun}
 use Rattle.run.specs.declared.Ran.{Ran as RunAnswer}
 use Rattle.run.specs.declared.Ran.the-variants.{Left, Refused as NotRun}
 use Rattle.run.specs.Answers.{ranOf}
-use Rattle.capi.specs.Answers.{roundsNumber, roundsFirst, roundsSecond, listedNumber, listedFirst, listedSecond, valueNumber, valueFirst, valueSecond, ranNumber, ranFirst, ranSecond, builtNumber, builtFirst, builtSecond, builtThird, builtFourth}
+use Rattle.answers.specs.Answers.{roundsNumber, roundsFirst, roundsSecond, listedNumber, listedFirst, listedSecond, valueNumber, valueFirst, valueSecond, ranNumber, ranFirst, ranSecond, builtNumber, builtFirst, builtSecond, builtThird, builtFourth}
 
 -- what the last two clauses say stays as it is
 pub rounds-placed : (o : Outcome) (r : Rounds) (n : ℕ) (A : Type 0) → r ≡ roundsOf o → r ≡ Placed n → A
