@@ -9,7 +9,7 @@ use native.Mathlib.Nat.{lt-of-lt-of-le}
 use lib.Dec.{T}
 use lib.ListN.{length, getD}
 use lib.Seq.{ext-getD}
-use Rattle.rebuilt.specs.Stored.{Halves}
+use Rattle.stored.specs.Stored.{Halves}
 use borrow.Author.Count.{below-none, below-more}
 
 pub never : {X : Type 0} → false ≡ true → X

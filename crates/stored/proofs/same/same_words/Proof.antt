@@ -6,9 +6,9 @@ use native.Mathlib.Omega.{arith}
 use lib.ListN.{length}
 use denote.Ref.{now}
 use borrow.Author.Needs.{needs}
-use Rattle.rebuilt.proofs.SameLaws.{Alike, other-length, other-at, alike-none, alike-more, alike-all}
-use Rattle.rebuilt.proofs.same.same_words.Statement.{statement}
-use Rattle.rebuilt.proofs.same.same_words.Tie as tie
+use Rattle.stored.proofs.SameLaws.{Alike, other-length, other-at, alike-none, alike-more, alike-all}
+use Rattle.stored.proofs.same.same_words.Statement.{statement}
+use Rattle.stored.proofs.same.same_words.Tie as tie
 
 abbrev Inv-loop : tie.InvT-loop
 Inv-loop a b i₀ i = Alike a b i × (i ≤ length a)

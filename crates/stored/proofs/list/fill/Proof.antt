@@ -6,10 +6,10 @@ use Prim.Native.Nat.{ℕ, _+_, _-_, _≤_}
 use native.Mathlib.Omega.{arith}
 use lib.ListN.{length, take, replicate}
 use denote.Ref.{now}
-use Rattle.rebuilt.proofs.ListLaws.{fill-none, fill-more}
+use Rattle.stored.proofs.ListLaws.{fill-none, fill-more}
 use borrow.Author.Needs.{needs}
-use Rattle.rebuilt.proofs.list.fill.Statement.{statement}
-use Rattle.rebuilt.proofs.list.fill.Tie as tie
+use Rattle.stored.proofs.list.fill.Statement.{statement}
+use Rattle.stored.proofs.list.fill.Tie as tie
 
 abbrev Inv-loop : tie.InvT-loop
 Inv-loop words₀ from count word k₀ words k = (k ≤ count) × (length words ≡ length words₀) × (take (from + k) words ≡ take from words₀ ++ replicate k word)

@@ -2,7 +2,7 @@
 ghost use mathlib.Core.Path.{_≡_};
 ghost use mathlib.Core.Bool.{true};
 ghost use Prim.Native.Nat.{_+_, _*_};
-ghost use Rattle.rebuilt.specs.Stored.{Halves};
+ghost use Rattle.stored.specs.Stored.{Halves};
 
 // Whether two slices hold the same words.
 pub fn same_words(a: &[u32], b: &[u32]) -> bool

@@ -4,8 +4,8 @@ use mathlib.Core.Path.{_≡_}
 use Prim.Native.Nat.{_*_, _-_, _≤_}
 use lib.ListN.{length}
 use borrow.Author.Needs.{needs}
-use Rattle.rebuilt.proofs.list.put_words.Statement.{statement}
-use Rattle.rebuilt.proofs.list.put_words.Tie as tie
+use Rattle.stored.proofs.list.put_words.Statement.{statement}
+use Rattle.stored.proofs.list.put_words.Tie as tie
 
 abbrev Inv-loop : tie.InvT-loop
 Inv-loop words count bytes₀ end i₀ bytes i = (i ≤ 4 * count) × (length bytes ≡ length bytes₀)

@@ -5,10 +5,10 @@ use Prim.Native.Nat.{_-_, _≤_}
 use native.Mathlib.Omega.{arith}
 use lib.ListN.{length}
 use denote.Ref.{now}
-use Rattle.rebuilt.proofs.ListLaws.{Put, put-none, put-more, put-all}
+use Rattle.stored.proofs.ListLaws.{Put, put-none, put-more, put-all}
 use borrow.Author.Needs.{needs}
-use Rattle.rebuilt.proofs.list.expand.Statement.{statement}
-use Rattle.rebuilt.proofs.list.expand.Tie as tie
+use Rattle.stored.proofs.list.expand.Statement.{statement}
+use Rattle.stored.proofs.list.expand.Tie as tie
 
 abbrev Inv-loop : tie.InvT-loop
 Inv-loop file at words₀ runs filled₀ i₀ words filled i = (i ≤ runs) × (filled ≤ length words₀) × (length words ≡ length words₀) × Put file at runs i filled words

@@ -6,10 +6,10 @@ use Prim.Native.Nat.{ℕ, _-_, _≤_}
 use native.Mathlib.Omega.{arith}
 use lib.ListN.{length}
 use denote.Ref.{now}
-use Rattle.rebuilt.proofs.SameLaws.{Half, odd, not-half, other-half, half-none, half-more, half-all}
+use Rattle.stored.proofs.SameLaws.{Half, odd, not-half, other-half, half-none, half-more, half-all}
 use borrow.Author.Needs.{needs}
-use Rattle.rebuilt.proofs.same.same_halves.Statement.{statement}
-use Rattle.rebuilt.proofs.same.same_halves.Tie as tie
+use Rattle.stored.proofs.same.same_halves.Statement.{statement}
+use Rattle.stored.proofs.same.same_halves.Tie as tie
 
 abbrev Inv-loop : tie.InvT-loop
 Inv-loop numbers words i₀ i = Half numbers words i × (i ≤ length numbers)

@@ -7,7 +7,7 @@ use native.Mathlib.Omega.{arith}
 use lib.ListN.{length, take, set, replicate, replicate-append-replicate}
 use lib.Seq.{take-suc-set}
 use Rattle.record.specs.Record.{wordAt}
-use Rattle.rebuilt.specs.Stored.{runsFrom, listAt}
+use Rattle.stored.specs.Stored.{runsFrom, listAt}
 
 pub fill-none : (l : List ℕ) (f v : ℕ) → take (f + 0) l ≡ take f l ++ replicate 0 v
 fill-none l f v =

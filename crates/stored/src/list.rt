@@ -4,7 +4,7 @@ ghost use mathlib.Core.Path.{_≡_};
 ghost use mathlib.Core.List.{_++_};
 ghost use lib.ListN.{length, take, replicate};
 ghost use Rattle.record.specs.Record.{wordAt};
-ghost use Rattle.rebuilt.specs.Stored.{listAt};
+ghost use Rattle.stored.specs.Stored.{listAt};
 use record::places::word_at;
 
 // How many words of the file the list at word `at` takes.
