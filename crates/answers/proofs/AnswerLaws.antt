@@ -13,16 +13,11 @@ use Rattle.listing.specs.declared.Listed.the-variants.{Text, Refused as NotList
 use Rattle.values.specs.Values.{Outcome as Valued, bit, refused as unvalued, answerOf}
 use Rattle.values.specs.declared.Answer.{Answer}
 use Rattle.values.specs.declared.Answer.the-variants.{Bit, Refused as NotValued}
-use Rattle.flatten.specs.declared.sizes.Sizes.{Sizes}
-use Rattle.flatten.specs.declared.Flattened.{Flattened}
-use Rattle.flatten.specs.declared.Flattened.the-variants.{Built, Refused as NotBuilt}
-use Rattle.flatten.specs.Flatten.{Build, built, refusal}
-use Rattle.flatten.specs.Answers.{flattenedOf, sizesIn}
 use Rattle.machine.specs.Run.{Ran, ran, refused as notRun}
 use Rattle.run.specs.declared.Ran.{Ran as RunAnswer}
 use Rattle.run.specs.declared.Ran.the-variants.{Left, Refused as NotRun}
 use Rattle.run.specs.Answers.{ranOf}
-use Rattle.answers.specs.Answers.{roundsNumber, roundsFirst, roundsSecond, listedNumber, listedFirst, listedSecond, valueNumber, valueFirst, valueSecond, ranNumber, ranFirst, ranSecond, builtNumber, builtFirst, builtSecond, builtThird, builtFourth}
+use Rattle.answers.specs.Answers.{roundsNumber, roundsFirst, roundsSecond, listedNumber, listedFirst, listedSecond, valueNumber, valueFirst, valueSecond, ranNumber, ranFirst, ranSecond}
 
 -- what the last two clauses say stays as it is
 pub rounds-placed : (o : Outcome) (r : Rounds) (n : ℕ) (A : Type 0) → r ≡ roundsOf o → r ≡ Placed n → A
@@ -71,20 +66,3 @@ run-refused (notRun k i) r x A e f a =
     let q : NotRun x ≡ NotRun (record { number = k; part = 0; item = i }) = sym f ∙ e in
     let s : x ≡ record { number = k; part = 0; item = i } = cc in
     ((cc), ((cc), ((cc), a)))
-
--- and of a plan
-pub plan-built : (o : Build) (r : Flattened) (x : Sizes) (A : Type 0) → r ≡ flattenedOf o → r ≡ Built x → A
-    → (0 ≡ builtNumber o) × ((x .starts ≡ builtFirst o) × ((x .words ≡ builtSecond o) × ((x .state ≡ builtThird o) × ((x .sram ≡ builtFourth o) × A))))
-plan-built (built y) r x A e f a =
-    let q : Built x ≡ Built (sizesIn y) = sym f ∙ e in
-    let s : x ≡ sizesIn y = cc in
-    (refl, ((cc), ((cc), ((cc), ((cc), a)))))
-plan-built (refusal q) r x A e f a = let z : _≡_ {A = ℕ} 0 1 = cc in absurd (omega arith)
-
-pub plan-refused : (o : Build) (r : Flattened) (x : Refusal) (A : Type 0) → r ≡ flattenedOf o → r ≡ NotBuilt x → A
-    → (x .number ≡ builtNumber o) × ((x .part ≡ builtFirst o) × ((x .item ≡ builtSecond o) × ((0 ≡ builtThird o) × ((0 ≡ builtFourth o) × A))))
-plan-refused (built y) r x A e f a = let z : _≡_ {A = ℕ} 0 1 = cc in absurd (omega arith)
-plan-refused (refusal p) r x A e f a =
-    let q : NotBuilt x ≡ NotBuilt (record { number = p .number; part = p .part; item = p .item }) = sym f ∙ e in
-    let s : x ≡ record { number = p .number; part = p .part; item = p .item } = cc in
-    ((cc), ((cc), ((cc), (refl, (refl, a)))))

@@ -4,7 +4,6 @@ use Prim.Native.Nat.{ℕ}
 use Rattle.reads.specs.Search.{longest}
 use Rattle.reads.specs.Outcome.{Outcome, placed, refused}
 use Rattle.values.specs.Values.{Outcome as Valued, bit, refused as unvalued}
-use Rattle.flatten.specs.Flatten.{Build, built, refusal}
 use Rattle.machine.specs.Run.{Ran, ran, refused as notRun}
 use Rattle.listing.specs.declared.Listed.{Listed}
 use Rattle.listing.specs.declared.Listed.the-variants.{Text, Refused}
@@ -60,24 +59,3 @@ ranFirst (notRun n i) = 0
 abbrev pub ranSecond : Ran → ℕ
 ranSecond (ran k new) = 0
 ranSecond (notRun n i) = i
-
--- of a plan: 0 with starts, words, state words and SRAM words; or the number with part, item and twice 0
-abbrev pub builtNumber : Build → ℕ
-builtNumber (built x) = 0
-builtNumber (refusal q) = q .number
-
-abbrev pub builtFirst : Build → ℕ
-builtFirst (built x) = x .starts
-builtFirst (refusal q) = q .part
-
-abbrev pub builtSecond : Build → ℕ
-builtSecond (built x) = x .words
-builtSecond (refusal q) = q .item
-
-abbrev pub builtThird : Build → ℕ
-builtThird (built x) = x .state
-builtThird (refusal q) = 0
-
-abbrev pub builtFourth : Build → ℕ
-builtFourth (built x) = x .sram
-builtFourth (refusal q) = 0
