@@ -5,7 +5,5 @@ pub mod RecordLaws
 pub mod FillLaws
 pub mod StepLaws
 pub mod StartLaws
-pub mod TableLaws
 pub mod StageLaws
-pub mod WholeLaws
 pub mod Calls

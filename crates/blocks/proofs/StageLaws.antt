@@ -20,7 +20,7 @@ use Rattle.record.proofs.TestLaws.{and-true}
 use Rattle.record.proofs.FormLaws.{formed, parts-in}
 use Rattle.counts.specs.Counts.{srams, writeOuts}
 use Rattle.blocks.specs.declared.costs.BlockCost.{BlockCost}
-use Rattle.blocks.specs.declared.stages.Firsts.{Firsts}
+use Rattle.blocks.specs.declared.firsts.Firsts.{Firsts}
 use Rattle.blocks.specs.Blocks.{costsAfter, blockIn, blockOf, takenBefore, stateOf, sramOf, stateStart, sramStart, stateWords, sramWords, totalsFit}
 use Rattle.blocks.specs.Sums.{inBlock}
 use Rattle.blocks.specs.Table.{rankOf}

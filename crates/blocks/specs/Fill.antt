@@ -16,7 +16,7 @@ use Rattle.counts.specs.Counts.{srams, duplicates, writeOuts, refusal7}
 use Rattle.counts.specs.Parts.{Countable}
 use Rattle.blocks.specs.Blocks.{blockIn, blockOf, takenBefore, stateOf, sramOf, stateStart, sramStart, totalsFit}
 use Rattle.blocks.specs.declared.costs.BlockCost.{BlockCost}
-use Rattle.blocks.specs.declared.stages.Firsts.{Firsts}
+use Rattle.blocks.specs.declared.firsts.Firsts.{Firsts}
 use Rattle.blocks.specs.Sums.{inBlock}
 use Rattle.blocks.specs.Table.{cell, rankOf, Counted}
 

@@ -5,7 +5,7 @@ ghost use lib.ListN.{length, getD, set, replicate};
 ghost use Rattle.record.specs.Record.{stagesOf};
 ghost use Rattle.blocks.specs.Blocks.{leastTo, blockFor, costsAfter};
 ghost use Rattle.blocks.specs.Table.{cell};
-ghost use Rattle.blocks.specs.Fill.{Placeable, Puttable, blank, costsOf, countsOf, withPart, lesser, placedRows, partCounts};
+ghost use Rattle.blocks.specs.Fill.{Placeable, Puttable, StagePlaceable, blank, costsOf, countsOf, withPart, lesser, placedRows, partCounts};
 use record::places::head_base;
 use record::places::word_at;
 
@@ -125,4 +125,16 @@ pub fn take_counts(blocks: &[BlockCost], counts: &mut [u32])
         counts[b] = parts_of(blocks, b);
         b += 1;
     }
+}
+
+// The blocks of `count` parts from part `base` on, and how many parts each of these blocks has: there are as many blocks as counts.
+pub fn give_blocks(d: &[u8], room: &mut [u32], counts: &mut [u32], base: usize, count: usize)
+    requires { ⌜ StagePlaceable (now d) (now room) (length (now counts)) base count ⌝ }
+    ensures { λ _. ⌜ now (room .exit) ≡ placedRows (now (d .entry)) (now (room .entry)) (length (now (counts .entry))) base count ⌝ }
+    ensures { λ _. ⌜ now (counts .exit) ≡ partCounts (now (d .entry)) (length (now (counts .entry))) base count ⌝ }
+{
+    let mut blocks = no_parts();
+    let n = counts.len();
+    place_parts(d, room, &mut blocks[..n], base, count);
+    take_counts(&blocks[..n], counts);
 }

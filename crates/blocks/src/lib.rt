@@ -1,5 +1,3 @@
-// Parts to blocks, state and SRAM starts, the part table, and refusal 8. Document 01, "Blocks and offsets".
+// Parts to blocks, and what their starts and the part table are; `parttable` writes the table. Document 01, "Blocks and offsets".
 pub mod costs;
-pub mod stages;
-pub mod starts;
-pub mod table;
+pub mod firsts;

@@ -23,10 +23,10 @@ use partreads::searched::search_set;
 use readout::write_rounds;
 use record::bodies::Body;
 use script::head::Numbers;
-use script::parts::write_script;
-use script::stages::write_stage;
 use words::clear::clear;
 use words::edition::Edition;
+use writers::parts::write_script;
+use writers::stages::write_stage;
 
 // The part's read set, from the start of `set`, and how many words it has. The room then has the winners of the part's pins, and behind them its
 // lanes. What keys and scratch hold afterwards is left open.

@@ -10,7 +10,7 @@ use lib.Dec.{leb}
 use lib.ListN.{length}
 use Rattle.machine.specs.Run.{Ran, ran, refused, outcome, newAfter, allLeft, badBlock, badTurn, runTurns}
 use Rattle.promise.proofs.PromiseLaws.{as-run}
-use Rattle.capi.specs.Answers.{ranNumber, ranFirst}
+use Rattle.answers.specs.Answers.{ranNumber, ranFirst}
 use Rattle.capi.specs.Promised.{Promised}
 
 -- refusals have a number

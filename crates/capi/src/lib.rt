@@ -8,7 +8,8 @@ ghost use Rattle.values.specs.Values.{outcome as valued, roomAfter as planRoomA
 ghost use Rattle.flatten.specs.Flatten.{sizing, building, startsAfter, wordsAfter, roomAfter as builtRoomAfter};
 ghost use Rattle.machine.specs.Run.{outcome as ranAs, newAfter, roomAfter as runRoomAfter};
 ghost use Rattle.capi.specs.Promised.{Promised};
-ghost use Rattle.capi.specs.Answers.{roundsNumber, roundsFirst, roundsSecond, listedNumber, listedFirst, listedSecond, valueNumber, valueFirst, valueSecond, ranNumber, ranFirst, ranSecond, builtNumber, builtFirst, builtSecond, builtThird, builtFourth};
+ghost use Rattle.answers.specs.Answers.{roundsNumber, roundsFirst, roundsSecond, listedNumber, listedFirst, listedSecond, valueNumber, valueFirst, valueSecond, ranNumber, ranFirst, ranSecond};
+ghost use Rattle.capi.specs.Answers.{builtNumber, builtFirst, builtSecond, builtThird, builtFourth};
 use flatten::Flattened;
 use listing::Listed;
 use rounds::Rounds;

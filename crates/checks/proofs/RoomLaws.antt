@@ -15,8 +15,8 @@ use Rattle.blocks.specs.Blocks.{totalsFit}
 use Rattle.blocks.specs.Table.{cell, Tabled}
 use Rattle.blocks.specs.Fill.{Fillable, tabledRoom, allottedRoom}
 use Rattle.blocks.proofs.FillLaws.{put-long, put-here, put-word, put-low}
-use Rattle.blocks.proofs.TableLaws.{tabled-room, tabled-long, tabled-other}
-use Rattle.blocks.proofs.WholeLaws.{fillable}
+use Rattle.parttable.proofs.TableLaws.{tabled-room, tabled-long, tabled-other}
+use Rattle.parttable.proofs.WholeLaws.{fillable}
 use Rattle.positions.specs.Places.{Judgeable}
 use Rattle.partreads.specs.Ready.{ClearRoom, Searchable}
 use Rattle.partreads.specs.Answers.{roundsIn, partsUpTo, roundRows, searchedRoom}

@@ -3,6 +3,15 @@
 // positions 0 to 8191 and the end; 8193 positions; 257 words of 17 bits; M5; positions out of order, twice, staged, and the last there is.
 use libc::STDOUT_FILENO;
 
+// Places for the records that matter and for any text, as in `lanes`.
+fn input_place() -> [u8; 40962] {
+    [0u8; 40962]
+}
+
+fn text_place() -> [u8; 237578] {
+    [0u8; 237578]
+}
+
 fn show(i: usize) {
     let mut path = io::buffer();
     let length = os::arg(i, &mut path);
@@ -11,10 +20,10 @@ fn show(i: usize) {
         os::fail(&path[..length]);
         return;
     }
-    let mut input = [0u8; 40962];
+    let mut input = input_place();
     let n = io::read_full(file, &mut input);
     libc::close(file);
-    let mut out = [0u8; 237578];
+    let mut out = text_place();
     let size = listing::text_of(&input[..n], &mut out);
     io::write_all(STDOUT_FILENO, &out[..size]);
 }

@@ -1,24 +1,21 @@
 // Builds stored plans and holds each to the script that GEM's Rust built: every start, word and size, or the refusal with its place. The file
 // comes on standard input; host/README.md says its form, and `make_answers plans` of host/ makes it.
-mod list;
-mod same;
-
 ghost use mathlib.Core.Path.{_≡_};
 ghost use mathlib.Core.Bool.{true};
 ghost use Prim.Native.Nat.{_+_, _≤_, _<_, _^_};
-ghost use Rattle.rebuilt.specs.Stored.{listAt, Halves, RefusalAt, SizesAt, ListsAt};
+ghost use Rattle.stored.specs.Stored.{listAt, Halves, RefusalAt, SizesAt, ListsAt};
 ghost use lib.ListN.{take};
 use flatten::Flattened;
 use flatten::build_flattened_script_v1;
 use flatten::sizes::Sizes;
 use libc::STDIN_FILENO;
 use libc::STDOUT_FILENO;
-use list::expand;
-use list::list_words;
-use list::put_words;
 use record::places::word_at;
-use same::same_halves;
-use same::same_words;
+use stored::list::expand;
+use stored::list::list_words;
+use stored::list::put_words;
+use stored::same::same_halves;
+use stored::same::same_words;
 use words::refusals::Refusal;
 
 // Whether a refusal is the one at word `at`: number, part, item.
@@ -215,26 +212,58 @@ fn agreeing(
     cases
 }
 
+// Says how many plans the file has and how many agree.
+fn tell(
+    file: &[u8],
+    list: &mut [u32],
+    plan: &mut [u8],
+    room: &mut [u32],
+    starts: &mut [u64],
+    words: &mut [u32],
+) {
+    let cases = word_at(file, 0);
+    let agree = agreeing(file, cases, list, plan, room, starts, words);
+    io::print_decimal(STDOUT_FILENO, cases as u64);
+    io::write_all(STDOUT_FILENO, b" plans, ");
+    io::print_decimal(STDOUT_FILENO, agree as u64);
+    io::write_all(STDOUT_FILENO, b" agree\n");
+}
+
+// Places for the file, a list, a plan, the working room and a script. A function's result is an array that the prover does not compute.
+fn file_place() -> [u8; 262144] {
+    [0u8; 262144]
+}
+
+fn list_place() -> [u32; 120000] {
+    [0u32; 120000]
+}
+
+fn plan_place() -> [u8; 480000] {
+    [0u8; 480000]
+}
+
+fn room_place() -> [u32; 65664] {
+    [0u32; 65664]
+}
+
+fn words_place() -> [u32; 65536] {
+    [0u32; 65536]
+}
+
 fn main() {
-    let mut file = [0u8; 262144];
-    let mut list = [0u32; 120000];
-    let mut plan = [0u8; 480000];
-    let mut room = [0u32; 65664];
+    let mut file = file_place();
+    let mut list = list_place();
+    let mut plan = plan_place();
+    let mut room = room_place();
     let mut starts = [0u64; 64];
-    let mut words = [0u32; 65536];
+    let mut words = words_place();
     let length = io::read_full(STDIN_FILENO, &mut file);
-    let cases = word_at(&file[..length], 0);
-    let agree = agreeing(
+    tell(
         &file[..length],
-        cases,
         &mut list,
         &mut plan,
         &mut room,
         &mut starts,
         &mut words,
     );
-    io::print_decimal(STDOUT_FILENO, cases as u64);
-    io::write_all(STDOUT_FILENO, b" plans, ");
-    io::print_decimal(STDOUT_FILENO, agree as u64);
-    io::write_all(STDOUT_FILENO, b" agree\n");
 }

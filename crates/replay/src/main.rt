@@ -117,14 +117,24 @@ fn agreeing(file: &[u8], cases: u32) -> u32 {
     cases
 }
 
-fn main() {
-    let mut file = [0u8; 524288];
-    let length = io::read_full(STDIN_FILENO, &mut file);
-    let cases = word_at(&file[..length], 0);
-    let agree = agreeing(&file[..length], cases);
+// Says how many cases the file has and how many agree.
+fn tell(file: &[u8]) {
+    let cases = word_at(file, 0);
+    let agree = agreeing(file, cases);
     io::write_all(STDOUT_FILENO, b"cases ");
     io::print_decimal(STDOUT_FILENO, cases as u64);
     io::write_all(STDOUT_FILENO, b"\nagree ");
     io::print_decimal(STDOUT_FILENO, agree as u64);
     io::write_all(STDOUT_FILENO, b"\n");
+}
+
+// Place for the file. A function's result is an array that the prover does not compute.
+fn place() -> [u8; 524288] {
+    [0u8; 524288]
+}
+
+fn main() {
+    let mut file = place();
+    let length = io::read_full(STDIN_FILENO, &mut file);
+    tell(&file[..length]);
 }

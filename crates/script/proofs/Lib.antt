@@ -5,5 +5,4 @@ pub mod SectionsLaws
 pub mod MaskLaws
 pub mod EntryLaws
 pub mod LengthLaws
-pub mod ScriptLaws
 pub mod AcceptedLaws

@@ -17,7 +17,7 @@ use Rattle.gates.specs.Gates.{badGate}
 use Rattle.counts.specs.Counts.{srams, duplicates, writeOuts}
 use Rattle.partreads.specs.PartReads.{partLanes}
 use Rattle.script.specs.declared.head.Numbers.{Numbers}
-use Rattle.script.specs.declared.stages.Masks.{Masks}
+use Rattle.script.specs.declared.masks.Masks.{Masks}
 use Rattle.script.specs.Script.{xoraBit, xorbBit, orbBit, laneWord, stageEntry, stageSection}
 
 -- b is the body of part p, and the plan passed refusals 6, 7 and 13

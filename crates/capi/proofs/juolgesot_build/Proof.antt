@@ -2,7 +2,7 @@
 -- Assumes nothing.
 use lib.ListN.{length}
 use Rattle.flatten.specs.Flatten.{building}
-use Rattle.capi.proofs.AnswerLaws.{plan-built, plan-refused}
+use Rattle.capi.proofs.PlanLaws.{plan-built, plan-refused}
 use borrow.Author.Needs.{needs}
 use Rattle.capi.proofs.juolgesot_build.Statement.{statement}
 use Rattle.capi.proofs.juolgesot_build.Tie as tie

@@ -2,7 +2,7 @@
 -- Assumes nothing.
 use lib.ListN.{length}
 use Rattle.listing.specs.Listing.{listed}
-use Rattle.capi.proofs.AnswerLaws.{listed-text, listed-refused}
+use Rattle.answers.proofs.AnswerLaws.{listed-text, listed-refused}
 use borrow.Author.Needs.{needs}
 use Rattle.capi.proofs.juolgesot_list.Statement.{statement}
 use Rattle.capi.proofs.juolgesot_list.Tie as tie

@@ -2,7 +2,7 @@
 -- Assumes nothing.
 use lib.ListN.{length}
 use Rattle.flatten.specs.Flatten.{sizing}
-use Rattle.capi.proofs.AnswerLaws.{plan-built, plan-refused}
+use Rattle.capi.proofs.PlanLaws.{plan-built, plan-refused}
 use borrow.Author.Needs.{needs}
 use Rattle.capi.proofs.juolgesot_plan_sizes.Statement.{statement}
 use Rattle.capi.proofs.juolgesot_plan_sizes.Tie as tie

@@ -2,7 +2,7 @@
 -- Assumes nothing.
 use lib.ListN.{length}
 use Rattle.reads.specs.Outcome.{outcome}
-use Rattle.capi.proofs.AnswerLaws.{rounds-placed, rounds-refused}
+use Rattle.answers.proofs.AnswerLaws.{rounds-placed, rounds-refused}
 use borrow.Author.Needs.{needs}
 use Rattle.capi.proofs.juolgesot_read_rounds.Statement.{statement}
 use Rattle.capi.proofs.juolgesot_read_rounds.Tie as tie

@@ -2,7 +2,7 @@
 -- Assumes nothing.
 use lib.ListN.{length}
 use Rattle.machine.specs.Run.{outcome}
-use Rattle.capi.proofs.AnswerLaws.{run-left, run-refused}
+use Rattle.answers.proofs.AnswerLaws.{run-left, run-refused}
 use Rattle.capi.proofs.PromisedLaws.{promised, with-last}
 use borrow.Author.Needs.{needs}
 use Rattle.capi.proofs.juolgesot_run.Statement.{statement}

@@ -2,7 +2,7 @@
 -- Assumes nothing.
 use lib.ListN.{length}
 use Rattle.values.specs.Values.{outcome}
-use Rattle.capi.proofs.AnswerLaws.{value-bit, value-refused}
+use Rattle.answers.proofs.AnswerLaws.{value-bit, value-refused}
 use borrow.Author.Needs.{needs}
 use Rattle.capi.proofs.juolgesot_value.Statement.{statement}
 use Rattle.capi.proofs.juolgesot_value.Tie as tie

@@ -1,6 +1,6 @@
 -- One comparison after the other.
 -- Assumes nothing.
-use Rattle.rebuilt.proofs.SameLaws.{never}
+use Rattle.stored.proofs.SameLaws.{never}
 use borrow.Author.Needs.{needs}
 use Rattle.rebuilt.proofs.refusal_agrees.Statement.{statement}
 use Rattle.rebuilt.proofs.refusal_agrees.Tie as tie

@@ -2,11 +2,11 @@
 -- Assumes nothing.
 use mathlib.Core.Path.{ap, _∙_}
 use denote.Ref.{now}
-use Rattle.rebuilt.specs.Stored.{listAt}
+use Rattle.stored.specs.Stored.{listAt}
 use Prim.Native.Nat.{ℕ, _+_}
 use native.Mathlib.Omega.{arith}
 use lib.ListN.{length-take}
-use Rattle.rebuilt.proofs.SameLaws.{never, holds}
+use Rattle.stored.proofs.SameLaws.{never, holds}
 use borrow.Author.Needs.{needs}
 use Rattle.rebuilt.proofs.script_agrees.Statement.{statement}
 use Rattle.rebuilt.proofs.script_agrees.Tie as tie

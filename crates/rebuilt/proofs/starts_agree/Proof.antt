@@ -3,11 +3,11 @@
 use mathlib.Core.Path.{subst}
 use mathlib.Core.List.{List}
 use denote.Ref.{now}
-use Rattle.rebuilt.specs.Stored.{Halves}
+use Rattle.stored.specs.Stored.{Halves}
 use Prim.Native.Nat.{ℕ}
 use native.Mathlib.Omega.{arith}
 use lib.ListN.{length-take}
-use Rattle.rebuilt.proofs.SameLaws.{never}
+use Rattle.stored.proofs.SameLaws.{never}
 use borrow.Author.Needs.{needs}
 use Rattle.rebuilt.proofs.starts_agree.Statement.{statement}
 use Rattle.rebuilt.proofs.starts_agree.Tie as tie

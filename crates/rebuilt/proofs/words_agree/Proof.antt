@@ -3,7 +3,7 @@
 use mathlib.Core.Path.{_∙_}
 use native.Mathlib.Omega.{arith}
 use lib.ListN.{length-take}
-use Rattle.rebuilt.proofs.SameLaws.{never}
+use Rattle.stored.proofs.SameLaws.{never}
 use borrow.Author.Needs.{needs}
 use Rattle.rebuilt.proofs.words_agree.Statement.{statement}
 use Rattle.rebuilt.proofs.words_agree.Tie as tie

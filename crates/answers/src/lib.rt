@@ -1,0 +1,1 @@
+// What the exported functions hand out of an answer: definitions and laws, no code.

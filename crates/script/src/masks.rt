@@ -1,0 +1,103 @@
+// The masks of a stage.
+ghost use mathlib.Core.Path.{_≡_};
+ghost use Prim.Native.Nat.{_<_};
+ghost use Rattle.script.specs.Writers.{Accepted, MaskBits, LaneMasks, MaskLists, MasksRoom};
+use gates::GateFound;
+use gates::find_gate;
+use gates::gate_first;
+use gates::gate_second;
+use record::bodies::Body;
+use record::bodies::slot;
+use slots::tables::top_power;
+use words::units::EMPTY_PIN;
+use words::units::Pin;
+
+// Mask bits of a position, or mask words of a lane.
+pub struct Masks {
+    pub xora: u32,
+    pub xorb: u32,
+    pub orb: u32,
+}
+
+// The mask bits at position q: a slot that equals slot a has orb, a gate the inversions of its fan-ins.
+fn masks_at(d: &[u8], p: usize, body: Body, s: usize, q: usize) -> Masks
+    requires { ⌜ Accepted (now d) p body × (s < body .stages) × (q < 8192) ⌝ }
+    ensures { λ r. ⌜ MaskBits (now (d .entry)) p s q r ⌝ }
+{
+    if q == 0 {
+        return Masks {
+            xora: 0,
+            xorb: 0,
+            orb: 0,
+        };
+    }
+    let pin = slot(d, p, body, s, q);
+    if pin == EMPTY_PIN {
+        return Masks {
+            xora: 0,
+            xorb: 0,
+            orb: 0,
+        };
+    }
+    if pin == slot(d, p, body, s, q + top_power(q)) {
+        return Masks {
+            xora: 0,
+            xorb: 0,
+            orb: 1,
+        };
+    }
+    match find_gate(d, Pin(pin)) {
+        GateFound::Gate(g) => {
+            let xora = gate_first(d, g).inversion();
+            let xorb = gate_second(d, g).inversion();
+            Masks { xora, xorb, orb: 0 }
+        }
+        GateFound::Missing => Masks {
+            xora: 0,
+            xorb: 0,
+            orb: 0,
+        },
+    }
+}
+
+// The mask words of lane w, from its 32 positions.
+fn lane_masks(d: &[u8], p: usize, body: Body, s: usize, w: usize) -> Masks
+    requires { ⌜ Accepted (now d) p body × (s < body .stages) × (w < 256) ⌝ }
+    ensures { λ r. ⌜ LaneMasks (now (d .entry)) p s w r ⌝ }
+{
+    let mut xora = 0;
+    let mut xorb = 0;
+    let mut orb = 0;
+    let mut k = 0;
+    while k < 32 {
+        let bits = masks_at(d, p, body, s, 32 * w + k);
+        xora = xora | (bits.xora << k);
+        xorb = xorb | (bits.xorb << k);
+        orb = orb | (bits.orb << k);
+        k += 1;
+    }
+    Masks { xora, xorb, orb }
+}
+
+// The mask words of all lanes.
+pub fn fill_masks(
+    d: &[u8],
+    p: usize,
+    body: Body,
+    s: usize,
+    xora: &mut [u32],
+    xorb: &mut [u32],
+    orb: &mut [u32],
+)
+    requires { ⌜ Accepted (now d) p body × (s < body .stages) × MasksRoom (now xora) (now xorb) (now orb) ⌝ }
+    ensures { λ _. ⌜ MaskLists (now (d .entry)) p s (now (xora .exit)) (now (xorb .exit)) (now (orb .exit)) ⌝ }
+{
+    let mut w = 0;
+    while w < 256 {
+        let lane = lane_masks(d, p, body, s, w);
+        xora[w] = lane.xora;
+        xorb[w] = lane.xorb;
+        orb[w] = lane.orb;
+        w += 1;
+    }
+}
