@@ -3,3 +3,4 @@ pub mod ItemLaws
 pub mod PutLaws
 pub mod SlotLaws
 pub mod RightLaws
+pub mod ListedLaws
