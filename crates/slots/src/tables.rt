@@ -93,13 +93,7 @@ fn list_slot(
 }
 
 // The same table of the pins that the part reads, and the list of them, each once. Returns how many there are.
-pub fn list_reads(
-    d: &[u8],
-    p: usize,
-    body: Body,
-    table: &mut [u32],
-    list: &mut [u64],
-) -> usize
+pub fn list_reads(d: &[u8], p: usize, body: Body, table: &mut [u32], list: &mut [u64]) -> usize
     requires { ⌜ BodyOf (now d) p body × (0 < body .stages) × (32768 ≤ length (now table)) × (8192 ≤ length (now list)) ⌝ }
     ensures { λ r. ⌜ (r ≡ length (readPins (now (d .entry)) p)) × (r ≤ 8192) ⌝ }
     ensures { λ _. ⌜ now (table .exit) ≡ filled (length (now (table .entry))) (readPuts (now (d .entry)) p) ⌝ }
