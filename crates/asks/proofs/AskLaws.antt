@@ -4,11 +4,12 @@ use mathlib.Core.Path.{_≡_, refl, sym, ap, ap₂, _∙_}
 use mathlib.Core.Bool.{Bool, true, false}
 use mathlib.Core.List.{List, [], _∷_, _++_}
 use Prim.Native.Nat.{ℕ, zero, suc, _+_, _/_, _%_, _^_, _<_}
-use native.Mathlib.Nat.{lt-of-lt-of-le}
+use native.Mathlib.Nat.{lt-of-lt-of-le, not-suc-le-zero}
 use native.Mathlib.Omega.{arith}
 use borrow.Author.Tests.{lt-ltb, le-ltb, eq-eqb, ne-eqb}
 use lib.Bits.{or-comm, or-self}
 use lib.Dec.{leb, ltb, eqb}
+use lib.ListN.{length, getD}
 use lib.Pow.{pow-mono}
 use Rattle.words.specs.Bit.{bit, withBit}
 use Rattle.words.proofs.BitLaws.{bit-ext, bit-with}
@@ -214,3 +215,10 @@ pub set-sort : (qs : List ℕ) → readSetOf (sortOf qs) ≡ readSetOf qs
 unfolding readSetOf sortOf
 set-sort [] = refl
 set-sort (q ∷ qs) = set-insert q (sortOf qs) ∙ ap (ask q) (set-sort qs)
+
+-- a bit that is given already adds nothing
+pub set-again : (qs : List ℕ) (q i : ℕ) → i < length qs → getD qs i 0 ≡ q → ask q (readSetOf qs) ≡ readSetOf qs
+unfolding readSetOf
+set-again [] q i h e = absurd (not-suc-le-zero h)
+set-again (p ∷ qs) q zero h e = rw (← e) (ask-twice p (readSetOf qs))
+set-again (p ∷ qs) q (suc i) h e = ask-comm q p (readSetOf qs) ∙ ap (ask p) (set-again qs q i (omega arith) e)

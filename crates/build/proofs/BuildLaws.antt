@@ -26,7 +26,7 @@ use Rattle.partreads.specs.PartReads.{askedTo, readWords, partLanes}
 use Rattle.partreads.specs.Ready.{AllNarrow, AllPlanned, AllWon, SetRoom, wonPins}
 use Rattle.partreads.specs.Bases.{storeLanes}
 use Rattle.partreads.specs.Entries.{firstEntry, Numbered}
-use Rattle.partreads.proofs.SearchedLaws.{pins-are, pins-length, pins-won, won-few}
+use Rattle.partreads.proofs.SearchedLaws.{pins-length, pins-won, won-few}
 use Rattle.partreads.proofs.CheckLaws.{set-front}
 use Rattle.partreads.proofs.EntryLaws.{words-form, words-small, part-win, part-lanes, part-numbered, all-planned}
 use Rattle.script.specs.declared.head.Numbers.{Numbers}
@@ -69,12 +69,6 @@ module _ (d : List ℕ) (p : ℕ) (room : List ℕ) (wide : length room ≡ 4096
 
   room-size : length with-pins ≡ 40960
   room-size = omega (arith, length-append pins (drop 32768 room), pins-size, length-drop 32768 room)
-
-  pub pins-count : 32768 ≡ length (take 32768 with-pins)
-  pins-count = sym (ap length pins-front ∙ pins-size)
-
-  pub pins-there : AllPlanned d p → AllWon d p (take 32768 with-pins)
-  pins-there all = rw pins-front (pins-are d p (take 32768 room) pins filled front-size all)
 
   table-size : length (take (length with-pins - 32768) (drop 32768 with-pins)) ≡ 8192
   table-size = mid-len 32768 (length with-pins) with-pins (omega arith) ∙ omega (arith, room-size)

@@ -18,7 +18,6 @@ ghost use Rattle.build.specs.Build.{Buildable, FoundRoom, ReadsRoom, Fro
 use partreads::asked::part_set;
 use partreads::entries::first_entries;
 use partreads::local::fill_bases;
-use partreads::searched::fill_pins;
 use partreads::searched::search_set;
 use readout::write_rounds;
 use record::bodies::Body;
@@ -45,8 +44,7 @@ fn find_reads(
     ensures { λ _. ⌜ now (set .exit) ≡ sets (now (set .entry)) 0 (readWords (now (d .entry)) p) ⌝ }
     ensures { λ _. ⌜ AllNarrow (askedTo (now (d .entry)) p 8192) ⌝ }
 {
-    fill_pins(d, p, body, &mut room[..32768]);
-    let n = part_set(d, p, body, &room[..32768], keys, scratch, set);
+    let n = part_set(d, p, body, &mut room[..32768], keys, scratch, set);
     search_set(&set[..n], &mut room[32768..], keys, scratch, Edition::LANES);
     n
 }

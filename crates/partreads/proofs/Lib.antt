@@ -3,4 +3,5 @@ pub mod BaseLaws
 pub mod SearchedLaws
 pub mod PlaceLaws
 pub mod EntryLaws
+pub mod BitLaws
 pub mod CheckLaws

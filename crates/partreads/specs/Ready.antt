@@ -3,8 +3,8 @@
 use mathlib.Core.Path.{_≡_}
 use mathlib.Core.Bool.{true}
 use mathlib.Core.Option.{Option, none, some}
-use mathlib.Core.List.{List}
-use Prim.Native.Nat.{ℕ, _+_, _*_, _%_, _^_, _≤_, _<_}
+use mathlib.Core.List.{List, map}
+use Prim.Native.Nat.{ℕ, _+_, _*_, _-_, _%_, _^_, _≤_, _<_}
 use lib.ListN.{length, getD, take, replicate}
 use Rattle.reads.specs.ReadSet.{pairsOf, broken}
 use Rattle.pinmap.specs.PinMap.{look, afterRenewals}
@@ -12,13 +12,20 @@ use Rattle.record.specs.Record.{partsOf, slotAt}
 use Rattle.record.specs.Form.{empty, planForm}
 use Rattle.positions.specs.Positions.{Planned, planned, refusal12}
 use Rattle.positions.specs.Winners.{winner, plannedBy, winnerPuts}
-use Rattle.slots.specs.Puts.{readPuts, filled}
+use Rattle.slots.specs.Puts.{readPuts, readPins, filled}
 use Rattle.partreads.specs.PartReads.{bitNumber}
 
 -- the bit of a position that may be missing
 abbrev pub numberOf : Option Planned → ℕ
 numberOf none = 0
 numberOf (some x) = bitNumber x
+
+-- the bits of pins, and those of the pins that part p reads, each pin's once
+abbrev pub bitsOf : List ℕ → List ℕ → List ℕ
+bitsOf d pins = map (λ x. numberOf (planned d x)) pins
+
+unfoldable pub partBits : List ℕ → ℕ → List ℕ
+partBits d p = bitsOf d (readPins d p)
 
 -- a bit whose word has 27 bits beside bit 31
 pub record Narrow (q : ℕ) : Type 0 where
@@ -41,6 +48,10 @@ pub record Won (d pins : List ℕ) (x : ℕ) : Type 0 where
 -- so it has those of all pins that part p reads
 abbrev pub AllWon : List ℕ → ℕ → List ℕ → Type 0
 AllWon d p pins = (j : ℕ) → j < 8192 → (slotAt d p 0 (8192 + j) ≡ empty → ⊥) → Won d pins (slotAt d p 0 (8192 + j))
+
+-- so it has those of all listed pins
+abbrev pub ListWon : List ℕ → List ℕ → List ℕ → Type 0
+ListWon d pins list = (i : ℕ) → i < length list → (getD list i 0 < 2 ^ 32 - 1) × Won d pins (getD list i 0)
 
 -- room for a read set: keys, their scratch, and the set
 pub record SetRoom (keys scratch set : ℕ) : Type 0 where

@@ -1,23 +1,19 @@
 // The bits that the pins of level 0 of stage 0 ask for, and the read set of them.
 ghost use mathlib.Core.Path.{_≡_};
-ghost use Prim.Native.Nat.{_+_, _-_, _^_, _≤_, _<_};
-ghost use lib.Dec.{eqb};
+ghost use Prim.Native.Nat.{_-_, _^_, _≤_, _<_};
 ghost use lib.ListN.{length};
 ghost use lib.Seq.{sets};
 ghost use Rattle.pinmap.specs.PinMap.{look};
-ghost use Rattle.record.specs.Record.{slotAt};
-ghost use Rattle.record.specs.Form.{empty};
 ghost use Rattle.record.specs.Body.{BodyOf};
 ghost use Rattle.positions.specs.Positions.{planned};
-ghost use Rattle.positions.specs.Winners.{plannedBy};
-ghost use Rattle.partreads.specs.PartReads.{orZero, askedBy, askedTo, readWords};
-ghost use Rattle.partreads.specs.Ready.{numberOf, Narrow, AllNarrow, EntryOf, Won, AllWon, SetRoom};
+ghost use Rattle.positions.specs.Winners.{Listed, plannedBy};
+ghost use Rattle.partreads.specs.PartReads.{orZero, askedTo, readWords};
+ghost use Rattle.partreads.specs.Ready.{numberOf, bitsOf, partBits, Narrow, AllNarrow, EntryOf, Won, ListWon, AllPlanned, SetRoom, wonPins};
 use pinmap::Found;
+use positions::planned::list_planned;
 use record::bodies::Body;
-use record::bodies::slot;
 use record::places::position_base;
 use record::places::word_at;
-use words::units::EMPTY_PIN;
 use words::units::Pin;
 
 // The bit of the position that entry w gives: a staged one's has bit 36, bit 31 of its word.
@@ -57,60 +53,50 @@ pub fn bit_of_pin(d: &[u8], pins: &[u32], pin: u32) -> u64
     bit_of_entry(d, entry_of(pins, pin))
 }
 
-// Asks for the bit of slot j's pin, behind the n bits that are there. An empty slot asks for none.
-fn ask_slot(
-    d: &[u8],
-    p: usize,
-    body: Body,
-    pins: &[u32],
-    keys: &mut [u64],
-    n: usize,
-    j: usize,
-) -> usize
-    requires { ⌜ BodyOf (now d) p body × (0 < body .stages) × (j < 8192) × AllWon (now d) p (now pins) × (n < length (now keys)) ⌝ }
-    ensures { λ r. ⌜ r ≡ n + length (askedBy (eqb (slotAt (now (d .entry)) p 0 (8192 + j)) empty) (planned (now (d .entry)) (slotAt (now (d .entry)) p 0 (8192 + j)))) ⌝ }
-    ensures { λ _. ⌜ now (keys .exit) ≡ sets (now (keys .entry)) n (askedBy (eqb (slotAt (now (d .entry)) p 0 (8192 + j)) empty) (planned (now (d .entry)) (slotAt (now (d .entry)) p 0 (8192 + j)))) ⌝ }
-    ensures { λ _. ⌜ AllNarrow (askedBy (eqb (slotAt (now (d .entry)) p 0 (8192 + j)) empty) (planned (now (d .entry)) (slotAt (now (d .entry)) p 0 (8192 + j)))) ⌝ }
+// Each pin's bit in its place.
+fn ask_bits(d: &[u8], pins: &[u32], keys: &mut [u64])
+    requires { ⌜ ListWon (now d) (now pins) (now keys) ⌝ }
+    ensures { λ _. ⌜ now (keys .exit) ≡ bitsOf (now (d .entry)) (now (keys .entry)) ⌝ }
+    ensures { λ _. ⌜ AllNarrow (bitsOf (now (d .entry)) (now (keys .entry))) ⌝ }
 {
-    let pin = slot(d, p, body, 0, 8192 + j);
-    if pin == EMPTY_PIN {
-        return n;
+    let mut i = 0;
+    while i < keys.len() {
+        keys[i] = bit_of_pin(d, pins, keys[i] as u32);
+        i += 1;
     }
-    keys[n] = bit_of_pin(d, pins, pin);
-    n + 1
 }
 
-// The bits that the part's pins ask for, from the start of the keys.
-pub fn ask_bits(d: &[u8], p: usize, body: Body, pins: &[u32], keys: &mut [u64]) -> usize
-    requires { ⌜ BodyOf (now d) p body × (0 < body .stages) × AllWon (now d) p (now pins) × (8192 ≤ length (now keys)) ⌝ }
-    ensures { λ r. ⌜ (r ≡ length (askedTo (now (d .entry)) p 8192)) × (r ≤ 8192) ⌝ }
-    ensures { λ _. ⌜ now (keys .exit) ≡ sets (now (keys .entry)) 0 (askedTo (now (d .entry)) p 8192) ⌝ }
-    ensures { λ _. ⌜ AllNarrow (askedTo (now (d .entry)) p 8192) ⌝ }
+// The bits that the part's pins ask for, each pin's once, from the start of the keys. Returns how many there are. The table then has the pins, each
+// with the entry that wins for it.
+fn list_bits(d: &[u8], p: usize, body: Body, pins: &mut [u32], keys: &mut [u64]) -> usize
+    requires { ⌜ BodyOf (now d) p body × (0 < body .stages) × Listed (now d) × AllPlanned (now d) p × (8192 ≤ length (now keys)) × (length (now pins) ≡ 32768) ⌝ }
+    ensures { λ r. ⌜ (r ≡ length (partBits (now (d .entry)) p)) × (r ≤ 8192) ⌝ }
+    ensures { λ _. ⌜ now (pins .exit) ≡ wonPins (length (now (pins .entry))) (now (d .entry)) p ⌝ }
+    ensures { λ _. ⌜ now (keys .exit) ≡ sets (now (keys .entry)) 0 (partBits (now (d .entry)) p) ⌝ }
+    ensures { λ _. ⌜ AllNarrow (partBits (now (d .entry)) p) ⌝ }
 {
-    let mut n = 0;
-    let mut j = 0;
-    while j < 8192 {
-        n = ask_slot(d, p, body, pins, keys, n, j);
-        j += 1;
-    }
+    let n = list_planned(d, p, body, pins, keys);
+    ask_bits(d, pins, &mut keys[..n]);
     n
 }
 
-// The read set of the part, from the start of `set`. Returns how many words it has. What keys and scratch hold afterwards is left open.
+// The read set of the part, from the start of `set`. Returns how many words it has. The table then has the part's pins, each with the entry that
+// wins for it. What keys and scratch hold afterwards is left open.
 pub fn part_set(
     d: &[u8],
     p: usize,
     body: Body,
-    pins: &[u32],
+    pins: &mut [u32],
     keys: &mut [u64],
     scratch: &mut [u64],
     set: &mut [u32],
 ) -> usize
-    requires { ⌜ BodyOf (now d) p body × (0 < body .stages) × AllWon (now d) p (now pins) × SetRoom (length (now keys)) (length (now scratch)) (length (now set)) ⌝ }
+    requires { ⌜ BodyOf (now d) p body × (0 < body .stages) × Listed (now d) × AllPlanned (now d) p × SetRoom (length (now keys)) (length (now scratch)) (length (now set)) × (length (now pins) ≡ 32768) ⌝ }
     ensures { λ r. ⌜ (r ≡ length (readWords (now (d .entry)) p)) × (r ≤ 16384) ⌝ }
+    ensures { λ _. ⌜ now (pins .exit) ≡ wonPins (length (now (pins .entry))) (now (d .entry)) p ⌝ }
     ensures { λ _. ⌜ now (set .exit) ≡ sets (now (set .entry)) 0 (readWords (now (d .entry)) p) ⌝ }
     ensures { λ _. ⌜ AllNarrow (askedTo (now (d .entry)) p 8192) ⌝ }
 {
-    let n = ask_bits(d, p, body, pins, keys);
+    let n = list_bits(d, p, body, pins, keys);
     asks::read_set(&mut keys[..n], scratch, set)
 }

@@ -10,7 +10,6 @@ ghost use Rattle.partreads.specs.Ready.{AllPlanned, SetRoom, ClearRoom, 
 ghost use Rattle.partreads.specs.Answers.{readsOf, isNothing, earlierOf, fullAfter, checkedOf, roundsOf, searchedRoom};
 use crate::asked::part_set;
 use crate::searched::Reads;
-use crate::searched::fill_pins;
 use crate::searched::search_set;
 use record::bodies::Body;
 use record::bodies::body_at;
@@ -39,7 +38,6 @@ fn search_part(
     requires { ⌜ BodyOf (now d) p body × (0 < body .stages) × Listed (now d) × AllPlanned (now d) p × SetRoom (length (now keys)) (length (now scratch)) (length (now set)) × (length (now room) ≡ 32768) ⌝ }
     ensures { λ r. ⌜ r ≡ readsOf (partReads 256 (now (d .entry)) p) ⌝ }
 {
-    fill_pins(d, p, body, room);
     let n = part_set(d, p, body, room, keys, scratch, set);
     search_set(&set[..n], &mut room[..8192], keys, scratch, Edition::LANES)
 }

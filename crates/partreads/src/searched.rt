@@ -1,31 +1,18 @@
 // What the search makes of a part's read set.
 ghost use mathlib.Core.Path.{_≡_};
-ghost use Prim.Native.Nat.{_<_};
 ghost use lib.ListN.{length};
 ghost use Rattle.reads.specs.ReadSet.{pairsOf};
 ghost use Rattle.reads.specs.Search.{lanesOf};
 ghost use Rattle.reads.specs.Outcome.{packed};
 ghost use Rattle.rounds.specs.Rounds.{tableAfter, Solvable};
-ghost use Rattle.record.specs.Body.{BodyOf};
-ghost use Rattle.positions.specs.Winners.{Listed};
-ghost use Rattle.partreads.specs.Ready.{InForm, wonPins};
+ghost use Rattle.partreads.specs.Ready.{InForm};
 ghost use Rattle.partreads.specs.Answers.{readsOf};
-use record::bodies::Body;
 
 // Refusals 3 and 4, or the number of rounds.
 pub enum Reads {
     Nothing,
     NoRoom,
     Rounds(u32),
-}
-
-// The pins that the part reads, each with the entry that wins for it.
-pub fn fill_pins(d: &[u8], p: usize, body: Body, pins: &mut [u32])
-    requires { ⌜ BodyOf (now d) p body × (0 < body .stages) × Listed (now d) ⌝ }
-    ensures { λ _. ⌜ now (pins .exit) ≡ wonPins (length (now (pins .entry))) (now (d .entry)) p ⌝ }
-{
-    slots::tables::fill_reads(d, p, body, pins);
-    positions::winners::fill_winners(d, pins);
 }
 
 // The search over a read set. The table then has the lanes, or zeros where there are none. What keys and scratch hold afterwards is left open.

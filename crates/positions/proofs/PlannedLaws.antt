@@ -5,14 +5,16 @@ use mathlib.Core.Path.{_≡_, refl, sym, ap, ap₂, _∙_}
 use mathlib.Core.Bool.{Bool, true, false}
 use mathlib.Core.Option.{Option, none, some}
 use mathlib.Core.List.{List, _++_}
-use Prim.Native.Nat.{ℕ, _+_, _*_, _-_, _/_, _≤_, _<_}
+use mathlib.Core.Logic.{⊎-elim}
+use Prim.Native.Nat.{ℕ, _+_, _*_, _-_, _/_, _^_, _≤_, _<_}
 use native.Mathlib.Omega.{arith}
-use borrow.Author.Tests.{eq-eqb, ne-eqb}
+use borrow.Author.Tests.{eq-eqb, ne-eqb, eqb-true, eqb-false}
 use lib.Dec.{ltb, eqb}
 use lib.ListN.{length, getD, take, drop, replicate, take-append-drop, length-append, length-drop}
-use lib.Seq.{length-take-le, take-at, drop-at, getD-append-add, getD-drop}
+use lib.Seq.{sets, sets-eq, length-take-le, take-at, drop-at, getD-append-add, getD-drop}
 use Rattle.words.specs.Sum.{sumTo}
 use Rattle.words.proofs.SumLaws.{sum-more}
+use Rattle.words.proofs.BitLaws.{lt-or-ge}
 use Rattle.pinmap.specs.declared.Found.{Found}
 use Rattle.pinmap.specs.declared.Found.the-variants.{Value, Missing}
 use Rattle.pinmap.specs.PinMap.{look, foundOf}
@@ -21,17 +23,20 @@ use Rattle.record.specs.Record.{wordAt, partsBefore, partsOf, layoutOf, positio
 use Rattle.record.specs.Form.{empty}
 use Rattle.record.specs.Body.{BodyOf}
 use Rattle.record.specs.Tests.{someBelow}
-use Rattle.record.proofs.TestLaws.{some-at}
+use Rattle.record.proofs.TestLaws.{not-both, some-at, not-at}
 use Rattle.record.proofs.FormLaws.{Formed, formed}
 use Rattle.counts.specs.Counts.{writeOuts}
+use Rattle.counts.specs.Answers.{itemOf}
+use Rattle.counts.specs.declared.answers.Item.the-variants as item
 use Rattle.blocks.specs.Blocks.{stateOf, stateWords}
 use Rattle.blocks.specs.Table.{cell, rankOf, Counted, Allotted, Tabled}
 use Rattle.slots.specs.Slots.{readsPin}
-use Rattle.slots.specs.Puts.{filled, readPuts}
+use Rattle.slots.specs.Puts.{filled, readPuts, readPin, firstPins, readPins, AllPins}
 use Rattle.slots.proofs.PutLaws.{reads-hold, reads-look, filled-length}
+use Rattle.slots.proofs.ListedLaws.{Among, listed-among, FromSlot, listed-from}
 use Rattle.positions.specs.Positions.{Planned, majorOf, normalWord, placeRight, twelveRight}
 use Rattle.positions.specs.Winners.{winner, plannedBy, positionNumber, winnerPuts}
-use Rattle.positions.specs.Places.{holdsWord, Ranked, placeIn, plannedTable, Searched, SlotsReady, Judgeable, PartReady}
+use Rattle.positions.specs.Places.{badSlot, holdsWord, Ranked, placeIn, plannedTable, Held, ListHeld, ListRight, Searched, SlotsReady, Judgeable, PartReady}
 use Rattle.positions.proofs.WinnerLaws.{by-none, by-layout, by-position, planned-winner, mark-is, renewals-length, winners-look, winners-missing, listed}
 use Rattle.positions.proofs.MajorLaws.{MajorAt, major-at}
 use Rattle.positions.proofs.RankLaws.{ranked, normal-is}
@@ -119,24 +124,80 @@ module _ (d room : List ℕ) (state n : ℕ) (ready : Searched d room state n) (
       let k : positionNumber d (w - 1 - layout) ≡ w = omega arith in
       e ∙ ap (λ (v : ℕ). placeIn d n (plannedBy d v)) k
 
--- slot j, whose pin is x
-module _ (d : List ℕ) (p : ℕ) (b : Body) (room : List ℕ) (state n : ℕ) (ready : SlotsReady d p b room state n) (j x : ℕ) (l : j < 8192)
-    (read : x ≡ slotAt d p 0 (8192 + j)) (held : x ≡ empty → ⊥) where
-  slot-look : look (take 32768 room) x ≡ some (winner d x)
-  slot-look = ap (λ (t : List ℕ). look t x) (ready .table) ∙ planned-look d p x 32768 (omega arith) held (ap (readsPin d p) read ∙ slot-read d p j l)
-
-  pub slot-value : (f : Found) (w : ℕ) (r : Bool) → f ≡ foundOf (look (take 32768 room) x) → f ≡ Value w → r ≡ placeIn d n (plannedBy d w) → r ≡ twelveRight d p j
-  slot-value f w r a v e =
-      let k : Value w ≡ Value (winner d x) = sym v ∙ (a ∙ ap foundOf slot-look) in
+-- pin x, whose entry the table has
+module _ (d room : List ℕ) (n x : ℕ) (held : Held d room x) where
+  pub pin-value : (f : Found) (w : ℕ) (r : Bool) → f ≡ foundOf (look (take 32768 room) x) → f ≡ Value w → r ≡ placeIn d n (plannedBy d w)
+      → r ≡ placeIn d n (plannedBy d (winner d x))
+  pin-value f w r a v e =
+      let k : Value w ≡ Value (winner d x) = sym v ∙ (a ∙ ap foundOf (held .found)) in
       let g : w ≡ winner d x = cc in
-      let h : w ≡ winner d (slotAt d p 0 (8192 + j)) = g ∙ ap (winner d) read in
-      e ∙ (ap₂ (λ (m v : ℕ). placeIn d m (plannedBy d v)) (ready .earlier) h ∙ slot-held d p j (λ z. held (read ∙ z)))
+      e ∙ ap (λ (y : ℕ). placeIn d n (plannedBy d y)) g
 
-  pub slot-missing : (f : Found) → f ≡ foundOf (look (take 32768 room) x) → f ≡ Missing → ⊥
-  slot-missing f a v =
-      let k : Missing ≡ Value (winner d x) = sym v ∙ (a ∙ ap foundOf slot-look) in
+  pub pin-missing : (f : Found) → f ≡ foundOf (look (take 32768 room) x) → f ≡ Missing → ⊥
+  pin-missing f a v =
+      let k : Missing ≡ Value (winner d x) = sym v ∙ (a ∙ ap foundOf (held .found)) in
       let z : _≡_ {A = ℕ} 0 1 = cc in
       omega arith
+
+-- the pins of a part whose table is there: slot j's is x, and all of them, listed
+module _ (d : List ℕ) (p : ℕ) (b : Body) (room : List ℕ) (state n : ℕ) (ready : SlotsReady d p b room state n) where
+  pub slot-there : (j x : ℕ) → j < 8192 → x ≡ slotAt d p 0 (8192 + j) → (x ≡ empty → ⊥) → x < 2 ^ 32 → Held d room x
+  slot-there j x l read full s = record {
+    small = omega (arith, full);
+    found = ap (λ (t : List ℕ). look t x) (ready .table) ∙ planned-look d p x 32768 (omega arith) full (ap (readsPin d p) read ∙ slot-read d p j l);
+  }
+
+  pub slot-by : (j x : ℕ) (r : Bool) → x ≡ slotAt d p 0 (8192 + j) → (x ≡ empty → ⊥) → r ≡ placeIn d n (plannedBy d (winner d x)) → r ≡ twelveRight d p j
+  slot-by j x r read full e =
+      e ∙ (ap₂ (λ (m v : ℕ). placeIn d m (plannedBy d (winner d v))) (ready .earlier) read ∙ slot-held d p j (λ z. full (read ∙ z)))
+
+  module _ (list : List ℕ) (is : list ≡ readPins d p) where
+    pub list-held : AllPins list → ListHeld d room list
+    unfolding readPins
+    list-held small i l =
+        let f : FromSlot (readPin d p) 8192 (getD (firstPins (readPin d p) 8192) i 0) = listed-from (readPin d p) 8192 i (rw is at l) in
+        let e : getD list i 0 ≡ readPin d p (f .slot) = ap (λ (t : List ℕ). getD t i 0) is ∙ f .is in
+        slot-there (f .slot) (getD list i 0) (f .below) e (λ z. f .full (sym e ∙ z)) (omega (arith, small i l))
+
+    -- where they all are right, each slot is
+    all-right : ListRight d n list (length list) → (j : ℕ) → j < 8192 → twelveRight d p j ≡ true
+    unfolding readPins
+    all-right right j l = go (eqb (readPin d p j) empty) refl
+      where
+        go : (t : Bool) → eqb (readPin d p j) empty ≡ t → twelveRight d p j ≡ true
+        go true e = sym (slot-empty d p j (eqb-true _ _ e))
+        go false e =
+            let a : Among (readPin d p) 8192 (readPin d p j) = listed-among (readPin d p) 8192 j l (eqb-false _ _ e) in
+            let x : getD list (a .at) 0 ≡ readPin d p j = ap (λ (t : List ℕ). getD t (a .at) 0) is ∙ a .is in
+            let k : a .at < length list = omega (arith, a .inside, ap length is) in
+            sym (slot-by j (getD list (a .at) 0) true x (λ z. eqb-false _ _ e (sym x ∙ z)) (sym (right (a .at) k)))
+
+    pub list-fine : ListRight d n list (length list) → item.Fine ≡ itemOf (badSlot d p)
+    list-fine right = ap itemOf (go (badSlot d p) refl)
+      where
+        go : (o : Option ℕ) → badSlot d p ≡ o → none ≡ o
+        go none e = refl
+        go (some k) e =
+            let (below, wrong, before) = not-at (twelveRight d p) 8192 k e in
+            absurd (not-both _ (all-right right k below) wrong)
+
+-- the list from the start of lent words
+module _ (d : List ℕ) (p : ℕ) (list : List ℕ) (m : ℕ) (list′ : List ℕ) (wide : 8192 ≤ length list) (count : (m ≡ length (readPins d p)) × (m ≤ 8192)) (holds : list′ ≡ sets list 0 (readPins d p)) where
+  pub list-front : take m list′ ≡ readPins d p
+  list-front =
+      ap (take m) (holds ∙ sets-eq (readPins d p) list 0 (omega (arith, count .0, count .1)))
+      ∙ take-at (readPins d p) (drop (0 + length (readPins d p)) list) m (sym (count .0))
+
+  pub list-size : m ≡ length (take m list′)
+  list-size = count .0 ∙ sym (ap length list-front)
+
+  pub list-small : AllPins (readPins d p) → AllPins (take m list′)
+  list-small h = rw list-front h
+
+-- one listed pin more is right
+pub right-more : (d : List ℕ) (n : ℕ) (list : List ℕ) (k : ℕ) → ListRight d n list k → placeIn d n (plannedBy d (winner d (getD list k 0))) ≡ true
+    → ListRight d n list (k + 1)
+right-more d n list k h e i l = ⊎-elim (λ g. h i g) (λ g. let q : i ≡ k = omega arith in rw q e) (lt-or-ge i k)
 
 -- ---- the size of the state, part by part
 

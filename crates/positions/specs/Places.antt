@@ -5,10 +5,10 @@ use mathlib.Core.Path.{_≡_}
 use mathlib.Core.Bool.{Bool, true, false, _&&_}
 use mathlib.Core.Option.{Option, none, some}
 use mathlib.Core.List.{List}
-use Prim.Native.Nat.{ℕ, _+_, _*_, _/_, _≤_, _<_}
+use Prim.Native.Nat.{ℕ, _+_, _*_, _-_, _/_, _^_, _≤_, _<_}
 use lib.Dec.{leb, ltb, eqb}
 use lib.ListN.{length, getD, take, replicate}
-use Rattle.pinmap.specs.PinMap.{afterRenewals}
+use Rattle.pinmap.specs.PinMap.{look, afterRenewals}
 use Rattle.record.specs.declared.bodies.Body.{Body}
 use Rattle.record.specs.Tests.{firstNot, someBelow}
 use Rattle.record.specs.Record.{partsOf, partsBefore}
@@ -18,7 +18,7 @@ use Rattle.blocks.specs.Blocks.{stateWords}
 use Rattle.blocks.specs.Table.{cell, Tabled}
 use Rattle.slots.specs.Puts.{filled, readPuts}
 use Rattle.positions.specs.Positions.{Planned, majorOf, normalWord, twelveRight, thirteenRight}
-use Rattle.positions.specs.Winners.{winnerPuts, Listed}
+use Rattle.positions.specs.Winners.{winner, plannedBy, winnerPuts, Listed}
 
 -- the lowest slot, and the lowest entry, of part p that is refused
 abbrev pub badSlot : List ℕ → ℕ → Option ℕ
@@ -69,6 +69,17 @@ placeIn d n (some x) = elim (eqb (x .staged) 0) [ true ↦ ltb (x .place / 32) (
 -- a table of m words with the pins that part p reads, each with the number of the entry that wins for it
 abbrev pub plannedTable : List ℕ → ℕ → ℕ → List ℕ
 plannedTable d p m = afterRenewals (filled m (readPuts d p)) (winnerPuts d)
+
+-- in the first words of the room pin x is found with the entry that wins for it; so are listed pins; and the first k of them are right
+pub record Held (d room : List ℕ) (x : ℕ) : Type 0 where
+  pub small : x < 2 ^ 32 - 1
+  pub found : look (take 32768 room) x ≡ some (winner d x)
+
+abbrev pub ListHeld : List ℕ → List ℕ → List ℕ → Type 0
+ListHeld d room list = (i : ℕ) → i < length list → Held d room (getD list i 0)
+
+abbrev pub ListRight : List ℕ → ℕ → List ℕ → ℕ → Type 0
+ListRight d n list k = (i : ℕ) → i < k → placeIn d n (plannedBy d (winner d (getD list i 0))) ≡ true
 
 -- the part table can be searched for the normal words of the first n parts, and the state has `state` words
 pub record Searched (d room : List ℕ) (state n : ℕ) : Type 0 where

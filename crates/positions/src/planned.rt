@@ -1,13 +1,16 @@
 // Planned positions of the pins that parts read: refusal 12.
 ghost use mathlib.Core.Path.{_≡_};
-ghost use Prim.Native.Nat.{_+_, _<_};
+ghost use mathlib.Core.Bool.{true};
+ghost use Prim.Native.Nat.{_+_, _≤_, _<_};
 ghost use lib.ListN.{length};
+ghost use lib.Seq.{sets};
 ghost use Rattle.record.specs.Body.{BodyOf};
 ghost use Rattle.blocks.specs.Blocks.{stateWords};
 ghost use Rattle.counts.specs.Answers.{itemOf, lowestOf};
+ghost use Rattle.slots.specs.Puts.{readPins, AllPins};
 ghost use Rattle.positions.specs.Positions.{twelveRight};
-ghost use Rattle.positions.specs.Winners.{Listed, plannedBy, positionNumber};
-ghost use Rattle.positions.specs.Places.{badSlot, placeIn, plannedTable, Searched, SlotsReady, Judgeable, PartReady};
+ghost use Rattle.positions.specs.Winners.{Listed, winner, plannedBy, positionNumber};
+ghost use Rattle.positions.specs.Places.{badSlot, placeIn, plannedTable, Held, ListHeld, ListRight, Searched, SlotsReady, Judgeable, PartReady};
 use crate::ranks::is_normal;
 use crate::ranks::parts_earlier;
 use crate::winners::fill_winners;
@@ -23,6 +26,7 @@ use record::bodies::slot;
 use record::places::position_base;
 use record::places::word_at;
 use slots::tables::fill_reads;
+use slots::tables::list_reads;
 use words::clear::clear;
 use words::units::EMPTY_PIN;
 use words::units::Pin;
@@ -69,6 +73,32 @@ fn place_right(d: &[u8], room: &[u32], state: usize, n: usize, w: u32) -> bool
     position_right(d, room, state, n, w - 1 - layout)
 }
 
+// Whether the position of a pin is right, whose entry the table in the first words of the room has.
+fn pin_right(d: &[u8], room: &[u32], state: usize, n: usize, pin: u32) -> bool
+    requires { ⌜ Searched (now d) (now room) state n × (32768 ≤ length (now room)) × Held (now d) (now room) pin ⌝ }
+    ensures { λ r. ⌜ r ≡ placeIn (now (d .entry)) n (plannedBy (now (d .entry)) (winner (now (d .entry)) pin)) ⌝ }
+{
+    match look_up(&room[..32768], Pin(pin)) {
+        Found::Value(w) => place_right(d, room, state, n, w),
+        Found::Missing => false,
+    }
+}
+
+// Whether those of all listed pins are.
+fn pins_right(d: &[u8], room: &[u32], state: usize, n: usize, list: &[u64]) -> bool
+    requires { ⌜ Searched (now d) (now room) state n × (32768 ≤ length (now room)) × ListHeld (now d) (now room) (now list) ⌝ }
+    ensures { λ r. ⌜ (r ≡ true → ListRight (now (d .entry)) n (now (list .entry)) (length (now (list .entry)))) ⌝ }
+{
+    let mut i = 0;
+    while i < list.len() {
+        if !pin_right(d, room, state, n, list[i] as u32) {
+            return false;
+        }
+        i += 1;
+    }
+    true
+}
+
 // Whether slot j of level 0 of stage 0 is empty, or its pin's position is right.
 fn slot_right(
     d: &[u8],
@@ -86,10 +116,7 @@ fn slot_right(
     if pin == EMPTY_PIN {
         return true;
     }
-    match look_up(&room[..32768], Pin(pin)) {
-        Found::Value(w) => place_right(d, room, state, n, w),
-        Found::Missing => false,
-    }
+    pin_right(d, room, state, n, pin)
 }
 
 // The lowest slot that is not right.
@@ -116,16 +143,65 @@ pub fn fill_planned(d: &[u8], p: usize, body: Body, table: &mut [u32])
     fill_winners(d, table);
 }
 
-// Refusal 12 of one part. The first words of the room, clear before and after, are its table of pins.
+// The same table, and the list of the pins, each once. Returns how many there are.
+pub fn list_planned(d: &[u8], p: usize, body: Body, table: &mut [u32], list: &mut [u64]) -> usize
+    requires { ⌜ Listed (now d) × BodyOf (now d) p body × (0 < body .stages) × (32768 ≤ length (now table)) × (8192 ≤ length (now list)) ⌝ }
+    ensures { λ r. ⌜ (r ≡ length (readPins (now (d .entry)) p)) × (r ≤ 8192) ⌝ }
+    ensures { λ _. ⌜ now (table .exit) ≡ plannedTable (now (d .entry)) p (length (now (table .entry))) ⌝ }
+    ensures { λ _. ⌜ now (list .exit) ≡ sets (now (list .entry)) 0 (readPins (now (d .entry)) p) ⌝ }
+    ensures { λ _. ⌜ AllPins (readPins (now (d .entry)) p) ⌝ }
+{
+    let n = list_reads(d, p, body, table, list);
+    fill_winners(d, table);
+    n
+}
+
+// The lowest slot that is not right, by the list of the pins: where all of them are right there is none.
+fn bad_pin(
+    d: &[u8],
+    p: usize,
+    body: Body,
+    room: &[u32],
+    state: usize,
+    n: usize,
+    list: &[u64],
+) -> Item
+    requires { ⌜ SlotsReady (now d) p body (now room) state n × (now list ≡ readPins (now d) p) × AllPins (now list) ⌝ }
+    ensures { λ r. ⌜ r ≡ itemOf (badSlot (now (d .entry)) p) ⌝ }
+{
+    if pins_right(d, room, state, n, list) {
+        return Item::Fine;
+    }
+    bad_slot(d, p, body, room, state, n)
+}
+
+// Refusal 12 of one part. The first words of the room, clear before and after, are its table of pins. What the list holds afterwards is left open.
+fn judge_listed(
+    d: &[u8],
+    p: usize,
+    body: Body,
+    room: &mut [u32],
+    state: usize,
+    list: &mut [u64],
+) -> Item
+    requires { ⌜ PartReady (now d) p body (now room) state × (8192 ≤ length (now list)) ⌝ }
+    ensures { λ r. ⌜ r ≡ itemOf (badSlot (now (d .entry)) p) ⌝ }
+    ensures { λ _. ⌜ now (room .exit) ≡ now (room .entry) ⌝ }
+{
+    let m = list_planned(d, p, body, &mut room[..32768], list);
+    let found = bad_pin(d, p, body, room, state, parts_earlier(d, p), &list[..m]);
+    clear(&mut room[..32768]);
+    found
+}
+
+// The same, with a list of its own.
 fn judge_part(d: &[u8], p: usize, body: Body, room: &mut [u32], state: usize) -> Item
     requires { ⌜ PartReady (now d) p body (now room) state ⌝ }
     ensures { λ r. ⌜ r ≡ itemOf (badSlot (now (d .entry)) p) ⌝ }
     ensures { λ _. ⌜ now (room .exit) ≡ now (room .entry) ⌝ }
 {
-    fill_planned(d, p, body, &mut room[..32768]);
-    let found = bad_slot(d, p, body, room, state, parts_earlier(d, p));
-    clear(&mut room[..32768]);
-    found
+    let mut list = [0u64; 8192];
+    judge_listed(d, p, body, room, state, &mut list)
 }
 
 // Refusal 12.

@@ -4,3 +4,4 @@ pub mod PutLaws
 pub mod SlotLaws
 pub mod RightLaws
 pub mod RunLaws
+pub mod ListedLaws

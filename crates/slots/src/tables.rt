@@ -2,11 +2,13 @@
 ghost use mathlib.Core.Path.{_≡_};
 ghost use Prim.Native.Nat.{_+_, _*_, _≤_, _<_};
 ghost use lib.ListN.{length};
+ghost use lib.Seq.{sets};
 ghost use Rattle.pinmap.specs.PinMap.{afterPuts};
 ghost use Rattle.record.specs.Record.{slotAt};
 ghost use Rattle.record.specs.Body.{BodyOf};
 ghost use Rattle.slots.specs.Slots.{top};
-ghost use Rattle.slots.specs.Puts.{heldAt, positionPuts, readPuts, filled};
+ghost use Rattle.slots.specs.Puts.{heldAt, heldBelow, positionPuts, readPuts, newPin, readPin, readPins, AllPins, filled, FilledWith};
+use pinmap::Found;
 use record::bodies::Body;
 use record::bodies::slot;
 use words::clear::clear;
@@ -57,4 +59,53 @@ pub fn fill_reads(d: &[u8], p: usize, body: Body, table: &mut [u32])
         put_slot(d, p, body, 0, 8192 + j, 0, table);
         j += 1;
     }
+}
+
+// Puts the pin of slot j and lists it behind the n pins that are there, unless the slot is empty or an earlier one has the pin: the table holds
+// those of the earlier slots.
+fn list_slot(
+    d: &[u8],
+    p: usize,
+    body: Body,
+    j: usize,
+    table: &mut [u32],
+    list: &mut [u64],
+    n: usize,
+) -> usize
+    requires { ⌜ BodyOf (now d) p body × (0 < body .stages) × (j < 8192) × (n < length (now list)) × FilledWith (heldBelow (readPin (now d) p) (λ k. 0) j) (now table) ⌝ }
+    ensures { λ r. ⌜ r ≡ n + length (newPin (readPin (now (d .entry)) p) j) ⌝ }
+    ensures { λ _. ⌜ now (table .exit) ≡ afterPuts (now (table .entry)) (heldAt (readPin (now (d .entry)) p j) 0) ⌝ }
+    ensures { λ _. ⌜ now (list .exit) ≡ sets (now (list .entry)) n (newPin (readPin (now (d .entry)) p) j) ⌝ }
+    ensures { λ _. ⌜ AllPins (newPin (readPin (now (d .entry)) p) j) ⌝ }
+{
+    let pin = slot(d, p, body, 0, 8192 + j);
+    if pin == EMPTY_PIN {
+        return n;
+    }
+    match pinmap::look_up(table, Pin(pin)) {
+        Found::Value(_) => n,
+        Found::Missing => {
+            pinmap::put(table, Pin(pin), 0);
+            list[n] = pin as u64;
+            n + 1
+        }
+    }
+}
+
+// The same table of the pins that the part reads, and the list of them, each once. Returns how many there are.
+pub fn list_reads(d: &[u8], p: usize, body: Body, table: &mut [u32], list: &mut [u64]) -> usize
+    requires { ⌜ BodyOf (now d) p body × (0 < body .stages) × (32768 ≤ length (now table)) × (8192 ≤ length (now list)) ⌝ }
+    ensures { λ r. ⌜ (r ≡ length (readPins (now (d .entry)) p)) × (r ≤ 8192) ⌝ }
+    ensures { λ _. ⌜ now (table .exit) ≡ filled (length (now (table .entry))) (readPuts (now (d .entry)) p) ⌝ }
+    ensures { λ _. ⌜ now (list .exit) ≡ sets (now (list .entry)) 0 (readPins (now (d .entry)) p) ⌝ }
+    ensures { λ _. ⌜ AllPins (readPins (now (d .entry)) p) ⌝ }
+{
+    clear(table);
+    let mut n = 0;
+    let mut j = 0;
+    while j < 8192 {
+        n = list_slot(d, p, body, j, table, list, n);
+        j += 1;
+    }
+    n
 }

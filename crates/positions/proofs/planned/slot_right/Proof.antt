@@ -1,9 +1,9 @@
--- An empty slot; a pin whose entry the table has; that the table lacks it cannot be.
+-- An empty slot; a pin whose entry the table has.
 -- Assumes nothing.
 use mathlib.Core.Path.{sym, _∙_}
+use native.Mathlib.Omega.{arith}
 use borrow.Author.Needs.{needs}
-use lib.Seq.{length-take-le}
-use Rattle.positions.proofs.PlannedLaws.{slot-empty, slot-value, slot-missing}
+use Rattle.positions.proofs.PlannedLaws.{slot-empty, slot-there, slot-by}
 use Rattle.positions.proofs.planned.slot_right.Statement.{statement}
 use Rattle.positions.proofs.planned.slot_right.Tie as tie
 
@@ -15,40 +15,22 @@ slot-requires c κs = search needs
 
 returns : tie.Need-returns
 returns c =
-    let s = c .before .before .before .before .args in
-    slot-empty (s .d .now) (s .p) (s .j) (sym (c .before .slot .ensures) ∙ c .if1 .taken)
+    let o = c .before .before .before .before .args in
+    slot-empty (o .d .now) (o .p) (o .j) (sym (c .before .slot .ensures) ∙ c .if1 .taken)
 
-slice-aggregate-look-up : tie.Need-slice-aggregate-look-up
-slice-aggregate-look-up c = sym (length-take-le 32768 (c .before .before .before .before .before .args .room .now) (c .before .before .before .before .before .pre .0 .wide))
-
-look-up-requires : tie.Need-look-up-requires
-look-up-requires c κs = search needs
-
-enum-known-w : tie.Need-enum-known-w
-enum-known-w c = search needs
-
-place-right-requires : tie.Need-place-right-requires
-place-right-requires c κs = search needs
-
-enum-told : tie.Need-enum-told
-enum-told c = search needs
+pin-right-requires : tie.Need-pin-right-requires
+pin-right-requires c κs =
+    let a = c .before in
+    let s = a .before .before .before in
+    let o = s .args in
+    (s .pre .0 .searched, s .pre .0 .wide, slot-there (o .d .now) (o .p) (o .body) (o .room .now) (o .state) (o .n) (s .pre .0) (o .j) (a .slot .result) (s .pre .1) (a .slot .ensures) (c .if1 .left) (omega arith))
 
 returns-2 : tie.Need-returns-2
 returns-2 c =
-    let looked = c .before .before .before .before in
-    let held = looked .before .before in
-    let s = held .before .before .before .before in
-    slot-value (s .args .d .now) (s .args .p) (s .args .body) (s .args .room .now) (s .args .state) (s .args .n) (s .pre .0) (s .args .j) _ (s .pre .1)
-    (held .before .slot .ensures) (held .if1 .left) _ _ _ (looked .look-up .ensures) (c .before .before .w .given .1) (c .place-right .ensures)
-
-returns-3 : tie.Need-returns-3
-returns-3 c =
-    let looked = c .before .before in
-    let held = looked .before .before in
-    let s = held .before .before .before .before in
-    absurd
-    (slot-missing (s .args .d .now) (s .args .p) (s .args .body) (s .args .room .now) (s .args .state) (s .args .n) (s .pre .0) (s .args .j) _ (s .pre .1)
-    (held .before .slot .ensures) (held .if1 .left) _ (looked .look-up .ensures) (c .enum-told .given .1))
+    let a = c .before .before in
+    let s = a .before .before .before in
+    let o = s .args in
+    slot-by (o .d .now) (o .p) (o .body) (o .room .now) (o .state) (o .n) (s .pre .0) (o .j) (a .slot .result) _ (a .slot .ensures) (c .before .if1 .left) (c .pin-right .ensures)
 
 pub slot-right-spec : {M : Type 1} → statement M
 slot-right-spec =
@@ -57,10 +39,5 @@ slot-right-spec =
     add-slot
     slot-requires
     returns
-    slice-aggregate-look-up
-    look-up-requires
-    enum-known-w
-    place-right-requires
-    enum-told
-    returns-2
-    returns-3)
+    pin-right-requires
+    returns-2)
