@@ -10,7 +10,7 @@ ghost use Rattle.assembly.specs.Steps.{lengthOf, emptyBlocks};
 ghost use Rattle.layout.specs.Layout.{Sound};
 ghost use Rattle.flatten.specs.Flatten.{sizesOf};
 ghost use Rattle.flatten.specs.Answers.{sizesIn};
-use blocks::table::column_sum;
+use parttable::table::column_sum;
 use positions::planned::state_words;
 use record::bodies::parts_of;
 use record::places::head_base;
