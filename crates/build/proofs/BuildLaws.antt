@@ -5,7 +5,7 @@ use mathlib.Core.List.{List, _++_, append-assoc}
 use Prim.Native.Nat.{ℕ, _+_, _*_, _-_, _≤_, _<_}
 use native.Mathlib.Omega.{arith}
 use borrow.Rule.Slice.PartMut.{putMid, mid-len}
-use lib.ListN.{length, take, drop, replicate, length-append, length-drop, length-replicate, replicate-append-replicate}
+use lib.ListN.{length, take, drop, replicate, length-append, length-drop}
 use lib.Seq.{sets, length-sets, length-take-le, take-all, take-at, drop-at, drop-drop, drop-append-add}
 use Rattle.words.specs.Edition.{partWords}
 use Rattle.words.specs.Section.{listOf}
@@ -184,9 +184,6 @@ module _ (d : List ℕ) (p : ℕ) (b : Body) (k : Buildable d p b) (x : Numbers)
   out-size : length out ≡ 256 + 512 * x .rounds + 5120 * b .stages + 10240
   out-size = omega (arith, are .stages, k .body .stages)
 
-  pub front-room : length (take (to - 256) (drop 256 out)) ≡ 512 * x .rounds + 5120
-  front-room = mid-len 256 to out (omega (arith, out-size)) ∙ omega arith
-
   module _ (w : List ℕ) (written : w ≡ readSection (partLanes 256 d p) ++ stageSection 256 d p 0) where
     abbrev reads : List ℕ
     reads = readSection (partLanes 256 d p)
@@ -208,7 +205,7 @@ module _ (d : List ℕ) (p : ℕ) (b : Body) (k : Buildable d p b) (x : Numbers)
         drop-at (take 256 out) (w ++ after) 256 (length-take-le 256 out (omega (arith, out-size)))
         ∙ (ap (λ (l : List ℕ). l ++ after) written ∙ append-assoc reads first after)
 
-    pub script-long : length (putMid 256 (to - 256) out w) ≡ length out
+    script-long : length (putMid 256 (to - 256) out w) ≡ length out
     script-long = put-length 256 to out w (omega arith) (omega (arith, out-size)) sections-size
 
     pub script-room : (table : List ℕ) → 32768 ≤ length table → x .rounds ≤ 32 → ScriptRoom d p b x table (putMid 256 (to - 256) out w)
@@ -233,37 +230,14 @@ module _ (room used : List ℕ) (wide : 65536 ≤ length room) (kept : length us
   used-size : length used ≡ 40960
   used-size = kept ∙ length-take-le 40960 room (omega arith)
 
-  pub still-wide : length room₁ ≡ length room
+  still-wide : length room₁ ≡ length room
   still-wide = omega (arith, length-append used (drop 40960 room), used-size, length-drop 40960 room)
 
   rest-kept : drop 65536 room₁ ≡ drop 65536 room
   rest-kept = ap (λ (n : ℕ). drop (n + 24576) room₁) (sym used-size) ∙ (drop-append-add used (drop 40960 room) 24576 ∙ drop-drop 24576 40960 room)
 
-  pub lent-size : length (take 32768 room₁) ≡ 32768
-  lent-size = length-take-le 32768 room₁ (omega (arith, still-wide))
+  pub lent-size : length (take 65536 room₁) ≡ 65536
+  lent-size = length-take-le 65536 room₁ (omega (arith, still-wide))
 
-  module _ (z : List ℕ) (cleared : z ≡ replicate (length (take 32768 room₁)) 0) where
-    abbrev room₂ : List ℕ
-    room₂ = z ++ drop 32768 room₁
-
-    zeros : z ≡ replicate 32768 0
-    zeros = cleared ∙ ap (λ (n : ℕ). replicate n 0) lent-size
-
-    zeros-size : length z ≡ 32768
-    zeros-size = ap length zeros ∙ length-replicate {A = ℕ} 32768 0
-
-    pub wide-after : length room₂ ≡ length room
-    wide-after = omega (arith, length-append z (drop 32768 room₁), zeros-size, length-drop 32768 room₁, still-wide)
-
-    module _ (y : List ℕ) (cleared-too : y ≡ replicate (length (take 32768 (drop 32768 room₂))) 0) where
-      zeros-too : y ≡ replicate 32768 0
-      zeros-too = cleared-too ∙ ap (λ (n : ℕ). replicate n 0) (mid-len 32768 65536 room₂ (omega (arith, wide-after)))
-
-      pub room-left : putMid 32768 32768 room₂ y ≡ replicate 65536 0 ++ drop 65536 room
-      room-left =
-          let rest : drop 32768 (drop 32768 room₂) ≡ drop 65536 room = ap (drop 32768) (drop-at z (drop 32768 room₁) 32768 zeros-size) ∙ (drop-drop 32768 32768 room₁ ∙ rest-kept) in
-          ap₂ _++_ (take-at z (drop 32768 room₁) 32768 zeros-size ∙ zeros) (ap₂ _++_ zeros-too rest)
-          ∙ (sym (append-assoc (replicate 32768 0) (replicate 32768 0) (drop 65536 room)) ∙ ap (λ (l : List ℕ). l ++ drop 65536 room) (replicate-append-replicate {A = ℕ} 32768 32768 0))
-
-      pub room-length : length (putMid 32768 32768 room₂ y) ≡ length room
-      room-length = omega (arith, ap length room-left ∙ length-append (replicate 65536 0) (drop 65536 room), length-replicate {A = ℕ} 65536 0, length-drop 65536 room)
+  pub room-left : (z : List ℕ) → z ≡ replicate (length (take 65536 room₁)) 0 → z ++ drop 65536 room₁ ≡ replicate 65536 0 ++ drop 65536 room
+  room-left z cleared = ap₂ _++_ (cleared ∙ ap (λ (n : ℕ). replicate n 0) lent-size) rest-kept

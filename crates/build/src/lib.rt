@@ -136,15 +136,23 @@ fn build_front(d: &[u8], p: usize, body: Body, rounds: usize, room: &mut [u32], 
     );
 }
 
+// Writes the script of part p. What the room holds afterwards is left open.
+fn write_words(d: &[u8], p: usize, body: Body, x: Numbers, room: &mut [u32], out: &mut [u32])
+    requires { ⌜ Buildable (now d) p body × NumbersOf (now d) p x × (length (now room) ≡ 40960) × (length (now out) ≡ partWords 256 (x .rounds) (x .stages)) ⌝ }
+    ensures { λ _. ⌜ now (out .exit) ≡ partScript 256 (now (d .entry)) p (x .last) (x .state) (x .sram) ⌝ }
+{
+    let rounds = x.rounds as usize;
+    let to = 256 + 512 * rounds + 5120;
+    build_front(d, p, body, rounds, room, &mut out[256..to]);
+    write_script(d, p, body, x, &mut room[..32768], out);
+}
+
 // Writes the script of part p. The first 65536 words of the room are zero afterwards, the others as they were.
 pub fn build_script(d: &[u8], p: usize, body: Body, x: Numbers, room: &mut [u32], out: &mut [u32])
     requires { ⌜ Buildable (now d) p body × NumbersOf (now d) p x × (65536 ≤ length (now room)) × (length (now out) ≡ partWords 256 (x .rounds) (x .stages)) ⌝ }
     ensures { λ _. ⌜ now (out .exit) ≡ partScript 256 (now (d .entry)) p (x .last) (x .state) (x .sram) ⌝ }
     ensures { λ _. ⌜ now (room .exit) ≡ replicate 65536 0 ++ drop 65536 (now (room .entry)) ⌝ }
 {
-    let rounds = x.rounds as usize;
-    let to = 256 + 512 * rounds + 5120;
-    build_front(d, p, body, rounds, &mut room[..40960], &mut out[256..to]);
-    write_script(d, p, body, x, &mut room[..32768], out);
-    clear(&mut room[32768..65536]);
+    write_words(d, p, body, x, &mut room[..40960], out);
+    clear(&mut room[..65536]);
 }
