@@ -74,10 +74,9 @@ install_tools() {
         command -v qemu-x86_64 >/dev/null || install_packages qemu-user
         RUSTC_FLAGS=(--target "$TARGET" -C linker=x86_64-linux-gnu-gcc)
         CC=x86_64-linux-gnu-gcc
-        # The C library clears and copies long stretches by `rep stosb` and `rep movsb`, which the emulator does a byte at
-        # a time and a machine does not: above these lengths it takes plain stores instead.
-        local far=4294967296
-        RUN=(qemu-x86_64 -E "GLIBC_TUNABLES=glibc.cpu.x86_rep_stosb_threshold=$far:glibc.cpu.x86_rep_movsb_threshold=$far")
+        # The C library clears and copies long stretches by `rep stosb` and `rep movsb` where the processor says that it does
+        # them fast (erms). The emulator says so, and does them a byte at a time.
+        RUN=(qemu-x86_64 -cpu max,erms=off)
     fi
     find_rustc || {
         echo "host: no rustc builds for $TARGET" >&2
