@@ -18,8 +18,6 @@ use Rattle.gates.specs.Values.{gateListOf}
 use Rattle.counts.specs.declared.answers.Lowest.{Lowest}
 use Rattle.counts.specs.Answers.{lowestOf}
 use Rattle.counts.specs.Counts.{refusal7}
-use Rattle.slots.specs.declared.PlanFault.{PlanFault}
-use Rattle.slots.specs.Answers.{planFaultOf}
 use Rattle.slots.specs.Slots.{refusal9, refusal10, refusal11}
 use Rattle.positions.specs.Positions.{refusal12, refusal13}
 use Rattle.partreads.specs.declared.check.Checked.{Checked}
@@ -27,7 +25,7 @@ use Rattle.partreads.specs.PartReads.{badReads, refusedReads}
 use Rattle.partreads.specs.Answers.{checkedOf}
 use Rattle.checks.specs.Refusals.{orElse, gatePlace}
 use Rattle.checks.specs.Steps.{Few, readRefusal}
-use Rattle.checks.specs.Verdicts.{lowestPlace, faultPlace, listPlace, nothingPlace, roomPlace, checkedRefusal}
+use Rattle.checks.specs.Verdicts.{lowestPlace, listPlace, nothingPlace, roomPlace, checkedRefusal}
 use Rattle.record.proofs.TestLaws.{some-not-none}
 
 -- ---- parts are few
@@ -73,10 +71,6 @@ list-told (some g) r e = ap listPlace e
 pub lowest-told : (o : Option Place) (r : Lowest) → r ≡ lowestOf o → lowestPlace r ≡ o
 lowest-told none r e = ap lowestPlace e
 lowest-told (some x) r e = ap lowestPlace e
-
-pub fault-told : (o : Option Place) (r : PlanFault) → r ≡ planFaultOf o → faultPlace r ≡ o
-fault-told none r e = ap faultPlace e
-fault-told (some x) r e = ap faultPlace e
 
 pub few-same : (o p : Option Place) → p ≡ o → Few o → Few p
 few-same o p e h x f = h x (sym e ∙ f)

@@ -7,8 +7,6 @@ use Rattle.gates.specs.declared.GateList.{GateList}
 use Rattle.gates.specs.declared.GateList.the-variants as gate
 use Rattle.counts.specs.declared.answers.Lowest.{Lowest}
 use Rattle.counts.specs.declared.answers.Lowest.the-variants as low
-use Rattle.slots.specs.declared.PlanFault.{PlanFault}
-use Rattle.slots.specs.declared.PlanFault.the-variants as plan-fault
 use Rattle.partreads.specs.declared.check.Checked.{Checked}
 use Rattle.partreads.specs.declared.check.Checked.the-variants as checked
 use Rattle.checks.specs.declared.Verdict.{Verdict}
@@ -27,10 +25,6 @@ isRefused (verdict.Refused x) = true
 abbrev pub lowestPlace : Lowest → Option Place
 lowestPlace low.Fine = none
 lowestPlace (low.At p i) = some (record { part = p; item = i })
-
-abbrev pub faultPlace : PlanFault → Option Place
-faultPlace plan-fault.Absent = none
-faultPlace (plan-fault.At p i) = some (record { part = p; item = i })
 
 abbrev pub listPlace : GateList → Option Place
 listPlace gate.Good = none

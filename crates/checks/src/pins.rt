@@ -5,14 +5,14 @@ ghost use mathlib.Core.Option.{none};
 ghost use Rattle.record.specs.Form.{planForm};
 ghost use Rattle.gates.specs.Gates.{badGate};
 ghost use Rattle.slots.specs.Slots.{refusal10, refusal11};
-ghost use Rattle.slots.specs.Answers.{planFaultOf};
+ghost use Rattle.counts.specs.Answers.{lowestOf};
 ghost use Rattle.partreads.specs.Ready.{ClearRoom};
 ghost use Rattle.checks.specs.Steps.{pinRefusal};
 ghost use Rattle.checks.specs.Verdicts.{verdictOf};
 use crate::Verdict;
 use crate::tell::is_refused;
-use crate::tell::of_fault;
-use slots::PlanFault;
+use crate::tell::of_lowest;
+use counts::answers::Lowest;
 use slots::computed::refusal11;
 use slots::later::refusal10;
 use slots::standing::refusal9;
@@ -21,18 +21,18 @@ use words::refusals::READ_AND_COMPUTED;
 use words::refusals::SLOT;
 
 // Refusal 10.
-fn later_pins(plan: &[u8], room: &mut [u32]) -> PlanFault
+fn later_pins(plan: &[u8], room: &mut [u32]) -> Lowest
     requires { ⌜ (planForm (now plan) ≡ true) × ClearRoom (now plan) (now room) ⌝ }
-    ensures { λ r. ⌜ r ≡ planFaultOf (refusal10 (now (plan .entry))) ⌝ }
+    ensures { λ r. ⌜ r ≡ lowestOf (refusal10 (now (plan .entry))) ⌝ }
     ensures { λ _. ⌜ now (room .exit) ≡ now (room .entry) ⌝ }
 {
     refusal10(plan, &mut room[..32768])
 }
 
 // Refusal 11.
-fn computed_pins(plan: &[u8], room: &mut [u32]) -> PlanFault
+fn computed_pins(plan: &[u8], room: &mut [u32]) -> Lowest
     requires { ⌜ (planForm (now plan) ≡ true) × ClearRoom (now plan) (now room) ⌝ }
-    ensures { λ r. ⌜ r ≡ planFaultOf (refusal11 (now (plan .entry))) ⌝ }
+    ensures { λ r. ⌜ r ≡ lowestOf (refusal11 (now (plan .entry))) ⌝ }
     ensures { λ _. ⌜ now (room .exit) ≡ now (room .entry) ⌝ }
 {
     refusal11(plan, &mut room[..32768])
@@ -44,13 +44,13 @@ pub fn check_pins(plan: &[u8], room: &mut [u32]) -> Verdict
     ensures { λ r. ⌜ r ≡ verdictOf (pinRefusal (now (plan .entry))) ⌝ }
     ensures { λ _. ⌜ now (room .exit) ≡ now (room .entry) ⌝ }
 {
-    let standing = of_fault(SLOT, refusal9(plan));
+    let standing = of_lowest(SLOT, refusal9(plan));
     if is_refused(standing) {
         return standing;
     }
-    let later = of_fault(NOT_IN_STAGE_BEFORE, later_pins(plan, room));
+    let later = of_lowest(NOT_IN_STAGE_BEFORE, later_pins(plan, room));
     if is_refused(later) {
         return later;
     }
-    of_fault(READ_AND_COMPUTED, computed_pins(plan, room))
+    of_lowest(READ_AND_COMPUTED, computed_pins(plan, room))
 }

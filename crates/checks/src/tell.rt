@@ -4,13 +4,12 @@ ghost use mathlib.Core.Option.{none};
 ghost use Prim.Native.Nat.{_^_, _<_};
 ghost use Rattle.checks.specs.Refusals.{orElse, unless};
 ghost use Rattle.checks.specs.Steps.{Few};
-ghost use Rattle.checks.specs.Verdicts.{verdictOf, isRefused, lowestPlace, faultPlace, listPlace, nothingPlace, roomPlace, checkedRefusal};
+ghost use Rattle.checks.specs.Verdicts.{verdictOf, isRefused, lowestPlace, listPlace, nothingPlace, roomPlace, checkedRefusal};
 ghost use Rattle.checks.specs.declared.Verdict.the-variants as verdict;
 use crate::Verdict;
 use counts::answers::Lowest;
 use gates::GateList;
 use partreads::check::Checked;
-use slots::PlanFault;
 use words::refusals::GATE_ORDER;
 use words::refusals::NO_ROOM_FOUND;
 use words::refusals::NOTHING_TO_READ;
@@ -63,16 +62,6 @@ pub fn of_lowest(number: u32, found: Lowest) -> Verdict
     match found {
         Lowest::Fine => Verdict::Accepted,
         Lowest::At(p, i) => refuse(number, p, i),
-    }
-}
-
-pub fn of_fault(number: u32, fault: PlanFault) -> Verdict
-    requires { ⌜ Few (faultPlace fault) ⌝ }
-    ensures { λ r. ⌜ r ≡ verdictOf (orElse number (faultPlace fault) none) ⌝ }
-{
-    match fault {
-        PlanFault::Absent => Verdict::Accepted,
-        PlanFault::At(p, i) => refuse(number, p, i),
     }
 }
 

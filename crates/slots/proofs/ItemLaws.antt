@@ -10,14 +10,11 @@ use Rattle.record.specs.Record.{majorsOf, partsOf, stagesOf, bodyAt}
 use Rattle.record.specs.Form.{planForm}
 use Rattle.record.specs.Body.{BodyReady, BodyOf}
 use Rattle.record.specs.declared.bodies.Body.{Body}
-use Rattle.record.specs.Tests.{firstFrom, firstNot, lowestFrom, lowest, Place}
-use Rattle.record.proofs.TestLaws.{some-not-none, first-here, first-on, first-none, not-none, none-not, lowest-fault, lowest-next, lowest-end, lowest-none}
+use Rattle.record.specs.Tests.{firstFrom, firstNot, lowest}
+use Rattle.record.proofs.TestLaws.{some-not-none, first-here, first-on, first-none, not-none, none-not, lowest-none}
 use Rattle.record.proofs.FormLaws.{formed, body-ready}
 use Rattle.slots.specs.Slots.{badItem}
-use Rattle.slots.specs.Answers.{overItems, partFaultOf, planFaultOf}
-use Rattle.slots.specs.declared.PartFault.{PartFault}
-use Rattle.slots.specs.declared.PartFault.the-variants as part-fault
-use Rattle.slots.specs.declared.PlanFault.the-variants as plan-fault
+use Rattle.slots.specs.Answers.{overItems}
 
 -- ---- a run of items, then the others
 
@@ -135,27 +132,6 @@ stages-end f n t answer l h =
     sym (ap (λ (m : ℕ). firstFrom f m (8192 * t)) z ∙ first-none f (8192 * t)) ∙ h
 
 -- ---- the parts of a plan
-
-pub fault-some : (o : Option ℕ) (r : PartFault) (i : ℕ) → r ≡ partFaultOf o → r ≡ part-fault.Item i → o ≡ some i
-fault-some none r i p q = let z : _≡_ {A = ℕ} 0 1 = cc in absurd (omega arith)
-fault-some (some k) r i p q = cc
-
-pub fault-none : (o : Option ℕ) (r : PartFault) → r ≡ partFaultOf o → r ≡ part-fault.Absent → o ≡ none
-fault-none none r p q = refl
-fault-none (some k) r p q = let z : _≡_ {A = ℕ} 0 1 = cc in absurd (omega arith)
-
-pub parts-start : (bad : ℕ → Option ℕ) (n m : ℕ) → n ≡ m → lowestFrom bad (n - 0) 0 ≡ lowest bad m
-parts-start bad n m h = let e : n - 0 ≡ m = omega arith in ap (λ (k : ℕ). lowestFrom bad k 0) e
-
-module _ (bad : ℕ → Option ℕ) (n p : ℕ) (answer : Option Place) (so-far : lowestFrom bad (n - p) p ≡ answer) where
-  pub parts-fault : (r : PartFault) (i : ℕ) → p < n → r ≡ partFaultOf (bad p) → r ≡ part-fault.Item i → plan-fault.At p i ≡ planFaultOf answer
-  parts-fault r i l e h = ap planFaultOf (sym (lowest-fault bad n p i l (fault-some (bad p) r i e h)) ∙ so-far)
-
-  pub parts-next : (r : PartFault) → p < n → r ≡ partFaultOf (bad p) → r ≡ part-fault.Absent → lowestFrom bad (n - (p + 1)) (p + 1) ≡ answer
-  parts-next r l e h = sym (lowest-next bad n p l (fault-none (bad p) r e h)) ∙ so-far
-
-  pub parts-end : n ≤ p → plan-fault.Absent ≡ planFaultOf answer
-  parts-end l = ap planFaultOf (sym (lowest-end bad n p l) ∙ so-far)
 
 -- a body may be asked for, and has a stage
 module _ (d : List ℕ) (form : planForm d ≡ true) where

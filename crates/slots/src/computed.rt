@@ -8,9 +8,10 @@ ghost use Rattle.record.specs.Form.{planForm};
 ghost use Rattle.record.specs.Tests.{firstFrom};
 ghost use Rattle.slots.specs.Slots.{elevenRight, badItem};
 ghost use Rattle.slots.specs.Puts.{readPuts, FilledWith};
-ghost use Rattle.slots.specs.Answers.{overItems, partFaultOf, planFaultOf};
-use crate::PartFault;
-use crate::PlanFault;
+ghost use Rattle.slots.specs.Answers.{overItems};
+ghost use Rattle.counts.specs.Answers.{itemOf, lowestOf};
+use counts::answers::Item;
+use counts::answers::Lowest;
 use crate::runs::eighth_empty;
 use crate::tables::fill_reads;
 use crate::tables::top_power;
@@ -43,9 +44,9 @@ fn eleven_right(d: &[u8], p: usize, body: Body, s: usize, q: usize, table: &[u32
 }
 
 // The lowest item of stage s that is refused: item 0 has no position.
-fn eleven_items(d: &[u8], p: usize, body: Body, s: usize, table: &[u32]) -> PartFault
+fn eleven_items(d: &[u8], p: usize, body: Body, s: usize, table: &[u32]) -> Item
     requires { ⌜ BodyOf (now d) p body × (s < body .stages) × FilledWith (readPuts (now d) p) (now table) ⌝ }
-    ensures { λ r. ⌜ r ≡ partFaultOf (firstFrom (overItems (elevenRight (now (d .entry)) p)) 8192 (8192 * s)) ⌝ }
+    ensures { λ r. ⌜ r ≡ itemOf (firstFrom (overItems (elevenRight (now (d .entry)) p)) 8192 (8192 * s)) ⌝ }
 {
     let mut q = 1;
     while q < 8192 {
@@ -54,40 +55,40 @@ fn eleven_items(d: &[u8], p: usize, body: Body, s: usize, table: &[u32]) -> Part
         } else if eleven_right(d, p, body, s, q, table) {
             q += 1;
         } else {
-            return PartFault::Item(8192 * s + q);
+            return Item::At(8192 * s + q);
         }
     }
-    PartFault::Absent
+    Item::Fine
 }
 
 // The lowest item of part p that is refused.
-fn eleven_stages(d: &[u8], p: usize, body: Body, table: &[u32]) -> PartFault
+fn eleven_stages(d: &[u8], p: usize, body: Body, table: &[u32]) -> Item
     requires { ⌜ BodyOf (now d) p body × FilledWith (readPuts (now d) p) (now table) ⌝ }
-    ensures { λ r. ⌜ r ≡ partFaultOf (badItem (now (d .entry)) (elevenRight (now (d .entry)) p) p) ⌝ }
+    ensures { λ r. ⌜ r ≡ itemOf (badItem (now (d .entry)) (elevenRight (now (d .entry)) p) p) ⌝ }
 {
     let mut s = 0;
     while s < body.stages {
         match eleven_items(d, p, body, s, table) {
-            PartFault::Absent => s += 1,
-            PartFault::Item(i) => return PartFault::Item(i),
+            Item::Fine => s += 1,
+            Item::At(i) => return Item::At(i),
         }
     }
-    PartFault::Absent
+    Item::Fine
 }
 
 // The same with a lent table.
-fn eleven_part(d: &[u8], p: usize, body: Body, table: &mut [u32]) -> PartFault
+fn eleven_part(d: &[u8], p: usize, body: Body, table: &mut [u32]) -> Item
     requires { ⌜ BodyOf (now d) p body × (0 < body .stages) × (32768 ≤ length (now table)) ⌝ }
-    ensures { λ r. ⌜ r ≡ partFaultOf (badItem (now (d .entry)) (elevenRight (now (d .entry)) p) p) ⌝ }
+    ensures { λ r. ⌜ r ≡ itemOf (badItem (now (d .entry)) (elevenRight (now (d .entry)) p) p) ⌝ }
 {
     fill_reads(d, p, body, table);
     eleven_stages(d, p, body, table)
 }
 
 // The lowest place of the plan that is refused. The room is left with the last part's pins.
-fn eleven_parts(d: &[u8], room: &mut [u32]) -> PlanFault
+fn eleven_parts(d: &[u8], room: &mut [u32]) -> Lowest
     requires { ⌜ (planForm (now d) ≡ true) × (32768 ≤ length (now room)) ⌝ }
-    ensures { λ r. ⌜ r ≡ planFaultOf (Rattle.slots.specs.Slots.refusal11 (now (d .entry))) ⌝ }
+    ensures { λ r. ⌜ r ≡ lowestOf (Rattle.slots.specs.Slots.refusal11 (now (d .entry))) ⌝ }
 {
     let parts = parts_of(d);
     let mut at = first_body(d);
@@ -95,20 +96,20 @@ fn eleven_parts(d: &[u8], room: &mut [u32]) -> PlanFault
     while p < parts {
         let body = body_at(d, p, at);
         match eleven_part(d, p, body, room) {
-            PartFault::Absent => {
+            Item::Fine => {
                 at = body.end;
                 p += 1;
             }
-            PartFault::Item(i) => return PlanFault::At(p, i),
+            Item::At(i) => return Lowest::At(p, i),
         }
     }
-    PlanFault::Absent
+    Lowest::Fine
 }
 
 // Refusal 11 over the whole plan.
-pub fn refusal11(d: &[u8], room: &mut [u32]) -> PlanFault
+pub fn refusal11(d: &[u8], room: &mut [u32]) -> Lowest
     requires { ⌜ (planForm (now d) ≡ true) × (32768 ≤ length (now room)) ⌝ }
-    ensures { λ r. ⌜ r ≡ planFaultOf (Rattle.slots.specs.Slots.refusal11 (now (d .entry))) ⌝ }
+    ensures { λ r. ⌜ r ≡ lowestOf (Rattle.slots.specs.Slots.refusal11 (now (d .entry))) ⌝ }
     ensures { λ r. ⌜ now (room .exit) ≡ replicate (length (now (room .entry))) 0 ⌝ }
 {
     let fault = eleven_parts(d, room);

@@ -8,9 +8,10 @@ ghost use Rattle.record.specs.Form.{planForm};
 ghost use Rattle.record.specs.Tests.{firstFrom};
 ghost use Rattle.slots.specs.Slots.{tenRight, badItem};
 ghost use Rattle.slots.specs.Puts.{positionPuts, FilledWith};
-ghost use Rattle.slots.specs.Answers.{overItems, partFaultOf, planFaultOf};
-use crate::PartFault;
-use crate::PlanFault;
+ghost use Rattle.slots.specs.Answers.{overItems};
+ghost use Rattle.counts.specs.Answers.{itemOf, lowestOf};
+use counts::answers::Item;
+use counts::answers::Lowest;
 use crate::runs::eighth_empty;
 use crate::tables::fill_positions;
 use pinmap::Found;
@@ -39,9 +40,9 @@ fn ten_right(d: &[u8], p: usize, body: Body, s: usize, j: usize, table: &[u32]) 
 }
 
 // The lowest item of stage s + 1 that is refused.
-fn ten_items(d: &[u8], p: usize, body: Body, s: usize, table: &[u32]) -> PartFault
+fn ten_items(d: &[u8], p: usize, body: Body, s: usize, table: &[u32]) -> Item
     requires { ⌜ BodyOf (now d) p body × (s + 1 < body .stages) × FilledWith (positionPuts (now d) p s) (now table) ⌝ }
-    ensures { λ r. ⌜ r ≡ partFaultOf (firstFrom (overItems (tenRight (now (d .entry)) p)) 8192 (8192 * (s + 1))) ⌝ }
+    ensures { λ r. ⌜ r ≡ itemOf (firstFrom (overItems (tenRight (now (d .entry)) p)) 8192 (8192 * (s + 1))) ⌝ }
 {
     let mut j = 0;
     while j < 8192 {
@@ -50,40 +51,40 @@ fn ten_items(d: &[u8], p: usize, body: Body, s: usize, table: &[u32]) -> PartFau
         } else if ten_right(d, p, body, s, j, table) {
             j += 1;
         } else {
-            return PartFault::Item(8192 * (s + 1) + j);
+            return Item::At(8192 * (s + 1) + j);
         }
     }
-    PartFault::Absent
+    Item::Fine
 }
 
 // The same with a lent table.
-fn ten_stage(d: &[u8], p: usize, body: Body, s: usize, table: &mut [u32]) -> PartFault
+fn ten_stage(d: &[u8], p: usize, body: Body, s: usize, table: &mut [u32]) -> Item
     requires { ⌜ BodyOf (now d) p body × (s + 1 < body .stages) × (32768 ≤ length (now table)) ⌝ }
-    ensures { λ r. ⌜ r ≡ partFaultOf (firstFrom (overItems (tenRight (now (d .entry)) p)) 8192 (8192 * (s + 1))) ⌝ }
+    ensures { λ r. ⌜ r ≡ itemOf (firstFrom (overItems (tenRight (now (d .entry)) p)) 8192 (8192 * (s + 1))) ⌝ }
 {
     fill_positions(d, p, body, s, table);
     ten_items(d, p, body, s, table)
 }
 
 // The lowest item of part p that is refused: stage 0 has none.
-fn ten_part(d: &[u8], p: usize, body: Body, table: &mut [u32]) -> PartFault
+fn ten_part(d: &[u8], p: usize, body: Body, table: &mut [u32]) -> Item
     requires { ⌜ BodyOf (now d) p body × (0 < body .stages) × (32768 ≤ length (now table)) ⌝ }
-    ensures { λ r. ⌜ r ≡ partFaultOf (badItem (now (d .entry)) (tenRight (now (d .entry)) p) p) ⌝ }
+    ensures { λ r. ⌜ r ≡ itemOf (badItem (now (d .entry)) (tenRight (now (d .entry)) p) p) ⌝ }
 {
     let mut s = 0;
     while s + 1 < body.stages {
         match ten_stage(d, p, body, s, table) {
-            PartFault::Absent => s += 1,
-            PartFault::Item(i) => return PartFault::Item(i),
+            Item::Fine => s += 1,
+            Item::At(i) => return Item::At(i),
         }
     }
-    PartFault::Absent
+    Item::Fine
 }
 
 // The lowest place of the plan that is refused. The room is left with the last stage's positions.
-fn ten_parts(d: &[u8], room: &mut [u32]) -> PlanFault
+fn ten_parts(d: &[u8], room: &mut [u32]) -> Lowest
     requires { ⌜ (planForm (now d) ≡ true) × (32768 ≤ length (now room)) ⌝ }
-    ensures { λ r. ⌜ r ≡ planFaultOf (Rattle.slots.specs.Slots.refusal10 (now (d .entry))) ⌝ }
+    ensures { λ r. ⌜ r ≡ lowestOf (Rattle.slots.specs.Slots.refusal10 (now (d .entry))) ⌝ }
 {
     let parts = parts_of(d);
     let mut at = first_body(d);
@@ -91,20 +92,20 @@ fn ten_parts(d: &[u8], room: &mut [u32]) -> PlanFault
     while p < parts {
         let body = body_at(d, p, at);
         match ten_part(d, p, body, room) {
-            PartFault::Absent => {
+            Item::Fine => {
                 at = body.end;
                 p += 1;
             }
-            PartFault::Item(i) => return PlanFault::At(p, i),
+            Item::At(i) => return Lowest::At(p, i),
         }
     }
-    PlanFault::Absent
+    Lowest::Fine
 }
 
 // Refusal 10 over the whole plan.
-pub fn refusal10(d: &[u8], room: &mut [u32]) -> PlanFault
+pub fn refusal10(d: &[u8], room: &mut [u32]) -> Lowest
     requires { ⌜ (planForm (now d) ≡ true) × (32768 ≤ length (now room)) ⌝ }
-    ensures { λ r. ⌜ r ≡ planFaultOf (Rattle.slots.specs.Slots.refusal10 (now (d .entry))) ⌝ }
+    ensures { λ r. ⌜ r ≡ lowestOf (Rattle.slots.specs.Slots.refusal10 (now (d .entry))) ⌝ }
     ensures { λ r. ⌜ now (room .exit) ≡ replicate (length (now (room .entry))) 0 ⌝ }
 {
     let fault = ten_parts(d, room);

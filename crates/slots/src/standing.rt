@@ -8,9 +8,10 @@ ghost use Rattle.record.specs.Form.{planForm};
 ghost use Rattle.record.specs.Tests.{firstFrom};
 ghost use Rattle.gates.specs.Gates.{badGate, gateOf};
 ghost use Rattle.slots.specs.Slots.{feeds, pinRight, slotRight, nineRight, badItem};
-ghost use Rattle.slots.specs.Answers.{overItems, partFaultOf, planFaultOf, eighthEmpty};
-use crate::PartFault;
-use crate::PlanFault;
+ghost use Rattle.slots.specs.Answers.{overItems, eighthEmpty};
+ghost use Rattle.counts.specs.Answers.{itemOf, lowestOf};
+use counts::answers::Item;
+use counts::answers::Lowest;
 use crate::runs::eighth_empty;
 use crate::tables::top_power;
 use gates::GateFound;
@@ -99,9 +100,9 @@ fn nine_empty(d: &[u8], p: usize, body: Body, s: usize, x: usize) -> bool
 }
 
 // The lowest item of stage s but for item 0 that is refused.
-fn nine_later(d: &[u8], p: usize, body: Body, s: usize) -> PartFault
+fn nine_later(d: &[u8], p: usize, body: Body, s: usize) -> Item
     requires { ⌜ BodyOf (now d) p body × (s < body .stages) × (badGate (now d) ≡ none) ⌝ }
-    ensures { λ r. ⌜ r ≡ partFaultOf (firstFrom (overItems (nineRight (now (d .entry)) p)) 8191 (8192 * s + 1)) ⌝ }
+    ensures { λ r. ⌜ r ≡ itemOf (firstFrom (overItems (nineRight (now (d .entry)) p)) 8191 (8192 * s + 1)) ⌝ }
 {
     let mut x = 1;
     while x < 8192 {
@@ -110,42 +111,42 @@ fn nine_later(d: &[u8], p: usize, body: Body, s: usize) -> PartFault
         } else if nine_right(d, p, body, s, x) {
             x += 1;
         } else {
-            return PartFault::Item(8192 * s + x);
+            return Item::At(8192 * s + x);
         }
     }
-    PartFault::Absent
+    Item::Fine
 }
 
 // The lowest item of stage s that is refused: item 0 has no position.
-fn nine_items(d: &[u8], p: usize, body: Body, s: usize) -> PartFault
+fn nine_items(d: &[u8], p: usize, body: Body, s: usize) -> Item
     requires { ⌜ BodyOf (now d) p body × (s < body .stages) × (badGate (now d) ≡ none) ⌝ }
-    ensures { λ r. ⌜ r ≡ partFaultOf (firstFrom (overItems (nineRight (now (d .entry)) p)) 8192 (8192 * s)) ⌝ }
+    ensures { λ r. ⌜ r ≡ itemOf (firstFrom (overItems (nineRight (now (d .entry)) p)) 8192 (8192 * s)) ⌝ }
 {
     if pin_right(slot(d, p, body, s, 8192)) {
         return nine_later(d, p, body, s);
     }
-    PartFault::Item(8192 * s)
+    Item::At(8192 * s)
 }
 
 // The lowest item of part p that is refused.
-fn nine_part(d: &[u8], p: usize, body: Body) -> PartFault
+fn nine_part(d: &[u8], p: usize, body: Body) -> Item
     requires { ⌜ BodyOf (now d) p body × (badGate (now d) ≡ none) ⌝ }
-    ensures { λ r. ⌜ r ≡ partFaultOf (badItem (now (d .entry)) (nineRight (now (d .entry)) p) p) ⌝ }
+    ensures { λ r. ⌜ r ≡ itemOf (badItem (now (d .entry)) (nineRight (now (d .entry)) p) p) ⌝ }
 {
     let mut s = 0;
     while s < body.stages {
         match nine_items(d, p, body, s) {
-            PartFault::Absent => s += 1,
-            PartFault::Item(i) => return PartFault::Item(i),
+            Item::Fine => s += 1,
+            Item::At(i) => return Item::At(i),
         }
     }
-    PartFault::Absent
+    Item::Fine
 }
 
 // Refusal 9 over the whole plan.
-pub fn refusal9(d: &[u8]) -> PlanFault
+pub fn refusal9(d: &[u8]) -> Lowest
     requires { ⌜ (planForm (now d) ≡ true) × (badGate (now d) ≡ none) ⌝ }
-    ensures { λ r. ⌜ r ≡ planFaultOf (Rattle.slots.specs.Slots.refusal9 (now (d .entry))) ⌝ }
+    ensures { λ r. ⌜ r ≡ lowestOf (Rattle.slots.specs.Slots.refusal9 (now (d .entry))) ⌝ }
 {
     let parts = parts_of(d);
     let mut at = first_body(d);
@@ -153,12 +154,12 @@ pub fn refusal9(d: &[u8]) -> PlanFault
     while p < parts {
         let body = body_at(d, p, at);
         match nine_part(d, p, body) {
-            PartFault::Absent => {
+            Item::Fine => {
                 at = body.end;
                 p += 1;
             }
-            PartFault::Item(i) => return PlanFault::At(p, i),
+            Item::At(i) => return Lowest::At(p, i),
         }
     }
-    PlanFault::Absent
+    Lowest::Fine
 }

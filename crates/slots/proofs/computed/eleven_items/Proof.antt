@@ -6,7 +6,8 @@ use native.Mathlib.Omega.{arith}
 use borrow.Author.Needs.{needs}
 use Rattle.record.specs.Tests.{firstFrom}
 use Rattle.slots.specs.Slots.{elevenRight}
-use Rattle.slots.specs.Answers.{overItems, partFaultOf}
+use Rattle.counts.specs.Answers.{itemOf}
+use Rattle.slots.specs.Answers.{overItems}
 use Rattle.slots.proofs.ItemLaws.{zero-right, stage-next, stage-eight, stage-fault, stage-end}
 use Rattle.slots.proofs.RightLaws.{eleven-zero}
 use Rattle.slots.proofs.RunLaws.{eleven-eight}
@@ -70,13 +71,13 @@ returns c =
     let t = c .before .before .before .before in
     let l = t .before in
     let o = l .before .before .before .args in
-    ap partFaultOf (stage-fault (elevenRight (o .d .now) (o .p)) (o .s) (l .loop .q) _ (l .loop .inv .2) (t .loop-test .taken) (sym (c .before .eleven-right .ensures) ∙ c .if2 .left))
+    ap itemOf (stage-fault (elevenRight (o .d .now) (o .p)) (o .s) (l .loop .q) _ (l .loop .inv .2) (t .loop-test .taken) (sym (c .before .eleven-right .ensures) ∙ c .if2 .left))
 
 returns-2 : tie.Need-returns-2 Inv-loop μ-loop
 returns-2 c =
     let l = c .before in
     let o = l .before .before .before .args in
-    ap partFaultOf (stage-end (elevenRight (o .d .now) (o .p)) (o .s) (l .loop .q) _ (l .loop .inv .2) (omega arith))
+    ap itemOf (stage-end (elevenRight (o .d .now) (o .p)) (o .s) (l .loop .q) _ (l .loop .inv .2) (omega arith))
 
 pub eleven-items-spec : {M : Type 1} → statement M
 eleven-items-spec =

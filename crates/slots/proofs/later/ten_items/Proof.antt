@@ -6,7 +6,8 @@ use native.Mathlib.Omega.{arith}
 use borrow.Author.Needs.{needs}
 use Rattle.record.specs.Tests.{firstFrom}
 use Rattle.slots.specs.Slots.{tenRight}
-use Rattle.slots.specs.Answers.{overItems, partFaultOf}
+use Rattle.counts.specs.Answers.{itemOf}
+use Rattle.slots.specs.Answers.{overItems}
 use Rattle.slots.proofs.ItemLaws.{stage-start, stage-next, stage-eight, stage-fault, stage-end}
 use Rattle.slots.proofs.RunLaws.{ten-eight}
 use Rattle.slots.proofs.later.ten_items.Statement.{statement}
@@ -75,13 +76,13 @@ returns c =
     let t = c .before .before .before .before in
     let l = t .before in
     let o = l .before .before .before .args in
-    ap partFaultOf (stage-fault (tenRight (o .d .now) (o .p)) (o .s + 1) (l .loop .j) _ (l .loop .inv .1) (t .loop-test .taken) (sym (c .before .ten-right .ensures) ∙ c .if2 .left))
+    ap itemOf (stage-fault (tenRight (o .d .now) (o .p)) (o .s + 1) (l .loop .j) _ (l .loop .inv .1) (t .loop-test .taken) (sym (c .before .ten-right .ensures) ∙ c .if2 .left))
 
 returns-2 : tie.Need-returns-2 Inv-loop μ-loop
 returns-2 c =
     let l = c .before in
     let o = l .before .before .before .args in
-    ap partFaultOf (stage-end (tenRight (o .d .now) (o .p)) (o .s + 1) (l .loop .j) _ (l .loop .inv .1) (omega arith))
+    ap itemOf (stage-end (tenRight (o .d .now) (o .p)) (o .s + 1) (l .loop .j) _ (l .loop .inv .1) (omega arith))
 
 pub ten-items-spec : {M : Type 1} → statement M
 ten-items-spec =

@@ -1,14 +1,16 @@
 -- `slots::later::ten_part` meets its contract. The loop's invariant: the answer from stage s + 1 on is the part's.
 -- Assumes nothing.
-use mathlib.Core.Path.{_≡_, refl, ap, _∙_}
+use mathlib.Core.Path.{_≡_, refl, ap, _∙_, sym}
 use Prim.Native.Nat.{_+_, _*_, _-_, _<_}
 use native.Mathlib.Omega.{arith}
 use borrow.Author.Needs.{needs}
 use lib.ListN.{length}
 use Rattle.record.specs.Tests.{firstFrom}
 use Rattle.slots.specs.Slots.{tenRight, badItem}
-use Rattle.slots.specs.Answers.{overItems, partFaultOf}
-use Rattle.slots.proofs.ItemLaws.{stages-first, stages-next, stages-fault, stages-end, fault-some, fault-none}
+use Rattle.counts.specs.Answers.{itemOf}
+use Rattle.slots.specs.Answers.{overItems}
+use Rattle.counts.proofs.AnswerLaws.{item-some, item-none}
+use Rattle.slots.proofs.ItemLaws.{stages-first, stages-next, stages-fault, stages-end}
 use Rattle.slots.proofs.SlotLaws.{ten-first}
 use Rattle.slots.proofs.later.ten_part.Statement.{statement}
 use Rattle.slots.proofs.later.ten_part.Tie as tie
@@ -51,7 +53,7 @@ loop-again c =
     let l = c .before .before .before .before .before .before .before .before in
     let s = l .before .before .before in
     let o = s .args in
-    (c .before .before .before .before .before .before .if1 .taken, c .before .before .before .table .given ∙ l .loop .inv .1, stages-next (overItems (tenRight (o .d .now) (o .p))) (o .body .stages) (l .loop .s + 1) _ (c .before .before .before .before .before .before .if1 .taken) (l .loop .inv .2) (fault-none _ (k .ten-stage .result) (k .ten-stage .ensures) (c .enum-told .given .1)))
+    (c .before .before .before .before .before .before .if1 .taken, c .before .before .before .table .given ∙ l .loop .inv .1, stages-next (overItems (tenRight (o .d .now) (o .p))) (o .body .stages) (l .loop .s + 1) _ (c .before .before .before .before .before .before .if1 .taken) (l .loop .inv .2) (item-none _ (sym (k .ten-stage .ensures) ∙ c .enum-told .given .1)))
 
 enum-known-i : tie.Need-enum-known-i Inv-loop μ-loop
 enum-known-i c = search needs
@@ -65,7 +67,7 @@ returns c =
     let l = c .before .before .before .before .before .before .before .before .before in
     let s = l .before .before .before in
     let o = s .args in
-    (ap partFaultOf (stages-fault (overItems (tenRight (o .d .now) (o .p))) (o .body .stages) (l .loop .s + 1) _ (c .before .before .before .before .before .before .before .if1 .taken) (l .loop .inv .2) _ (fault-some _ (k .ten-stage .result) _ (k .ten-stage .ensures) (c .before .i .given .1))))
+    (ap itemOf (stages-fault (overItems (tenRight (o .d .now) (o .p))) (o .body .stages) (l .loop .s + 1) _ (c .before .before .before .before .before .before .before .if1 .taken) (l .loop .inv .2) _ (item-some _ _ (sym (k .ten-stage .ensures) ∙ c .before .i .given .1))))
 
 same-length-2 : tie.Need-same-length-2 Inv-loop μ-loop
 same-length-2 c = search needs
@@ -74,7 +76,7 @@ returns-2 : tie.Need-returns-2 Inv-loop μ-loop
 returns-2 c =
     let l = c .before .before in
     let o = l .before .before .before .args in
-    (ap partFaultOf (stages-end (overItems (tenRight (o .d .now) (o .p))) (o .body .stages) (l .loop .s + 1) _ (c .if1 .left) (l .loop .inv .2)))
+    (ap itemOf (stages-end (overItems (tenRight (o .d .now) (o .p))) (o .body .stages) (l .loop .s + 1) _ (c .if1 .left) (l .loop .inv .2)))
 
 pub ten-part-spec : {M : Type 1} → statement M
 ten-part-spec =

@@ -3,7 +3,7 @@
 use mathlib.Core.Path.{sym, ap, _∙_}
 use borrow.Author.Needs.{needs}
 use Rattle.slots.specs.Slots.{pinRight, nineRight}
-use Rattle.slots.specs.Answers.{partFaultOf}
+use Rattle.counts.specs.Answers.{itemOf}
 use Rattle.slots.proofs.ItemLaws.{zero-right, zero-fault}
 use Rattle.slots.proofs.RightLaws.{nine-zero}
 use Rattle.slots.proofs.standing.nine_items.Statement.{statement}
@@ -23,7 +23,7 @@ returns c =
     let r = c .before .before in
     let o = r .before .before .before .args in
     c .nine-later .ensures
-    ∙ ap partFaultOf (zero-right (nineRight (o .d .now) (o .p)) (o .s) (nine-zero (o .d .now) (o .p) (o .s) ∙ (sym (r .pin-right .ensures ∙ ap pinRight (r .before .slot .ensures)) ∙ c .before .if1 .taken)))
+    ∙ ap itemOf (zero-right (nineRight (o .d .now) (o .p)) (o .s) (nine-zero (o .d .now) (o .p) (o .s) ∙ (sym (r .pin-right .ensures ∙ ap pinRight (r .before .slot .ensures)) ∙ c .before .if1 .taken)))
 
 mul-t7 : tie.Need-mul-t7
 mul-t7 c = search needs
@@ -32,7 +32,7 @@ returns-2 : tie.Need-returns-2
 returns-2 c =
     let r = c .before in
     let o = r .before .before .before .args in
-    ap partFaultOf (zero-fault (nineRight (o .d .now) (o .p)) (o .s) (nine-zero (o .d .now) (o .p) (o .s) ∙ (sym (r .pin-right .ensures ∙ ap pinRight (r .before .slot .ensures)) ∙ c .if1 .left)))
+    ap itemOf (zero-fault (nineRight (o .d .now) (o .p)) (o .s) (nine-zero (o .d .now) (o .p) (o .s) ∙ (sym (r .pin-right .ensures ∙ ap pinRight (r .before .slot .ensures)) ∙ c .if1 .left)))
 
 pub nine-items-spec : {M : Type 1} → statement M
 nine-items-spec =

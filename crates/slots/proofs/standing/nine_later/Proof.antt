@@ -6,7 +6,8 @@ use native.Mathlib.Omega.{arith}
 use borrow.Author.Needs.{needs}
 use Rattle.record.specs.Tests.{firstFrom}
 use Rattle.slots.specs.Slots.{nineRight}
-use Rattle.slots.specs.Answers.{overItems, partFaultOf}
+use Rattle.counts.specs.Answers.{itemOf}
+use Rattle.slots.specs.Answers.{overItems}
 use Rattle.slots.proofs.ItemLaws.{stage-next, stage-eight, stage-fault, stage-end}
 use Rattle.slots.proofs.RunLaws.{nine-eight}
 use Rattle.slots.proofs.standing.nine_later.Statement.{statement}
@@ -67,13 +68,13 @@ returns c =
     let t = c .before .before .before .before in
     let l = t .before in
     let o = l .before .before .args in
-    ap partFaultOf (stage-fault (nineRight (o .d .now) (o .p)) (o .s) (l .loop .x) _ (l .loop .inv .2) (t .loop-test .taken) (sym (c .before .nine-right .ensures) ∙ c .if2 .left))
+    ap itemOf (stage-fault (nineRight (o .d .now) (o .p)) (o .s) (l .loop .x) _ (l .loop .inv .2) (t .loop-test .taken) (sym (c .before .nine-right .ensures) ∙ c .if2 .left))
 
 returns-2 : tie.Need-returns-2 Inv-loop μ-loop
 returns-2 c =
     let l = c .before in
     let o = l .before .before .args in
-    ap partFaultOf (stage-end (nineRight (o .d .now) (o .p)) (o .s) (l .loop .x) _ (l .loop .inv .2) (omega arith))
+    ap itemOf (stage-end (nineRight (o .d .now) (o .p)) (o .s) (l .loop .x) _ (l .loop .inv .2) (omega arith))
 
 pub nine-later-spec : {M : Type 1} → statement M
 nine-later-spec =

@@ -1,13 +1,14 @@
 -- `slots::standing::refusal9` meets its contract. The loop's invariant: the lowest place from part p on is the plan's.
 -- Assumes nothing.
-use mathlib.Core.Path.{_≡_}
+use mathlib.Core.Path.{_≡_, ap, _∙_}
 use Prim.Native.Nat.{_-_, _≤_}
 use native.Mathlib.Omega.{arith}
 use borrow.Author.Needs.{needs}
 use Rattle.record.specs.Record.{partsOf, bodyAt}
-use Rattle.record.specs.Tests.{lowestFrom}
+use Rattle.record.specs.Tests.{lowestFrom, lowest}
 use Rattle.slots.specs.Slots.{nineRight, badItem, refusal9}
-use Rattle.slots.proofs.ItemLaws.{parts-start, parts-fault, parts-next, parts-end, form-majors, form-ready}
+use Rattle.counts.proofs.AnswerLaws.{pass-start, pass-fault, pass-next, pass-end}
+use Rattle.slots.proofs.ItemLaws.{form-majors, form-ready}
 use Rattle.slots.proofs.standing.refusal9.Statement.{statement}
 use Rattle.slots.proofs.standing.refusal9.Tie as tie
 
@@ -28,7 +29,7 @@ loop-holds : tie.Need-loop-holds Inv-loop μ-loop
 unfolding refusal9
 loop-holds c =
     let d = c .before .before .before .args .d .now in
-    (omega arith, c .first-body .ensures .0, parts-start (λ q. badItem d (nineRight d q) q) (c .before .parts-of .result) (partsOf d) (c .before .parts-of .ensures .0))
+    (omega arith, c .first-body .ensures .0, pass-start (λ q. badItem d (nineRight d q) q) (c .before .parts-of .result) ∙ ap (lowest (λ q. badItem d (nineRight d q) q)) (c .before .parts-of .ensures .0))
 
 body-at-requires : tie.Need-body-at-requires Inv-loop μ-loop
 body-at-requires c κs =
@@ -53,7 +54,7 @@ loop-again c =
     let k = c .before .before in
     let l = k .before .before .before in
     let d = l .before .before .before .before .args .d .now in
-    (omega (arith, k .before .before .loop-test .taken), k .before .body-at .ensures .end, parts-next (λ q. badItem d (nineRight d q) q) _ (l .loop .p) _ (l .loop .inv .2) (k .nine-part .result) (k .before .before .loop-test .taken) (k .nine-part .ensures) (c .enum-told .given .1))
+    (omega (arith, k .before .before .loop-test .taken), k .before .body-at .ensures .end, pass-next (λ q. badItem d (nineRight d q) q) _ (l .loop .p) _ (l .loop .inv .2) (k .before .before .loop-test .taken) (k .nine-part .result) (k .nine-part .ensures) (c .enum-told .given .1))
 
 enum-known-i : tie.Need-enum-known-i Inv-loop μ-loop
 enum-known-i c = search needs
@@ -63,13 +64,13 @@ returns c =
     let k = c .before .before .before in
     let l = k .before .before .before in
     let d = l .before .before .before .before .args .d .now in
-    parts-fault (λ q. badItem d (nineRight d q) q) _ (l .loop .p) _ (l .loop .inv .2) (k .nine-part .result) _ (k .before .before .loop-test .taken) (k .nine-part .ensures) (c .before .i .given .1)
+    pass-fault (λ q. badItem d (nineRight d q) q) _ (l .loop .p) _ (l .loop .inv .2) (k .before .before .loop-test .taken) (k .nine-part .result) (k .nine-part .ensures) _ (c .before .i .given .1)
 
 returns-2 : tie.Need-returns-2 Inv-loop μ-loop
 returns-2 c =
     let l = c .before in
     let d = l .before .before .before .before .args .d .now in
-    parts-end (λ q. badItem d (nineRight d q) q) _ (l .loop .p) _ (l .loop .inv .2) (c .loop-test .left)
+    pass-end (λ q. badItem d (nineRight d q) q) _ (l .loop .p) _ (l .loop .inv .2) (c .loop-test .left)
 
 pub refusal9-spec : {M : Type 1} → statement M
 refusal9-spec =
