@@ -9,7 +9,8 @@ use Rattle.pinmap.specs.declared.Slot.{Slot}
 use Rattle.pinmap.specs.declared.Slot.the-variants.{Free, Taken, Nowhere}
 use Rattle.pinmap.specs.declared.PutAnswer.the-variants.{Stored, Full}
 use Rattle.pinmap.specs.declared.Found.the-variants.{Value, Missing}
-use Rattle.pinmap.specs.PinMap.{capacity, keyAt, valueAt, home, next, probeFrom, slotOf, lookAt, look, foundOf, putAt, putIn, answerAt, putAnswer, putThereAt, putThere}
+use Rattle.words.specs.Round.{next}
+use Rattle.pinmap.specs.PinMap.{capacity, keyAt, valueAt, home, probeFrom, slotOf, lookAt, look, foundOf, putAt, putIn, answerAt, putAnswer, putThereAt, putThere}
 use Rattle.pinmap.proofs.ProbeLaws.{probe-none, probe-free, probe-taken, probe-on, slot-start, slot-free, slot-taken}
 
 -- the loop of `probe`: what is left of the probe ends where the whole one does, for the pin of the key

@@ -10,29 +10,16 @@ use native.Mathlib.Numerals.{sub-one}
 use native.Mathlib.Omega.{arith}
 use lib.Dec.{eqb, leb}
 use borrow.Author.Tests.{leb-true, leb-false, eqb-true, eqb-false, eq-eqb, ne-eqb}
+use Rattle.words.specs.Round.{next}
+use Rattle.words.proofs.RoundLaws.{next-wrap, next-step, next-lt}
 use Rattle.pinmap.specs.declared.Slot.{Slot}
 use Rattle.pinmap.specs.declared.Slot.the-variants.{Free, Taken, Nowhere}
-use Rattle.pinmap.specs.PinMap.{capacity, keyAt, home, next, probeFrom, slotOf, HasOther}
+use Rattle.pinmap.specs.PinMap.{capacity, keyAt, home, probeFrom, slotOf, HasOther}
 
 -- ---- slots
 
 pub home-lt : (c p : ℕ) → 0 < c → home c p < c
 home-lt c p h = mod-lt _ h
-
-pub next-wrap : (c i : ℕ) → i + 1 ≡ c → next c i ≡ 0
-unfolding next
-next-wrap c i h = rw (eq-eqb (i + 1) c h, next)
-
-pub next-step : (c i : ℕ) → (i + 1 ≡ c → ⊥) → next c i ≡ i + 1
-unfolding next
-next-step c i h = rw (ne-eqb (i + 1) c h, next)
-
-pub next-lt : (c i : ℕ) → i < c → next c i < c
-next-lt c i h = go (eqb (i + 1) c) refl
-  where
-    go : (b : Bool) → eqb (i + 1) c ≡ b → next c i < c
-    go true e = rw (next-wrap c i (eqb-true (i + 1) c e)) (omega arith)
-    go false e = rw (next-step c i (eqb-false (i + 1) c e)) (omega (arith, eqb-false (i + 1) c e))
 
 -- ---- probing, in the code's terms
 

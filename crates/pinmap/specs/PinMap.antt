@@ -8,6 +8,7 @@ use mathlib.Core.List.{List, [], _∷_}
 use Prim.Native.Nat.{ℕ, zero, suc, _+_, _*_, _/_, _%_, _^_, _≤_, _<_}
 use lib.Dec.{eqb}
 use lib.ListN.{length, getD, set}
+use Rattle.words.specs.Round.{next}
 use Rattle.pinmap.specs.declared.Slot.{Slot}
 use Rattle.pinmap.specs.declared.Slot.the-variants.{Free, Taken, Nowhere}
 use Rattle.pinmap.specs.declared.PutAnswer.{PutAnswer}
@@ -26,12 +27,9 @@ keyAt t i = getD t (2 * i) 0
 abbrev pub valueAt : List ℕ → ℕ → ℕ
 valueAt t i = getD t (2 * i + 1) 0
 
--- where probing for pin p begins among c slots, and the next slot round
+-- where probing for pin p begins among c slots
 abbrev pub home : ℕ → ℕ → ℕ
 home c p = p * 2654435769 % 2 ^ 32 % c
-
-unfoldable pub next : ℕ → ℕ → ℕ
-next c i = elim (eqb (i + 1) c) [ true ↦ 0 | false ↦ i + 1 ]
 
 -- the first of f slots, going round from slot i, that is free or has pin p
 unfoldable pub probeFrom : List ℕ → ℕ → ℕ → ℕ → Slot

@@ -2,7 +2,8 @@
 ghost use mathlib.Core.Path.{_≡_};
 ghost use Prim.Native.Nat.{_+_, _*_, _-_, _<_, _^_};
 ghost use lib.ListN.{set};
-ghost use Rattle.pinmap.specs.PinMap.{capacity, keyAt, valueAt, home, next, slotOf, putAnswer, putIn, putThere, look, foundOf};
+ghost use Rattle.pinmap.specs.PinMap.{capacity, keyAt, valueAt, home, slotOf, putAnswer, putIn, putThere, look, foundOf};
+use words::round::next_of;
 use words::units::Pin;
 
 // Where probing for a pin ends.
@@ -38,14 +39,6 @@ fn home_slot(slots: usize, p: Pin) -> usize
     } else {
         (scattered % slots as u64) as usize
     }
-}
-
-// The next slot round.
-fn next_slot(slots: usize, i: usize) -> usize
-    requires { ⌜ i < slots ⌝ }
-    ensures { λ r. ⌜ r ≡ next slots i ⌝ }
-{
-    if i + 1 == slots { 0 } else { i + 1 }
 }
 
 // The key of slot i, and its value.
@@ -99,7 +92,7 @@ fn probe(t: &[u32], p: Pin) -> Slot
         if found == key {
             return Slot::Taken(i);
         }
-        i = next_slot(slots, i);
+        i = next_of(i, slots);
         left -= 1;
     }
     Slot::Nowhere

@@ -11,10 +11,12 @@ use native.Mathlib.Omega.{arith}
 use lib.Dec.{leb, eqb}
 use lib.ListN.{length, getD, set, take, drop, replicate, length-drop, length-set, length-replicate, take-append-drop}
 use lib.Seq.{getD-set-same, getD-set-other}
+use Rattle.words.specs.Round.{next}
+use Rattle.words.proofs.RoundLaws.{next-lt}
 use Rattle.reads.specs.ReadSet.{Pair, bits, total}
-use Rattle.reads.specs.Search.{Lane, all, stuck, piecesIn, pieces, insertPiece, ordered, joined, next, firstRoom, push, tryFrom, try, lanesOf}
+use Rattle.reads.specs.Search.{Lane, all, stuck, piecesIn, pieces, insertPiece, ordered, joined, firstRoom, push, tryFrom, try, lanesOf}
 use Rattle.reads.specs.Packing.{times, Packing}
-use Rattle.reads.proofs.SearchLaws.{next-lt, room-found, win-first}
+use Rattle.reads.proofs.SearchLaws.{room-found, win-first}
 
 -- ---- how often a pair stands
 

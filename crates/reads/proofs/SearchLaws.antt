@@ -9,27 +9,14 @@ use Prim.Native.Nat.{ℕ, zero, suc, _+_, _-_, _/_, _^_, _≤_, _<_}
 use native.Mathlib.Nat.{zero-lt-suc, not-suc-le-zero, lt-of-le-of-lt, lt-of-lt-of-le, div-one, zero-div}
 use native.Mathlib.Numerals.{one-add, sub-one}
 use native.Mathlib.Omega.{arith}
-use borrow.Author.Tests.{leb-true, eqb-false, eq-eqb, ne-eqb, le-leb, lt-leb}
-use lib.Dec.{eqb, lit<}
+use borrow.Author.Tests.{leb-true, le-leb, lt-leb}
+use lib.Dec.{lit<}
 use lib.ListN.{length, getD}
 use lib.Pow.{pow-mono, shr-shr}
+use Rattle.words.specs.Round.{next}
+use Rattle.words.proofs.RoundLaws.{next-lt}
 use Rattle.reads.specs.ReadSet.{Pair, total}
-use Rattle.reads.specs.Search.{Lane, Tried, all, stuck, next, firstRoom, try, firstWin, lanesOf}
-
--- ---- "the next one round"
-
-pub next-wrap : (L j : ℕ) → j + 1 ≡ L → next L j ≡ 0
-next-wrap L j h = rw (eq-eqb (j + 1) L h, next)
-
-pub next-step : (L j : ℕ) → (j + 1 ≡ L → ⊥) → next L j ≡ j + 1
-next-step L j h = rw (ne-eqb (j + 1) L h, next)
-
-pub next-lt : (L j : ℕ) → j < L → next L j < L
-next-lt L j h = go (eqb (j + 1) L) refl
-  where
-    go : (t : Bool) → eqb (j + 1) L ≡ t → next L j < L
-    go true e = rw (e, next) (omega arith)
-    go false e = rw (e, next) (omega (arith, eqb-false (j + 1) L e))
+use Rattle.reads.specs.Search.{Lane, Tried, all, stuck, firstRoom, try, firstWin, lanesOf}
 
 -- ---- the search for room, lane by lane
 

@@ -4,8 +4,9 @@ use mathlib.Core.Bool.{true, false}
 use mathlib.Core.Option.{Option, none, some}
 use mathlib.Core.List.{List, [], _∷_, _++_}
 use Prim.Native.Nat.{ℕ, zero, suc, _+_, _/_, max}
-use lib.Dec.{leb, eqb}
+use lib.Dec.{leb}
 use lib.ListN.{length, getD, set, take, drop, replicate}
+use Rattle.words.specs.Round.{next}
 use Rattle.reads.specs.ReadSet.{Pair, bits, total}
 
 -- "Cut the list into pieces of that size, the last maybe shorter": at most f pieces, of size k
@@ -35,10 +36,6 @@ joined (l ∷ ls) = l ++ joined ls
 -- a lane: its pairs, round by round
 abbrev pub Lane : Type 0
 Lane = List Pair
-
--- "the next one round"
-abbrev pub next : ℕ → ℕ → ℕ
-next L j = elim (eqb (j + 1) L) [ true ↦ 0 | false ↦ j + 1 ]
 
 -- "the first lane, going round from the current one, whose bits plus the pair's are at most 32": f lanes from lane j are looked at. The bits
 -- of a lane are summed anew each time, as the Rust does.

@@ -7,7 +7,8 @@ use Prim.Native.Nat.{ℕ, _+_, _*_, _<_}
 use native.Mathlib.Omega.{arith}
 use lib.ListN.{getD, drop}
 use Rattle.words.specs.Bit.{pop}
-use Rattle.reads.specs.Search.{next, firstRoom}
+use Rattle.words.specs.Round.{next}
+use Rattle.reads.specs.Search.{firstRoom}
 use Rattle.tries.specs.declared.Search.{Search}
 use Rattle.tries.specs.declared.Search.the-variants.{Lane as LaneAt, Full}
 use Rattle.tries.specs.Table.{tableOf}

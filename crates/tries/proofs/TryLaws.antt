@@ -12,8 +12,10 @@ use lib.ListN.{length, getD, drop, replicate, length-append, drop-of-length-le, 
 use lib.Seq.{slice, drop-cons}
 use Rattle.words.specs.Bit.{pop}
 use Rattle.reads.specs.ReadSet.{Pair, bits, pairsOf}
-use Rattle.reads.specs.Search.{Lane, next, firstRoom, push, Tried, stuck, tryFrom}
-use Rattle.reads.proofs.SearchLaws.{next-lt, room-found}
+use Rattle.words.specs.Round.{next}
+use Rattle.reads.specs.Search.{Lane, firstRoom, push, Tried, stuck, tryFrom}
+use Rattle.words.proofs.RoundLaws.{next-lt}
+use Rattle.reads.proofs.SearchLaws.{room-found}
 use Rattle.tries.specs.declared.Search.{Search}
 use Rattle.tries.specs.declared.Search.the-variants.{Lane as LaneAt, Full}
 use Rattle.tries.specs.Table.{tableOf, pieceOf, runOf}

@@ -8,7 +8,8 @@ use Prim.Native.Nat.{ℕ, _+_, _*_, _/_, _%_, _≤_, _<_}
 use lib.ListN.{length, getD, take, replicate}
 use Rattle.words.specs.Bit.{pop}
 use Rattle.reads.specs.ReadSet.{Pair, bits, pairsOf}
-use Rattle.reads.specs.Search.{Lane, next, firstRoom, push, Tried, all, stuck, tryFrom}
+use Rattle.words.specs.Round.{next}
+use Rattle.reads.specs.Search.{Lane, firstRoom, push, Tried, all, stuck, tryFrom}
 use Rattle.tries.specs.declared.Search.{Search}
 use Rattle.tries.specs.declared.Search.the-variants.{Lane as LaneAt, Full}
 use Rattle.tries.specs.Table.{runOf}

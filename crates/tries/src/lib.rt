@@ -4,10 +4,11 @@ ghost use mathlib.Core.List.{_++_};
 ghost use Prim.Native.Nat.{_*_, _<_, min};
 ghost use lib.ListN.{length, drop};
 ghost use Rattle.reads.specs.ReadSet.{total};
-ghost use Rattle.reads.specs.Search.{next, firstRoom};
+ghost use Rattle.reads.specs.Search.{firstRoom};
 ghost use Rattle.tries.specs.Table.{tableOf};
 ghost use Rattle.tries.specs.Decoded.{pairAt, laneOf, rowAt, lanesAt, putIn};
 ghost use Rattle.tries.specs.Tries.{foundOf, laneFor, nextOf, lanesAfter, isAll, lanesIn, triedOf, Named, RowIn, Searched, Puttable, Placeable, Ready};
+use words::round::next_of;
 
 // What a lane search finds.
 pub enum Search {
@@ -19,14 +20,6 @@ pub enum Search {
 pub struct Load {
     pub bits: u32,
     pub pairs: usize,
-}
-
-// The next lane round.
-fn next_lane(j: usize, lanes: usize) -> usize
-    requires { ⌜ j < lanes ⌝ }
-    ensures { λ r. ⌜ r ≡ next lanes j ⌝ }
-{
-    if j + 1 == lanes { 0 } else { j + 1 }
 }
 
 // The load of a lane, summed over its row: a word is a pair's number and one, and a 0 ends the lane. The mask of pair e - 1 is word 2e - 1.
@@ -69,7 +62,7 @@ fn find_lane(set: &[u32], room: &[u32], lanes: usize, from: usize, b: u32) -> Se
         if held.bits + b <= 32 {
             return Search::Lane(j);
         }
-        j = next_lane(j, lanes);
+        j = next_of(j, lanes);
         left -= 1;
     }
     Search::Full
@@ -96,7 +89,7 @@ fn place(set: &[u32], room: &mut [u32], lanes: usize, cur: usize, p: usize) -> S
         Search::Full => Search::Full,
         Search::Lane(j) => {
             put(set, room, j, p);
-            Search::Lane(next_lane(j, lanes))
+            Search::Lane(next_of(j, lanes))
         }
     }
 }

@@ -2,3 +2,4 @@ pub mod Sum
 pub mod Bit
 pub mod Section
 pub mod Edition
+pub mod Round

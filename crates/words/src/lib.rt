@@ -1,7 +1,8 @@
-// Bits and halves of 32-bit words, words cleared, the four units, the script edition, the refusals' numbers.
+// Bits and halves of 32-bit words, words cleared, the four units, the script edition, the refusals' numbers, places in a round.
 pub mod bits;
 pub mod clear;
 pub mod edition;
 pub mod halves;
 pub mod refusals;
+pub mod round;
 pub mod units;

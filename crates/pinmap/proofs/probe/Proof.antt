@@ -3,8 +3,9 @@
 use mathlib.Core.Path.{sym}
 use Prim.Native.Nat.{_≤_, _<_}
 use native.Mathlib.Omega.{arith}
+use Rattle.words.proofs.RoundLaws.{next-lt}
 use Rattle.pinmap.specs.PinMap.{capacity}
-use Rattle.pinmap.proofs.ProbeLaws.{home-lt, next-lt, slot-none}
+use Rattle.pinmap.proofs.ProbeLaws.{home-lt, slot-none}
 use Rattle.pinmap.proofs.CodeLaws.{Probing, probing-start, probing-free, probing-taken, probing-on, probing-over}
 use borrow.Author.Needs.{needs}
 use Rattle.pinmap.proofs.probe.Statement.{statement}
@@ -48,8 +49,8 @@ returns-3 c =
     let s = l .before .before .before .before .before .args in
     probing-taken (s .t .now) (l .loop .left) (l .loop .i) (k .key-of .result) (omega arith) (k .key-of .ensures) (s .p .0) (c .if3 .taken) (l .loop .inv .2)
 
-next-slot-requires : tie.Need-next-slot-requires Inv-loop μ-loop
-next-slot-requires c κs = search needs
+next-of-requires : tie.Need-next-of-requires Inv-loop μ-loop
+next-of-requires c κs = search needs
 
 sub-left : tie.Need-sub-left Inv-loop μ-loop
 sub-left c = search needs
@@ -64,7 +65,7 @@ loop-again c =
     let s = l .before .before .before .before .before .args in
     let g = probing-on (s .t .now) (l .loop .left) (l .loop .i) (k .key-of .result) (omega arith) (k .key-of .ensures) _
     (c .before .before .if2 .left) (c .before .if3 .left) (l .loop .inv .2) in
-    rw (c .next-slot .ensures) (next-lt _ _ (l .loop .inv .0), omega arith, g)
+    rw (c .next-of .ensures) (next-lt _ _ (l .loop .inv .0), omega arith, g)
 
 returns-4 : tie.Need-returns-4 Inv-loop μ-loop
 returns-4 c =
@@ -85,7 +86,7 @@ probe-spec =
     key-of-requires
     returns-2
     returns-3
-    next-slot-requires
+    next-of-requires
     sub-left
     loop-less
     loop-again

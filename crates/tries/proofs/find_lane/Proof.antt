@@ -10,7 +10,8 @@ use Rattle.reads.specs.ReadSet.{total}
 use Rattle.reads.specs.Search.{firstRoom}
 use Rattle.tries.specs.Decoded.{lanesAt}
 use Rattle.tries.specs.Tries.{foundOf}
-use Rattle.reads.proofs.SearchLaws.{next-lt, room-here, room-on, room-none}
+use Rattle.words.proofs.RoundLaws.{next-lt}
+use Rattle.reads.proofs.SearchLaws.{room-here, room-on, room-none}
 use Rattle.tries.proofs.TableLaws.{lane-at, row-bits-le, row-in}
 use Rattle.tries.proofs.find_lane.Statement.{statement}
 use Rattle.tries.proofs.find_lane.Tie as tie
@@ -49,8 +50,8 @@ returns c =
     let h : bitsAt (called (c .before .before)) (l .j) + called (c .before .before) .args .b ≤ 32 = omega (arith, loaded (c .before .before)) in
     ap foundOf (sym (room-here _ _ _ _ _ (c .before .before .before .loop-test .taken) h) ∙ l .inv .2)
 
-next-lane-requires : tie.Need-next-lane-requires Inv-loop μ-loop
-next-lane-requires c κs = search needs
+next-of-requires : tie.Need-next-of-requires Inv-loop μ-loop
+next-of-requires c κs = search needs
 
 sub-left : tie.Need-sub-left Inv-loop μ-loop
 sub-left c = search needs
@@ -62,7 +63,7 @@ loop-again : tie.Need-loop-again Inv-loop μ-loop
 loop-again c =
     let l = c .before .before .before .before .before .loop in
     let h : 32 < bitsAt (called (c .before .before .before)) (l .j) + called (c .before .before .before) .args .b = omega (arith, loaded (c .before .before .before)) in
-    rw (c .next-lane .ensures) (next-lt _ _ (l .inv .0), omega arith, sym (room-on _ _ _ _ _ (c .before .before .before .before .loop-test .taken) h) ∙ l .inv .2)
+    rw (c .next-of .ensures) (next-lt _ _ (l .inv .0), omega arith, sym (room-on _ _ _ _ _ (c .before .before .before .before .loop-test .taken) h) ∙ l .inv .2)
 
 returns-2 : tie.Need-returns-2 Inv-loop μ-loop
 returns-2 c =
@@ -80,7 +81,7 @@ find-lane-spec =
     lane-load-requires
     add-if1
     returns
-    next-lane-requires
+    next-of-requires
     sub-left
     loop-less
     loop-again

@@ -44,8 +44,8 @@ enum-known-j c = search needs
 put-requires : tie.Need-put-requires
 put-requires c κs = place-put _ _ _ _ _ (called (c .before .before .before .before) .pre) _ (counted (c .before .before .before .before)) _ (c .before .before .before .before .find-lane .ensures) _ (c .before .before .j .given .1)
 
-next-lane-requires : tie.Need-next-lane-requires
-next-lane-requires c κs = omega (arith, called (c .before .before .before .before .before .before .before) .pre .lane, place-lt _ _ _ _ _ (called (c .before .before .before .before .before .before .before) .pre) _ (counted (c .before .before .before .before .before .before .before)) _ (c .before .before .before .before .before .before .before .find-lane .ensures) _ (c .before .before .before .before .before .j .given .1))
+next-of-requires : tie.Need-next-of-requires
+next-of-requires c κs = omega (arith, called (c .before .before .before .before .before .before .before) .pre .lane, place-lt _ _ _ _ _ (called (c .before .before .before .before .before .before .before) .pre) _ (counted (c .before .before .before .before .before .before .before)) _ (c .before .before .before .before .before .before .before .find-lane .ensures) _ (c .before .before .before .before .before .j .given .1))
 
 same-length : tie.Need-same-length
 same-length c = search needs
@@ -57,7 +57,7 @@ same-length-2 : tie.Need-same-length-2
 same-length-2 c = search needs
 
 returns-2 : tie.Need-returns-2
-returns-2 c = place-lane _ _ _ _ _ (called (c .before .before .before .before .before .before .before .before) .pre) _ (counted (c .before .before .before .before .before .before .before .before)) _ (c .before .before .before .before .before .before .before .before .find-lane .ensures) _ (c .before .before .before .before .before .before .j .given .1) _ _ (c .next-lane .ensures) (c .before .before .before .put .ensures)
+returns-2 c = place-lane _ _ _ _ _ (called (c .before .before .before .before .before .before .before .before) .pre) _ (counted (c .before .before .before .before .before .before .before .before)) _ (c .before .before .before .before .before .before .before .before .find-lane .ensures) _ (c .before .before .before .before .before .before .j .given .1) _ _ (c .next-of .ensures) (c .before .before .before .put .ensures)
 
 pub place-spec : {M : Type 1} → statement M
 place-spec =
@@ -72,7 +72,7 @@ place-spec =
     enum-told
     enum-known-j
     put-requires
-    next-lane-requires
+    next-of-requires
     same-length
     returns
     same-length-2

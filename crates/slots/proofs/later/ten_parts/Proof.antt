@@ -5,7 +5,7 @@ use Prim.Native.Nat.{_-_, _≤_}
 use native.Mathlib.Omega.{arith}
 use borrow.Author.Needs.{needs}
 use lib.ListN.{length}
-use Rattle.record.specs.Record.{partsOf, bodyAt}
+use Rattle.record.specs.Record.{bodyAt}
 use Rattle.record.specs.Tests.{lowestFrom, lowest}
 use Rattle.slots.specs.Slots.{tenRight, badItem, refusal10}
 use Rattle.counts.proofs.AnswerLaws.{pass-start, pass-fault, pass-next, pass-end}

@@ -4,7 +4,7 @@ use mathlib.Core.Path.{_≡_, ap, _∙_}
 use Prim.Native.Nat.{_-_, _≤_}
 use native.Mathlib.Omega.{arith}
 use borrow.Author.Needs.{needs}
-use Rattle.record.specs.Record.{partsOf, bodyAt}
+use Rattle.record.specs.Record.{bodyAt}
 use Rattle.record.specs.Tests.{lowestFrom, lowest}
 use Rattle.slots.specs.Slots.{nineRight, badItem, refusal9}
 use Rattle.counts.proofs.AnswerLaws.{pass-start, pass-fault, pass-next, pass-end}
