@@ -22,7 +22,8 @@ use Rattle.machine.specs.Run.{Running, blocksFrom, step, runFrom, runTurns, tur
 use Rattle.order.specs.Order.{partsFrom, partsAt, capturedBy, blockTurns, Stores, PartAt, Apart}
 use Rattle.order.proofs.FormLaws.{Formed, Chain, form-chain, part-first, Ith, ith-part, after-last, after-more, turns-split}
 use Rattle.order.proofs.StoreLaws.{sets-other, sets-same}
-use Rattle.order.proofs.TurnsLaws.{Same, count, Names, Independent, Project}
+use Rattle.sort.specs.Sorted.{count}
+use Rattle.order.proofs.TurnsLaws.{Same, Names, Independent, Project}
 use Rattle.order.proofs.TurnsLaws as Turns
 use Rattle.order.proofs.BlockLaws.{row-same, staged, caps-length, empty-phase, ended-phase, turnOf, putOf, turn-read, put-read, turn-stage, put-stage, turn-store, turn-last, turn-more, put-store, turn-none, put-none, leftOf, left-read, left-stage, left-none, written-size}
 

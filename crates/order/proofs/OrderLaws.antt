@@ -17,7 +17,9 @@ use Rattle.machine.specs.Part.{startAt, normalAt}
 use Rattle.machine.specs.Turn.{Block, ended}
 use Rattle.machine.specs.Run.{runTurns, turnsLeft, allLeft, badTurn}
 use Rattle.order.specs.Order.{capturedBy, blockTurns, oneAfterAnother, Stores, PartAt}
-use Rattle.order.proofs.TurnsLaws.{count, count-append, count-replicate, Names, names-of, names-at, names-append, names-replicate}
+use Rattle.sort.specs.Sorted.{count}
+use Rattle.sort.proofs.SortLaws.{count-append}
+use Rattle.order.proofs.TurnsLaws.{count-replicate, Names, names-of, names-at, names-append, names-replicate}
 use Rattle.order.proofs.BlockLaws.{ended-phase, left-none}
 use Rattle.order.proofs.AloneLaws.{Laid, ran, storer}
 

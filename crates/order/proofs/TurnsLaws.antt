@@ -5,16 +5,15 @@
 use mathlib.Core.Path.{_≡_, refl, sym, ap, _∙_, subst, fun-ext}
 use mathlib.Core.Bool.{Bool, true, false}
 use mathlib.Core.List.{List, [], _∷_, _++_}
-use mathlib.Core.Logic.{_≢_}
 use Prim.Native.Nat.{ℕ, zero, suc, _+_, _-_, _≤_, _<_}
 use native.Mathlib.Decide.{ℕ-discrete}
 use native.Mathlib.Nat.{zero-add, add-zero}
 use native.Mathlib.Numerals.{one-add}
 use native.Mathlib.Omega.{arith}
-use borrow.Author.Tests.{eq-eqb, ne-eqb}
-use lib.Dec.{eqb}
 use lib.ListN.{length, getD, set, length-set, replicate}
 use lib.Seq.{getD-set-same, getD-set-other}
+use Rattle.sort.specs.Sorted.{same as hit, count}
+use Rattle.sort.proofs.SortLaws.{same-refl, same-not}
 use Rattle.record.proofs.TestLaws.{not-true-false}
 
 -- two memories of one size that agree below B
@@ -24,30 +23,10 @@ pub record Same (B : ℕ) (m m′ : List ℕ) : Type 0 where
 
 -- ---- how often b stands in a list of turns
 
-hit : ℕ → ℕ → ℕ
-hit b t = elim (eqb b t) [ true ↦ 1 | false ↦ 0 ]
-
-pub count : ℕ → List ℕ → ℕ
-count b [] = 0
-count b (t ∷ ts) = hit b t + count b ts
-
-hit-same : (b t : ℕ) → b ≡ t → hit b t ≡ 1
-unfolding hit
-hit-same b t e = rw (eq-eqb b t e, hit)
-
-hit-other : (b t : ℕ) → b ≢ t → hit b t ≡ 0
-unfolding hit
-hit-other b t e = rw (ne-eqb b t e, hit)
-
-pub count-append : (b : ℕ) (ts us : List ℕ) → count b (ts ++ us) ≡ count b ts + count b us
-unfolding count
-count-append b [] us = omega arith
-count-append b (t ∷ ts) us = omega (arith, count-append b ts us)
-
 pub count-replicate : (b k : ℕ) → count b (replicate k b) ≡ k
 unfolding count
 count-replicate b zero = refl
-count-replicate b (suc k) = omega (arith, hit-same b b refl, count-replicate b k)
+count-replicate b (suc k) = omega (arith, same-refl b, count-replicate b k)
 
 -- ---- every turn names one of n blocks
 
@@ -152,14 +131,14 @@ module _ (P : Type 0) (nil : P) (turn : P → List ℕ → P) (put : P → List 
 
         priv′ : (b : ℕ) → b < n → Dec (b ≡ t) → getD (step s t .0) b nil ≡ solo s₀ b (hit b t + c b) .0
         priv′ b k (yes e) =
-            rw (e, hit-same t t refl, one-add, getD-set-same (s .0) t (turn (getD (s .0) t nil) (s .1)) nil (omega (arith, I .blocks)), I .priv t h) (A .blind t _ _ _ (solo-ok t (c t) h) (same c s t h I))
-        priv′ b k (no e) = rw (hit-other b t e, zero-add, getD-set-other (s .0) t b (turn (getD (s .0) t nil) (s .1)) nil e) (I .priv b k)
+            rw (e, same-refl t, one-add, getD-set-same (s .0) t (turn (getD (s .0) t nil) (s .1)) nil (omega (arith, I .blocks)), I .priv t h) (A .blind t _ _ _ (solo-ok t (c t) h) (same c s t h I))
+        priv′ b k (no e) = rw (same-not b t e, zero-add, getD-set-other (s .0) t b (turn (getD (s .0) t nil) (s .1)) nil e) (I .priv b k)
 
         mine′ : (b w : ℕ) → b < n → own b w ≡ true → Dec (b ≡ t) → getD (step s t .1) w 0 ≡ getD (solo s₀ b (hit b t + c b) .1) w 0
         mine′ b w k o (yes e) =
-            rw (e, hit-same t t refl, one-add)
+            rw (e, same-refl t, one-add)
             (ap (λ p. getD (put p (s .1)) w 0) (I .priv t h) ∙ A .word t _ _ _ w (solo-ok t (c t) h) (same c s t h I) (I .mine t w h (rw e at o)))
-        mine′ b w k o (no e) = rw (hit-other b t e, zero-add) (frame w (not-true-false (own t w) (λ o′. e (A .apart b t w k h o o′))) ∙ I .mine b w k o)
+        mine′ b w k o (no e) = rw (same-not b t e, zero-add) (frame w (not-true-false (own t w) (λ o′. e (A .apart b t w k h o o′))) ∙ I .mine b w k o)
 
     project-run : (c : ℕ → ℕ) (s : List P × List ℕ) (ts : List ℕ) → Names n ts → Project c s → Project (λ b. count b ts + c b) (run s ts)
     unfolding count
