@@ -1,5 +1,7 @@
-# Sourced by host/check. Calls rustc directly: no cargo, no registry, no network.
-# Everything it makes goes to $OUT (target/host).
+# Sourced by host/check and ./run. Calls rustc directly: no cargo, no registry, no network.
+# Everything it makes goes to $OUT (target/host, target/run), but the archive, which goes to target/staticlib.
+
+. "$HOST/room.sh"
 
 # crate NAME FILE WORDS..: compiles a library crate to $OUT/libNAME.rlib.
 crate() {
@@ -106,6 +108,18 @@ build_gem() {
     copy_oracle "$1"
     build_oracle
     build_make_plans
+}
+
+# Proves the crates below capi, as many at once as there are processors (rt staticlib would take one at a time), and makes the
+# archive. Says each crate that it proved; $OUT/archive.log has all that rt printed.
+build_archive() {
+    local log=$OUT/archive.log below
+    below=$(sed -n 's/^capi: //p' crates.txt)
+    # shellcheck disable=SC2086
+    if ! (export TMPDIR=$ROOM && rt check $below && rt staticlib capi) 2>&1 | tee "$log" | sed -un 's/^rt: \(.* s)\)$/  \1/p'; then
+        cat "$log" >&2
+        return 1
+    fi
 }
 
 # build_wrapper MAKER: the crate juolgesot over the archive (MAKER archive) or over the model.

@@ -1,4 +1,4 @@
-# Sourced by host/check. Finds a rustc that builds for x86-64 (the archive's only machine),
+# Sourced by host/check and ./run. Finds a rustc that builds for x86-64 (the archive's only machine),
 # a linker and, on another machine, an emulator; installs what is lacking from Debian.
 # Sets RUSTC, RUSTC_FLAGS (an array), CC and RUN (an array, put before a program's path).
 # With NATIVE=yes it takes the machine's own rustc and cc as they are: enough for the model, not for the archive.
