@@ -21,9 +21,10 @@ use Rattle.rounds.proofs.OutcomeLaws.{Win}
 use Rattle.record.specs.declared.bodies.Body.{Body}
 use Rattle.record.proofs.FormLaws.{formed}
 use Rattle.positions.specs.Winners.{Listed}
+use Rattle.positions.specs.Places.{plannedTable}
 use Rattle.positions.proofs.WinnerLaws.{listed}
 use Rattle.partreads.specs.PartReads.{askedTo, readWords, partLanes}
-use Rattle.partreads.specs.Ready.{AllNarrow, AllPlanned, AllWon, SetRoom, wonPins}
+use Rattle.partreads.specs.Ready.{AllNarrow, AllPlanned, AllWon, SetRoom}
 use Rattle.partreads.specs.Bases.{storeLanes}
 use Rattle.partreads.specs.Entries.{firstEntry, Numbered}
 use Rattle.partreads.proofs.SearchedLaws.{pins-length, pins-won, won-few}
@@ -54,7 +55,7 @@ module _ (d : List ℕ) (p : ℕ) (b : Body) (k : Buildable d p b) where
 
 -- ---- the room while the reads are found: the pins in its first 32768 words
 
-module _ (d : List ℕ) (p : ℕ) (room : List ℕ) (wide : length room ≡ 40960) (pins : List ℕ) (filled : pins ≡ wonPins (length (take 32768 room)) d p) where
+module _ (d : List ℕ) (p : ℕ) (room : List ℕ) (wide : length room ≡ 40960) (pins : List ℕ) (filled : pins ≡ plannedTable d p (length (take 32768 room))) where
   abbrev with-pins : List ℕ
   with-pins = pins ++ drop 32768 room
 
@@ -92,7 +93,7 @@ module _ (d : List ℕ) (p : ℕ) (room : List ℕ) (wide : length room ≡ 4096
         let q : putMid 32768 (length with-pins - 32768) with-pins t ≡ pins ++ t = put-rest 32768 with-pins t ∙ ap (λ (l : List ℕ). l ++ t) pins-front in
         rw q
         (record {
-          pins = take-at pins t 32768 pins-size ∙ (filled ∙ ap (λ (n : ℕ). wonPins n d p) front-size);
+          pins = take-at pins t 32768 pins-size ∙ (filled ∙ ap (plannedTable d p) front-size);
           lanes = drop-at pins t 32768 pins-size ∙ (rw is at e);
         })
 

@@ -19,8 +19,9 @@ use Rattle.record.specs.Body.{BodyOf}
 use Rattle.gates.specs.Gates.{badGate}
 use Rattle.counts.specs.Counts.{refusal7}
 use Rattle.positions.specs.Positions.{refusal12, refusal13}
+use Rattle.positions.specs.Places.{plannedTable}
 use Rattle.partreads.specs.PartReads.{readWords, partReads, partLanes}
-use Rattle.partreads.specs.Ready.{SetRoom, wonPins}
+use Rattle.partreads.specs.Ready.{SetRoom}
 
 -- b is the body of part p; the plan passed refusals 5, 6, 7, 12 and 13, and the part 3 and 4
 pub record Buildable (d : List ℕ) (p : ℕ) (b : Body) : Type 0 where
@@ -35,7 +36,7 @@ pub record Buildable (d : List ℕ) (p : ℕ) (b : Body) : Type 0 where
 
 -- the room when a part's reads are found: the winners of its pins, and behind them its lanes
 pub record FoundRoom (d : List ℕ) (p : ℕ) (room : List ℕ) : Type 0 where
-  pub pins : take 32768 room ≡ wonPins 32768 d p
+  pub pins : take 32768 room ≡ plannedTable d p 32768
   pub lanes : drop 32768 room ≡ tableAfter 256 (lanesOf 256 (pairsOf (readWords d p)))
 
 -- the lanes of a set in a table, the number of their rounds, and room for their words and for where each pair's bits begin

@@ -28,9 +28,10 @@ use Rattle.slots.specs.Puts.{readPuts, filled, foundIf}
 use Rattle.slots.proofs.PutLaws.{reads-hold, reads-look, filled-length}
 use Rattle.positions.specs.Positions.{planned}
 use Rattle.positions.specs.Winners.{winner, plannedBy, winnerPuts}
+use Rattle.positions.specs.Places.{plannedTable}
 use Rattle.positions.proofs.WinnerLaws.{winners-look, planned-winner, by-none, renewals-length}
 use Rattle.partreads.specs.declared.searched.Reads.the-variants.{Nothing, NoRoom, Rounds}
-use Rattle.partreads.specs.Ready.{AllPlanned, Won, AllWon, wonPins, InForm}
+use Rattle.partreads.specs.Ready.{AllPlanned, Won, AllWon, InForm}
 use Rattle.partreads.specs.Answers.{readsOf}
 
 -- ---- the outcome
@@ -86,8 +87,7 @@ planned-winning d x h = go (winner d x) refl
     go zero e = absurd (h (planned-winner d x ∙ (ap (plannedBy d) e ∙ by-none d)))
     go (suc w) e = omega arith
 
-pub pins-won : (d : List ℕ) (p n : ℕ) → 16384 ≤ n → AllPlanned d p → AllWon d p (wonPins n d p)
-unfolding wonPins
+pub pins-won : (d : List ℕ) (p n : ℕ) → 16384 ≤ n → AllPlanned d p → AllWon d p (plannedTable d p n)
 pins-won d p n h all j l full =
     let x = slotAt d p 0 (8192 + j) in
     let there : look (filled n (readPuts d p)) x ≡ some 0 = reads-look d p x n h full ∙ ap (λ (b : Bool). foundIf b 0) (reads-slot d p j l) in
@@ -96,10 +96,9 @@ pins-won d p n h all j l full =
       some-entry = planned-winning d x (all j l full);
     }
 
-pub pins-are : (d : List ℕ) (p : ℕ) (room pins : List ℕ) → pins ≡ wonPins (length room) d p → length room ≡ 32768 → AllPlanned d p → AllWon d p pins
+pub pins-are : (d : List ℕ) (p : ℕ) (room pins : List ℕ) → pins ≡ plannedTable d p (length room) → length room ≡ 32768 → AllPlanned d p → AllWon d p pins
 pins-are d p room pins e n all = rw e (pins-won d p (length room) (omega arith) all)
 
-pub pins-length : (d : List ℕ) (p : ℕ) (room pins : List ℕ) → pins ≡ wonPins (length room) d p → length pins ≡ length room
-unfolding wonPins
+pub pins-length : (d : List ℕ) (p : ℕ) (room pins : List ℕ) → pins ≡ plannedTable d p (length room) → length pins ≡ length room
 pins-length d p room pins e =
     ap length e ∙ (renewals-length (filled (length room) (readPuts d p)) (winnerPuts d) ∙ filled-length (length room) (readPuts d p))

@@ -7,12 +7,12 @@ use mathlib.Core.List.{List, map}
 use Prim.Native.Nat.{ℕ, _+_, _*_, _-_, _%_, _^_, _≤_, _<_}
 use lib.ListN.{length, getD, take, replicate}
 use Rattle.reads.specs.ReadSet.{pairsOf, broken}
-use Rattle.pinmap.specs.PinMap.{look, afterRenewals}
+use Rattle.pinmap.specs.PinMap.{look}
 use Rattle.record.specs.Record.{partsOf, slotAt}
 use Rattle.record.specs.Form.{empty, planForm}
 use Rattle.positions.specs.Positions.{Planned, planned, refusal12}
-use Rattle.positions.specs.Winners.{winner, plannedBy, winnerPuts}
-use Rattle.slots.specs.Puts.{readPuts, readPins, filled}
+use Rattle.positions.specs.Winners.{winner, plannedBy}
+use Rattle.slots.specs.Puts.{readPins}
 use Rattle.partreads.specs.PartReads.{bitNumber}
 
 -- the bit of a position that may be missing
@@ -62,10 +62,6 @@ pub record SetRoom (keys scratch set : ℕ) : Type 0 where
 -- every pin that part p reads has a planned position
 abbrev pub AllPlanned : List ℕ → ℕ → Type 0
 AllPlanned d p = (j : ℕ) → j < 8192 → (slotAt d p 0 (8192 + j) ≡ empty → ⊥) → planned d (slotAt d p 0 (8192 + j)) ≡ none → ⊥
-
--- the table, of n words, of the pins that part p reads, with their winners
-unfoldable pub wonPins : ℕ → List ℕ → ℕ → List ℕ
-wonPins n d p = afterRenewals (filled n (readPuts d p)) (winnerPuts d)
 
 -- a read set as the search takes it: 8192 pairs at most, in form
 pub record InForm (ws : List ℕ) : Type 0 where

@@ -7,8 +7,9 @@ ghost use Rattle.pinmap.specs.PinMap.{look};
 ghost use Rattle.record.specs.Body.{BodyOf};
 ghost use Rattle.positions.specs.Positions.{planned};
 ghost use Rattle.positions.specs.Winners.{Listed, plannedBy};
+ghost use Rattle.positions.specs.Places.{plannedTable};
 ghost use Rattle.partreads.specs.PartReads.{orZero, askedTo, readWords};
-ghost use Rattle.partreads.specs.Ready.{numberOf, bitsOf, partBits, Narrow, AllNarrow, EntryOf, Won, ListWon, AllPlanned, SetRoom, wonPins};
+ghost use Rattle.partreads.specs.Ready.{numberOf, bitsOf, partBits, Narrow, AllNarrow, EntryOf, Won, ListWon, AllPlanned, SetRoom};
 use pinmap::Found;
 use positions::planned::list_planned;
 use record::bodies::Body;
@@ -71,7 +72,7 @@ fn ask_bits(d: &[u8], pins: &[u32], keys: &mut [u64])
 fn list_bits(d: &[u8], p: usize, body: Body, pins: &mut [u32], keys: &mut [u64]) -> usize
     requires { ⌜ BodyOf (now d) p body × (0 < body .stages) × Listed (now d) × AllPlanned (now d) p × (8192 ≤ length (now keys)) × (length (now pins) ≡ 32768) ⌝ }
     ensures { λ r. ⌜ (r ≡ length (partBits (now (d .entry)) p)) × (r ≤ 8192) ⌝ }
-    ensures { λ _. ⌜ now (pins .exit) ≡ wonPins (length (now (pins .entry))) (now (d .entry)) p ⌝ }
+    ensures { λ _. ⌜ now (pins .exit) ≡ plannedTable (now (d .entry)) p (length (now (pins .entry))) ⌝ }
     ensures { λ _. ⌜ now (keys .exit) ≡ sets (now (keys .entry)) 0 (partBits (now (d .entry)) p) ⌝ }
     ensures { λ _. ⌜ AllNarrow (partBits (now (d .entry)) p) ⌝ }
 {
@@ -93,7 +94,7 @@ pub fn part_set(
 ) -> usize
     requires { ⌜ BodyOf (now d) p body × (0 < body .stages) × Listed (now d) × AllPlanned (now d) p × SetRoom (length (now keys)) (length (now scratch)) (length (now set)) × (length (now pins) ≡ 32768) ⌝ }
     ensures { λ r. ⌜ (r ≡ length (readWords (now (d .entry)) p)) × (r ≤ 16384) ⌝ }
-    ensures { λ _. ⌜ now (pins .exit) ≡ wonPins (length (now (pins .entry))) (now (d .entry)) p ⌝ }
+    ensures { λ _. ⌜ now (pins .exit) ≡ plannedTable (now (d .entry)) p (length (now (pins .entry))) ⌝ }
     ensures { λ _. ⌜ now (set .exit) ≡ sets (now (set .entry)) 0 (readWords (now (d .entry)) p) ⌝ }
     ensures { λ _. ⌜ AllNarrow (askedTo (now (d .entry)) p 8192) ⌝ }
 {

@@ -14,7 +14,7 @@ use Rattle.record.specs.Tests.{firstFrom, firstNot, lowest}
 use Rattle.record.proofs.TestLaws.{some-not-none, first-here, first-on, first-none, not-none, none-not, lowest-none}
 use Rattle.record.proofs.FormLaws.{formed, body-ready}
 use Rattle.slots.specs.Slots.{badItem}
-use Rattle.slots.specs.Answers.{overItems}
+use Rattle.slots.specs.Items.{overItems}
 
 -- ---- a run of items, then the others
 

@@ -13,7 +13,7 @@ use Rattle.record.specs.Form.{empty}
 use Rattle.record.specs.Tests.{allBelow}
 use Rattle.record.proofs.TestLaws.{and-true, all-more, all-at}
 use Rattle.slots.specs.Slots.{nineRight, tenRight, elevenRight}
-use Rattle.slots.specs.Answers.{emptyFrom, eighthEmpty}
+use Rattle.slots.specs.Items.{emptyFrom, eighthEmpty}
 use Rattle.slots.proofs.RightLaws.{pin-empty, slot-empty, nine-position, ten-empty, eleven-empty}
 
 -- ---- the code's test: bits in common

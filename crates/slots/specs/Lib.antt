@@ -1,3 +1,3 @@
 pub mod Slots
 pub mod Puts
-pub mod Answers
+pub mod Items

@@ -8,7 +8,7 @@ ghost use Rattle.record.specs.Form.{planForm};
 ghost use Rattle.record.specs.Tests.{firstFrom};
 ghost use Rattle.slots.specs.Slots.{tenRight, badItem};
 ghost use Rattle.slots.specs.Puts.{positionPuts, FilledWith};
-ghost use Rattle.slots.specs.Answers.{overItems};
+ghost use Rattle.slots.specs.Items.{overItems};
 ghost use Rattle.counts.specs.Answers.{itemOf, lowestOf};
 use crate::runs::eighth_empty;
 use crate::tables::fill_positions;

@@ -3,7 +3,7 @@ ghost use mathlib.Core.Path.{_≡_};
 ghost use Prim.Native.Nat.{_≤_, _<_};
 ghost use Rattle.record.specs.Tests.{allBelow};
 ghost use Rattle.record.specs.Body.{BodyOf};
-ghost use Rattle.slots.specs.Answers.{emptyFrom, eighthEmpty};
+ghost use Rattle.slots.specs.Items.{emptyFrom, eighthEmpty};
 use record::bodies::Body;
 use record::bodies::slot;
 use words::units::EMPTY_PIN;

@@ -8,7 +8,7 @@ ghost use Rattle.record.specs.Form.{planForm};
 ghost use Rattle.record.specs.Tests.{firstFrom};
 ghost use Rattle.gates.specs.Gates.{badGate, gateOf};
 ghost use Rattle.slots.specs.Slots.{feeds, pinRight, slotRight, nineRight, badItem};
-ghost use Rattle.slots.specs.Answers.{overItems, eighthEmpty};
+ghost use Rattle.slots.specs.Items.{overItems, eighthEmpty};
 ghost use Rattle.counts.specs.Answers.{itemOf, lowestOf};
 use crate::runs::eighth_empty;
 use crate::tables::top_power;

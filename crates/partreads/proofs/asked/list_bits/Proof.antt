@@ -3,7 +3,6 @@
 use native.Mathlib.Omega.{arith}
 use borrow.Author.Needs.{needs}
 use Rattle.positions.proofs.PlannedLaws.{list-size}
-use Rattle.partreads.specs.Ready.{wonPins}
 use Rattle.partreads.proofs.SearchedLaws.{pins-are}
 use Rattle.partreads.proofs.BitLaws.{list-won, bits-count, bits-back, bits-narrow}
 use Rattle.partreads.proofs.asked.list_bits.Statement.{statement}
@@ -24,7 +23,6 @@ slice-aggregate-ask-bits c =
     list-size (s .args .d .now) (s .args .p) (s .args .keys .now) _ _ (s .pre .4) (k .list-planned .ensures .0) (k .list-planned .ensures .1 .1 .0)
 
 ask-bits-requires : tie.Need-ask-bits-requires
-unfolding wonPins
 ask-bits-requires c κs =
     let k = c .before .before .before .before .before .before in
     let s = k .before .before .before .before .before .before in
@@ -38,7 +36,6 @@ same-length-2 : tie.Need-same-length-2
 same-length-2 c = search needs
 
 returns : tie.Need-returns
-unfolding wonPins
 returns c =
     let k = c .before .before .before .before .before .before .before .before .before in
     let s = k .before .before .before .before .before .before in

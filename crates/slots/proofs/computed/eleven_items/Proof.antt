@@ -7,7 +7,7 @@ use borrow.Author.Needs.{needs}
 use Rattle.record.specs.Tests.{firstFrom}
 use Rattle.slots.specs.Slots.{elevenRight}
 use Rattle.counts.specs.Answers.{itemOf}
-use Rattle.slots.specs.Answers.{overItems}
+use Rattle.slots.specs.Items.{overItems}
 use Rattle.slots.proofs.ItemLaws.{zero-right, stage-next, stage-eight, stage-fault, stage-end}
 use Rattle.slots.proofs.RightLaws.{eleven-zero}
 use Rattle.slots.proofs.RunLaws.{eleven-eight}

@@ -7,7 +7,7 @@ use borrow.Author.Needs.{needs}
 use Rattle.record.specs.Tests.{firstFrom}
 use Rattle.slots.specs.Slots.{elevenRight, badItem}
 use Rattle.counts.specs.Answers.{itemOf}
-use Rattle.slots.specs.Answers.{overItems}
+use Rattle.slots.specs.Items.{overItems}
 use Rattle.counts.proofs.AnswerLaws.{item-some, item-none}
 use Rattle.slots.proofs.ItemLaws.{stages-all, stages-next, stages-fault, stages-end}
 use Rattle.slots.proofs.computed.eleven_stages.Statement.{statement}

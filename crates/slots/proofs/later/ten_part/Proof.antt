@@ -8,7 +8,7 @@ use lib.ListN.{length}
 use Rattle.record.specs.Tests.{firstFrom}
 use Rattle.slots.specs.Slots.{tenRight, badItem}
 use Rattle.counts.specs.Answers.{itemOf}
-use Rattle.slots.specs.Answers.{overItems}
+use Rattle.slots.specs.Items.{overItems}
 use Rattle.counts.proofs.AnswerLaws.{item-some, item-none}
 use Rattle.slots.proofs.ItemLaws.{stages-first, stages-next, stages-fault, stages-end}
 use Rattle.slots.proofs.SlotLaws.{ten-first}

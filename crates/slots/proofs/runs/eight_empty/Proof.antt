@@ -7,7 +7,7 @@ use borrow.Author.Needs.{needs}
 use lib.Dec.{eqb}
 use Rattle.record.specs.Form.{empty}
 use Rattle.record.specs.Tests.{allBelow}
-use Rattle.slots.specs.Answers.{emptyFrom}
+use Rattle.slots.specs.Items.{emptyFrom}
 use Rattle.slots.proofs.RunLaws.{common-more}
 use Rattle.slots.proofs.runs.eight_empty.Statement.{statement}
 use Rattle.slots.proofs.runs.eight_empty.Tie as tie

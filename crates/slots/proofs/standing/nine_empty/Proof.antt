@@ -4,7 +4,7 @@ use mathlib.Core.Path.{sym, ap, _∙_}
 use mathlib.Core.Bool.{Bool, _&&_}
 use Prim.Native.Nat.{_+_}
 use borrow.Author.Needs.{needs}
-use Rattle.slots.specs.Answers.{eighthEmpty}
+use Rattle.slots.specs.Items.{eighthEmpty}
 use Rattle.slots.proofs.standing.nine_empty.Statement.{statement}
 use Rattle.slots.proofs.standing.nine_empty.Tie as tie
 

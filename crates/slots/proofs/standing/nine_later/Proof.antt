@@ -7,7 +7,7 @@ use borrow.Author.Needs.{needs}
 use Rattle.record.specs.Tests.{firstFrom}
 use Rattle.slots.specs.Slots.{nineRight}
 use Rattle.counts.specs.Answers.{itemOf}
-use Rattle.slots.specs.Answers.{overItems}
+use Rattle.slots.specs.Items.{overItems}
 use Rattle.slots.proofs.ItemLaws.{stage-next, stage-eight, stage-fault, stage-end}
 use Rattle.slots.proofs.RunLaws.{nine-eight}
 use Rattle.slots.proofs.standing.nine_later.Statement.{statement}
