@@ -5,7 +5,6 @@ use mathlib.Core.Path.{_≡_, refl, sym, ap, ap₂, _∙_}
 use mathlib.Core.Bool.{Bool, true, false}
 use mathlib.Core.Option.{Option, none, some}
 use mathlib.Core.List.{List, _++_}
-use mathlib.Core.Logic.{⊎-elim}
 use Prim.Native.Nat.{ℕ, _+_, _*_, _-_, _/_, _^_, _≤_, _<_}
 use native.Mathlib.Omega.{arith}
 use borrow.Author.Tests.{eq-eqb, ne-eqb, eqb-true, eqb-false}
@@ -14,7 +13,6 @@ use lib.ListN.{length, getD, take, drop, replicate, take-append-drop, length-app
 use lib.Seq.{sets, sets-eq, length-take-le, take-at, drop-at, getD-append-add, getD-drop}
 use Rattle.words.specs.Sum.{sumTo}
 use Rattle.words.proofs.SumLaws.{sum-more}
-use Rattle.words.proofs.BitLaws.{lt-or-ge}
 use Rattle.pinmap.specs.declared.Found.{Found}
 use Rattle.pinmap.specs.declared.Found.the-variants.{Value, Missing}
 use Rattle.pinmap.specs.PinMap.{look, foundOf}
@@ -22,8 +20,8 @@ use Rattle.record.specs.declared.bodies.Body.{Body}
 use Rattle.record.specs.Record.{wordAt, partsBefore, partsOf, layoutOf, positionBase, positionPlace, positionStaged, slotAt}
 use Rattle.record.specs.Form.{empty}
 use Rattle.record.specs.Body.{BodyOf}
-use Rattle.record.specs.Tests.{someBelow}
-use Rattle.record.proofs.TestLaws.{not-both, some-at, not-at}
+use Rattle.record.specs.Tests.{allBelow, someBelow}
+use Rattle.record.proofs.TestLaws.{not-both, all-at, some-at, not-at}
 use Rattle.record.proofs.FormLaws.{Formed, formed}
 use Rattle.counts.specs.Counts.{writeOuts}
 use Rattle.counts.specs.Answers.{itemOf}
@@ -36,7 +34,7 @@ use Rattle.slots.proofs.PutLaws.{reads-hold, reads-look, filled-length}
 use Rattle.slots.proofs.ListedLaws.{Among, listed-among, FromSlot, listed-from}
 use Rattle.positions.specs.Positions.{Planned, majorOf, normalWord, placeRight, twelveRight}
 use Rattle.positions.specs.Winners.{winner, plannedBy, positionNumber, winnerPuts}
-use Rattle.positions.specs.Places.{badSlot, holdsWord, Ranked, placeIn, plannedTable, Held, ListHeld, ListRight, Searched, SlotsReady, Judgeable, PartReady}
+use Rattle.positions.specs.Places.{badSlot, holdsWord, Ranked, placeIn, plannedTable, Held, ListHeld, pinRight, Searched, SlotsReady, Judgeable, PartReady}
 use Rattle.positions.proofs.WinnerLaws.{by-none, by-layout, by-position, planned-winner, mark-is, renewals-length, winners-look, winners-missing, listed}
 use Rattle.positions.proofs.MajorLaws.{MajorAt, major-at}
 use Rattle.positions.proofs.RankLaws.{ranked, normal-is}
@@ -160,7 +158,7 @@ module _ (d : List ℕ) (p : ℕ) (b : Body) (room : List ℕ) (state n : ℕ) (
         slot-there (f .slot) (getD list i 0) (f .below) e (λ z. f .full (sym e ∙ z)) (omega (arith, small i l))
 
     -- where they all are right, each slot is
-    all-right : ListRight d n list (length list) → (j : ℕ) → j < 8192 → twelveRight d p j ≡ true
+    all-right : allBelow (pinRight d n list) (length list) ≡ true → (j : ℕ) → j < 8192 → twelveRight d p j ≡ true
     unfolding readPins
     all-right right j l = go (eqb (readPin d p j) empty) refl
       where
@@ -170,9 +168,9 @@ module _ (d : List ℕ) (p : ℕ) (b : Body) (room : List ℕ) (state n : ℕ) (
             let a : Among (readPin d p) 8192 (readPin d p j) = listed-among (readPin d p) 8192 j l (eqb-false _ _ e) in
             let x : getD list (a .at) 0 ≡ readPin d p j = ap (λ (t : List ℕ). getD t (a .at) 0) is ∙ a .is in
             let k : a .at < length list = omega (arith, a .inside, ap length is) in
-            sym (slot-by j (getD list (a .at) 0) true x (λ z. eqb-false _ _ e (sym x ∙ z)) (sym (right (a .at) k)))
+            sym (slot-by j (getD list (a .at) 0) true x (λ z. eqb-false _ _ e (sym x ∙ z)) (sym (all-at (pinRight d n list) (length list) (a .at) right k)))
 
-    pub list-fine : ListRight d n list (length list) → item.Fine ≡ itemOf (badSlot d p)
+    pub list-fine : allBelow (pinRight d n list) (length list) ≡ true → item.Fine ≡ itemOf (badSlot d p)
     list-fine right = ap itemOf (go (badSlot d p) refl)
       where
         go : (o : Option ℕ) → badSlot d p ≡ o → none ≡ o
@@ -193,11 +191,6 @@ module _ (d : List ℕ) (p : ℕ) (list : List ℕ) (m : ℕ) (list′ : List �
 
   pub list-small : AllPins (readPins d p) → AllPins (take m list′)
   list-small h = rw list-front h
-
--- one listed pin more is right
-pub right-more : (d : List ℕ) (n : ℕ) (list : List ℕ) (k : ℕ) → ListRight d n list k → placeIn d n (plannedBy d (winner d (getD list k 0))) ≡ true
-    → ListRight d n list (k + 1)
-right-more d n list k h e i l = ⊎-elim (λ g. h i g) (λ g. let q : i ≡ k = omega arith in rw q e) (lt-or-ge i k)
 
 -- ---- the size of the state, part by part
 

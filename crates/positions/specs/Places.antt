@@ -70,16 +70,17 @@ placeIn d n (some x) = elim (eqb (x .staged) 0) [ true ↦ ltb (x .place / 32) (
 abbrev pub plannedTable : List ℕ → ℕ → ℕ → List ℕ
 plannedTable d p m = afterRenewals (filled m (readPuts d p)) (winnerPuts d)
 
--- in the first words of the room pin x is found with the entry that wins for it; so are listed pins; and the first k of them are right
+-- whether the position of pin i of a list is right, in a plan whose first n parts have theirs
+abbrev pub pinRight : List ℕ → ℕ → List ℕ → ℕ → Bool
+pinRight d n list i = placeIn d n (plannedBy d (winner d (getD list i 0)))
+
+-- in the first words of the room pin x is found with the entry that wins for it; so are listed pins
 pub record Held (d room : List ℕ) (x : ℕ) : Type 0 where
   pub small : x < 2 ^ 32 - 1
   pub found : look (take 32768 room) x ≡ some (winner d x)
 
 abbrev pub ListHeld : List ℕ → List ℕ → List ℕ → Type 0
 ListHeld d room list = (i : ℕ) → i < length list → Held d room (getD list i 0)
-
-abbrev pub ListRight : List ℕ → ℕ → List ℕ → ℕ → Type 0
-ListRight d n list k = (i : ℕ) → i < k → placeIn d n (plannedBy d (winner d (getD list i 0))) ≡ true
 
 -- the part table can be searched for the normal words of the first n parts, and the state has `state` words
 pub record Searched (d room : List ℕ) (state n : ℕ) : Type 0 where

@@ -4,13 +4,14 @@ ghost use mathlib.Core.Bool.{true};
 ghost use Prim.Native.Nat.{_+_, _≤_, _<_};
 ghost use lib.ListN.{length};
 ghost use lib.Seq.{sets};
+ghost use Rattle.record.specs.Tests.{allBelow};
 ghost use Rattle.record.specs.Body.{BodyOf};
 ghost use Rattle.blocks.specs.Blocks.{stateWords};
 ghost use Rattle.counts.specs.Answers.{itemOf, lowestOf};
 ghost use Rattle.slots.specs.Puts.{readPins, AllPins};
 ghost use Rattle.positions.specs.Positions.{twelveRight};
 ghost use Rattle.positions.specs.Winners.{Listed, winner, plannedBy, positionNumber};
-ghost use Rattle.positions.specs.Places.{badSlot, placeIn, plannedTable, Held, ListHeld, ListRight, Searched, SlotsReady, Judgeable, PartReady};
+ghost use Rattle.positions.specs.Places.{badSlot, placeIn, plannedTable, Held, ListHeld, pinRight, Searched, SlotsReady, Judgeable, PartReady};
 use crate::ranks::is_normal;
 use crate::ranks::parts_earlier;
 use crate::winners::fill_winners;
@@ -87,7 +88,7 @@ fn pin_right(d: &[u8], room: &[u32], state: usize, n: usize, pin: u32) -> bool
 // Whether those of all listed pins are.
 fn pins_right(d: &[u8], room: &[u32], state: usize, n: usize, list: &[u64]) -> bool
     requires { ⌜ Searched (now d) (now room) state n × (32768 ≤ length (now room)) × ListHeld (now d) (now room) (now list) ⌝ }
-    ensures { λ r. ⌜ (r ≡ true → ListRight (now (d .entry)) n (now (list .entry)) (length (now (list .entry)))) ⌝ }
+    ensures { λ r. ⌜ r ≡ allBelow (pinRight (now (d .entry)) n (now (list .entry))) (length (now (list .entry))) ⌝ }
 {
     let mut i = 0;
     while i < list.len() {

@@ -1,5 +1,6 @@
 -- Where all listed pins are right no slot is bad.
 -- Assumes nothing.
+use mathlib.Core.Path.{sym, _∙_}
 use borrow.Author.Needs.{needs}
 use Rattle.positions.proofs.PlannedLaws.{list-held, list-fine}
 use Rattle.positions.proofs.planned.bad_pin.Statement.{statement}
@@ -15,7 +16,7 @@ returns : tie.Need-returns
 returns c =
     let s = c .before .before .before .before .before in
     let o = s .args in
-    list-fine (o .d .now) (o .p) (o .body) (o .room .now) (o .state) (o .n) (s .pre .0) (o .list .now) (s .pre .1) (c .before .pins-right .ensures (c .if1 .taken))
+    list-fine (o .d .now) (o .p) (o .body) (o .room .now) (o .state) (o .n) (s .pre .0) (o .list .now) (s .pre .1) (sym (c .before .pins-right .ensures) ∙ c .if1 .taken)
 
 bad-slot-requires : tie.Need-bad-slot-requires
 bad-slot-requires c κs = search needs

@@ -1,24 +1,27 @@
 -- The loop's invariant: the first i pins are right.
 -- Assumes nothing.
-use mathlib.Core.Path.{_≡_, sym, _∙_}
-use Prim.Native.Nat.{ℕ, _-_, _≤_}
+use mathlib.Core.Path.{_≡_, refl, sym, _∙_}
+use mathlib.Core.Bool.{true}
+use Prim.Native.Nat.{_-_, _≤_}
 use native.Mathlib.Omega.{arith}
-use borrow.Author.Tests.{not-false}
+use borrow.Author.Tests.{not-true, not-false}
 use borrow.Author.Needs.{needs}
 use lib.ListN.{length}
-use Rattle.positions.specs.Places.{ListRight}
-use Rattle.positions.proofs.PlannedLaws.{right-more}
+use Rattle.record.specs.Tests.{allBelow}
+use Rattle.record.proofs.TestLaws.{all-on, all-less, all-fault}
+use Rattle.positions.specs.Places.{pinRight}
 use Rattle.positions.proofs.planned.pins_right.Statement.{statement}
 use Rattle.positions.proofs.planned.pins_right.Tie as tie
 
 abbrev Inv-loop : tie.InvT-loop
-Inv-loop d room state n list i₀ i = (i ≤ length list) × ListRight d n list i
+Inv-loop d room state n list i₀ i = (i ≤ length list) × (allBelow (pinRight d n list) i ≡ true)
 
 abbrev μ-loop : tie.MeasureT-loop
 μ-loop d room state n list i₀ i = length list - i
 
 loop-holds : tie.Need-loop-holds Inv-loop μ-loop
-loop-holds c = (omega arith, λ i l. absurd (omega arith))
+unfolding allBelow
+loop-holds c = (omega arith, refl)
 
 mul-pin-right : tie.Need-mul-pin-right Inv-loop μ-loop
 mul-pin-right c = search needs
@@ -37,7 +40,10 @@ pin-right-requires c κs =
     (s .pre .0, s .pre .1, s .pre .2 (c .before .before .loop .i) (c .before .loop-test .taken))
 
 returns : tie.Need-returns Inv-loop μ-loop
-returns c = λ e. absurd (let z : _≡_ {A = ℕ} 0 1 = cc in omega arith)
+returns c =
+    let l = c .before .before .before .before in
+    let o = l .before .before .before .before .args in
+    sym (all-fault (pinRight (o .d .now) (o .n) (o .list .now)) (length (o .list .now)) (l .loop .i) (c .before .before .before .loop-test .taken) (sym (c .before .pin-right .ensures) ∙ not-true _ (c .if1 .taken)))
 
 add-i : tie.Need-add-i Inv-loop μ-loop
 add-i c = search needs
@@ -49,13 +55,13 @@ loop-again : tie.Need-loop-again Inv-loop μ-loop
 loop-again c =
     let l = c .before .before .before .before in
     let o = l .before .before .before .before .args in
-    (omega (arith, c .before .before .before .loop-test .taken), right-more (o .d .now) (o .n) (o .list .now) (l .loop .i) (l .loop .inv .1) (sym (c .before .pin-right .ensures) ∙ not-false _ (c .if1 .left)))
+    (omega (arith, c .before .before .before .loop-test .taken), all-on (pinRight (o .d .now) (o .n) (o .list .now)) (l .loop .i) (l .loop .inv .1) (sym (c .before .pin-right .ensures) ∙ not-false _ (c .if1 .left)))
 
 returns-2 : tie.Need-returns-2 Inv-loop μ-loop
 returns-2 c =
     let l = c .before in
     let o = l .before .before .before .before .args in
-    λ e i h. l .loop .inv .1 i (omega arith)
+    sym (all-less (pinRight (o .d .now) (o .n) (o .list .now)) (length (o .list .now)) (l .loop .i) (omega arith) (l .loop .inv .1))
 
 pub pins-right-spec : {M : Type 1} → statement M
 pins-right-spec =
