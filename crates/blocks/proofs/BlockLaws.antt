@@ -195,11 +195,6 @@ module _ (B : ℕ) (f : ℕ → ℕ) (p : 0 < B) where
   unfolding blockIn
   in-lt i = for-lt B (costsAfter B f i) i p
 
-  pub costs-long : (i : ℕ) → length (costsAfter B f i) ≡ B
-  unfolding costsAfter
-  costs-long zero = length-replicate B 0
-  costs-long (suc i) = length-set (costsAfter B f i) _ _ ∙ costs-long i
-
   -- the cost of a block is what its parts cost
   pub costs-are : (i : ℕ) → costsAfter B f i ≡ listOf (λ b. 0 + inBlock (blockIn B f) (λ j. f j + 3) b i) B
   unfolding costsAfter blockIn

@@ -6,4 +6,3 @@ pub mod FillLaws
 pub mod StepLaws
 pub mod StartLaws
 pub mod StageLaws
-pub mod Calls

@@ -1,58 +1,60 @@
--- The costs and the part counts of block records: of one record, of all where one changes, and of the first of many without parts.
+-- The costs and the part counts of the first n block records: of one record, of all where one changes, and of records without parts.
 -- Assumes nothing.
 use mathlib.Core.Path.{_≡_, refl, sym, ap, _∙_}
-use mathlib.Core.List.{List, [], _∷_, map}
-use Prim.Native.Nat.{ℕ, zero, suc, _+_, _≤_}
+use mathlib.Core.Logic.{⊎-elim}
+use mathlib.Core.List.{List}
+use Prim.Native.Nat.{ℕ, _+_, _≤_, _<_}
 use native.Mathlib.Omega.{arith}
-use lib.ListN.{length, getD, set, replicate, take, length-map, length-replicate, List·getD-map}
+use lib.ListN.{length, getD, set, replicate, length-set, length-replicate, getD-replicate}
+use lib.Seq.{getD-set-same, getD-set-other}
+use Rattle.words.specs.Section.{listOf}
+use Rattle.words.proofs.SectionLaws.{length-listOf, getD-listOf, listOf-is}
 use Rattle.blocks.specs.declared.costs.BlockCost.{BlockCost}
 use Rattle.blocks.specs.Fill.{added, blank, costsOf, countsOf, withPart}
+use Rattle.blocks.proofs.TotalLaws.{same-or}
 
-map-set : (f : BlockCost → ℕ) (l : List BlockCost) (b : ℕ) (x : BlockCost) → map f (set l b x) ≡ set (map f l) b (f x)
-map-set f [] b x = refl
-map-set f (y ∷ l) zero x = refl
-map-set f (y ∷ l) (suc b) x = ap (λ (zs : List ℕ). f y ∷ zs) (map-set f l b x)
+-- one number of each record: a record changes, and records without parts
+module _ (f : BlockCost → ℕ) (n : ℕ) where
+  numbers-put : (l : List BlockCost) (b : ℕ) (x : BlockCost) → b < length l → b < n
+      → listOf (λ k. f (getD (set l b x) k blank)) n ≡ set (listOf (λ k. f (getD l k blank)) n) b (f x)
+  numbers-put l b x u v =
+      sym
+      (listOf-is (λ k. f (getD (set l b x) k blank)) n (set (listOf (λ j. f (getD l j blank)) n) b (f x)) (length-set (listOf (λ j. f (getD l j blank)) n) b (f x) ∙ length-listOf _ n)
+      (λ k w.
+      ⊎-elim (λ e. rw e (getD-set-same (listOf (λ j. f (getD l j blank)) n) b (f x) 0 (omega (arith, length-listOf (λ j. f (getD l j blank)) n)) ∙ ap f (sym (getD-set-same l b x blank u))))
+      (λ e. getD-set-other (listOf (λ j. f (getD l j blank)) n) b k (f x) 0 e ∙ getD-listOf (λ j. f (getD l j blank)) n k w ∙ ap f (sym (getD-set-other l b k x blank e)))
+      (same-or k b)))
 
-map-blank : (f : BlockCost → ℕ) → f blank ≡ 0 → (n : ℕ) → map f (replicate n blank) ≡ replicate n 0
-map-blank f e zero = refl
-map-blank f e (suc n) = rw (e, map-blank f e n)
+  numbers-blank : f blank ≡ 0 → (N : ℕ) → n ≤ N → listOf (λ k. f (getD (replicate N blank) k blank)) n ≡ replicate n 0
+  numbers-blank e N u =
+      sym (listOf-is _ n _ (length-replicate n 0) (λ k w. getD-replicate n k 0 0 w ∙ sym (ap f (getD-replicate N k blank blank (omega arith)) ∙ e)))
 
-pub cost-at : (l : List BlockCost) (b : ℕ) → getD l b blank .cost ≡ getD (costsOf l) b 0
-unfolding costsOf
-cost-at l b = sym (List·getD-map (λ (x : BlockCost). x .cost) l b blank)
-
-pub count-at : (l : List BlockCost) (b : ℕ) → getD l b blank .parts ≡ getD (countsOf l) b 0
+pub counts-length : (n : ℕ) (l : List BlockCost) → length (countsOf n l) ≡ n
 unfolding countsOf
-count-at l b = sym (List·getD-map (λ (x : BlockCost). x .parts) l b blank)
+counts-length n l = length-listOf _ n
 
-pub costs-length : (l : List BlockCost) → length (costsOf l) ≡ length l
+module _ (n : ℕ) (l : List BlockCost) (b : ℕ) (v : b < n) where
+  pub cost-at : getD l b blank .cost ≡ getD (costsOf n l) b 0
+  unfolding costsOf
+  cost-at = sym (getD-listOf _ n b v)
+
+  pub count-at : getD l b blank .parts ≡ getD (countsOf n l) b 0
+  unfolding countsOf
+  count-at = sym (getD-listOf _ n b v)
+
+  module _ (u : b < length l) (w : ℕ) where
+    pub costs-put : costsOf n (withPart l b w) ≡ added (costsOf n l) b w
+    unfolding costsOf
+    costs-put = numbers-put (λ (x : BlockCost). x .cost) n l b _ u v ∙ ap (λ (c : ℕ). set (costsOf n l) b (c + w)) cost-at
+
+    pub counts-put : countsOf n (withPart l b w) ≡ added (countsOf n l) b 1
+    unfolding countsOf
+    counts-put = numbers-put (λ (x : BlockCost). x .parts) n l b _ u v ∙ ap (λ (c : ℕ). set (countsOf n l) b (c + 1)) count-at
+
+pub blank-costs : (N n : ℕ) → n ≤ N → costsOf n (replicate N blank) ≡ replicate n 0
 unfolding costsOf
-costs-length l = length-map l (λ (x : BlockCost). x .cost)
+blank-costs N n u = numbers-blank (λ (x : BlockCost). x .cost) n refl N u
 
-pub counts-length : (l : List BlockCost) → length (countsOf l) ≡ length l
+pub blank-counts : (N n : ℕ) → n ≤ N → countsOf n (replicate N blank) ≡ replicate n 0
 unfolding countsOf
-counts-length l = length-map l (λ (x : BlockCost). x .parts)
-
-pub costs-put : (l : List BlockCost) (b w : ℕ) → costsOf (withPart l b w) ≡ added (costsOf l) b w
-unfolding costsOf
-costs-put l b w = map-set (λ (x : BlockCost). x .cost) l b _ ∙ ap (λ (n : ℕ). set (costsOf l) b (n + w)) (cost-at l b)
-
-pub counts-put : (l : List BlockCost) (b w : ℕ) → countsOf (withPart l b w) ≡ added (countsOf l) b 1
-unfolding countsOf
-counts-put l b w = map-set (λ (x : BlockCost). x .parts) l b _ ∙ ap (λ (n : ℕ). set (countsOf l) b (n + 1)) (count-at l b)
-
-pub blank-costs : (n : ℕ) → costsOf (replicate n blank) ≡ replicate n 0
-unfolding costsOf
-blank-costs n = map-blank (λ (x : BlockCost). x .cost) refl n
-
-pub blank-counts : (n : ℕ) → countsOf (replicate n blank) ≡ replicate n 0
-unfolding countsOf
-blank-counts n = map-blank (λ (x : BlockCost). x .parts) refl n
-
-pub blanks-front : (N n : ℕ) → n ≤ N → take n (replicate {A = BlockCost} N blank) ≡ replicate n blank
-blanks-front N zero h = refl
-blanks-front zero (suc n) h = absurd (omega arith)
-blanks-front (suc N) (suc n) h = rw (blanks-front N n (omega arith))
-
-pub blanks-long : (N n : ℕ) → n ≤ N → n ≡ length (take n (replicate {A = BlockCost} N blank))
-blanks-long N n h = sym (ap length (blanks-front N n h) ∙ length-replicate n blank)
+blank-counts N n u = numbers-blank (λ (x : BlockCost). x .parts) n refl N u

@@ -2,14 +2,13 @@
 -- Assumes nothing.
 use mathlib.Core.Path.{_≡_, refl, sym, ap, ap₂, _∙_, subst}
 use mathlib.Core.Bool.{true}
-use mathlib.Core.List.{List, _++_}
+use mathlib.Core.List.{List}
 use Prim.Native.Nat.{ℕ, zero, suc, _+_, _*_, _-_, _^_, _≤_, _<_}
 use native.Mathlib.Nat.{one-mul}
 use native.Mathlib.Omega.{arith}
 use borrow.Author.Tests.{leb-true}
 use lib.Dec.{leb}
-use lib.ListN.{length, getD, take, drop, replicate, length-replicate, length-append}
-use lib.Seq.{take-at}
+use lib.ListN.{length, getD, take, replicate, length-replicate}
 use Rattle.words.specs.Sum.{sumTo}
 use Rattle.words.specs.Section.{listOf}
 use Rattle.words.proofs.ListLaws.{zeros-front}
@@ -19,16 +18,14 @@ use Rattle.record.specs.Record.{majorsOf, countAt, partsBefore, partsOf, stages
 use Rattle.record.proofs.TestLaws.{and-true}
 use Rattle.record.proofs.FormLaws.{formed, parts-in}
 use Rattle.counts.specs.Counts.{srams, writeOuts}
-use Rattle.blocks.specs.declared.costs.BlockCost.{BlockCost}
 use Rattle.blocks.specs.declared.firsts.Firsts.{Firsts}
-use Rattle.blocks.specs.Blocks.{costsAfter, blockIn, blockOf, takenBefore, stateOf, sramOf, stateStart, sramStart, stateWords, sramWords, totalsFit}
+use Rattle.blocks.specs.Blocks.{blockIn, blockOf, takenBefore, stateOf, sramOf, stateStart, sramStart, stateWords, sramWords, totalsFit}
 use Rattle.blocks.specs.Sums.{inBlock}
 use Rattle.blocks.specs.Table.{rankOf}
-use Rattle.blocks.specs.Fill.{putCells, column, takes, blockFrom, startIn, blank, costsOf, countsOf, placedRows, partCounts, rankedRows, startedRows, stageRows, Rows, Placeable, Takeable, Rankable, StagePlaceable, StageSummable, StageReady}
+use Rattle.blocks.specs.Fill.{putCells, column, takes, blockFrom, startIn, placedRows, partCounts, rankedRows, startedRows, stageRows, Rows, Takeable, Rankable, StagePlaceable, StageSummable, StageReady}
 use Rattle.blocks.proofs.TotalLaws.{sum-const}
 use Rattle.blocks.proofs.OrderLaws.{taken-blocks, taken-ext}
-use Rattle.blocks.proofs.BlockLaws.{in-lt, in-total, in-ext, costs-long}
-use Rattle.blocks.proofs.RecordLaws.{costs-length, blanks-front, blanks-long}
+use Rattle.blocks.proofs.BlockLaws.{in-lt, in-total, in-ext}
 use Rattle.blocks.proofs.FillLaws.{put-long, put-here, put-word, put-ext, put-cong}
 use Rattle.blocks.proofs.StartLaws.{parts-next, state-next, state-mono, sram-next, sram-mono}
 
@@ -36,43 +33,6 @@ use Rattle.blocks.proofs.StartLaws.{parts-next, state-next, state-mono,
 
 pub zeros-long : (N n : ℕ) → n ≤ N → n ≡ length (take n (replicate {A = ℕ} N 0))
 zeros-long N n h = sym (ap length (zeros-front N n h) ∙ length-replicate n 0)
-
--- ---- the first n of N records without parts, and these after the parts are placed
-
-module _ (d room : List ℕ) (N n base count : ℕ) (t : StagePlaceable d room n base count) (few : n ≤ N) (made : List BlockCost) (made-is : made ≡ replicate N blank) where
-  pub front-within : n ≤ length made
-  front-within = omega (arith, few, ap length made-is ∙ length-replicate N blank)
-
-  pub front-long : n ≡ length (take n made)
-  front-long = blanks-long N n few ∙ ap (λ (l : List BlockCost). length (take n l)) (sym made-is)
-
-  pub front-placeable : Placeable d room (take n made) base count
-  front-placeable = record {
-    few = t .few;
-    parts = t .parts;
-    inside = t .inside;
-    some-block = omega (arith, front-long, t .some-block);
-    few-blocks = omega (arith, front-long, t .few-blocks);
-    blanks = ap (λ (l : List BlockCost). take n l) made-is ∙ blanks-front N n few ∙ ap (λ (m : ℕ). replicate m blank) front-long;
-    stages = t .stages;
-  }
-
-  module _ (done : List BlockCost) (costs-are : costsOf done ≡ costsAfter (length (take n made)) (λ i. stagesOf d (base + i)) count)
-      (counts-are : countsOf done ≡ partCounts d (length (take n made)) base count) where
-    done-long : n ≡ length done
-    done-long = front-long ∙ sym (costs-long (length (take n made)) _ (front-placeable .some-block) count) ∙ sym (ap length costs-are) ∙ costs-length done
-
-    back : take n (done ++ drop n made) ≡ done
-    back = take-at done (drop n made) n (sym done-long)
-
-    pub back-within : n ≤ length (done ++ drop n made)
-    back-within = omega (arith, done-long, length-append done (drop n made))
-
-    pub back-long : n ≡ length (take n (done ++ drop n made))
-    back-long = done-long ∙ sym (ap length back)
-
-    pub back-counts : countsOf (take n (done ++ drop n made)) ≡ partCounts d n base count
-    back-counts = ap countsOf back ∙ counts-are ∙ ap (λ (m : ℕ). partCounts d m base count) (sym front-long)
 
 pub front-summable : (room : List ℕ) (N blocks base count from scale to first : ℕ) → blocks ≤ N → StageSummable room blocks base count from scale to first
     → StageSummable room (length (take blocks (replicate {A = ℕ} N 0))) base count from scale to first

@@ -6,22 +6,21 @@ use mathlib.Core.List.{List}
 use Prim.Native.Nat.{ℕ, _+_, _*_, _^_, _≤_, _<_}
 use native.Mathlib.Numerals.{add-one}
 use native.Mathlib.Omega.{arith}
-use lib.ListN.{length, getD, set, length-set}
+use lib.ListN.{length, getD, set, replicate, length-set, length-replicate}
 use lib.Seq.{getD-set-same, getD-set-other}
 use Rattle.words.specs.Sum.{sumTo}
 use Rattle.words.specs.Section.{listOf}
 use Rattle.words.proofs.SumLaws.{sum-more, sum-le}
 use Rattle.words.proofs.SectionLaws.{length-listOf, getD-listOf, listOf-is}
-use Rattle.record.specs.Record.{stagesOf}
 use Rattle.blocks.specs.declared.costs.BlockCost.{BlockCost}
 use Rattle.blocks.specs.Blocks.{blockFor, costsAfter, blockIn}
 use Rattle.blocks.specs.Sums.{inBlock}
 use Rattle.blocks.specs.Table.{cell}
-use Rattle.blocks.specs.Fill.{putCells, column, takes, blockFrom, sumsIn, startIn, costsOf, countsOf, withPart, Rows, Placeable, Puttable, Addable, RankReady, Summable, Takeable, Rankable}
+use Rattle.blocks.specs.Fill.{putCells, column, takes, sumsIn, startIn, blank, costsOf, countsOf, withPart, Rows, Puttable, Addable, RankReady, Summable, Takeable, Rankable}
 use Rattle.blocks.proofs.TotalLaws.{same-or, sum-const}
-use Rattle.blocks.proofs.BlockLaws.{in-here, in-grows, in-most, in-lt, sums-none, costs-none, costs-long, costs-small, sums-at, sums-more}
-use Rattle.blocks.proofs.RecordLaws.{cost-at, count-at, costs-length, costs-put, counts-put, blank-costs, blank-counts}
-use Rattle.blocks.proofs.FillLaws.{put-more, put-word, put-long}
+use Rattle.blocks.proofs.BlockLaws.{in-here, in-grows, in-most, in-lt, sums-none, sums-plain, costs-none, costs-small, sums-at, sums-more}
+use Rattle.blocks.proofs.RecordLaws.{cost-at, count-at, costs-put, counts-put, blank-costs, blank-counts}
+use Rattle.blocks.proofs.FillLaws.{put-none, put-more, put-word, put-long}
 
 list-long : (f : ℕ → ℕ) (B : ℕ) (s : List ℕ) → s ≡ listOf f B → length s ≡ B
 list-long f B s e = ap length e ∙ length-listOf f B
@@ -207,74 +206,81 @@ made-all sums₀ sums first at b m e =
 
 -- ---- a part goes to its block
 
--- before the first part
-pub place-none : (d room : List ℕ) (blocks : List BlockCost) (base count : ℕ) → Placeable d room blocks base count
-    → (costsOf blocks ≡ costsAfter (length blocks) (λ j. stagesOf d (base + j)) 0)
-    × (countsOf blocks ≡ listOf (λ b. 0 + inBlock (blockFrom d (length blocks) base) (λ j. 1) b 0) (length blocks))
-place-none d room blocks base count t =
-    (ap costsOf (t .blanks) ∙ blank-costs (length blocks) ∙ sym (costs-none _ _), ap countsOf (t .blanks) ∙ blank-counts (length blocks) ∙ sums-none _ _ _)
+-- the first i parts are in their blocks, of B blocks: f gives the stages of a part, row its row
+pub record Placed (B : ℕ) (f row : ℕ → ℕ) (room₀ room : List ℕ) (blocks : List BlockCost) (i : ℕ) : Type 0 where
+  pub long : length blocks ≡ 1024
+  pub rows : room ≡ putCells room₀ 6 row (blockIn B f) i
+  pub costs : costsOf B blocks ≡ costsAfter B f i
+  pub counts : countsOf B blocks ≡ listOf (λ b. 0 + inBlock (blockIn B f) (λ j. 1) b i) B
 
-module _ (d room : List ℕ) (blocks₀ : List BlockCost) (base count : ℕ) (t : Placeable d room blocks₀ base count) (blocks : List BlockCost) (i : ℕ)
-    (costs-are : costsOf blocks ≡ costsAfter (length blocks₀) (λ j. stagesOf d (base + j)) i)
-    (counts-are : countsOf blocks ≡ listOf (λ b. 0 + inBlock (blockFrom d (length blocks₀) base) (λ j. 1) b i) (length blocks₀)) where
-  pub place-long : length blocks ≡ length blocks₀
-  place-long = sym (costs-length blocks) ∙ ap length costs-are ∙ costs-long (length blocks₀) _ (t .some-block) i
+module _ (B : ℕ) (f row : ℕ → ℕ) (room₀ : List ℕ) (some : 0 < B) (few : B ≤ 1024) where
+  pub placed-none : (blocks : List BlockCost) → blocks ≡ replicate 1024 blank → Placed B f row room₀ room₀ blocks 0
+  placed-none blocks e = record {
+    long = ap length e ∙ length-replicate 1024 blank;
+    rows = sym (put-none room₀ 6 row _);
+    costs = ap (costsOf B) e ∙ blank-costs 1024 B few ∙ sym (costs-none B f);
+    counts = ap (countsOf B) e ∙ blank-counts 1024 B few ∙ sums-none _ _ B;
+  }
 
-  is-block : blockFrom d (length blocks₀) base i < length blocks₀
-  is-block = in-lt (length blocks₀) (λ j. stagesOf d (base + j)) (t .some-block) i
+  module _ (room : List ℕ) (blocks : List BlockCost) (i : ℕ) (p : Placed B f row room₀ room blocks i) where
+    pub placed-long : length room ≡ length room₀
+    placed-long = ap length (p .rows) ∙ put-long room₀ 6 row _ i
 
-  module _ (b : ℕ) (block : b ≡ blockFor (length blocks) (costsOf blocks) i) where
-    pub block-is : b ≡ blockFrom d (length blocks₀) base i
-    unfolding blockIn
-    block-is = block ∙ ap₂ (λ (B : ℕ) (s : List ℕ). blockFor B s i) place-long costs-are
+    pub placed-counts : countsOf B blocks ≡ listOf (λ b. inBlock (blockIn B f) (λ j. 1) b i) B
+    placed-counts = p .counts ∙ sums-plain _ B
 
-    pub block-few : b < 1024
-    block-few = omega (arith, block-is, is-block, t .few-blocks)
+    module _ (b : ℕ) (block : b ≡ blockFor B (costsOf B blocks) i) (w : ℕ) (cost : w ≡ f i + 3) where
+      block-is : b ≡ blockIn B f i
+      unfolding blockIn
+      block-is = block ∙ ap (λ (s : List ℕ). blockFor B s i) (p .costs)
 
-    pub put-rows : (now : List ℕ) → now ≡ putCells room 6 (λ j. base + j) (blockFrom d (length blocks₀) base) i
-        → set now (cell (base + i) 6) b ≡ putCells room 6 (λ j. base + j) (blockFrom d (length blocks₀) base) (i + 1)
-    put-rows now e = ap₂ (λ (r : List ℕ) (v : ℕ). set r (cell (base + i) 6) v) e block-is ∙ sym (put-more room 6 _ _ i)
+      is-block : b < B
+      is-block = omega (arith, block-is, in-lt B f some i)
 
-    pub put-counts : (w : ℕ) → countsOf (withPart blocks b w) ≡ listOf (λ x. 0 + inBlock (blockFrom d (length blocks₀) base) (λ j. 1) x (i + 1)) (length blocks₀)
-    put-counts w =
-        counts-put blocks b w
-        ∙ ap (λ (x : ℕ). set (countsOf blocks) x (getD (countsOf blocks) x 0 + 1)) block-is
-        ∙ sums-more (blockFrom d (length blocks₀) base) (λ j. 1) (λ x. 0) (length blocks₀) i (countsOf blocks) counts-are is-block
-
-    module _ (w : ℕ) (cost : w ≡ stagesOf d (base + i) + 3) where
-      pub put-ready : i < count → Puttable blocks b w
-      put-ready l = record {
-        inside = omega (arith, block-is, place-long, is-block);
+      pub put-ready : i < 4096 → ((j : ℕ) → j ≤ i → f j ≤ 255) → Puttable blocks b w
+      put-ready l stages = record {
+        inside = omega (arith, is-block, few, p .long);
         number =
             omega (
               arith,
-              count-at blocks b,
-              ap₂ (λ (s : List ℕ) (x : ℕ). getD s x 0) counts-are block-is ∙ getD-listOf _ (length blocks₀) (blockFrom d (length blocks₀) base i) is-block,
-              in-most (blockFrom d (length blocks₀) base) (λ j. 1) (blockFrom d (length blocks₀) base i) i,
+              count-at B blocks b is-block,
+              ap (λ (s : List ℕ). getD s b 0) (p .counts) ∙ getD-listOf _ B b is-block,
+              in-most (blockIn B f) (λ j. 1) b i,
               sum-const 1 i,
-              t .few,
             );
         fits =
             omega (
               arith,
-              cost-at blocks b,
-              ap₂ (λ (s : List ℕ) (x : ℕ). getD s x 0) costs-are block-is,
+              cost-at B blocks b is-block,
+              ap (λ (s : List ℕ). getD s b 0) (p .costs),
               cost,
-              t .stages i l,
-              costs-small (length blocks₀) (λ j. stagesOf d (base + j)) (t .some-block) i (blockFrom d (length blocks₀) base i) is-block (omega (arith, t .few))
-                  (λ j u. t .stages j (omega arith)),
+              stages i (omega arith),
+              costs-small B f some i b is-block (omega arith) (λ j u. stages j (omega arith)),
             );
       }
 
-      costs-more : set (costsOf blocks) b (getD (costsOf blocks) b 0 + w) ≡ costsAfter (length blocks₀) (λ j. stagesOf d (base + j)) (i + 1)
+      costs-more : set (costsOf B blocks) b (getD (costsOf B blocks) b 0 + w) ≡ costsAfter B f (i + 1)
       unfolding costsAfter blockIn
       costs-more =
           rw add-one
-          (ap₂ (λ (x y : ℕ). set (costsOf blocks) x (getD (costsOf blocks) x 0 + y)) block-is cost
-          ∙ ap (λ (s : List ℕ). set s (blockFrom d (length blocks₀) base i) (getD s (blockFrom d (length blocks₀) base i) 0 + (stagesOf d (base + i) + 3))) costs-are)
+          (ap₂ (λ (x y : ℕ). set (costsOf B blocks) x (getD (costsOf B blocks) x 0 + y)) block-is cost
+          ∙ ap (λ (s : List ℕ). set s (blockIn B f i) (getD s (blockIn B f i) 0 + (f i + 3))) (p .costs))
 
-      pub put-costs : costsOf (withPart blocks b w) ≡ costsAfter (length blocks₀) (λ j. stagesOf d (base + j)) (i + 1)
-      put-costs = costs-put blocks b w ∙ costs-more
+      pub placed-more : (next : List BlockCost) → next ≡ withPart blocks b w → (now : List ℕ) → now ≡ set room (cell (row i) 6) b
+          → Placed B f row room₀ now next (i + 1)
+      placed-more next n now e = record {
+        long = ap length n ∙ length-set blocks b _ ∙ p .long;
+        rows = e ∙ ap₂ (λ (r : List ℕ) (v : ℕ). set r (cell (row i) 6) v) (p .rows) block-is ∙ sym (put-more room₀ 6 row _ i);
+        costs = ap (costsOf B) n ∙ costs-put B blocks b is-block inside w ∙ costs-more;
+        counts =
+            ap (countsOf B) n
+            ∙ counts-put B blocks b is-block inside w
+            ∙ ap (λ (x : ℕ). set (countsOf B blocks) x (getD (countsOf B blocks) x 0 + 1)) block-is
+            ∙ sums-more (blockIn B f) (λ j. 1) (λ x. 0) B i (countsOf B blocks) (p .counts) (in-lt B f some i);
+      }
+        where
+          inside : b < length blocks
+          inside = omega (arith, is-block, few, p .long)
 
 -- ---- the part counts taken one by one
 

@@ -3,7 +3,7 @@
 use mathlib.Core.Path.{_≡_}
 use mathlib.Core.Bool.{true, false}
 use mathlib.Core.Option.{none}
-use mathlib.Core.List.{List, map}
+use mathlib.Core.List.{List}
 use Prim.Native.Nat.{ℕ, zero, suc, _+_, _*_, _/_, _%_, _^_, _≤_, _<_}
 use lib.Dec.{ltb}
 use lib.ListN.{length, getD, set, replicate}
@@ -36,15 +36,15 @@ blockAt room p = getD room (cell p 6) 0
 abbrev pub added : List ℕ → ℕ → ℕ → List ℕ
 added sums b w = set sums b (getD sums b 0 + w)
 
--- a block without parts; the running costs and the part counts of some blocks
+-- a block without parts; the running costs and the part counts of the first n blocks
 abbrev pub blank : BlockCost
 blank = record { parts = 0; cost = 0 }
 
-unfoldable pub costsOf : List BlockCost → List ℕ
-costsOf blocks = map (λ x. x .cost) blocks
+unfoldable pub costsOf : ℕ → List BlockCost → List ℕ
+costsOf n blocks = listOf (λ b. getD blocks b blank .cost) n
 
-unfoldable pub countsOf : List BlockCost → List ℕ
-countsOf blocks = map (λ x. x .parts) blocks
+unfoldable pub countsOf : ℕ → List BlockCost → List ℕ
+countsOf n blocks = listOf (λ b. getD blocks b blank .parts) n
 
 -- the blocks with a part more, of cost c, in block b
 abbrev pub withPart : List BlockCost → ℕ → ℕ → List BlockCost
@@ -128,16 +128,6 @@ pub record Rows (room : List ℕ) (blocks base count : ℕ) : Type 0 where
   pub parts : base + count ≤ 262144
   pub inside : 65536 + 16 * (base + count) ≤ length room
   pub block : (i : ℕ) → i < count → column room base 6 i < blocks
-
--- the parts may be placed, by records of blocks without parts
-pub record Placeable (d room : List ℕ) (blocks : List BlockCost) (base count : ℕ) : Type 0 where
-  pub few : count ≤ 4096
-  pub parts : base + count ≤ 262144
-  pub inside : 65536 + 16 * (base + count) ≤ length room
-  pub some-block : 0 < length blocks
-  pub few-blocks : length blocks ≤ 1024
-  pub blanks : blocks ≡ replicate (length blocks) blank
-  pub stages : (i : ℕ) → i < count → stagesOf d (base + i) ≤ 255
 
 -- a part more in block b
 pub record Puttable (blocks : List BlockCost) (b cost : ℕ) : Type 0 where

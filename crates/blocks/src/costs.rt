@@ -1,11 +1,11 @@
 // Parts to blocks: each block's record of its part count and running cost, and each part's block.
 ghost use mathlib.Core.Path.{_≡_};
 ghost use Prim.Native.Nat.{_+_, _*_, _-_, _≤_, _<_};
-ghost use lib.ListN.{length, getD, set, replicate};
+ghost use lib.ListN.{length, set, replicate};
 ghost use Rattle.record.specs.Record.{stagesOf};
 ghost use Rattle.blocks.specs.Blocks.{leastTo, blockFor, costsAfter};
 ghost use Rattle.blocks.specs.Table.{cell};
-ghost use Rattle.blocks.specs.Fill.{Placeable, Puttable, StagePlaceable, blank, costsOf, countsOf, withPart, lesser, placedRows, partCounts};
+ghost use Rattle.blocks.specs.Fill.{Puttable, StagePlaceable, blank, costsOf, countsOf, withPart, lesser, placedRows, partCounts};
 use record::places::head_base;
 use record::places::word_at;
 
@@ -23,22 +23,6 @@ pub fn no_parts() -> [BlockCost; 1024]
     [none; 1024]
 }
 
-// The running cost of block b.
-pub fn cost_of(blocks: &[BlockCost], b: usize) -> u32
-    requires { ⌜ b < length (now blocks) ⌝ }
-    ensures { λ r. ⌜ r ≡ getD (costsOf (now (blocks .entry))) b 0 ⌝ }
-{
-    blocks[b].cost
-}
-
-// The part count of block b.
-pub fn parts_of(blocks: &[BlockCost], b: usize) -> u32
-    requires { ⌜ b < length (now blocks) ⌝ }
-    ensures { λ r. ⌜ r ≡ getD (countsOf (now (blocks .entry))) b 0 ⌝ }
-{
-    blocks[b].parts
-}
-
 // A part more in block b: the one place where a record changes.
 pub fn put_part(blocks: &mut [BlockCost], b: usize, cost: u32)
     requires { ⌜ Puttable (now blocks) b cost ⌝ }
@@ -46,6 +30,15 @@ pub fn put_part(blocks: &mut [BlockCost], b: usize, cost: u32)
 {
     blocks[b].parts += 1;
     blocks[b].cost += cost;
+}
+
+// The records with a part more in block b: they are lent to `put_part` here alone.
+pub fn with_part(mut blocks: [BlockCost; 1024], b: usize, cost: u32) -> [BlockCost; 1024]
+    requires { ⌜ Puttable blocks b cost ⌝ }
+    ensures { λ r. ⌜ r ≡ withPart blocks b cost ⌝ }
+{
+    put_part(&mut blocks, b, cost);
+    blocks
 }
 
 // What part p costs.
@@ -66,29 +59,29 @@ fn cheaper(best: usize, least: u32, i: usize, cost: u32) -> usize
     best
 }
 
-// The block of least cost, the lowest number on a tie.
-pub fn least_block(blocks: &[BlockCost]) -> usize
-    requires { ⌜ 0 < length (now blocks) ⌝ }
-    ensures { λ r. ⌜ (r ≡ leastTo (costsOf (now (blocks .entry))) (length (now (blocks .entry)) - 1)) × (r < length (now (blocks .entry))) ⌝ }
+// The block of least cost of the first n, the lowest number on a tie.
+pub fn least_block(blocks: [BlockCost; 1024], n: usize) -> usize
+    requires { ⌜ (0 < n) × (n ≤ 1024) ⌝ }
+    ensures { λ r. ⌜ (r ≡ leastTo (costsOf n blocks) (n - 1)) × (r < n) ⌝ }
 {
     let mut best = 0;
     let mut i = 1;
-    while i < blocks.len() {
-        best = cheaper(best, cost_of(blocks, best), i, cost_of(blocks, i));
+    while i < n {
+        best = cheaper(best, blocks[best].cost, i, blocks[i].cost);
         i += 1;
     }
     best
 }
 
-// The block of part i: the first parts go one to a block.
-pub fn block_for(blocks: &[BlockCost], i: usize) -> usize
-    requires { ⌜ 0 < length (now blocks) ⌝ }
-    ensures { λ r. ⌜ (r ≡ blockFor (length (now (blocks .entry))) (costsOf (now (blocks .entry))) i) × (r < length (now (blocks .entry))) ⌝ }
+// The block of part i, of n blocks: the first parts go one to a block.
+pub fn block_for(blocks: [BlockCost; 1024], n: usize, i: usize) -> usize
+    requires { ⌜ (0 < n) × (n ≤ 1024) ⌝ }
+    ensures { λ r. ⌜ (r ≡ blockFor n (costsOf n blocks) i) × (r < n) ⌝ }
 {
-    if i < blocks.len() {
+    if i < n {
         return i;
     }
-    least_block(blocks)
+    least_block(blocks, n)
 }
 
 // Part p is in block b: word 6 of its row.
@@ -99,30 +92,40 @@ fn put_block(room: &mut [u32], p: usize, b: usize)
     room[65536 + 16 * p + 6] = b as u32;
 }
 
-// The parts of one major stage, `count` of them from part `base` on, to their blocks: word 6 of their rows.
-pub fn place_parts(d: &[u8], room: &mut [u32], blocks: &mut [BlockCost], base: usize, count: usize)
-    requires { ⌜ Placeable (now d) (now room) (now blocks) base count ⌝ }
-    ensures { λ _. ⌜ now (room .exit) ≡ placedRows (now (d .entry)) (now (room .entry)) (length (now (blocks .entry))) base count ⌝ }
-    ensures { λ _. ⌜ costsOf (now (blocks .exit)) ≡ costsAfter (length (now (blocks .entry))) (λ i. stagesOf (now (d .entry)) (base + i)) count ⌝ }
-    ensures { λ _. ⌜ countsOf (now (blocks .exit)) ≡ partCounts (now (d .entry)) (length (now (blocks .entry))) base count ⌝ }
+// The parts of one major stage, `count` of them from part `base` on, to n blocks: word 6 of their rows, and the blocks' records.
+pub fn place_parts(
+    d: &[u8],
+    room: &mut [u32],
+    blocks: [BlockCost; 1024],
+    n: usize,
+    base: usize,
+    count: usize,
+) -> [BlockCost; 1024]
+    requires { ⌜ StagePlaceable (now d) (now room) n base count × (blocks ≡ replicate 1024 blank) ⌝ }
+    ensures { λ _. ⌜ now (room .exit) ≡ placedRows (now (d .entry)) (now (room .entry)) n base count ⌝ }
+    ensures { λ r. ⌜ costsOf n r ≡ costsAfter n (λ i. stagesOf (now (d .entry)) (base + i)) count ⌝ }
+    ensures { λ r. ⌜ countsOf n r ≡ partCounts (now (d .entry)) n base count ⌝ }
 {
+    let mut placed = blocks;
     let mut i = 0;
     while i < count {
-        let b = block_for(blocks, i);
-        put_part(blocks, b, part_cost(d, base + i));
+        let b = block_for(placed, n, i);
+        let next = with_part(placed, b, part_cost(d, base + i));
+        placed = next;
         put_block(room, base + i, b);
         i += 1;
     }
+    placed
 }
 
-// The part counts alone.
-pub fn take_counts(blocks: &[BlockCost], counts: &mut [u32])
-    requires { ⌜ length (now counts) ≡ length (now blocks) ⌝ }
-    ensures { λ _. ⌜ now (counts .exit) ≡ countsOf (now (blocks .entry)) ⌝ }
+// The part counts of the first blocks alone.
+pub fn take_counts(blocks: [BlockCost; 1024], counts: &mut [u32])
+    requires { ⌜ length (now counts) ≤ 1024 ⌝ }
+    ensures { λ _. ⌜ now (counts .exit) ≡ countsOf (length (now (counts .entry))) blocks ⌝ }
 {
     let mut b = 0;
     while b < counts.len() {
-        counts[b] = parts_of(blocks, b);
+        counts[b] = blocks[b].parts;
         b += 1;
     }
 }
@@ -133,8 +136,6 @@ pub fn give_blocks(d: &[u8], room: &mut [u32], counts: &mut [u32], base: usize, 
     ensures { λ _. ⌜ now (room .exit) ≡ placedRows (now (d .entry)) (now (room .entry)) (length (now (counts .entry))) base count ⌝ }
     ensures { λ _. ⌜ now (counts .exit) ≡ partCounts (now (d .entry)) (length (now (counts .entry))) base count ⌝ }
 {
-    let mut blocks = no_parts();
-    let n = counts.len();
-    place_parts(d, room, &mut blocks[..n], base, count);
-    take_counts(&blocks[..n], counts);
+    let placed = place_parts(d, room, no_parts(), counts.len(), base, count);
+    take_counts(placed, counts);
 }

@@ -1,13 +1,11 @@
 -- `blocks::costs::block_for` meets its contract.
 -- Assumes nothing.
-mod Lts
-mod Tie
 use mathlib.Core.Path.{sym, _∙_}
 use native.Mathlib.Omega.{arith}
 use Rattle.blocks.proofs.BlockLaws.{for-early, for-later}
 use borrow.Author.Needs.{needs}
 use Rattle.blocks.proofs.costs.block_for.Statement.{statement}
-use Rattle.blocks.proofs.costs.block_for.Proof.Tie as tie
+use Rattle.blocks.proofs.costs.block_for.Tie as tie
 
 returns : tie.Need-returns
 returns c = (sym (for-early _ _ _ (c .if1 .taken)), omega arith)

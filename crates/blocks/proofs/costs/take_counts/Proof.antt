@@ -1,32 +1,33 @@
 -- `blocks::costs::take_counts` meets its contract. The loop's invariant: the first b counts are the records'.
 -- Assumes nothing.
-mod Lts
-mod Tie
 use mathlib.Core.Path.{_≡_, refl, sym, _∙_}
 use Prim.Native.Nat.{_-_}
 use native.Mathlib.Omega.{arith}
 use lib.ListN.{length, length-set}
 use Rattle.blocks.specs.Fill.{countsOf}
-use Rattle.blocks.proofs.RecordLaws.{counts-length}
+use Rattle.blocks.proofs.RecordLaws.{counts-length, count-at}
 use Rattle.blocks.proofs.StepLaws.{Taken, taken-none, taken-more, taken-all}
 use borrow.Author.Needs.{needs}
 use Rattle.blocks.proofs.costs.take_counts.Statement.{statement}
-use Rattle.blocks.proofs.costs.take_counts.Proof.Tie as tie
+use Rattle.blocks.proofs.costs.take_counts.Tie as tie
 
 abbrev Inv-loop : tie.InvT-loop
-Inv-loop blocks counts₀ b₀ counts b = (length counts ≡ length counts₀) × Taken (countsOf blocks) counts b
+Inv-loop counts₀ blocks b₀ counts b = (length counts ≡ length counts₀) × Taken (countsOf (length counts₀) blocks) counts b
 
 abbrev μ-loop : tie.MeasureT-loop
-μ-loop blocks counts₀ b₀ counts b = length counts₀ - b
+μ-loop counts₀ blocks b₀ counts b = length counts₀ - b
 
 loop-holds : tie.Need-loop-holds Inv-loop μ-loop
-loop-holds c = (refl, taken-none _ _ (c .before .pre ∙ sym (counts-length _)))
-
-parts-of-requires : tie.Need-parts-of-requires Inv-loop μ-loop
-parts-of-requires c κs = omega (arith, c .before .loop .inv .0, c .before .before .before .pre)
+loop-holds c = (refl, taken-none _ _ (sym (counts-length _ _)))
 
 mul-counts : tie.Need-mul-counts Inv-loop μ-loop
 mul-counts c = search needs
+
+element-copy-out-counts : tie.Need-element-copy-out-counts Inv-loop μ-loop
+element-copy-out-counts c = search needs
+
+mul-counts-2 : tie.Need-mul-counts-2 Inv-loop μ-loop
+mul-counts-2 c = search needs
 
 slice-write-counts : tie.Need-slice-write-counts Inv-loop μ-loop
 slice-write-counts c = search needs
@@ -39,8 +40,12 @@ loop-less c = search needs
 
 loop-again : tie.Need-loop-again Inv-loop μ-loop
 loop-again c =
-    let l = c .before .before .loop in
-    (length-set (l .counts) (l .b) (c .parts-of .result) ∙ l .inv .0, taken-more _ _ (l .b) _ (l .inv .1) (omega (arith, l .inv .1 .long)) (c .parts-of .ensures))
+    let l = c .before .loop in
+    let n = length (c .before .before .args .counts .now) in
+    let blocks = c .before .before .args .t1 in (
+      length-set (l .counts) (l .b) _ ∙ l .inv .0,
+      taken-more _ _ (l .b) _ (l .inv .1) (omega (arith, l .inv .1 .long)) (count-at n blocks (l .b) (omega arith)),
+    )
 
 same-length : tie.Need-same-length Inv-loop μ-loop
 same-length c = c .before .loop .inv .0
@@ -52,4 +57,4 @@ returns c =
 
 pub take-counts-spec : {M : Type 1} → statement M
 take-counts-spec =
-    tie.close (tie.spec Inv-loop μ-loop loop-holds parts-of-requires mul-counts slice-write-counts add-b loop-less loop-again same-length returns)
+    tie.close (tie.spec Inv-loop μ-loop loop-holds mul-counts element-copy-out-counts mul-counts-2 slice-write-counts add-b loop-less loop-again same-length returns)
