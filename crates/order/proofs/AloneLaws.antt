@@ -1,66 +1,39 @@
--- A block alone: its parts one after the other, each read, worked and stored, and what its words hold by then. Its turns see words below B alone and
--- write words of its own alone, so a run's turns leave each block as if it had been alone (`ran`).
+-- A block alone: its parts one after the other, each read, worked and stored, and what its words hold by then. Its turns see words that no
+-- part stores and write words of its own alone, so a run's turns leave each block as if it had been alone (`ran`).
 -- Assumes nothing.
 use mathlib.Core.Path.{_≡_, refl, sym, ap, _∙_, subst}
-use mathlib.Core.Bool.{Bool, true, false, _&&_}
+use mathlib.Core.Bool.{Bool, true, false}
 use mathlib.Core.List.{List, [], _∷_}
 use mathlib.Core.Logic.{_⊎_, inl, inr, ⊎-elim}
 use mathlib.Core.Option.{none}
 use Prim.Native.Nat.{ℕ, zero, suc, _+_, _-_, _≤_, _<_}
 use native.Mathlib.Nat.{add-zero, zero-add}
 use native.Mathlib.Omega.{arith}
-use borrow.Author.Tests.{leb-true, ltb-true, le-leb, lt-ltb, eq-eqb, ne-eqb}
-use lib.Dec.{leb, ltb}
+use borrow.Author.Tests.{eq-eqb, ne-eqb}
 use lib.ListN.{length, getD}
 use lib.Seq.{sets, length-sets}
 use Rattle.words.proofs.BitLaws.{lt-or-ge}
 use Rattle.record.specs.Tests.{someBelow}
-use Rattle.record.proofs.TestLaws.{and-true, true-and, not-both, not-true-false, some-found, some-at}
+use Rattle.record.proofs.TestLaws.{not-both, not-true-false, some-found, some-at}
 use Rattle.machine.specs.Part.{stagesAt, lastAt, startAt, normalAt, endAt}
 use Rattle.machine.specs.Turn.{readRow, Block, begins, ended}
 use Rattle.machine.specs.Run.{Running, blocksFrom, step, runFrom, runTurns, turnsFrom, turnsAfter, turnsLeft, badBlock}
-use Rattle.order.specs.Order.{partsFrom, partsAt, capturedBy, blockTurns, Stores, PartAt, Apart}
+use Rattle.order.specs.Order.{partsFrom, partsAt, capturedBy, blockTurns, storesAt, Stores, storeWord, PartAt, Unstored, Apart}
 use Rattle.order.proofs.FormLaws.{Formed, Chain, form-chain, part-first, Ith, ith-part, after-last, after-more, turns-split}
-use Rattle.order.proofs.StoreLaws.{sets-other, sets-same}
+use Rattle.order.proofs.StoreLaws.{store-other, store-same}
 use Rattle.sort.specs.Sorted.{count}
-use Rattle.order.proofs.TurnsLaws.{Same, Names, Independent, Project}
+use Rattle.order.proofs.TurnsLaws.{Same, Unowned, Names, Independent, Project}
 use Rattle.order.proofs.TurnsLaws as Turns
 use Rattle.order.proofs.BlockLaws.{row-same, staged, caps-length, empty-phase, ended-phase, turnOf, putOf, turn-read, put-read, turn-stage, put-stage, turn-store, turn-last, turn-more, put-store, turn-none, put-none, leftOf, left-read, left-stage, left-none, written-size}
 
--- ---- the words that a part stores
+-- ---- what the theorems ask for: blocks in form for a new state of t words, and kept apart
 
-storesAt : List ℕ → ℕ → ℕ → Bool
-storesAt W o w = leb (startAt W o) w && ltb w (startAt W o + normalAt W o)
-
-stores-is : (W : List ℕ) (o w : ℕ) → storesAt W o w ≡ true → Stores W o w
-unfolding storesAt
-stores-is W o w h =
-    let (a, b) = and-true (leb (startAt W o) w) (ltb w (startAt W o + normalAt W o)) h in
-    record { from = leb-true _ _ a; until = omega (arith, ltb-true w (startAt W o + normalAt W o) b) }
-
-is-stores : (W : List ℕ) (o w : ℕ) → Stores W o w → storesAt W o w ≡ true
-unfolding storesAt
-is-stores W o w h = true-and _ _ (le-leb _ _ (h .from)) (lt-ltb w (startAt W o + normalAt W o) (omega (arith, h .until)))
-
--- a store turn leaves the other words
-store-other : (W : List ℕ) (o : ℕ) (m caps : List ℕ) (w : ℕ) → length caps ≡ normalAt W o → (Stores W o w → ⊥) → getD (sets m (startAt W o) caps) w 0 ≡ getD m w 0
-store-other W o m caps w e h = sets-other m (startAt W o) caps w (λ k. ⊎-elim
-    (λ l. absurd (h (record { from = k; until = omega arith })))
-    (λ l. l)
-    (lt-or-ge w (startAt W o + length caps)))
-
-store-same : (W : List ℕ) (o : ℕ) (m caps : List ℕ) (l : ℕ) → length caps ≡ normalAt W o → l < normalAt W o → startAt W o + normalAt W o ≤ length m
-    → getD (sets m (startAt W o) caps) (startAt W o + l) 0 ≡ getD caps l 0
-store-same W o m caps l e h k = sets-same m (startAt W o) caps l (omega arith) (omega arith)
-
--- ---- what the theorems ask for: m blocks in form for a new state of t words, and kept apart by word B
-
-pub record Laid (n : ℕ) (W starts : List ℕ) (s t : ℕ) (new : List ℕ) (B : ℕ) : Type 0 where
+pub record Laid (n : ℕ) (W starts : List ℕ) (s t : ℕ) (new : List ℕ) : Type 0 where
   pub form : badBlock n W starts s t ≡ none
   pub size : length new ≡ t
-  pub apart : Apart n W starts (length starts - 1) B
+  pub apart : Apart n W starts (length starts - 1)
 
-module _ (n L : ℕ) (W starts : List ℕ) (s t : ℕ) (old new : List ℕ) (B : ℕ) (laid : Laid n W starts s t new B) where
+module _ (n L : ℕ) (W starts : List ℕ) (s t : ℕ) (old new : List ℕ) (laid : Laid n W starts s t new) where
   abbrev m : ℕ
   m = length starts - 1
 
@@ -126,7 +99,7 @@ module _ (n L : ℕ) (W starts : List ℕ) (s t : ℕ) (old new : List ℕ) (B :
   owns : (b i o w : ℕ) → Part b i o → Stores W o w → own b w ≡ true
   unfolding own
   owns b i o w q h =
-      some-at (λ i. storesAt W (getD (partsOf b) i 0) w) (length (partsOf b)) i (q .inside) (is-stores W (getD (partsOf b) i 0) w (subst (λ x. Stores W x w) (q .at) h))
+      some-at (λ i. storesAt W (getD (partsOf b) i 0) w) (length (partsOf b)) i (q .inside) (subst (λ x. Stores W x w) (q .at) h)
 
   record Owner (b w : ℕ) : Type 0 where
     pub i : ℕ
@@ -138,12 +111,19 @@ module _ (n L : ℕ) (W starts : List ℕ) (s t : ℕ) (old new : List ℕ) (B :
   unfolding own
   owner b w h e =
       let (i, l, k) = some-found (λ i. storesAt W (getD (partsOf b) i 0) w) (length (partsOf b)) e in
-      record { i = i; o = getD (partsOf b) i 0; part = record { block = h; inside = l; at = refl }; stores = stores-is W _ w k }
+      record { i = i; o = getD (partsOf b) i 0; part = record { block = h; inside = l; at = refl }; stores = k }
+
+  -- a word that no part stores is no block's
+  abbrev Free : ℕ → Type 0
+  Free w = Unowned own m w
+
+  free : (w : ℕ) → Unstored n W starts m w → Free w
+  free w f b h = not-true-false (own b w) (λ e. let q = owner b w h e in f b (q .i) (q .o) (q .part) (q .stores))
 
   -- ---- the read turn and the store turn of a part
 
-  row-is : (b i o : ℕ) → Part b i o → (k k′ : List ℕ) → Same B k k′ → readRow n W o old k ≡ readRow n W o old k′
-  row-is b i o q k k′ S = row-same n W o old k k′ (λ r l hr hl hm hw. S .below _ (omega (arith, laid .apart .reads b i o q r l hr hl hm hw)))
+  row-is : (b i o : ℕ) → Part b i o → (k k′ : List ℕ) → Same Free k k′ → readRow n W o old k ≡ readRow n W o old k′
+  row-is b i o q k k′ S = row-same n W o old k k′ (λ r l hr hl hm hw. S .words _ (free _ (laid .apart .reads b i o q r l hr hl hm hw)))
 
   length-caps : (o : ℕ) → length (caps o) ≡ normalAt W o
   length-caps o = caps-length n L W o (readRow n W o old new) (stagesAt W o)
@@ -155,28 +135,23 @@ module _ (n L : ℕ) (W starts : List ℕ) (s t : ℕ) (old new : List ℕ) (B :
   put-other : (o w : ℕ) (k : List ℕ) → (Stores W o w → ⊥) → getD (put o k) w 0 ≡ getD k w 0
   put-other o w k h = store-other W o k (caps o) w (length-caps o) h
 
-  put-same : (b i o l : ℕ) (k : List ℕ) → Part b i o → length k ≡ t → l < normalAt W o → getD (put o k) (startAt W o + l) 0 ≡ getD (caps o) l 0
-  put-same b i o l k q e h = store-same W o k (caps o) l (length-caps o) h (omega (arith, known b i o q .formed .inside (omega arith)))
+  put-same : (b i o w : ℕ) (k : List ℕ) → Part b i o → length k ≡ t → Stores W o w → getD (put o k) w 0 ≡ storeWord W o (caps o) w
+  put-same b i o w k q e st = store-same W o k (caps o) w (length-caps o) st (omega (arith, known b i o q .formed .inside w st))
 
   put-word : (b i o w : ℕ) (k k′ : List ℕ) → Part b i o → length k ≡ t → length k′ ≡ t → getD k w 0 ≡ getD k′ w 0 → getD (put o k) w 0 ≡ getD (put o k′) w 0
   put-word b i o w k k′ q e e′ h = go (storesAt W o w) refl
     where
       go : (v : Bool) → storesAt W o w ≡ v → getD (put o k) w 0 ≡ getD (put o k′) w 0
-      go true v =
-          let st = stores-is W o w v in
-          let l = w - startAt W o in
-          let is : startAt W o + l ≡ w = omega (arith, st .from) in
-          let fits : l < normalAt W o = omega (arith, st .from, st .until) in
-          subst (λ x. getD (put o k) x 0 ≡ getD (put o k′) x 0) is (put-same b i o l k q e fits ∙ sym (put-same b i o l k′ q e′ fits))
+      go true v = put-same b i o w k q e v ∙ sym (put-same b i o w k′ q e′ v)
       go false v =
-          let not : Stores W o w → ⊥ = λ st. not-both (storesAt W o w) (is-stores W o w st) v in
+          let not : Stores W o w → ⊥ = λ st. not-both (storesAt W o w) st v in
           put-other o w k not ∙ h ∙ sym (put-other o w k′ not)
 
   -- ---- a block alone
 
-  -- what the parts of block b before the i-th store, is what they captured
+  -- the parts of block b before the i-th have stored
   abbrev Held : ℕ → ℕ → List ℕ → Type 0
-  Held b i k = (j o l : ℕ) → Part b j o → j < i → l < normalAt W o → getD k (startAt W o + l) 0 ≡ getD (caps o) l 0
+  Held b i k = (j o w : ℕ) → Part b j o → j < i → Stores W o w → getD k w 0 ≡ storeWord W o (caps o) w
 
   -- the block after the read turn and j stages of the part at o
   abbrev staging : ℕ → ℕ → Block
@@ -190,7 +165,7 @@ module _ (n L : ℕ) (W starts : List ℕ) (s t : ℕ) (old new : List ℕ) (B :
     rests : p .phase ≡ 3 → length (partsOf b) ≤ i → Now b i p
 
   record Ok (b : ℕ) (p : Block) (k : List ℕ) : Type 0 where
-    pub same : Same B k new
+    pub same : Same Free k new
     pub index : ℕ
     pub held : Held b index k
     pub now : Now b index p
@@ -211,22 +186,22 @@ module _ (n L : ℕ) (W starts : List ℕ) (s t : ℕ) (old new : List ℕ) (B :
       (λ l. puts o q (ap (staging o) (omega arith)))
       (lt-or-ge j (stagesAt W o))
 
-  same-new : (k : List ℕ) → Same B k new → length k ≡ t
+  same-new : (k : List ℕ) → Same Free k new → length k ≡ t
   same-new k S = S .size ∙ laid .size
 
-  put-held : (b i o : ℕ) (k : List ℕ) → Part b i o → Same B k new → Held b i k → Held b (suc i) (put o k)
-  put-held b i o k q S H j e l r h g = ⊎-elim
-      (λ d. put-other o (startAt W e + l) k (λ st. omega (arith, laid .apart .apart b i o b j e _ q r st (record { from = omega arith; until = omega arith }) .1)) ∙ H j e l r d g)
+  put-held : (b i o : ℕ) (k : List ℕ) → Part b i o → Same Free k new → Held b i k → Held b (suc i) (put o k)
+  put-held b i o k q S H j e w r h g = ⊎-elim
+      (λ d. put-other o w k (λ st. omega (arith, laid .apart .apart b i o b j e w q r st g .1)) ∙ H j e w r d g)
       (λ d.
       let is : j ≡ i = omega arith in
       let at : e ≡ o = r .at ∙ ap (λ (x : ℕ). getD (partsOf b) x 0) is ∙ sym (q .at) in
-      subst (λ x. getD (put o k) (startAt W x + l) 0 ≡ getD (caps x) l 0) (sym at) (put-same b i o l k q (same-new k S) (subst (λ x. l < normalAt W x) at g)))
+      put-same b i o w k q (same-new k S) (subst (λ x. Stores W x w) at g) ∙ ap (λ (x : ℕ). storeWord W x (caps x) w) (sym at))
       (lt-or-ge j i)
 
-  put-below : (b i o : ℕ) (k : List ℕ) → Part b i o → Same B k new → Same B (put o k) new
-  put-below b i o k q S = record {
+  put-free : (b i o : ℕ) (k : List ℕ) → Part b i o → Same Free k new → Same Free (put o k) new
+  put-free b i o k q S = record {
     size = length-sets k (startAt W o) (caps o) ∙ S .size;
-    below = λ w h. put-other o w k (λ st. omega (arith, laid .apart .high b i o w q st)) ∙ S .below w h;
+    words = λ w f. put-other o w k (λ st. not-both (own b w) (owns b i o w q st) (f b (q .block))) ∙ S .words w f;
   }
 
   -- ---- each turn
@@ -259,7 +234,7 @@ module _ (n L : ℕ) (W starts : List ℕ) (s t : ℕ) (old new : List ℕ) (B :
       (λ x. ap left (turn-more n L W old o _ k (x .0)) ∙ left-read n W (endAt n W o) (known b (suc i) (endAt n W o) (x .1) .formed .stages) ∙ sym (x .2))
       (known b i o q .next)
 
-  -- ---- a block's turn keeps what is known of it, sees words below B alone, and writes its own words alone
+  -- ---- a block's turn keeps what is known of it, sees words alone that no part stores, and writes its own words alone
 
   turn-ok : (b : ℕ) (p : Block) (k : List ℕ) → Ok b p k → Ok b (turn p k) (write p k)
   turn-ok b p k a = go (a .now)
@@ -273,10 +248,10 @@ module _ (n L : ℕ) (W starts : List ℕ) (s t : ℕ) (old new : List ℕ) (B :
           (record { same = a .same; index = a .index; held = a .held; now = stage-or-store b (a .index) o (suc j) q h })
       go (puts o q e) =
           rw (write-puts o p k e)
-          (record { same = put-below b (a .index) o k q (a .same); index = suc (a .index); held = put-held b (a .index) o k q (a .same) (a .held); now = turn-puts b (a .index) o p k q e })
+          (record { same = put-free b (a .index) o k q (a .same); index = suc (a .index); held = put-held b (a .index) o k q (a .same) (a .held); now = turn-puts b (a .index) o p k q e })
       go (rests e h) = rw (turn-none n L W old p k e, put-none n L W old p k e) a
 
-  turn-blind : (b : ℕ) (p : Block) (k k′ : List ℕ) → Ok b p k′ → Same B k k′ → turn p k ≡ turn p k′
+  turn-blind : (b : ℕ) (p : Block) (k k′ : List ℕ) → Ok b p k′ → Same Free k k′ → turn p k ≡ turn p k′
   turn-blind b p k k′ a S = go (a .now)
     where
       go : Now b (a .index) p → turn p k ≡ turn p k′
@@ -286,7 +261,7 @@ module _ (n L : ℕ) (W starts : List ℕ) (s t : ℕ) (old new : List ℕ) (B :
       go (puts o q e) = ap (λ x. turn x k) e ∙ turn-store n L W old o _ k ∙ sym (turn-store n L W old o _ k′) ∙ sym (ap (λ x. turn x k′) e)
       go (rests e h) = turn-none n L W old p k e ∙ sym (turn-none n L W old p k′ e)
 
-  turn-word : (b : ℕ) (p : Block) (k k′ : List ℕ) (w : ℕ) → Ok b p k′ → Same B k k′ → getD k w 0 ≡ getD k′ w 0 → getD (write p k) w 0 ≡ getD (write p k′) w 0
+  turn-word : (b : ℕ) (p : Block) (k k′ : List ℕ) (w : ℕ) → Ok b p k′ → Same Free k k′ → getD k w 0 ≡ getD k′ w 0 → getD (write p k) w 0 ≡ getD (write p k′) w 0
   turn-word b p k k′ w a S d = go (a .now)
     where
       go : Now b (a .index) p → getD (write p k) w 0 ≡ getD (write p k′) w 0
@@ -323,14 +298,13 @@ module _ (n L : ℕ) (W starts : List ℕ) (s t : ℕ) (old new : List ℕ) (B :
       go (puts o q e) = left-puts b (a .index) o p k q e ∙ omega (arith, ap left e ∙ left-stage n L W o _ (stagesAt W o) (omega arith))
       go (rests e h) = ap left (turn-none n L W old p k e) ∙ omega (arith, left-none n W p e)
 
-  independent : Independent Block (ended 0) turn write m Ok own B left
+  independent : Independent Block (ended 0) turn write m Ok own left
   independent = record {
     ok = turn-ok;
     blind = turn-blind;
     word = turn-word;
     frame = turn-frame;
     size = turn-size;
-    high = λ b w h e. let q = owner b w h e in laid .apart .high b (q .i) (q .o) w (q .part) (q .stores);
     apart = λ b c w h l e d. let q = owner b w h e in let r = owner c w l d in laid .apart .apart b (q .i) (q .o) c (r .i) (r .o) w (q .part) (r .part) (q .stores) (r .stores) .0;
     falls = turn-falls;
   }
@@ -373,7 +347,7 @@ module _ (n L : ℕ) (W starts : List ℕ) (s t : ℕ) (old new : List ℕ) (B :
   start-ok : (b : ℕ) → b < m → Ok b (getD (starting .0) b (ended 0)) (starting .1)
   unfolding starting
   start-ok b h = rw (started b h) (record {
-    same = record { size = refl; below = λ w l. refl };
+    same = record { size = refl; words = λ w l. refl };
     index = 0;
     held = λ j o l q c. absurd (omega arith);
     now = start-now b h;
@@ -400,28 +374,26 @@ module _ (n L : ℕ) (W starts : List ℕ) (s t : ℕ) (old new : List ℕ) (B :
     pub size : length (x .new) ≡ length new
     pub turns-left : (b : ℕ) → b < length starts - 1
         → turnsLeft n W (getD (x .blocks) b (ended 0) .phase) (getD (x .blocks) b (ended 0)) ≡ blockTurns n W (getD starts b 0) - count b turns
-    pub finished : (b i o l : ℕ) → PartAt n W starts (length starts - 1) b i o → l < normalAt W o
+    pub finished : (b i o w : ℕ) → PartAt n W starts (length starts - 1) b i o → Stores W o w
         → turnsLeft n W (getD (x .blocks) b (ended 0) .phase) (getD (x .blocks) b (ended 0)) ≡ 0
-        → getD (x .new) (startAt W o + l) 0 ≡ getD (capturedBy n L W o old new) l 0
-    pub rest : (w : ℕ) → ((b i o : ℕ) → PartAt n W starts (length starts - 1) b i o → Stores W o w → ⊥) → getD (x .new) w 0 ≡ getD new w 0
+        → getD (x .new) w 0 ≡ storeWord W o (capturedBy n L W o old new) w
+    pub rest : (w : ℕ) → Unstored n W starts (length starts - 1) w → getD (x .new) w 0 ≡ getD new w 0
 
   pub ran : (turns : List ℕ) → Names (length starts - 1) turns → Ran turns (runTurns n L W starts turns old new)
   unfolding starting
   ran ts h = record {
     blocks = ap length blocks-are ∙ I .blocks;
     size = ap length new-is ∙ I .size;
-    turns-left = λ b l. ap left (priv b l) ∙ Turns.solo-left Block (ended 0) turn write Ok own B left starting m long independent start-ok b (count b ts) l ∙ ap (λ p. left p - count b ts) (started b l);
-    finished = λ b i o l q g z.
-        let a = Turns.solo-ok Block (ended 0) turn write Ok own B left starting m long independent start-ok b (count b ts) (q .block) in
+    turns-left = λ b l. ap left (priv b l) ∙ Turns.solo-left Block (ended 0) turn write Ok own left starting m long independent start-ok b (count b ts) l ∙ ap (λ p. left p - count b ts) (started b l);
+    finished = λ b i o w q g z.
+        let a = Turns.solo-ok Block (ended 0) turn write Ok own left starting m long independent start-ok b (count b ts) (q .block) in
         let all = rests-of b (a .index) _ (a .now) (ap left (sym (priv b (q .block))) ∙ z) in
-        ap (λ k. getD k (startAt W o + l) 0) new-is
-        ∙ I .mine b (startAt W o + l) (q .block) (owns b i o (startAt W o + l) q (record { from = omega arith; until = omega arith }))
-        ∙ a .held i o l q (omega (arith, q .inside)) g;
-    rest = λ w f. ap (λ k. getD k w 0) new-is ∙ I .rest w (λ b l. not-true-false (own b w) (λ e. let q = owner b w l e in f b (q .i) (q .o) (q .part) (q .stores)));
+        ap (λ k. getD k w 0) new-is ∙ I .mine b w (q .block) (owns b i o w q g) ∙ a .held i o w q (omega (arith, q .inside)) g;
+    rest = λ w f. ap (λ k. getD k w 0) new-is ∙ I .rest w (free w f);
   }
     where
-      I : Project Block (ended 0) turn write Ok own B left starting m long independent start-ok (λ b. count b ts) (Turns.run Block (ended 0) turn write starting ts)
-      I = Turns.project Block (ended 0) turn write Ok own B left starting m long independent start-ok ts h
+      I : Project Block (ended 0) turn write Ok own left starting m long independent start-ok (λ b. count b ts) (Turns.run Block (ended 0) turn write starting ts)
+      I = Turns.project Block (ended 0) turn write Ok own left starting m long independent start-ok ts h
 
       new-is : runTurns n L W starts ts old new .new ≡ Turns.run Block (ended 0) turn write starting ts .1
       new-is = run-new (record { blocks = blocksFrom W starts m 0; new = new }) ts
@@ -441,10 +413,10 @@ module _ (n L : ℕ) (W starts : List ℕ) (s t : ℕ) (old new : List ℕ) (B :
     pub part : PartAt n W starts (length starts - 1) b i o
     pub stores : Stores W o w
 
-  pub storer : (w : ℕ) → Storer w ⊎ ((b i o : ℕ) → PartAt n W starts (length starts - 1) b i o → Stores W o w → ⊥)
+  pub storer : (w : ℕ) → Storer w ⊎ Unstored n W starts (length starts - 1) w
   storer w = go (someBelow (λ b. own b w) m) refl
     where
-      go : (v : Bool) → someBelow (λ b. own b w) m ≡ v → Storer w ⊎ ((b i o : ℕ) → Part b i o → Stores W o w → ⊥)
+      go : (v : Bool) → someBelow (λ b. own b w) m ≡ v → Storer w ⊎ Unstored n W starts m w
       go true e =
           let (b, h, d) = some-found (λ b. own b w) m e in
           let q = owner b w h d in

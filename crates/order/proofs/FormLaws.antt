@@ -17,13 +17,14 @@ use Rattle.record.proofs.TestLaws.{and-true, all-at, not-none, not-both}
 use Rattle.machine.specs.Part.{stagesAt, lastAt, startAt, normalAt, endAt}
 use Rattle.machine.specs.Run.{turnsFrom, turnsAfter, partForm, partsForm, emptyBlock, blockForm, badBlock}
 use Rattle.form.proofs.FormLaws.{in-form}
-use Rattle.order.specs.Order.{partsFrom}
+use Rattle.order.specs.Order.{partsFrom, Stores}
+use Rattle.order.proofs.StoreLaws.{stores-below}
 
 -- ---- what the form says of one part: t is the number of words of the new state
 
 pub record Formed (W : List ℕ) (t o : ℕ) : Type 0 where
   pub stages : 1 ≤ stagesAt W o
-  pub inside : 0 < normalAt W o → startAt W o + normalAt W o ≤ t
+  pub inside : (w : ℕ) → Stores W o w → w < t
 
 -- ---- parts end to end, the last of them among the first f
 
@@ -37,7 +38,7 @@ parts-chain n W s t e zero o h = absurd (not-both false h refl)
 parts-chain n W s t e (suc f) o h =
     let (first, rest) = and-true (partForm n W s t e o) (elim (eqb (endAt n W o) e) [ true ↦ true | false ↦ partsForm n W s t e f (endAt n W o) ]) h in
     let p = in-form n W s t o e first in
-    (record { stages = p .some; inside = λ any. p .stores .inside any .1 }, go (eqb (endAt n W o) e) (p .last) rest (parts-chain n W s t e f (endAt n W o)))
+    (record { stages = p .some; inside = λ w st. stores-below W o w t st (λ any. p .stores .inside any .1) }, go (eqb (endAt n W o) e) (p .last) rest (parts-chain n W s t e f (endAt n W o)))
   where
     go : (b : Bool) → lastAt W o ≡ elim b [ true ↦ 1 | false ↦ 0 ] → elim b [ true ↦ true | false ↦ partsForm n W s t e f (endAt n W o) ] ≡ true
         → (partsForm n W s t e f (endAt n W o) ≡ true → Chain n W t f (endAt n W o)) → (lastAt W o ≡ 1) ⊎ ((lastAt W o ≡ 0) × Chain n W t f (endAt n W o))

@@ -1,4 +1,4 @@
--- The blocks of one major stage: whatever the order of their turns, once none is left each part's words hold what the part captured (`stored`), and
+-- The blocks of one major stage: whatever the order of their turns, once none is left each part's words hold what the part puts there (`stored`), and
 -- words that no part stores stay (`untouched`). So all orders leave one new state (`in-any-order`).
 -- Assumes nothing.
 use mathlib.Core.Path.{_≡_, refl, sym, _∙_, subst}
@@ -13,10 +13,9 @@ use lib.ListN.{length, getD, replicate}
 use lib.Seq.{ext-getD}
 use Rattle.words.proofs.BitLaws.{lt-or-ge}
 use Rattle.record.proofs.TestLaws.{not-none, none-not}
-use Rattle.machine.specs.Part.{startAt, normalAt}
 use Rattle.machine.specs.Turn.{Block, ended}
 use Rattle.machine.specs.Run.{runTurns, turnsLeft, allLeft, badTurn}
-use Rattle.order.specs.Order.{capturedBy, blockTurns, oneAfterAnother, Stores, PartAt}
+use Rattle.order.specs.Order.{capturedBy, blockTurns, oneAfterAnother, Stores, storeWord, PartAt, Unstored}
 use Rattle.sort.specs.Sorted.{count}
 use Rattle.sort.proofs.SortLaws.{count-append}
 use Rattle.order.proofs.TurnsLaws.{count-replicate, Names, names-of, names-at, names-append, names-replicate}
@@ -71,41 +70,36 @@ one-count n W starts (suc k) b h =
 
 -- ---- the theorems
 
-module _ (n L : ℕ) (W starts : List ℕ) (s t : ℕ) (old new : List ℕ) (B : ℕ) (laid : Laid n W starts s t new B) where
+module _ (n L : ℕ) (W starts : List ℕ) (s t : ℕ) (old new : List ℕ) (laid : Laid n W starts s t new) where
   pub same-length : (turns : List ℕ) → badTurn starts turns ≡ none → length (runTurns n L W starts turns old new .new) ≡ length new
-  same-length turns name = ran n L W starts s t old new B laid turns (names starts turns name) .size
+  same-length turns name = ran n L W starts s t old new laid turns (names starts turns name) .size
 
   -- done or not, a word that no part stores is as it was
   pub untouched : (turns : List ℕ) → badTurn starts turns ≡ none
-      → (w : ℕ) → ((b i o : ℕ) → PartAt n W starts (length starts - 1) b i o → Stores W o w → ⊥)
+      → (w : ℕ) → Unstored n W starts (length starts - 1) w
       → getD (runTurns n L W starts turns old new .new) w 0 ≡ getD new w 0
-  untouched turns name w free = ran n L W starts s t old new B laid turns (names starts turns name) .rest w free
+  untouched turns name w free = ran n L W starts s t old new laid turns (names starts turns name) .rest w free
 
-  -- once no turns are left, a part's words hold what it captured, between the old state and the new one as it was at first
+  -- once no turns are left, a part's words hold what it puts there, having captured between the old state and the new one as it was at first
   pub stored : (turns : List ℕ) → badTurn starts turns ≡ none → allLeft n W (runTurns n L W starts turns old new .blocks) ≡ 0
-      → (b i o l : ℕ) → PartAt n W starts (length starts - 1) b i o → l < normalAt W o
-      → getD (runTurns n L W starts turns old new .new) (startAt W o + l) 0 ≡ getD (capturedBy n L W o old new) l 0
-  stored turns name done b i o l part h =
-      ran n L W starts s t old new B laid turns (names starts turns name) .finished b i o l part h (none-each n W _ done b)
+      → (b i o w : ℕ) → PartAt n W starts (length starts - 1) b i o → Stores W o w
+      → getD (runTurns n L W starts turns old new .new) w 0 ≡ storeWord W o (capturedBy n L W o old new) w
+  stored turns name done b i o w part h =
+      ran n L W starts s t old new laid turns (names starts turns name) .finished b i o w part h (none-each n W _ done b)
 
   -- two lists of turns that both leave none make one new state
   pub one-end : (ts us : List ℕ) → badTurn starts ts ≡ none → badTurn starts us ≡ none
       → allLeft n W (runTurns n L W starts ts old new .blocks) ≡ 0 → allLeft n W (runTurns n L W starts us old new .blocks) ≡ 0
       → runTurns n L W starts ts old new .new ≡ runTurns n L W starts us old new .new
   one-end ts us a b f g = ext-getD 0 _ _ (same-length ts a ∙ sym (same-length us b)) (λ w h. ⊎-elim
-      (λ q.
-      let l = w - startAt W (q .o) in
-      let is : startAt W (q .o) + l ≡ w = omega (arith, q .stores .from) in
-      let fits : l < normalAt W (q .o) = omega (arith, q .stores .from, q .stores .until) in
-      subst (λ x. getD (runTurns n L W starts ts old new .new) x 0 ≡ getD (runTurns n L W starts us old new .new) x 0) is
-      (stored ts a f (q .b) (q .i) (q .o) l (q .part) fits ∙ sym (stored us b g (q .b) (q .i) (q .o) l (q .part) fits)))
+      (λ q. stored ts a f (q .b) (q .i) (q .o) w (q .part) (q .stores) ∙ sym (stored us b g (q .b) (q .i) (q .o) w (q .part) (q .stores)))
       (λ free. untouched ts a w free ∙ sym (untouched us b w free))
-      (storer n L W starts s t old new B laid w))
+      (storer n L W starts s t old new laid w))
 
   -- the turns one block after another leave none
   pub one-done : allLeft n W (runTurns n L W starts (oneAfterAnother n W starts (length starts - 1)) old new .blocks) ≡ 0
   one-done =
-      let r = ran n L W starts s t old new B laid (oneAfterAnother n W starts (length starts - 1)) (one-names n W starts (length starts - 1) (length starts - 1) (omega arith)) in
+      let r = ran n L W starts s t old new laid (oneAfterAnother n W starts (length starts - 1)) (one-names n W starts (length starts - 1) (length starts - 1) (omega arith)) in
       each-none n W _ (λ b h.
       let l : b < length starts - 1 = omega (arith, r .blocks) in
       omega (arith, r .turns-left b l, one-count n W starts (length starts - 1) b l))

@@ -16,10 +16,14 @@ use Rattle.sort.specs.Sorted.{same as hit, count}
 use Rattle.sort.proofs.SortLaws.{same-refl, same-not}
 use Rattle.record.proofs.TestLaws.{not-true-false}
 
--- two memories of one size that agree below B
-pub record Same (B : ℕ) (m m′ : List ℕ) : Type 0 where
+-- two memories of one size that agree on the words of F
+pub record Same (F : ℕ → Type 0) (m m′ : List ℕ) : Type 0 where
   pub size : length m ≡ length m′
-  pub below : (w : ℕ) → w < B → getD m w 0 ≡ getD m′ w 0
+  pub words : (w : ℕ) → F w → getD m w 0 ≡ getD m′ w 0
+
+-- no one of n blocks owns word w
+abbrev pub Unowned : (own : ℕ → ℕ → Bool) → ℕ → ℕ → Type 0
+Unowned own n w = (b : ℕ) → b < n → own b w ≡ false
 
 -- ---- how often b stands in a list of turns
 
@@ -66,20 +70,19 @@ module _ (P : Type 0) (nil : P) (turn : P → List ℕ → P) (put : P → List 
   solo s b zero = (getD (s .0) b nil, s .1)
   solo s b (suc k) = (turn (solo s b k .0) (solo s b k .1), put (solo s b k .0) (solo s b k .1))
 
-  -- What makes n blocks independent. `Ok b p m`: block b alone can come to the private state p and the memory m; `own b w`: word w is b's; B: words
-  -- below B are written by none; `left`: the turns that a private state still wants.
-  pub record Independent (n : ℕ) (Ok : ℕ → P → List ℕ → Type 0) (own : ℕ → ℕ → Bool) (B : ℕ) (left : P → ℕ) : Type 0 where
+  -- What makes n blocks independent. `Ok b p m`: block b alone can come to the private state p and the memory m; `own b w`: word w is b's; a turn sees
+  -- words alone that are no block's; `left`: the turns that a private state still wants.
+  pub record Independent (n : ℕ) (Ok : ℕ → P → List ℕ → Type 0) (own : ℕ → ℕ → Bool) (left : P → ℕ) : Type 0 where
     pub ok : (b : ℕ) (p : P) (m : List ℕ) → Ok b p m → Ok b (turn p m) (put p m)
-    pub blind : (b : ℕ) (p : P) (m m′ : List ℕ) → Ok b p m′ → Same B m m′ → turn p m ≡ turn p m′
-    pub word : (b : ℕ) (p : P) (m m′ : List ℕ) (w : ℕ) → Ok b p m′ → Same B m m′ → getD m w 0 ≡ getD m′ w 0 → getD (put p m) w 0 ≡ getD (put p m′) w 0
+    pub blind : (b : ℕ) (p : P) (m m′ : List ℕ) → Ok b p m′ → Same (Unowned own n) m m′ → turn p m ≡ turn p m′
+    pub word : (b : ℕ) (p : P) (m m′ : List ℕ) (w : ℕ) → Ok b p m′ → Same (Unowned own n) m m′ → getD m w 0 ≡ getD m′ w 0 → getD (put p m) w 0 ≡ getD (put p m′) w 0
     pub frame : (b : ℕ) (p : P) (m m′ : List ℕ) (w : ℕ) → Ok b p m′ → own b w ≡ false → getD (put p m) w 0 ≡ getD m w 0
     pub size : (p : P) (m : List ℕ) → length (put p m) ≡ length m
-    pub high : (b w : ℕ) → b < n → own b w ≡ true → B ≤ w
     pub apart : (b c w : ℕ) → b < n → c < n → own b w ≡ true → own c w ≡ true → b ≡ c
     pub falls : (b : ℕ) (p : P) (m : List ℕ) → Ok b p m → left (turn p m) ≡ left p - 1
 
-  module _ (Ok : ℕ → P → List ℕ → Type 0) (own : ℕ → ℕ → Bool) (B : ℕ) (left : P → ℕ) (s₀ : List P × List ℕ)
-      (n : ℕ) (long : length (s₀ .0) ≡ n) (A : Independent n Ok own B left) (ok₀ : (b : ℕ) → b < n → Ok b (getD (s₀ .0) b nil) (s₀ .1)) where
+  module _ (Ok : ℕ → P → List ℕ → Type 0) (own : ℕ → ℕ → Bool) (left : P → ℕ) (s₀ : List P × List ℕ)
+      (n : ℕ) (long : length (s₀ .0) ≡ n) (A : Independent n Ok own left) (ok₀ : (b : ℕ) → b < n → Ok b (getD (s₀ .0) b nil) (s₀ .1)) where
     pub solo-ok : (b k : ℕ) → b < n → Ok b (solo s₀ b k .0) (solo s₀ b k .1)
     solo-ok b zero h = ok₀ b h
     solo-ok b (suc k) h = A .ok b _ _ (solo-ok b k h)
@@ -96,22 +99,18 @@ module _ (P : Type 0) (nil : P) (turn : P → List ℕ → P) (put : P → List 
     solo-left b zero h = omega arith
     solo-left b (suc k) h = A .falls b _ _ (solo-ok b k h) ∙ omega (arith, solo-left b k h)
 
-    -- words below B are no block's
-    low : (b w : ℕ) → b < n → w < B → own b w ≡ false
-    low b w h l = not-true-false (own b w) (λ e. omega (arith, A .high b w h e))
-
     -- after c b turns of each block b
     pub record Project (c : ℕ → ℕ) (s : List P × List ℕ) : Type 0 where
       pub blocks : length (s .0) ≡ n
       pub size : length (s .1) ≡ length (s₀ .1)
       pub priv : (b : ℕ) → b < n → getD (s .0) b nil ≡ solo s₀ b (c b) .0
       pub mine : (b w : ℕ) → b < n → own b w ≡ true → getD (s .1) w 0 ≡ getD (solo s₀ b (c b) .1) w 0
-      pub rest : (w : ℕ) → ((b : ℕ) → b < n → own b w ≡ false) → getD (s .1) w 0 ≡ getD (s₀ .1) w 0
+      pub rest : (w : ℕ) → Unowned own n w → getD (s .1) w 0 ≡ getD (s₀ .1) w 0
 
-    same : (c : ℕ → ℕ) (s : List P × List ℕ) (b : ℕ) → b < n → Project c s → Same B (s .1) (solo s₀ b (c b) .1)
+    same : (c : ℕ → ℕ) (s : List P × List ℕ) (b : ℕ) → b < n → Project c s → Same (Unowned own n) (s .1) (solo s₀ b (c b) .1)
     same c s b h I = record {
       size = I .size ∙ sym (solo-size b (c b));
-      below = λ w k. I .rest w (λ b′ h′. low b′ w h′ k) ∙ sym (solo-frame b (c b) w h (low b w h k));
+      words = λ w k. I .rest w k ∙ sym (solo-frame b (c b) w h (k b h));
     }
 
     project-step : (c : ℕ → ℕ) (s : List P × List ℕ) (t : ℕ) → t < n → Project c s → Project (λ b. hit b t + c b) (step s t)

@@ -2,10 +2,10 @@
 -- blocks apart. n is the number of lanes and 2^L the number of positions, W the words.
 -- Assumes nothing.
 use mathlib.Core.Path.{_≡_}
-use mathlib.Core.Bool.{true, false}
+use mathlib.Core.Bool.{Bool, true, false, _&&_}
 use mathlib.Core.List.{List, [], _∷_, _++_}
 use Prim.Native.Nat.{ℕ, zero, suc, _+_, _-_, _^_, _≤_, _<_}
-use lib.Dec.{eqb}
+use lib.Dec.{leb, ltb, eqb}
 use lib.ListN.{length, getD, replicate}
 use Rattle.machine.specs.Part.{stagesAt, lastAt, startAt, roundsAt, normalAt, endAt, readWordAt, readMaskAt}
 use Rattle.machine.specs.Turn.{begins, readRow, stageRow, captured}
@@ -42,12 +42,20 @@ unfoldable pub oneAfterAnother : ℕ → List ℕ → List ℕ → ℕ → List 
 oneAfterAnother n W starts zero = []
 oneAfterAnother n W starts (suc b) = oneAfterAnother n W starts b ++ replicate (blockTurns n W (getD starts b 0)) b
 
--- ---- what keeps the blocks apart: m blocks, B the state word at which the major stage begins to store
+-- ---- the words that a part stores, and what a finished part leaves in them
 
--- the part at word o stores word w
-pub record Stores (W : List ℕ) (o w : ℕ) : Type 0 where
-  pub from : startAt W o ≤ w
-  pub until : w < startAt W o + normalAt W o
+-- the part at word o stores word w. What stands above goes by `storesAt` and `storeWord` alone, so that a part may store in two places
+unfoldable pub storesAt : List ℕ → ℕ → ℕ → Bool
+storesAt W o w = leb (startAt W o) w && ltb w (startAt W o + normalAt W o)
+
+abbrev pub Stores : List ℕ → ℕ → ℕ → Type 0
+Stores W o w = storesAt W o w ≡ true
+
+-- what it puts there, having captured `caps`
+unfoldable pub storeWord : List ℕ → ℕ → List ℕ → ℕ → ℕ
+storeWord W o caps w = getD caps (w - startAt W o) 0
+
+-- ---- what keeps the blocks apart: m blocks
 
 -- the part that is i-th in block b begins at word o
 pub record PartAt (n : ℕ) (W starts : List ℕ) (m b i o : ℕ) : Type 0 where
@@ -55,9 +63,12 @@ pub record PartAt (n : ℕ) (W starts : List ℕ) (m b i o : ℕ) : Type 0 where
   pub inside : i < length (partsAt n W (getD starts b 0))
   pub at : o ≡ getD (partsAt n W (getD starts b 0)) i 0
 
--- parts read words of the new state below B alone, store words from B on alone, and each stored word is one part's
-pub record Apart (n : ℕ) (W starts : List ℕ) (m B : ℕ) : Type 0 where
+-- no part stores word w
+abbrev pub Unstored : ℕ → List ℕ → List ℕ → ℕ → ℕ → Type 0
+Unstored n W starts m w = (b i o : ℕ) → PartAt n W starts m b i o → Stores W o w → ⊥
+
+-- what parts read of the new state are words that no part stores, and each stored word is one part's
+pub record Apart (n : ℕ) (W starts : List ℕ) (m : ℕ) : Type 0 where
   pub reads : (b i o : ℕ) → PartAt n W starts m b i o → (r l : ℕ) → r < roundsAt W o → l < n → 0 < readMaskAt n W o r l → 2 ^ 31 ≤ readWordAt n W o r l
-      → readWordAt n W o r l - 2 ^ 31 < B
-  pub high : (b i o w : ℕ) → PartAt n W starts m b i o → Stores W o w → B ≤ w
+      → Unstored n W starts m (readWordAt n W o r l - 2 ^ 31)
   pub apart : (b i o c j e w : ℕ) → PartAt n W starts m b i o → PartAt n W starts m c j e → Stores W o w → Stores W e w → (b ≡ c) × (i ≡ j)

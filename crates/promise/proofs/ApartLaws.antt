@@ -1,5 +1,5 @@
 -- The parts that the run finds in a major stage are the plan's, each where assembly put it. So what they read of the new state was stored by earlier
--- major stages, what they store are their own words, and no two store the same.
+-- major stages and by none of theirs, what they store are their own words, and no two store the same.
 -- Assumes nothing.
 use mathlib.Core.Path.{_≡_, sym, ap, ap₂, _∙_, subst}
 use mathlib.Core.List.{List}
@@ -20,6 +20,7 @@ use Rattle.assembly.specs.Steps.{lastMark, partsIn, partStart}
 use Rattle.assembly.proofs.RankLaws.{inBefore, part-at}
 use Rattle.machine.specs.Part.{roundsAt, readWordAt, readMaskAt}
 use Rattle.order.specs.Order.{partsAt, Stores, PartAt, Apart}
+use Rattle.order.proofs.StoreLaws.{stores-from, stores-until}
 use Rattle.decode.specs.Decoded.{Decoded}
 use Rattle.decode.proofs.InsideLaws.{read-before}
 use Rattle.promise.specs.Promise.{Accepted, assembled, startsOf, StoredBy}
@@ -83,8 +84,8 @@ module _ (d : List ℕ) (accepted : Accepted d) (s : ℕ) (stage : s < majorsOf 
       let D = back b j o q in
       record {
         part = number-lt b j o q;
-        from = omega (arith, h .from, D .start);
-        until = omega (arith, h .until, D .start, D .normal);
+        from = omega (arith, stores-from W o w h, D .start);
+        until = omega (arith, stores-until W o w h, D .start, D .normal);
       }
 
   stored-high : (i w : ℕ) → StoredBy d s i w → stateOf d s ≤ w
@@ -128,10 +129,13 @@ module _ (d : List ℕ) (accepted : Accepted d) (s : ℕ) (stage : s < majorsOf 
       )
 
   -- THE BLOCKS OF A MAJOR STAGE ARE KEPT APART
-  pub apart : Apart 256 W (startsOf d s) (length (startsOf d s) - 1) (stateOf d s)
+  pub apart : Apart 256 W (startsOf d s) (length (startsOf d s) - 1)
   apart = record {
-    reads = λ b j o q. part-reads b j o (planned b j o q);
-    high = λ b j o w q h. stored-high (number b j) w (stored-by b j o w (planned b j o q) h);
+    reads = λ b j o q r l h k some-bits staged c i e x st. omega (
+      arith,
+      part-reads b j o (planned b j o q) r l h k some-bits staged,
+      stored-high (number c i) _ (stored-by c i e _ (planned c i e x) st),
+    );
     apart = λ b j o c k e w q r h l.
         let x = planned b j o q in
         let y = planned c k e r in

@@ -10,13 +10,15 @@ use lib.Dec.{leb}
 use lib.ListN.{length, getD}
 use Rattle.words.specs.Bit.{bit, bitAt}
 use Rattle.record.specs.Record.{blocksOf, countAt, partsBefore, locationsOf}
-use Rattle.blocks.specs.Blocks.{stateOf, stateStart}
+use Rattle.blocks.specs.Blocks.{stateStart}
 use Rattle.values.specs.Values.{pinValue}
 use Rattle.assembly.specs.Steps.{partsIn, partStart}
 use Rattle.assembly.proofs.RankLaws.{part-found}
+use Rattle.machine.specs.Part.{startAt}
 use Rattle.machine.specs.Run.{runTurns, allLeft, badBlock, badTurn, Ran, ran, refused, outcome}
 use Rattle.machine.proofs.StageLaws.{at-word}
 use Rattle.order.specs.Order.{oneAfterAnother}
+use Rattle.order.proofs.StoreLaws.{stores-in, store-at}
 use Rattle.order.proofs.AloneLaws.{Laid}
 use Rattle.order.proofs.OrderLaws.{in-any-order, untouched, stored}
 use Rattle.meaning.proofs.MeaningLaws.{captured-pin}
@@ -33,7 +35,7 @@ module _ (d : List ℕ) (s : ℕ) (turns old new : List ℕ) (done : Done d s tu
   abbrev after : List ℕ
   after = stageRun d s turns old new .new
 
-  laid : Laid 256 W (startsOf d s) (length old) (length new) new (stateOf d s)
+  laid : Laid 256 W (startsOf d s) (length old) (length new) new
   laid = record {
     form = never-refused d s (length old) (length new) (done .accepted) (done .stage) (omega (arith, done .old-size)) (omega (arith, done .new-size));
     size = refl;
@@ -43,12 +45,12 @@ module _ (d : List ℕ) (s : ℕ) (turns old new : List ℕ) (done : Done d s tu
   any-order : after ≡ stageRun d s (oneAfterAnother 256 W (startsOf d s) (blocksOf d)) old new .new
   any-order =
       let many : length (startsOf d s) - 1 ≡ blocksOf d = omega (arith, starts-are d (done .accepted) s (done .stage)) in
-      in-any-order 256 13 W (startsOf d s) (length old) (length new) old new (stateOf d s) laid turns (done .named) (done .all)
+      in-any-order 256 13 W (startsOf d s) (length old) (length new) old new laid turns (done .named) (done .all)
       ∙ ap (λ (m : ℕ). runTurns 256 13 W (startsOf d s) (oneAfterAnother 256 W (startsOf d s) m) old new .new) many
 
   unchanged : (w : ℕ) → ((i : ℕ) → StoredBy d s i w → ⊥) → getD after w 0 ≡ getD new w 0
   unchanged w free =
-      untouched 256 13 W (startsOf d s) (length old) (length new) old new (stateOf d s) laid turns (done .named) w
+      untouched 256 13 W (startsOf d s) (length old) (length new) old new laid turns (done .named) w
       (λ b j o q h. free _ (stored-by d (done .accepted) s (done .stage) b j o w (planned d (done .accepted) s (done .stage) b j o q) h))
 
   -- the stored bits of part i that carry a pin
@@ -67,7 +69,8 @@ module _ (d : List ℕ) (s : ℕ) (turns old new : List ℕ) (done : Done d s tu
       at-word after (stateStart d s i + l) k small
       ∙ ap (λ (x : ℕ). bit (getD after (x + l) 0) k) (sym (D .start))
       ∙ ap (λ (x : ℕ). bit x k)
-      (stored 256 13 W (startsOf d s) (length old) (length new) old new (stateOf d s) laid turns (done .named) (done .all) b j o l q (omega (arith, D .normal)))
+      (stored 256 13 W (startsOf d s) (length old) (length new) old new laid turns (done .named) (done .all) b j o (startAt W o + l) q (stores-in W o _ (omega arith) (omega (arith, D .normal)))
+      ∙ store-at W o _ l)
       ∙ captured-pin d _ _ _ _ W o old new (sound d (done .accepted) _ p) D l k inside small (carries .position) (carries .some-pin)
 
   pins-held : (i : ℕ) → i < countAt d s → Pin i
