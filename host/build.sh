@@ -91,8 +91,10 @@ build_plain() {
     crate filter "$HOST/filter/src/lib.rs" "${EXTERN[@]}"
 }
 
-# make_plans and make_filter: the designs, and the replay's filter, through GEM.
+# make_plans and make_filter: the designs, and the replay's filters, through GEM. And the netlist simulator.
 build_make_plans() {
+    extern oracle
+    at_once crate simulate "$HOST/simulate/src/lib.rs" "${EXTERN[@]}"
     extern netlistdb random filter
     crate netlists "$HOST/netlists/src/lib.rs" "${EXTERN[@]}"
     extern oracle netlists netlistdb plan random
@@ -157,6 +159,12 @@ build_comparisons() {
     all_done
 }
 
+# compare_cycles: the designs' cycles beside the netlist simulator. Needs GEM.
+build_cycles() {
+    extern juolgesot from_gem netlists netlistdb oracle simulate random
+    program compare_cycles "$HOST/cycles/src/main.rs" "${EXTERN[@]}"
+}
+
 # build_juolgesot REFERENCE: the program juolgesot. Its crate has a name of its own, as the library has that one.
 build_juolgesot() {
     local flags=() crates=("${SHARED[@]}" replay)
@@ -175,6 +183,7 @@ build_juolgesot() {
 build_programs() {
     build_shared "$1"
     build_comparisons
+    [ "$1" != gem ] || build_cycles
     build_juolgesot "$1"
 }
 

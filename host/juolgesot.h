@@ -44,7 +44,8 @@ uint32_t juolgesot_build(const uint8_t *plan, size_t plan_len, uint32_t *room, s
                          uint64_t *first, uint64_t *second, uint64_t *third, uint64_t *fourth);
 
 /* Turns of one major stage: its blocks' starts and their end, and a block for each turn. Bits are read from old, or
- * (staged) from new_, and stored into new_. 0: *first is the number of turns left. Refused by 32, 15, 16. */
+ * (staged) from new_, and stored into new_: where one is enabled, with its data inversion; where not, as old has it.
+ * 0: *first is the number of turns left. Refused by 32, 15, 16. */
 uint32_t juolgesot_run(const uint32_t *words, size_t words_len, const uint64_t *starts, size_t starts_len,
                        const uint32_t *turns, size_t turns_len, const uint32_t *old, size_t old_len,
                        uint32_t *new_, size_t new_len, uint32_t *room, size_t room_len,

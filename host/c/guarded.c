@@ -111,7 +111,8 @@ static void list(void)
     calls += 2;
 }
 
-/* M10's plan: pins 1 and 2 at state 0 and 1; gate 3 = 1 and not 2 at level 1 slot 0, location 128. */
+/* M10's plan: pins 1 and 2 at state 0 and 1; gate 3 = 1 and not 2 at level 1 slot 0, location 128; inv and set0 1 and
+ * data inv 0 throughout its enable table, which stands last. */
 enum { SLOTS = 16383, TABLES = 2 * 8192 + 5 * 256, HEAD = 5 + 1 + 3 + 2 + 2, PLAN_WORDS = HEAD + 1 + SLOTS + 1 + TABLES };
 static uint32_t m10[PLAN_WORDS];
 
@@ -126,10 +127,11 @@ static void make_m10(void)
     slots[8192 + 4096 - 1] = 2;
     slots[4096 - 1] = 3;
     slots[SLOTS] = 128;
+    memset(m10 + PLAN_WORDS - 3 * 256, 0xFF, 4 * 2 * 256);
 }
 
 /* M10's script, word by word. */
-enum { STARTS = 2, WORDS = 10496 + 512 + 5120 + 2048, STAGE = 256 + 512 };
+enum { STARTS = 2, WORDS = 10496 + 512 + 5120 + 2048, STAGE = 256 + 512, ENABLES = STAGE + 2 * 5120 };
 static const uint64_t m10_starts[STARTS] = {0, WORDS - 2048};
 static uint32_t m10_words[WORDS];
 
@@ -144,6 +146,8 @@ static void make_m10_script(void)
     m10_words[256 + 1] = 3;                        /* lane 0 reads bits 0 and 1 of word 0 */
     m10_words[STAGE] = 1;                          /* slot 0 is pin 1, at local position 1; slot 4096 is pin 2, at 0 */
     m10_words[STAGE + 4096 + 4 * 128 + 1] = 1;     /* xorb of position 4096 */
+    for (size_t lane = 0; lane < 256; lane++)      /* inv and set0 */
+        memset(m10_words + ENABLES + 4096 + 4 * lane, 0xFF, 4 * 2);
 }
 
 enum { ROOM = JUOLGESOT_PLAN_ROOM + JUOLGESOT_PART_ROOM };
@@ -172,11 +176,17 @@ static void build(void)
     calls += 5;
 }
 
+/* Two words of the old state, the inv of lane 0 of the enables, and what is stored: M10, and the same never enabled. */
 static void run(void)
 {
     static const uint32_t three_turns[] = {0, 0, 0};
-    static const uint32_t olds[][3] = {{1, 0, 1}, {3, 0, 0xFFFFFFFEu}};
-    for (int i = 0; i < 2; i++) {
+    static const uint32_t olds[][4] = {
+        {1, 0x12345678, 0xFFFFFFFFu, 1},
+        {3, 0x12345678, 0xFFFFFFFFu, 0xFFFFFFFEu},
+        {1, 0x12345678, 0, 0x12345678},
+    };
+    for (int i = 0; i < 3; i++) {
+        m10_words[ENABLES + 4096] = olds[i][2];
         uint32_t *words = between_pages(sizeof m10_words, m10_words);
         uint64_t *starts = between_pages(sizeof m10_starts, m10_starts);
         uint32_t *turns = between_pages(sizeof three_turns, three_turns);
@@ -186,7 +196,7 @@ static void run(void)
         uint64_t *first = number(), *second = number();
         is("run", juolgesot_run(words, WORDS, starts, STARTS, turns, 3, old, 2, new_, 2, room, JUOLGESOT_BLOCK_ROOM, first, second), 0);
         is("turns left", *first, 0);
-        is("M10's stored word", new_[1], olds[i][2]);
+        is("M10's stored word", new_[1], olds[i][3]);
         is_zero(room, JUOLGESOT_BLOCK_ROOM);
         is("short state",
            juolgesot_run(words, WORDS, starts, STARTS, turns, 3, old, 1, new_, 2, room, JUOLGESOT_BLOCK_ROOM, first, second), 15);

@@ -3,7 +3,7 @@
 use netlistdb::Direction;
 use netlists::designs::{Clusters, Design, Layout};
 use oracle::aig::{DriverType, EndpointGroup, AIG};
-use oracle::flatten::{oracle_inputs_outputs, FlattenedScriptV1, OracleTables};
+use oracle::flatten::{oracle_inputs_outputs, FlattenedScriptV1, OraclePlaces, OracleTables};
 use oracle::pe::{process_partitions, BoomerangStage, Partition};
 use oracle::staging::{build_staged_aigs, StagedAIG};
 use plan::{Endpoint, Gate, Part, Plan, Position, Script, Stage, Tables, EMPTY};
@@ -15,14 +15,52 @@ pub struct Made {
     /// Staged pins that lie in duplicate words.
     pub staged_duplicates: usize,
     pub ports: Ports,
+    pub aig: AIG,
+    /// The pins that are given to a cycle (inputs, edges of clocks, what SRAMs have read), each with its bit in the state.
+    pub given: Vec<(usize, u32)>,
+    pub endpoints: Vec<PlacedEndpoint>,
 }
 
 /// The ports of a design in the order in which they were made, each with its inverted pin number and where its bit is
-/// in the state; and the registers, likewise, by the pins of their outputs.
+/// in the state; and the registers.
 pub struct Ports {
     pub inputs: Vec<Option<(u32, u32)>>,
     pub outputs: Vec<(u32, u32)>,
-    pub registers: Vec<(u32, u32)>,
+    pub registers: Vec<Register>,
+}
+
+/// The pin of a register's output and where its bit is in the state; data and enable as inverted pin numbers.
+pub struct Register {
+    pub q: u32,
+    pub position: u32,
+    pub data: u32,
+    pub enable: u32,
+}
+
+/// An endpoint and where GEM put its bit.
+pub struct PlacedEndpoint {
+    pub what: What,
+    pub place: Place,
+}
+
+/// Pins of the AIG; an output's is an inverted pin number.
+#[derive(Debug, Clone, Copy, PartialEq, Eq)]
+pub enum What {
+    Output(usize),
+    Staged(usize),
+    /// A register by its number among the AIG's.
+    Register(usize),
+    Sram,
+}
+
+#[derive(Debug, Clone, Copy, PartialEq, Eq)]
+pub enum Place {
+    /// A bit of the state, in a normal word.
+    Normal(u32),
+    /// In a duplicate word.
+    Duplicate(u32),
+    /// A register whose data is 0 has no bit: GEM reads its output at bit 0 of the state. An SRAM has words.
+    None,
 }
 
 pub fn make(design: &Design) -> Made {
@@ -35,7 +73,7 @@ pub fn make(design: &Design) -> Made {
     let slices: Vec<&[Partition]> = parts.iter().map(|parts| &parts[..]).collect();
     let layout = layout(&aig, design.layout, &mut random);
     let script = FlattenedScriptV1::from(&aig, &stages, &slices, design.blocks, layout.clone());
-    let (unstaged, staged_pins, tables) = oracle_inputs_outputs(&aig, &stages, &slices, &script);
+    let (unstaged, staged_pins, tables, places) = oracle_inputs_outputs(&aig, &stages, &slices, &script);
 
     let mut positions: Vec<Position> = Vec::new();
     for (map, staged) in [(&unstaged, 0), (&staged_pins, 1)] {
@@ -58,7 +96,53 @@ pub fn make(design: &Design) -> Made {
             .collect(),
     };
     let ports = ports(&aig, design, &script);
-    Made { plan, script: plain_script(&script), staged_duplicates, ports }
+    let given = given(&aig, &script);
+    let endpoints = endpoints(&aig, &stages, &slices, &places);
+    Made { plan, script: plain_script(&script), staged_duplicates, ports, aig, given, endpoints }
+}
+
+fn given(aig: &AIG, script: &FlattenedScriptV1) -> Vec<(usize, u32)> {
+    let is_given = |&pin: &usize| {
+        use DriverType::*;
+        matches!(aig.drivers[pin], InputPort(_) | InputClockFlag(..) | SRAM(_))
+    };
+    let place = |pin| (pin, *script.input_map.get(&pin).expect("every given pin has its bit"));
+    (1..=aig.num_aigpins).filter(is_given).map(place).collect()
+}
+
+fn endpoints(
+    aig: &AIG,
+    stages: &[&StagedAIG],
+    parts: &[&[Partition]],
+    places: &[OraclePlaces],
+) -> Vec<PlacedEndpoint> {
+    let of_part = |(staged, part): (&StagedAIG, &Partition), places: &OraclePlaces| -> Vec<PlacedEndpoint> {
+        let place = |place: Option<u16>| match place.map(u32::from) {
+            None => Place::None,
+            Some(bit) if bit < 32 * places.normal_words => Place::Normal(32 * places.state_start + bit),
+            Some(bit) => Place::Duplicate(32 * places.state_start + bit),
+        };
+        let endpoint = |(&index, &bit): (&usize, &Option<u16>)| PlacedEndpoint {
+            what: what(aig, staged, index),
+            place: place(bit),
+        };
+        part.endpoints.iter().zip(&places.endpoints).map(endpoint).collect()
+    };
+    let all_parts =
+        stages.iter().zip(parts).flat_map(|(&staged, parts)| parts.iter().map(move |part| (staged, part)));
+    all_parts.zip(places).flat_map(|(part, places)| of_part(part, places)).collect()
+}
+
+fn what(aig: &AIG, staged: &StagedAIG, index: usize) -> What {
+    match staged.get_endpoint_group(aig, index) {
+        EndpointGroup::PrimaryOutput(pin) => What::Output(pin),
+        EndpointGroup::StagedIOPin(pin) => What::Staged(pin),
+        EndpointGroup::DFF(dff) => {
+            let number = aig.dffs.values().position(|register| register.q == dff.q);
+            What::Register(number.expect("one of the AIG's"))
+        }
+        EndpointGroup::RAMBlock(_) => What::Sram,
+    }
 }
 
 fn plain_script(script: &FlattenedScriptV1) -> Script {
@@ -102,9 +186,10 @@ fn ports(aig: &AIG, design: &Design, script: &FlattenedScriptV1) -> Ports {
             }
         }
     }
-    ports
-        .registers
-        .extend(aig.dffs.values().map(|register| place(register.q).expect("every register has its bit")));
+    ports.registers.extend(aig.dffs.values().map(|register| {
+        let (q, position) = place(register.q).expect("every register has its bit");
+        Register { q, position, data: register.d_iv as u32, enable: register.en_iv as u32 }
+    }));
     ports
 }
 

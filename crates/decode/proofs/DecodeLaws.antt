@@ -225,6 +225,26 @@ module _ (n : ℕ) (d : List ℕ) (p last state sram : ℕ) (many : 16 ≤ n) (e
   unfolding stageSection
   orb-is k q a l = lane-is (orbBit d p k) k 2 q a (omega arith) l (section-third _ _ _ n (stageEntry n d p k)) (orb-lt d p k)
 
+  -- ---- the lane words of the enables
+
+  enable-lane : (w h : ℕ) → w < n → h < 4 → laneWordAt n W o (S + 1) w h ≡ getD (enableSection n d p) (16 * n + (4 * w + h)) 0
+  unfolding laneWordAt
+  enable-lane w h l b =
+      let e : sectionAt n W o (S + 1) + 16 * n + 4 * w + h ≡ sectionAt n W o (S + 1) + (16 * n + (4 * w + h)) = omega arith in
+      ap (λ (x : ℕ). getD W x 0) e ∙ in-enable (16 * n + (4 * w + h)) (omega arith)
+
+  inv-is : (w : ℕ) → w < n → laneWordAt n W o (S + 1) w 0 ≡ tableAt d p (66 * n + w)
+  unfolding enableSection
+  inv-is w l = enable-lane w 0 l (omega arith) ∙ section-first (λ w. tableAt d p (66 * n + w)) (λ w. tableAt d p (67 * n + w)) (λ w. tableAt d p (68 * n + w)) n (λ j. tableAt d p (34 * n + j)) w l
+
+  set0-is : (w : ℕ) → w < n → laneWordAt n W o (S + 1) w 1 ≡ tableAt d p (67 * n + w)
+  unfolding enableSection
+  set0-is w l = enable-lane w 1 l (omega arith) ∙ section-second (λ w. tableAt d p (66 * n + w)) (λ w. tableAt d p (67 * n + w)) (λ w. tableAt d p (68 * n + w)) n (λ j. tableAt d p (34 * n + j)) w l
+
+  data-inv-is : (w : ℕ) → w < n → laneWordAt n W o (S + 1) w 2 ≡ tableAt d p (68 * n + w)
+  unfolding enableSection
+  data-inv-is w l = enable-lane w 2 l (omega arith) ∙ section-third (λ w. tableAt d p (66 * n + w)) (λ w. tableAt d p (67 * n + w)) (λ w. tableAt d p (68 * n + w)) n (λ j. tableAt d p (34 * n + j)) w l
+
   -- ---- all of it, where each number fits its half
 
   read-back : ((l : ℕ) → l < locationsOf d p → locationAt d p l ≤ 255) → S ≤ 255 → locationsOf d p ≤ n → length (partLanes n d p) ≡ n
@@ -249,6 +269,9 @@ module _ (n : ℕ) (d : List ℕ) (p last state sram : ℕ) (many : 16 ≤ n) (e
     xora = xora-is;
     xorb = xorb-is;
     orb = orb-is;
+    enable-inv = inv-is;
+    enable-set0 = set0-is;
+    data-inv = data-inv-is;
   }
 
 -- THE SCRIPT OF A PART, READ BACK

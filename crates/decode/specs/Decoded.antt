@@ -38,3 +38,6 @@ pub record Decoded (n : ℕ) (d : List ℕ) (p last state sram : ℕ) (W : List 
   pub xora : (k q : ℕ) → k < stagesOf d p → q < 32 * n → bit (laneWordAt n W o k (q / 32) 0) (q % 32) ≡ xoraBit d p k q
   pub xorb : (k q : ℕ) → k < stagesOf d p → q < 32 * n → bit (laneWordAt n W o k (q / 32) 1) (q % 32) ≡ xorbBit d p k q
   pub orb : (k q : ℕ) → k < stagesOf d p → q < 32 * n → bit (laneWordAt n W o k (q / 32) 2) (q % 32) ≡ orbBit d p k q
+  pub enable-inv : (w : ℕ) → w < n → laneWordAt n W o (stagesOf d p + 1) w 0 ≡ tableAt d p (66 * n + w)
+  pub enable-set0 : (w : ℕ) → w < n → laneWordAt n W o (stagesOf d p + 1) w 1 ≡ tableAt d p (67 * n + w)
+  pub data-inv : (w : ℕ) → w < n → laneWordAt n W o (stagesOf d p + 1) w 2 ≡ tableAt d p (68 * n + w)

@@ -142,7 +142,7 @@ module _ (n : ℕ) (W : List ℕ) (s t e : ℕ) (some : 0 < n) (within : e ≤ l
         reads = form .reads;
         entries = form .entries;
         captures = record { exact = form .stores .exact; few = form .stores .few; places = λ l g. form .places l g .1 };
-        stores = λ g. form .stores .inside g .1;
+        stores = form .stores .inside;
         next = λ d. omega (arith, parts-in (a .left) (endAt n W o) (a .rest (last-ends o form d)) .form .header);
       }
 

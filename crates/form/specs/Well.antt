@@ -44,5 +44,5 @@ pub record PartWell (n : ℕ) (W : List ℕ) (s t o : ℕ) : Type 0 where
   pub reads : Reads n W o s t
   pub entries : EntriesIn n W o
   pub captures : Captures n W o
-  pub stores : 0 < normalAt W o → startAt W o + normalAt W o ≤ t
+  pub stores : 0 < normalAt W o → (startAt W o + normalAt W o ≤ s) × (startAt W o + normalAt W o ≤ t)
   pub next : (lastAt W o ≡ 1 → ⊥) → endAt n W o < length W

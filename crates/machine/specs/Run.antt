@@ -28,7 +28,7 @@ blocksFrom W starts (suc m) i = begins W (getD starts i 0) ∷ blocksFrom W star
 unfoldable pub step : ℕ → ℕ → List ℕ → List ℕ → Running → ℕ → Running
 step n L W old s t = record {
   blocks = set (s .blocks) t (turned n L W old (getD (s .blocks) t (ended 0) .phase) (getD (s .blocks) t (ended 0)) (s .new));
-  new = written W (getD (s .blocks) t (ended 0) .phase) (getD (s .blocks) t (ended 0)) (s .new);
+  new = written n W old (getD (s .blocks) t (ended 0) .phase) (getD (s .blocks) t (ended 0)) (s .new);
 }
 
 unfoldable pub runFrom : ℕ → ℕ → List ℕ → List ℕ → Running → List ℕ → Running

@@ -52,6 +52,42 @@ unfoldable pub captured : ℕ → List ℕ → ℕ → ℕ → List ℕ → List
 captured n W o k row caps =
     listOf (λ l. elim (eqb (locationIn n W o l / 256) k) [ true ↦ getD row (locationIn n W o l % 256) 0 | false ↦ getD caps l 0 ]) (normalAt W o)
 
+-- ---- request 5/13, "Registers that are not enabled must hold": what is stored
+
+-- "clear where set0 is 1, then invert where inv is 1"
+abbrev pub taken : ℕ → ℕ → ℕ → ℕ
+taken v set0 inv = differ (min v (1 - set0)) inv
+
+-- "gather .. bits from the captured words (0 beyond the normal ones) by the .. permutation": the bit that place q of section k takes
+unfoldable pub gatheredBit : ℕ → List ℕ → ℕ → ℕ → List ℕ → ℕ → ℕ
+gatheredBit n W o k caps q =
+    taken (bitAt caps (entryAt n W o k q)) (bit (laneWordAt n W o k (q / 32) 1) (q % 32)) (bit (laneWordAt n W o k (q / 32) 0) (q % 32))
+
+-- those of the enable section; and its third lane word
+abbrev pub enableBit : ℕ → List ℕ → ℕ → List ℕ → ℕ → ℕ
+enableBit n W o caps q = gatheredBit n W o (stagesAt W o + 1) caps q
+
+abbrev pub dataInv : ℕ → List ℕ → ℕ → ℕ → ℕ
+dataInv n W o q = bit (laneWordAt n W o (stagesAt W o + 1) (q / 32) 2) (q % 32)
+
+-- "Where that gives 1, store the captured bit xor data inv; where 0, store the old state's bit at the same place."
+abbrev pub chosen : ℕ → ℕ → ℕ → ℕ
+chosen enable v held = elim (eqb enable 1) [ true ↦ v | false ↦ held ]
+
+-- place q of the part's words, v being its data
+unfoldable pub storedBit : ℕ → List ℕ → ℕ → List ℕ → List ℕ → ℕ → ℕ → ℕ
+storedBit n W o old caps v q = chosen (enableBit n W o caps q) (differ v (dataInv n W o q)) (bitAt old (32 * startAt W o + q))
+
+-- the same of the 32 places of a lane, from its words: v is the data, g what is gathered and h what is held, by bit
+unfoldable pub chosenBits : (v g h : ℕ → ℕ) → (inv set0 dinv : ℕ) → ℕ
+chosenBits v g h inv set0 dinv = wordOf (λ k. chosen (taken (g k) (bit set0 k) (bit inv k)) (differ (v k) (bit dinv k)) (h k)) 32
+
+-- normal word l: its bit k is the stored bit of place 32l + k, its data being the captured bit
+unfoldable pub storedWord : ℕ → List ℕ → ℕ → List ℕ → List ℕ → ℕ → ℕ
+storedWord n W o old caps l =
+    chosenBits (λ k. bitAt caps (32 * l + k)) (λ k. bitAt caps (entryAt n W o (stagesAt W o + 1) (32 * l + k))) (λ k. bitAt old (32 * startAt W o + (32 * l + k)))
+    (laneWordAt n W o (stagesAt W o + 1) l 0) (laneWordAt n W o (stagesAt W o + 1) l 1) (laneWordAt n W o (stagesAt W o + 1) l 2)
+
 -- ---- a block's state, and its turn
 
 -- where its part begins; what the next turn does: 0 read, 1 a stage, 2 store, 3 nothing, the block being finished; which stage; the positions and
@@ -87,9 +123,9 @@ afterStage n L W b = record {
 unfoldable pub afterStore : ℕ → List ℕ → Block → Block
 afterStore n W b = elim (eqb (lastAt W (b .part)) 1) [ true ↦ ended (b .part) | false ↦ begins W (endAt n W (b .part)) ]
 
--- "The store turn puts normal captured words, as they are, at state start onward."
-unfoldable pub stored : List ℕ → Block → List ℕ → List ℕ
-stored W b new = sets new (startAt W (b .part)) (b .caps)
+-- "The store turn puts normal captured words", by the rule above, "at state start onward."
+unfoldable pub stored : ℕ → List ℕ → List ℕ → Block → List ℕ → List ℕ
+stored n W old b new = sets new (startAt W (b .part)) (listOf (storedWord n W (b .part) old (b .caps)) (normalAt W (b .part)))
 
 -- "A turn of a finished block does nothing": the block after a turn in phase f, and the new state after it
 unfoldable pub turned : ℕ → ℕ → List ℕ → List ℕ → ℕ → Block → List ℕ → Block
@@ -98,8 +134,8 @@ turned n L W old (suc zero) b new = afterStage n L W b
 turned n L W old (suc (suc zero)) b new = afterStore n W b
 turned n L W old (suc (suc (suc f))) b new = b
 
-unfoldable pub written : List ℕ → ℕ → Block → List ℕ → List ℕ
-written W zero b new = new
-written W (suc zero) b new = new
-written W (suc (suc zero)) b new = stored W b new
-written W (suc (suc (suc f))) b new = new
+unfoldable pub written : ℕ → List ℕ → List ℕ → ℕ → Block → List ℕ → List ℕ
+written n W old zero b new = new
+written n W old (suc zero) b new = new
+written n W old (suc (suc zero)) b new = stored n W old b new
+written n W old (suc (suc (suc f))) b new = new

@@ -19,14 +19,20 @@ locationsSeen = take 2 (halfWords (halfIn (stageIn locationsIn 2) (λ l. l + 1) 
 unfoldable pub entrySeen : List ℕ
 entrySeen = placeOf 256 33 ∷ 33 % 2 ∷ entryOf 256 4 1 ∷ []
 
+-- the four words of m lanes with inv and set0 1 throughout, and data inv 0: always enabled
+unfoldable pub alwaysOn : ℕ → List ℕ
+alwaysOn zero = []
+alwaysOn (suc m) = 0xFFFFFFFF ∷ 0xFFFFFFFF ∷ 0 ∷ 0 ∷ alwaysOn m
+
 -- M10: the script of its part. One stage, the last part of its block, one word at state start 1, one round; location 128 of stage 0; lane 0 reads the
 -- bits of pins 1 and 2 of word 0, which come to stand at local positions 1 and 0; entry 0 is that of pin 1, entry 4096 that of pin 2; at position 4096
--- gate 3 takes its second fan-in inverted: bit 0 of lane 128's second word
+-- gate 3 takes its second fan-in inverted: bit 0 of lane 128's second word. By 5/13 its enable table has set0 and inv 1 and data inv 0 throughout
 unfoldable pub gateThree : List ℕ
 gateThree =
     (1 ∷ 1 ∷ 1 ∷ 1 ∷ 0 ∷ 0 ∷ 1 ∷ 0 ∷ replicate 120 0)
     ++ ((0xFFFF0080 ∷ replicate 127 0xFFFFFFFF)
-    ++ ((0 ∷ 3 ∷ replicate 510 0) ++ ((1 ∷ replicate (4096 + 512) 0) ++ (1 ∷ replicate (5120 - 4096 - 512 - 2 + 10240) 0))))
+    ++ ((0 ∷ 3 ∷ replicate 510 0)
+    ++ ((1 ∷ replicate (4096 + 512) 0) ++ ((1 ∷ replicate (5120 - 4096 - 512 - 2 + 5120 + 4096) 0) ++ alwaysOn 256))))
 
 -- the turns left and the new state's word after read, stage and store, from an old word
 unfoldable pub gateRun : ℕ → List ℕ

@@ -11,20 +11,19 @@ use native.Mathlib.Nat.{add-zero, zero-add}
 use native.Mathlib.Omega.{arith}
 use borrow.Author.Tests.{eq-eqb, ne-eqb}
 use lib.ListN.{length, getD}
-use lib.Seq.{sets, length-sets}
 use Rattle.words.proofs.BitLaws.{lt-or-ge}
 use Rattle.record.specs.Tests.{someBelow}
 use Rattle.record.proofs.TestLaws.{not-both, not-true-false, some-found, some-at}
-use Rattle.machine.specs.Part.{stagesAt, lastAt, startAt, normalAt, endAt}
+use Rattle.machine.specs.Part.{stagesAt, lastAt, endAt}
 use Rattle.machine.specs.Turn.{readRow, Block, begins, ended}
 use Rattle.machine.specs.Run.{Running, blocksFrom, step, runFrom, runTurns, turnsFrom, turnsAfter, turnsLeft, badBlock}
 use Rattle.order.specs.Order.{partsFrom, partsAt, capturedBy, blockTurns, storesAt, Stores, storeWord, PartAt, Unstored, Apart}
 use Rattle.order.proofs.FormLaws.{Formed, Chain, form-chain, part-first, Ith, ith-part, after-last, after-more, turns-split}
-use Rattle.order.proofs.StoreLaws.{store-other, store-same}
+use Rattle.order.proofs.StoreLaws.{putPart, put-size, store-other, store-same}
 use Rattle.sort.specs.Sorted.{count}
 use Rattle.order.proofs.TurnsLaws.{Same, Unowned, Names, Independent, Project}
 use Rattle.order.proofs.TurnsLaws as Turns
-use Rattle.order.proofs.BlockLaws.{row-same, staged, caps-length, empty-phase, ended-phase, turnOf, putOf, turn-read, put-read, turn-stage, put-stage, turn-store, turn-last, turn-more, put-store, turn-none, put-none, leftOf, left-read, left-stage, left-none, written-size}
+use Rattle.order.proofs.BlockLaws.{row-same, staged, empty-phase, ended-phase, turnOf, putOf, turn-read, put-read, turn-stage, put-stage, turn-store, turn-last, turn-more, put-store, turn-none, put-none, leftOf, left-read, left-stage, left-none, written-size}
 
 -- ---- what the theorems ask for: blocks in form for a new state of t words, and kept apart
 
@@ -125,18 +124,15 @@ module _ (n L : ℕ) (W starts : List ℕ) (s t : ℕ) (old new : List ℕ) (lai
   row-is : (b i o : ℕ) → Part b i o → (k k′ : List ℕ) → Same Free k k′ → readRow n W o old k ≡ readRow n W o old k′
   row-is b i o q k k′ S = row-same n W o old k k′ (λ r l hr hl hm hw. S .words _ (free _ (laid .apart .reads b i o q r l hr hl hm hw)))
 
-  length-caps : (o : ℕ) → length (caps o) ≡ normalAt W o
-  length-caps o = caps-length n L W o (readRow n W o old new) (stagesAt W o)
-
   -- the new state after the store turn of the part at o
   abbrev put : ℕ → List ℕ → List ℕ
-  put o k = sets k (startAt W o) (caps o)
+  put o k = putPart n W o old (caps o) k
 
   put-other : (o w : ℕ) (k : List ℕ) → (Stores W o w → ⊥) → getD (put o k) w 0 ≡ getD k w 0
-  put-other o w k h = store-other W o k (caps o) w (length-caps o) h
+  put-other o w k h = store-other n W o old (caps o) k w h
 
-  put-same : (b i o w : ℕ) (k : List ℕ) → Part b i o → length k ≡ t → Stores W o w → getD (put o k) w 0 ≡ storeWord W o (caps o) w
-  put-same b i o w k q e st = store-same W o k (caps o) w (length-caps o) st (omega (arith, known b i o q .formed .inside w st))
+  put-same : (b i o w : ℕ) (k : List ℕ) → Part b i o → length k ≡ t → Stores W o w → getD (put o k) w 0 ≡ storeWord n W o old (caps o) w
+  put-same b i o w k q e st = store-same n W o old (caps o) k w st (omega (arith, known b i o q .formed .inside w st))
 
   put-word : (b i o w : ℕ) (k k′ : List ℕ) → Part b i o → length k ≡ t → length k′ ≡ t → getD k w 0 ≡ getD k′ w 0 → getD (put o k) w 0 ≡ getD (put o k′) w 0
   put-word b i o w k k′ q e e′ h = go (storesAt W o w) refl
@@ -151,7 +147,7 @@ module _ (n L : ℕ) (W starts : List ℕ) (s t : ℕ) (old new : List ℕ) (lai
 
   -- the parts of block b before the i-th have stored
   abbrev Held : ℕ → ℕ → List ℕ → Type 0
-  Held b i k = (j o w : ℕ) → Part b j o → j < i → Stores W o w → getD k w 0 ≡ storeWord W o (caps o) w
+  Held b i k = (j o w : ℕ) → Part b j o → j < i → Stores W o w → getD k w 0 ≡ storeWord n W o old (caps o) w
 
   -- the block after the read turn and j stages of the part at o
   abbrev staging : ℕ → ℕ → Block
@@ -195,12 +191,12 @@ module _ (n L : ℕ) (W starts : List ℕ) (s t : ℕ) (old new : List ℕ) (lai
       (λ d.
       let is : j ≡ i = omega arith in
       let at : e ≡ o = r .at ∙ ap (λ (x : ℕ). getD (partsOf b) x 0) is ∙ sym (q .at) in
-      put-same b i o w k q (same-new k S) (subst (λ x. Stores W x w) at g) ∙ ap (λ (x : ℕ). storeWord W x (caps x) w) (sym at))
+      put-same b i o w k q (same-new k S) (subst (λ x. Stores W x w) at g) ∙ ap (λ (x : ℕ). storeWord n W x old (caps x) w) (sym at))
       (lt-or-ge j i)
 
   put-free : (b i o : ℕ) (k : List ℕ) → Part b i o → Same Free k new → Same Free (put o k) new
   put-free b i o k q S = record {
-    size = length-sets k (startAt W o) (caps o) ∙ S .size;
+    size = put-size n W o old (caps o) k ∙ S .size;
     words = λ w f. put-other o w k (λ st. not-both (own b w) (owns b i o w q st) (f b (q .block))) ∙ S .words w f;
   }
 
@@ -282,7 +278,7 @@ module _ (n L : ℕ) (W starts : List ℕ) (s t : ℕ) (old new : List ℕ) (lai
       go (rests e h) = rw (put-none n L W old p k e)
 
   turn-size : (p : Block) (k : List ℕ) → length (write p k) ≡ length k
-  turn-size p k = written-size W (p .phase) p k
+  turn-size p k = written-size W n old (p .phase) p k
 
   -- one turn fewer is left
   turn-falls : (b : ℕ) (p : Block) (k : List ℕ) → Ok b p k → left (turn p k) ≡ left p - 1
@@ -376,7 +372,7 @@ module _ (n L : ℕ) (W starts : List ℕ) (s t : ℕ) (old new : List ℕ) (lai
         → turnsLeft n W (getD (x .blocks) b (ended 0) .phase) (getD (x .blocks) b (ended 0)) ≡ blockTurns n W (getD starts b 0) - count b turns
     pub finished : (b i o w : ℕ) → PartAt n W starts (length starts - 1) b i o → Stores W o w
         → turnsLeft n W (getD (x .blocks) b (ended 0) .phase) (getD (x .blocks) b (ended 0)) ≡ 0
-        → getD (x .new) w 0 ≡ storeWord W o (capturedBy n L W o old new) w
+        → getD (x .new) w 0 ≡ storeWord n W o old (capturedBy n L W o old new) w
     pub rest : (w : ℕ) → Unstored n W starts (length starts - 1) w → getD (x .new) w 0 ≡ getD new w 0
 
   pub ran : (turns : List ℕ) → Names (length starts - 1) turns → Ran turns (runTurns n L W starts turns old new)

@@ -10,7 +10,6 @@ use native.Mathlib.Omega.{arith}
 use borrow.Author.Tests.{ltb-false, eq-eqb, ne-eqb}
 use lib.Dec.{ltb, eqb}
 use lib.ListN.{length, getD, length-replicate}
-use lib.Seq.{sets, length-sets}
 use Rattle.words.proofs.BitLaws.{lt-or-ge}
 use Rattle.words.proofs.SectionLaws.{listOf-ext}
 use Rattle.reads.specs.ReadTurn.{appended, laneWord}
@@ -20,6 +19,7 @@ use Rattle.machine.specs.Turn.{stateWord, readRow, Block, begins, ended, afterR
 use Rattle.machine.specs.Run.{turnsAfter, turnsLeft}
 use Rattle.machine.proofs.TurnLaws.{captured-length}
 use Rattle.order.specs.Order.{rowAfter, capsAfter}
+use Rattle.order.proofs.StoreLaws.{putPart, put-size}
 
 -- ---- the read turn: a word that is read with no mask bits does not count
 
@@ -59,12 +59,12 @@ module _ (W : List ℕ) where
   unfolding begins
   empty-phase o h = rw (eq-eqb (stagesAt W o) 0 h, begins)
 
-  pub written-size : (f : ℕ) (p : Block) (m : List ℕ) → length (written W f p m) ≡ length m
+  pub written-size : (n : ℕ) (old : List ℕ) (f : ℕ) (p : Block) (m : List ℕ) → length (written n W old f p m) ≡ length m
   unfolding written stored
-  written-size zero p m = refl
-  written-size (suc zero) p m = refl
-  written-size (suc (suc zero)) p m = length-sets m (startAt W (p .part)) (p .caps)
-  written-size (suc (suc (suc f))) p m = refl
+  written-size n old zero p m = refl
+  written-size n old (suc zero) p m = refl
+  written-size n old (suc (suc zero)) p m = put-size n W (p .part) old (p .caps) m
+  written-size n old (suc (suc (suc f))) p m = refl
 
 pub ended-phase : (o : ℕ) → ended o .phase ≡ 3
 unfolding ended
@@ -127,7 +127,7 @@ module _ (n L : ℕ) (W : List ℕ) where
     turnOf p m = turned n L W old (p .phase) p m
 
     abbrev pub putOf : Block → List ℕ → List ℕ
-    putOf p m = written W (p .phase) p m
+    putOf p m = written n W old (p .phase) p m
 
     pub turn-read : (o : ℕ) (m : List ℕ) → 1 ≤ stagesAt W o → turnOf (begins W o) m ≡ staged o (readRow n W o old m) 0
     unfolding turned afterRead staged begins rowAfter capsAfter
@@ -135,7 +135,7 @@ module _ (n L : ℕ) (W : List ℕ) where
 
     pub put-read : (o : ℕ) (m : List ℕ) → 1 ≤ stagesAt W o → putOf (begins W o) m ≡ m
     unfolding written
-    put-read o m h = ap (λ f. written W f (begins W o) m) (begins-phase W o h)
+    put-read o m h = ap (λ f. written n W old f (begins W o) m) (begins-phase W o h)
 
     pub turn-stage : (o : ℕ) (row : List ℕ) (k : ℕ) (m : List ℕ) → k < stagesAt W o → turnOf (staged o row k) m ≡ staged o row (suc k)
     unfolding turned afterStage staged rowAfter capsAfter
@@ -143,7 +143,7 @@ module _ (n L : ℕ) (W : List ℕ) where
 
     pub put-stage : (o : ℕ) (row : List ℕ) (k : ℕ) (m : List ℕ) → k < stagesAt W o → putOf (staged o row k) m ≡ m
     unfolding written
-    put-stage o row k m h = ap (λ f. written W f (staged o row k) m) (staged-phase o row k h)
+    put-stage o row k m h = ap (λ f. written n W old f (staged o row k) m) (staged-phase o row k h)
 
     pub turn-store : (o : ℕ) (row m : List ℕ) → turnOf (staged o row (stagesAt W o)) m ≡ afterStore n W (staged o row (stagesAt W o))
     unfolding turned
@@ -157,9 +157,9 @@ module _ (n L : ℕ) (W : List ℕ) where
     unfolding afterStore staged
     turn-more o row m e = turn-store o row m ∙ rw (ne-eqb (lastAt W o) 1 (λ k. omega arith), afterStore)
 
-    pub put-store : (o : ℕ) (row m : List ℕ) → putOf (staged o row (stagesAt W o)) m ≡ sets m (startAt W o) (capsAfter n L W o row (stagesAt W o))
+    pub put-store : (o : ℕ) (row m : List ℕ) → putOf (staged o row (stagesAt W o)) m ≡ putPart n W o old (capsAfter n L W o row (stagesAt W o)) m
     unfolding written stored staged
-    put-store o row m = ap (λ f. written W f (staged o row (stagesAt W o)) m) (all-phase o row)
+    put-store o row m = ap (λ f. written n W old f (staged o row (stagesAt W o)) m) (all-phase o row)
 
     -- "A turn of a finished block does nothing"
     pub turn-none : (p : Block) (m : List ℕ) → p .phase ≡ 3 → turnOf p m ≡ p
@@ -168,4 +168,4 @@ module _ (n L : ℕ) (W : List ℕ) where
 
     pub put-none : (p : Block) (m : List ℕ) → p .phase ≡ 3 → putOf p m ≡ m
     unfolding written
-    put-none p m e = ap (λ f. written W f p m) e
+    put-none p m e = ap (λ f. written n W old f p m) e

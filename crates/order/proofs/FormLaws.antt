@@ -130,11 +130,11 @@ module _ (n : ℕ) (W : List ℕ) (t : ℕ) where
 
   -- ---- the turns of the parts
 
-  from-last : (f o : ℕ) → lastAt W o ≡ 1 → turnsFrom n W (suc f) o ≡ stagesAt W o + 2
+  pub from-last : (f o : ℕ) → lastAt W o ≡ 1 → turnsFrom n W (suc f) o ≡ stagesAt W o + 2
   unfolding turnsFrom
   from-last f o e = rw (eq-eqb (lastAt W o) 1 e, turnsFrom, add-zero)
 
-  from-more : (f o : ℕ) → lastAt W o ≡ 0 → turnsFrom n W (suc f) o ≡ stagesAt W o + 2 + turnsFrom n W f (endAt n W o)
+  pub from-more : (f o : ℕ) → lastAt W o ≡ 0 → turnsFrom n W (suc f) o ≡ stagesAt W o + 2 + turnsFrom n W f (endAt n W o)
   unfolding turnsFrom
   from-more f o e = rw (ne-eqb (lastAt W o) 1 (λ k. omega arith), turnsFrom)
 

@@ -1,7 +1,7 @@
 -- The blocks of one major stage: whatever the order of their turns, once none is left each part's words hold what the part puts there (`stored`), and
 -- words that no part stores stay (`untouched`). So all orders leave one new state (`in-any-order`).
 -- Assumes nothing.
-use mathlib.Core.Path.{_≡_, refl, sym, _∙_, subst}
+use mathlib.Core.Path.{_≡_, refl, sym, ap, _∙_, subst}
 use mathlib.Core.List.{List, [], _∷_}
 use mathlib.Core.Logic.{⊎-elim}
 use mathlib.Core.Option.{none}
@@ -11,6 +11,8 @@ use borrow.Author.Tests.{ltb-true, lt-ltb}
 use lib.Dec.{ltb}
 use lib.ListN.{length, getD, replicate}
 use lib.Seq.{ext-getD}
+use Rattle.words.specs.Sum.{sumTo}
+use Rattle.words.proofs.SumLaws.{sum-ext}
 use Rattle.words.proofs.BitLaws.{lt-or-ge}
 use Rattle.record.proofs.TestLaws.{not-none, none-not}
 use Rattle.machine.specs.Turn.{Block, ended}
@@ -31,6 +33,23 @@ names starts turns h = names-of (length starts - 1) turns (λ i l. ltb-true _ _ 
 named : (starts turns : List ℕ) → Names (length starts - 1) turns → badTurn starts turns ≡ none
 unfolding badTurn
 named starts turns h = none-not (λ i. ltb (getD turns i 0) (length starts - 1)) (length turns) (λ i l. lt-ltb _ _ (names-at (length starts - 1) turns h i l))
+
+pub all-named : (starts turns : List ℕ) → ((i : ℕ) → i < length turns → getD turns i 0 < length starts - 1) → badTurn starts turns ≡ none
+all-named starts turns h = named starts turns (names-of (length starts - 1) turns h)
+
+-- ---- turns left of all blocks: the sum over the blocks
+
+pub sum-first : (f : ℕ → ℕ) (m : ℕ) → sumTo f (suc m) ≡ f 0 + sumTo (λ i. f (suc i)) m
+unfolding sumTo
+sum-first f zero = omega arith
+sum-first f (suc m) = omega (arith, sum-first f m)
+
+all-sum : (n : ℕ) (W : List ℕ) (ps : List Block) → allLeft n W ps ≡ sumTo (λ b. turnsLeft n W (getD ps b (ended 0) .phase) (getD ps b (ended 0))) (length ps)
+unfolding allLeft sumTo
+all-sum n W [] = refl
+all-sum n W (p ∷ ps) =
+    ap (λ (x : ℕ). turnsLeft n W (p .phase) p + x) (all-sum n W ps)
+    ∙ sym (sum-first (λ b. turnsLeft n W (getD (p ∷ ps) b (ended 0) .phase) (getD (p ∷ ps) b (ended 0))) (length ps))
 
 -- ---- turns left of all blocks: none exactly when none of each
 
@@ -83,9 +102,16 @@ module _ (n L : ℕ) (W starts : List ℕ) (s t : ℕ) (old new : List ℕ) (lai
   -- once no turns are left, a part's words hold what it puts there, having captured between the old state and the new one as it was at first
   pub stored : (turns : List ℕ) → badTurn starts turns ≡ none → allLeft n W (runTurns n L W starts turns old new .blocks) ≡ 0
       → (b i o w : ℕ) → PartAt n W starts (length starts - 1) b i o → Stores W o w
-      → getD (runTurns n L W starts turns old new .new) w 0 ≡ storeWord W o (capturedBy n L W o old new) w
+      → getD (runTurns n L W starts turns old new .new) w 0 ≡ storeWord n W o old (capturedBy n L W o old new) w
   stored turns name done b i o w part h =
       ran n L W starts s t old new laid turns (names starts turns name) .finished b i o w part h (none-each n W _ done b)
+
+  -- done or not, the turns left are those of each block less how often it was named
+  pub left-total : (turns : List ℕ) → badTurn starts turns ≡ none
+      → allLeft n W (runTurns n L W starts turns old new .blocks) ≡ sumTo (λ b. blockTurns n W (getD starts b 0) - count b turns) (length starts - 1)
+  left-total turns name =
+      let r = ran n L W starts s t old new laid turns (names starts turns name) in
+      all-sum n W _ ∙ ap (sumTo _) (r .blocks) ∙ sum-ext _ _ (length starts - 1) (r .turns-left)
 
   -- two lists of turns that both leave none make one new state
   pub one-end : (ts us : List ℕ) → badTurn starts ts ≡ none → badTurn starts us ≡ none

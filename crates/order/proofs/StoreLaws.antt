@@ -10,10 +10,13 @@ use native.Mathlib.Omega.{arith}
 use borrow.Author.Tests.{leb-true, ltb-true, le-leb, lt-ltb}
 use lib.Dec.{leb, ltb}
 use lib.ListN.{length, getD, set, length-set}
-use lib.Seq.{getD-set-same, getD-set-other, sets}
+use lib.Seq.{getD-set-same, getD-set-other, sets, length-sets}
+use Rattle.words.specs.Section.{listOf}
 use Rattle.words.proofs.BitLaws.{lt-or-ge}
+use Rattle.words.proofs.SectionLaws.{length-listOf, getD-listOf}
 use Rattle.record.proofs.TestLaws.{and-true, true-and}
 use Rattle.machine.specs.Part.{startAt, normalAt}
+use Rattle.machine.specs.Turn.{storedWord}
 use Rattle.order.specs.Order.{Stores, storesAt, storeWord}
 
 pub sets-other : (l : List ℕ) (i : ℕ) (vs : List ℕ) (w : ℕ) → (i ≤ w → i + length vs ≤ w) → getD (sets l i vs) w 0 ≡ getD l w 0
@@ -47,23 +50,37 @@ module _ (W : List ℕ) (o w : ℕ) where
   pub stores-below : (t : ℕ) → Stores W o w → (0 < normalAt W o → startAt W o + normalAt W o ≤ t) → w < t
   stores-below t st h = omega (arith, stores-from st, stores-until st, h (omega (arith, stores-from st, stores-until st)))
 
--- word l of what was captured
-pub store-at : (W : List ℕ) (o : ℕ) (caps : List ℕ) (l : ℕ) → storeWord W o caps (startAt W o + l) ≡ getD caps l 0
-unfolding storeWord
-store-at W o caps l = let e : startAt W o + l - startAt W o ≡ l = omega arith in ap (λ (x : ℕ). getD caps x 0) e
+module _ (n : ℕ) (W : List ℕ) (o : ℕ) (old caps : List ℕ) where
+  pub store-at : (l : ℕ) → storeWord n W o old caps (startAt W o + l) ≡ storedWord n W o old caps l
+  unfolding storeWord
+  store-at l = let e : startAt W o + l - startAt W o ≡ l = omega arith in ap (storedWord n W o old caps) e
 
--- ---- a part's store turn
+  -- ---- a part's store turn
 
-pub store-other : (W : List ℕ) (o : ℕ) (m caps : List ℕ) (w : ℕ) → length caps ≡ normalAt W o → (Stores W o w → ⊥) → getD (sets m (startAt W o) caps) w 0 ≡ getD m w 0
-store-other W o m caps w e h = sets-other m (startAt W o) caps w (λ k. ⊎-elim
-    (λ l. absurd (h (stores-in W o w k (omega arith))))
-    (λ l. l)
-    (lt-or-ge w (startAt W o + length caps)))
+  abbrev values : List ℕ
+  values = listOf (storedWord n W o old caps) (normalAt W o)
 
-pub store-same : (W : List ℕ) (o : ℕ) (m caps : List ℕ) (w : ℕ) → length caps ≡ normalAt W o → Stores W o w → w < length m
-    → getD (sets m (startAt W o) caps) w 0 ≡ storeWord W o caps w
-unfolding storeWord
-store-same W o m caps w e st h =
-    let l = w - startAt W o in
-    let is : startAt W o + l ≡ w = omega (arith, stores-from W o w st) in
-    ap (λ (x : ℕ). getD (sets m (startAt W o) caps) x 0) (sym is) ∙ sets-same m (startAt W o) caps l (omega (arith, stores-from W o w st, stores-until W o w st)) (omega arith)
+  abbrev pub putPart : List ℕ → List ℕ
+  putPart m = sets m (startAt W o) values
+
+  pub put-size : (m : List ℕ) → length (putPart m) ≡ length m
+  put-size m = length-sets m (startAt W o) values
+
+  long : length values ≡ normalAt W o
+  long = length-listOf _ (normalAt W o)
+
+  pub store-other : (m : List ℕ) (w : ℕ) → (Stores W o w → ⊥) → getD (putPart m) w 0 ≡ getD m w 0
+  store-other m w h = sets-other m (startAt W o) values w (λ k. ⊎-elim
+      (λ l. absurd (h (stores-in W o w k l)))
+      (λ l. omega (arith, long))
+      (lt-or-ge w (startAt W o + normalAt W o)))
+
+  pub store-same : (m : List ℕ) (w : ℕ) → Stores W o w → w < length m → getD (putPart m) w 0 ≡ storeWord n W o old caps w
+  unfolding storeWord
+  store-same m w st h =
+      let l = w - startAt W o in
+      let is : startAt W o + l ≡ w = omega (arith, stores-from W o w st) in
+      let fits : l < normalAt W o = omega (arith, stores-from W o w st, stores-until W o w st) in
+      ap (λ (x : ℕ). getD (putPart m) x 0) (sym is)
+      ∙ sets-same m (startAt W o) values l (omega (arith, long)) (omega arith)
+      ∙ getD-listOf (storedWord n W o old caps) (normalAt W o) l fits

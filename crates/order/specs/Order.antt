@@ -8,7 +8,7 @@ use Prim.Native.Nat.{ℕ, zero, suc, _+_, _-_, _^_, _≤_, _<_}
 use lib.Dec.{leb, ltb, eqb}
 use lib.ListN.{length, getD, replicate}
 use Rattle.machine.specs.Part.{stagesAt, lastAt, startAt, roundsAt, normalAt, endAt, readWordAt, readMaskAt}
-use Rattle.machine.specs.Turn.{begins, readRow, stageRow, captured}
+use Rattle.machine.specs.Turn.{begins, readRow, stageRow, captured, storedWord}
 use Rattle.machine.specs.Run.{turnsLeft}
 
 -- the words at which the parts begin, from word o on, f parts at most
@@ -51,9 +51,9 @@ storesAt W o w = leb (startAt W o) w && ltb w (startAt W o + normalAt W o)
 abbrev pub Stores : List ℕ → ℕ → ℕ → Type 0
 Stores W o w = storesAt W o w ≡ true
 
--- what it puts there, having captured `caps`
-unfoldable pub storeWord : List ℕ → ℕ → List ℕ → ℕ → ℕ
-storeWord W o caps w = getD caps (w - startAt W o) 0
+-- what it puts there, having captured `caps` and with `old` as the old state
+unfoldable pub storeWord : ℕ → List ℕ → ℕ → List ℕ → List ℕ → ℕ → ℕ
+storeWord n W o old caps w = storedWord n W o old caps (w - startAt W o)
 
 -- ---- what keeps the blocks apart: m blocks
 

@@ -3,3 +3,4 @@ pub mod BlockLaws
 pub mod FormLaws
 pub mod ApartLaws
 pub mod PromiseLaws
+pub mod FinishLaws

@@ -1,32 +1,39 @@
 -- DEMAND 3. Order and frame are those of any run whose blocks are kept apart; the pins come from the part that stores the word.
 -- Assumes nothing.
-use mathlib.Core.Path.{_≡_, refl, sym, ap, _∙_}
+use mathlib.Core.Path.{_≡_, refl, sym, ap, _∙_, subst}
 use mathlib.Core.Bool.{Bool, true, false}
 use mathlib.Core.Option.{Option, none, some}
 use mathlib.Core.List.{List}
-use Prim.Native.Nat.{ℕ, _+_, _*_, _-_, _<_}
+use Prim.Native.Nat.{ℕ, _+_, _*_, _-_, _/_, _%_, _≤_, _<_}
+use lib.Bits.{differ}
 use native.Mathlib.Omega.{arith}
 use lib.Dec.{leb}
-use lib.ListN.{length, getD}
+use lib.ListN.{length, getD, List·getD-eq-default}
 use Rattle.words.specs.Bit.{bit, bitAt}
-use Rattle.record.specs.Record.{blocksOf, countAt, partsBefore, locationsOf}
-use Rattle.blocks.specs.Blocks.{stateStart}
+use Rattle.words.proofs.BitLaws.{bit-zero}
+use Rattle.record.specs.Record.{blocksOf, countAt, partsBefore, stagesOf, locationsOf}
+use Rattle.blocks.specs.Blocks.{stateStart, sramStart}
 use Rattle.values.specs.Values.{pinValue}
-use Rattle.assembly.specs.Steps.{partsIn, partStart}
-use Rattle.assembly.proofs.RankLaws.{part-found}
-use Rattle.machine.specs.Part.{startAt}
+use Rattle.assembly.specs.Steps.{lastMark, partsIn, partStart}
+use Rattle.assembly.proofs.RankLaws.{inBefore, part-at, part-found}
+use Rattle.machine.specs.Part.{stagesAt, startAt, entryAt, laneWordAt}
+use Rattle.machine.specs.Turn.{readRow, taken, gatheredBit, dataInv, chosen, storedBit}
 use Rattle.machine.specs.Run.{runTurns, allLeft, badBlock, badTurn, Ran, ran, refused, outcome}
 use Rattle.machine.proofs.StageLaws.{at-word}
-use Rattle.order.specs.Order.{oneAfterAnother}
+use Rattle.machine.proofs.TurnLaws.{taken-cleared, taken-nothing, stored-word-bit}
+use Rattle.order.specs.Order.{capturedBy, oneAfterAnother}
+use Rattle.order.proofs.BlockLaws.{caps-length}
 use Rattle.order.proofs.StoreLaws.{stores-in, store-at}
 use Rattle.order.proofs.AloneLaws.{Laid}
 use Rattle.order.proofs.OrderLaws.{in-any-order, untouched, stored}
+use Rattle.decode.specs.Decoded.{Decoded}
+use Rattle.meaning.specs.Meaning.{Sound}
 use Rattle.meaning.proofs.MeaningLaws.{captured-pin}
-use Rattle.promise.specs.Promise.{assembled, startsOf, stageRun, carried, Carries, StoredBy, Done, Demand3, AsRun}
-use Rattle.promise.proofs.AcceptedLaws.{part-there, some-blocks, sound}
+use Rattle.promise.specs.Promise.{assembled, startsOf, stageRun, carried, Carries, enableEntry, invOf, set0Of, dataInvOf, partAt, enabled, StoredBy, Done, Demand3, AsRun}
+use Rattle.promise.proofs.AcceptedLaws.{part-there, some-blocks, able, sound}
 use Rattle.promise.proofs.BlockLaws.{starts-are}
 use Rattle.promise.proofs.FormLaws.{never-refused}
-use Rattle.promise.proofs.ApartLaws.{planned, run-part, back, stored-by, apart}
+use Rattle.promise.proofs.ApartLaws.{RunPart, planned, run-part, back, stored-by, apart}
 
 module _ (d : List ℕ) (s : ℕ) (turns old new : List ℕ) (done : Done d s turns old new) where
   abbrev W : List ℕ
@@ -53,37 +60,125 @@ module _ (d : List ℕ) (s : ℕ) (turns old new : List ℕ) (done : Done d s tu
       untouched 256 13 W (startsOf d s) (length old) (length new) old new laid turns (done .named) w
       (λ b j o q h. free _ (stored-by d (done .accepted) s (done .stage) b j o w (planned d (done .accepted) s (done .stage) b j o q) h))
 
-  -- the stored bits of part i that carry a pin
-  abbrev Pin : ℕ → Type 0
-  Pin i = (l k : ℕ) → l < locationsOf d (partsBefore d s + i) → k < 32 → Carries d (partsBefore d s + i) l k
-      → bitAt after (32 * (stateStart d s i + l) + k) ≡ pinValue d (partsBefore d s + i) old new (carried d (partsBefore d s + i) l k)
+  -- ---- part i of the stage, where the run finds it
 
-  part-pins : (b j : ℕ) → b < blocksOf d → j < length (partsIn d s b) → getD (partsIn d s b) j 0 < countAt d s → Pin (getD (partsIn d s b) j 0)
-  unfolding carried
-  part-pins b j h u there l k inside small carries =
-      let o : ℕ = partStart 256 d s b j in
-      let i : ℕ = getD (partsIn d s b) j 0 in
+  abbrev captures : ℕ → List ℕ
+  captures o = capturedBy 256 13 W o old new
+
+  record Found (i : ℕ) : Type 0 where
+    pub b : ℕ
+    pub j : ℕ
+    pub last : ℕ
+    pub run : RunPart d (done .accepted) s (done .stage) b j (partAt d s i)
+    pub back : Decoded 256 d (partsBefore d s + i) last (stateStart d s i) (sramStart d s i) W (partAt d s i)
+    pub sound : Sound d (partsBefore d s + i)
+
+  place-is : (b j : ℕ) → j < length (partsIn d s b) → partAt d s (getD (partsIn d s b) j 0) ≡ partStart 256 d s b j
+  unfolding partAt
+  place-is b j h =
+      let r = part-at d s b (countAt d s) j h in
+      ap (λ (x : ℕ). partStart 256 d s x (inBefore d s x (getD (partsIn d s b) j 0))) (r .block) ∙ ap (partStart 256 d s b) (r .place)
+
+  found-at : (b j : ℕ) → b < blocksOf d → j < length (partsIn d s b) → getD (partsIn d s b) j 0 < countAt d s → Found (getD (partsIn d s b) j 0)
+  found-at b j h u there =
       let q = run-part d (done .accepted) s (done .stage) b j h u in
-      let D = back d (done .accepted) s (done .stage) b j o (planned d (done .accepted) s (done .stage) b j o q) in
-      let p = part-there d s i (done .stage) there in
-      at-word after (stateStart d s i + l) k small
-      ∙ ap (λ (x : ℕ). bit (getD after (x + l) 0) k) (sym (D .start))
-      ∙ ap (λ (x : ℕ). bit x k)
-      (stored 256 13 W (startsOf d s) (length old) (length new) old new laid turns (done .named) (done .all) b j o (startAt W o + l) q (stores-in W o _ (omega arith) (omega (arith, D .normal)))
-      ∙ store-at W o _ l)
-      ∙ captured-pin d _ _ _ _ W o old new (sound d (done .accepted) _ p) D l k inside small (carries .position) (carries .some-pin)
+      let e = sym (place-is b j u) in
+      let r = subst (RunPart d (done .accepted) s (done .stage) b j) e q in
+      record {
+        b = b;
+        j = j;
+        last = lastMark (length (partsIn d s b)) j;
+        run = r;
+        back = back d (done .accepted) s (done .stage) b j _ (planned d (done .accepted) s (done .stage) b j _ r);
+        sound = sound d (done .accepted) _ (part-there d s _ (done .stage) there);
+      }
 
-  pins-held : (i : ℕ) → i < countAt d s → Pin i
-  pins-held i h =
+  found : (i : ℕ) → i < countAt d s → Found i
+  found i h =
       let (b, j, block, inside, is) = part-found d s i h (some-blocks d (done .accepted)) in
-      rw (← is) (part-pins b j block inside (omega arith))
+      subst Found is (found-at b j block inside (omega arith))
+
+  -- ---- its captured bits, its enable bits, its stored bits
+
+  module _ (i : ℕ) (h : i < countAt d s) where
+    abbrev p : ℕ
+    p = partsBefore d s + i
+
+    abbrev o : ℕ
+    o = partAt d s i
+
+    abbrev D : Decoded 256 d p (found i h .last) (stateStart d s i) (sramStart d s i) W o
+    D = found i h .back
+
+    captured-bit : (l k : ℕ) → l < locationsOf d p → k < 32 → Carries d p l k → bitAt (captures o) (32 * l + k) ≡ pinValue d p old new (carried d p l k)
+    unfolding carried
+    captured-bit l k inside small carries =
+        at-word (captures o) l k small ∙ captured-pin d p _ _ _ W o old new (found i h .sound) D l k inside small (carries .position) (carries .some-pin)
+
+    -- past the normal words there is nothing
+    captured-none : (e : ℕ) → locationsOf d p ≤ e / 32 → bitAt (captures o) e ≡ 0
+    unfolding bitAt
+    captured-none e g =
+        ap (λ (x : ℕ). bit x (e % 32)) (List·getD-eq-default (captures o) 0 {n = e / 32} (omega (arith, caps-length 256 13 W o (readRow 256 W o old new) (stagesAt W o), D .normal))) ∙ bit-zero (e % 32)
+
+    lane-word : (q k : ℕ) → laneWordAt 256 W o (stagesAt W o + 1) (q / 32) k ≡ laneWordAt 256 W o (stagesOf d p + 1) (q / 32) k
+    lane-word q k = ap (λ (x : ℕ). laneWordAt 256 W o (x + 1) (q / 32) k) (D .stages)
+
+    enable-is : (q v : ℕ) → q < 8192 → bitAt (captures o) (enableEntry d p q) ≡ v → enabled d s i old new q ≡ taken v (set0Of d p q) (invOf d p q)
+    unfolding enabled gatheredBit enableEntry set0Of invOf
+    enable-is q v l e =
+        let entry = ap (λ (x : ℕ). entryAt 256 W o (x + 1) q) (D .stages) ∙ D .enable-entry q l in
+        let set0 = lane-word q 1 ∙ D .enable-set0 (q / 32) (omega arith) in
+        let inv = lane-word q 0 ∙ D .enable-inv (q / 32) (omega arith) in
+        rw (entry, set0, inv, e)
+
+    data-inv-is : (q : ℕ) → q < 8192 → dataInv 256 W o q ≡ dataInvOf d p q
+    unfolding dataInvOf
+    data-inv-is q l = ap (λ (x : ℕ). bit x (q % 32)) (lane-word q 2 ∙ D .data-inv (q / 32) (omega arith))
+
+    few : locationsOf d p ≤ 256
+    few = able d (done .accepted) p (part-there d s i (done .stage) h) .locations
+
+    -- the stored bit of place 32l + k
+    stored-is : (l k : ℕ) → l < locationsOf d p → k < 32
+        → bitAt after (32 * (stateStart d s i + l) + k) ≡ storedBit 256 W o old (captures o) (bitAt (captures o) (32 * l + k)) (32 * l + k)
+    stored-is l k inside small =
+        at-word after (stateStart d s i + l) k small
+        ∙ ap (λ (x : ℕ). bit (getD after (x + l) 0) k) (sym (D .start))
+        ∙ ap (λ (x : ℕ). bit x k)
+        (stored 256 13 W (startsOf d s) (length old) (length new) old new laid turns (done .named) (done .all) (found i h .b) (found i h .j) o (startAt W o + l) (found i h .run)
+        (stores-in W o _ (omega arith) (omega (arith, D .normal)))
+        ∙ store-at 256 W o old (captures o) l)
+        ∙ stored-word-bit 256 W o old (captures o) l k small
+
+    pins-are : (l k : ℕ) → l < locationsOf d p → k < 32 → Carries d p l k
+        → bitAt after (32 * (stateStart d s i + l) + k)
+        ≡ chosen (enabled d s i old new (32 * l + k)) (differ (pinValue d p old new (carried d p l k)) (dataInvOf d p (32 * l + k))) (bitAt old (32 * (stateStart d s i + l) + k))
+    unfolding storedBit enabled
+    pins-are l k inside small carries =
+        let q : ℕ = 32 * l + k in
+        let place : 32 * startAt W o + q ≡ 32 * (stateStart d s i + l) + k = omega (arith, D .start) in
+        stored-is l k inside small ∙ rw (captured-bit l k inside small carries, data-inv-is q (omega (arith, few)), place)
+
+    enables-are : (q l k : ℕ) → q < 8192 → enableEntry d p q ≡ 32 * l + k → l < locationsOf d p → k < 32 → Carries d p l k
+        → enabled d s i old new q ≡ taken (pinValue d p old new (carried d p l k)) (set0Of d p q) (invOf d p q)
+    enables-are q l k u e inside small carries = enable-is q _ u (ap (bitAt (captures o)) e ∙ captured-bit l k inside small carries)
+
+    past-is : (q : ℕ) → q < 8192 → locationsOf d p ≤ enableEntry d p q / 32 → enabled d s i old new q ≡ invOf d p q
+    past-is q u g = enable-is q 0 u (captured-none _ g) ∙ taken-nothing (set0Of d p q) (invOf d p q)
+
+    cleared-is : (q : ℕ) → q < 8192 → set0Of d p q ≡ 1 → enabled d s i old new q ≡ invOf d p q
+    cleared-is q u e = enable-is q _ u refl ∙ rw e (taken-cleared (bitAt (captures o) (enableEntry d p q)) (invOf d p q))
 
 -- DEMAND 3
 pub demand3 : Demand3
 demand3 d s turns old new done = record {
   order = any-order d s turns old new done;
   frame = unchanged d s turns old new done;
-  pins = λ i l k h. pins-held d s turns old new done i h l k;
+  pins = λ i l k h. pins-are d s turns old new done i h l k;
+  enables = λ i q l k h. enables-are d s turns old new done i h q l k;
+  past = λ i q h. past-is d s turns old new done i h q;
+  cleared = λ i q h. cleared-is d s turns old new done i h q;
 }
 
 -- ---- as a run answers it: an answer with turns left was not refused, and is what the turns made

@@ -1,23 +1,31 @@
 -- Demand 3: "Take an assembled accepted plan, an old state, and a new state in which the earlier major stages have been stored, both of the planned
 -- size. Within one major stage, blocks take turns in any order, each keeping its own. Once every block has had its turns, the new state is that of
--- running them one after another; words the stage doesn't store are unchanged; and each stored bit that carries a pin equals that pin's value worked
--- from the gates, the pins its part reads having the bits at their planned positions in the two states."
+-- running them one after another; words the stage doesn't store are unchanged"; and of each stored bit that carries a pin, by 5/13: "where its enable
+-- bit is 1 it is that pin's value by the gates xor data inv, where 0 the old state's bit; and an enable bit gathered from a captured bit that carries a
+-- pin is that pin's value by the gates, cleared and inverted", "the pins its part reads having the bits at their planned positions in the two states."
+-- Two more sentences follow from the rule: an enable bit that is gathered from past the normal words, or cleared, is its inv.
 -- Assumes nothing.
 use mathlib.Core.Path.{_≡_}
 use mathlib.Core.Option.{none}
 use mathlib.Core.List.{List}
-use Prim.Native.Nat.{ℕ, _+_, _*_, _≤_, _<_}
+use Prim.Native.Nat.{ℕ, _+_, _*_, _-_, _/_, _%_, _≤_, _<_}
+use lib.Bits.{differ}
 use lib.ListN.{length, getD, take, drop}
-use Rattle.words.specs.Bit.{bitAt}
-use Rattle.record.specs.Record.{blocksOf, majorsOf, partsBefore, countAt, locationsOf, locationAt, slotAt}
+use Rattle.words.specs.Sum.{sumTo}
+use Rattle.words.specs.Bit.{bit, bitAt}
+use Rattle.sort.specs.Sorted.{count}
+use Rattle.record.specs.Record.{blocksOf, majorsOf, partsBefore, countAt, stagesOf, locationsOf, locationAt, slotAt, tableAt}
 use Rattle.record.specs.Form.{empty}
-use Rattle.blocks.specs.Blocks.{stateStart, stateWords}
+use Rattle.blocks.specs.Blocks.{blockOf, stateStart, stateWords}
+use Rattle.blocks.specs.Sums.{inBlock}
 use Rattle.values.specs.Values.{pinValue}
 use Rattle.script.specs.Script.{locationStage}
 use Rattle.checks.specs.Refusals.{planRefusal}
 use Rattle.assembly.specs.Assembly.{scriptWords, scriptStarts}
+use Rattle.assembly.specs.Steps.{partsIn, partStart}
+use Rattle.machine.specs.Turn.{taken, enableBit, chosen}
 use Rattle.machine.specs.Run.{ran, outcome, Running, runTurns, allLeft, badBlock, badTurn}
-use Rattle.order.specs.Order.{oneAfterAnother}
+use Rattle.order.specs.Order.{capturedBy, oneAfterAnother}
 
 -- ---- "an assembled accepted plan": nothing of it is refused. Its words, and the block starts of major stage s with their end
 
@@ -43,6 +51,28 @@ pub record Carries (d : List ℕ) (p l k : ℕ) : Type 0 where
   pub position : 0 < 32 * locationAt d p l + k
   pub some-pin : carried d p l k ≡ empty → ⊥
 
+-- ---- the enable table of part p, place q: the captured bit that it names, its three bits
+
+unfoldable pub enableEntry : List ℕ → ℕ → ℕ → ℕ
+enableEntry d p q = tableAt d p (34 * 256 + q)
+
+unfoldable pub invOf : List ℕ → ℕ → ℕ → ℕ
+invOf d p q = bit (tableAt d p (66 * 256 + q / 32)) (q % 32)
+
+unfoldable pub set0Of : List ℕ → ℕ → ℕ → ℕ
+set0Of d p q = bit (tableAt d p (67 * 256 + q / 32)) (q % 32)
+
+unfoldable pub dataInvOf : List ℕ → ℕ → ℕ → ℕ
+dataInvOf d p q = bit (tableAt d p (68 * 256 + q / 32)) (q % 32)
+
+-- the word at which part i of major stage s begins: behind those of its block that come before it
+unfoldable pub partAt : List ℕ → ℕ → ℕ → ℕ
+partAt d s i = partStart 256 d s (blockOf d s i) (inBlock (blockOf d s) (λ j. 1) (blockOf d s i) i)
+
+-- its enable bit at place q: what the run gathers from what the part captures
+unfoldable pub enabled : List ℕ → ℕ → ℕ → List ℕ → List ℕ → ℕ → ℕ
+enabled d s i old new q = enableBit 256 (assembled d) (partAt d s i) (capturedBy 256 13 (assembled d) (partAt d s i) old new) q
+
 -- word w is stored by a part of major stage s
 pub record StoredBy (d : List ℕ) (s i w : ℕ) : Type 0 where
   pub part : i < countAt d s
@@ -55,7 +85,17 @@ pub record Kept (d : List ℕ) (s : ℕ) (old new after : List ℕ) : Type 0 whe
   pub order : after ≡ stageRun d s (oneAfterAnother 256 (assembled d) (startsOf d s) (blocksOf d)) old new .new
   pub frame : (w : ℕ) → ((i : ℕ) → StoredBy d s i w → ⊥) → getD after w 0 ≡ getD new w 0
   pub pins : (i l k : ℕ) → i < countAt d s → l < locationsOf d (partsBefore d s + i) → k < 32 → Carries d (partsBefore d s + i) l k
-      → bitAt after (32 * (stateStart d s i + l) + k) ≡ pinValue d (partsBefore d s + i) old new (carried d (partsBefore d s + i) l k)
+      → bitAt after (32 * (stateStart d s i + l) + k)
+      ≡ chosen (enabled d s i old new (32 * l + k))
+      (differ (pinValue d (partsBefore d s + i) old new (carried d (partsBefore d s + i) l k)) (dataInvOf d (partsBefore d s + i) (32 * l + k)))
+      (bitAt old (32 * (stateStart d s i + l) + k))
+  pub enables : (i q l k : ℕ) → i < countAt d s → q < 8192 → enableEntry d (partsBefore d s + i) q ≡ 32 * l + k
+      → l < locationsOf d (partsBefore d s + i) → k < 32 → Carries d (partsBefore d s + i) l k
+      → enabled d s i old new q
+      ≡ taken (pinValue d (partsBefore d s + i) old new (carried d (partsBefore d s + i) l k)) (set0Of d (partsBefore d s + i) q) (invOf d (partsBefore d s + i) q)
+  pub past : (i q : ℕ) → i < countAt d s → q < 8192 → locationsOf d (partsBefore d s + i) ≤ enableEntry d (partsBefore d s + i) q / 32
+      → enabled d s i old new q ≡ invOf d (partsBefore d s + i) q
+  pub cleared : (i q : ℕ) → i < countAt d s → q < 8192 → set0Of d (partsBefore d s + i) q ≡ 1 → enabled d s i old new q ≡ invOf d (partsBefore d s + i) q
 
 -- "Once every block has had its turns": no turns are left
 pub record Done (d : List ℕ) (s : ℕ) (turns old new : List ℕ) : Type 0 where
@@ -74,6 +114,30 @@ Demand3 = (d : List ℕ) (s : ℕ) (turns old new : List ℕ) → Done d s turns
 abbrev pub NeverRefused : Type 0
 NeverRefused =
     (d : List ℕ) (s t u : ℕ) → Accepted d → s < majorsOf d → stateWords d ≤ t → stateWords d ≤ u → badBlock 256 (assembled d) (startsOf d s) t u ≡ none
+
+-- ---- "Once every block has had its turns", as a matter of the turn list
+
+-- the turns of block b of major stage s: "A part takes stages + 2 turns"
+unfoldable pub turnsOf : List ℕ → ℕ → ℕ → ℕ
+turnsOf d s b = sumTo (λ j. stagesOf d (partsBefore d s + getD (partsIn d s b) j 0) + 2) (length (partsIn d s b))
+
+-- those that the turn list leaves over, block by block
+unfoldable pub leftOver : List ℕ → ℕ → List ℕ → ℕ
+leftOver d s turns = sumTo (λ b. turnsOf d s b - count b turns) (blocksOf d)
+
+-- the run of an accepted plan, with room enough and every turn naming a block, answers so many turns left
+abbrev pub Finishes : Type 0
+Finishes =
+    (d : List ℕ) (s : ℕ) (turns old new : List ℕ) (room : ℕ) → Accepted d → s < majorsOf d → length old ≡ stateWords d → length new ≡ stateWords d
+    → 1024 * blocksOf d ≤ room → ((i : ℕ) → i < length turns → getD turns i 0 < blocksOf d)
+    → outcome 256 13 (assembled d) (startsOf d s) turns old new room ≡ ran (leftOver d s turns) (stageRun d s turns old new .new)
+
+-- and where each block is named as often as it has turns, 0 are left and the promise is kept
+abbrev pub Finished : Type 0
+Finished =
+    (d : List ℕ) (s : ℕ) (turns old new : List ℕ) (room : ℕ) → Accepted d → s < majorsOf d → length old ≡ stateWords d → length new ≡ stateWords d
+    → 1024 * blocksOf d ≤ room → ((i : ℕ) → i < length turns → getD turns i 0 < blocksOf d) → ((b : ℕ) → b < blocksOf d → turnsOf d s b ≤ count b turns)
+    → (outcome 256 13 (assembled d) (startsOf d s) turns old new room ≡ ran 0 (stageRun d s turns old new .new)) × Kept d s old new (stageRun d s turns old new .new)
 
 -- the same of what a run answers: it was not refused, no turns are left, and `after` is the new state
 abbrev pub AsRun : Type 0

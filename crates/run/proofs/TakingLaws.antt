@@ -50,7 +50,7 @@ module _ (W : List ℕ) (s t : ℕ) (r : List ℕ) (g : GoodIn W s t r) (p f k :
     unfolding blockOf
     turn-kept r″ long e = ap (blockOf W) e ∙ stored-block W r′ p′ f′ k′ long few ∙ (rw (part, phase, stage) at is)
 
-    pub turn-wrote : (new′ : List ℕ) → new′ ≡ written W f (blockIn 256 W p f k r) new → new′ ≡ written W (phaseOf r) (blockOf W r) new
+    pub turn-wrote : (new′ : List ℕ) → new′ ≡ written 256 W old f (blockIn 256 W p f k r) new → new′ ≡ written 256 W old (phaseOf r) (blockOf W r) new
     unfolding blockOf
     turn-wrote new′ e = rw (part, phase, stage) at e
 
@@ -86,12 +86,12 @@ module _ (W starts : List ℕ) (s t : ℕ) (room : List ℕ) (g : Goods W starts
     pub goods-turn : Goods W starts s t (lent room b r)
     goods-turn = record { wide = omega (arith, g .wide, lent-long room b r room-fits long); each = each-again }
 
-    pub running-turn : (new′ : List ℕ) → new′ ≡ written W (phaseOf (roomOf room b)) (blockOf W (roomOf room b)) new
+    pub running-turn : (new′ : List ℕ) → new′ ≡ written 256 W old (phaseOf (roomOf room b)) (blockOf W (roomOf room b)) new
         → running W (length starts - 1) (lent room b r) new′ ≡ step 256 13 W old (running W (length starts - 1) room new) b
     unfolding step blockOf blockIn
     running-turn new′ e =
         ap₂ (λ (bs : List Block) (x : List ℕ). record { blocks = bs; new = x }) all e
-        ∙ ap (λ (x : Block). record { blocks = set B b (turned 256 13 W old (x .phase) x new); new = written W (x .phase) x new }) (sym at-b)
+        ∙ ap (λ (x : Block). record { blocks = set B b (turned 256 13 W old (x .phase) x new); new = written 256 W old (x .phase) x new }) (sym at-b)
       where
         B : List Block
         B = blocksIn W room (length starts - 1) 0
@@ -132,7 +132,7 @@ module _ (W turns old new₀ room₀ : List ℕ) where
 
     pub taken-next : (starts : List ℕ) → Goods W starts (length old) (length new₀) room₀ → Named starts turns → (r new′ : List ℕ) → length r ≡ 1024 → length new′ ≡ length new
         → blockOf W r ≡ turned 256 13 W old (phaseOf (roomOf room (getD turns i 0))) (blockOf W (roomOf room (getD turns i 0))) new
-        → new′ ≡ written W (phaseOf (roomOf room (getD turns i 0))) (blockOf W (roomOf room (getD turns i 0))) new
+        → new′ ≡ written 256 W old (phaseOf (roomOf room (getD turns i 0))) (blockOf W (roomOf room (getD turns i 0))) new
         → Taken W turns old new₀ room₀ new′ (lent room (getD turns i 0) r) (i + 1)
     taken-next starts₀ g₀ n₀ r new′ long size is wrote = record {
       long = size ∙ h .long;

@@ -14,7 +14,7 @@ use crate::states::store_state;
 fn one_turn(words: &[u32], old: &[u32], new: &mut [u32], room: &mut [u32])
     requires { ⌜ GoodIn (now words) (length (now old)) (length (now new)) (now room) ⌝ }
     ensures block { λ _. ⌜ blockOf (now (words .entry)) (now (room .exit)) ≡ turned 256 13 (now (words .entry)) (now (old .entry)) (phaseOf (now (room .entry))) (blockOf (now (words .entry)) (now (room .entry))) (now (new .entry)) ⌝ }
-    ensures state { λ _. ⌜ now (new .exit) ≡ written (now (words .entry)) (phaseOf (now (room .entry))) (blockOf (now (words .entry)) (now (room .entry))) (now (new .entry)) ⌝ }
+    ensures state { λ _. ⌜ now (new .exit) ≡ written 256 (now (words .entry)) (now (old .entry)) (phaseOf (now (room .entry))) (blockOf (now (words .entry)) (now (room .entry))) (now (new .entry)) ⌝ }
 {
     let state = load_state(room).turn(words, old, new, room);
     store_state(room, state);

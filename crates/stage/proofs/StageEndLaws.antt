@@ -43,12 +43,12 @@ drop-bit n l q =
     rw (w, b) (ap (λ (x : ℕ). bit x (q % 32)) (getD-drop n l (q / 32) 0))
 
 module _ (n : ℕ) (W : List ℕ) (o k : ℕ) where
-  entry-cut : (p : List ℕ) → Cut W p (sectionAt n W o k) (16 * n) → (i : ℕ) → i < 32 * n → halfAt n p i ≡ entryAt n W o k i
+  pub entry-cut : (p : List ℕ) → Cut W p (sectionAt n W o k) (16 * n) → (i : ℕ) → i < 32 * n → halfAt n p i ≡ entryAt n W o k i
   unfolding halfAt entryAt
   entry-cut p c i h = ap (λ (x : ℕ). halfOf x (i % 2)) (c .each (placeOf n i) (place-lt n i h))
 
-  pub entries-cut : (p : List ℕ) → Cut W p (sectionAt n W o k) (16 * n) → k < stagesAt W o → EntriesIn n W o → Entries n p
-  entries-cut p c h ok i l = rw (entry-cut p c i l) (ok k i (omega arith) l)
+  pub entries-cut : (p : List ℕ) → Cut W p (sectionAt n W o k) (16 * n) → k < stagesAt W o + 2 → EntriesIn n W o → Entries n p
+  entries-cut p c h ok i l = rw (entry-cut p c i l) (ok k i h l)
 
   gate-cut : (t : List ℕ) → Cut W t (sectionAt n W o k + 16 * n) (4 * n) → (q a b : ℕ) → q < 32 * n → laneGate t q a b ≡ gateAt n W o k q a b
   unfolding laneGate gateAt laneWordAt

@@ -8,7 +8,7 @@ ghost use Prim.Native.Nat.{ℕ, _+_, _*_, _-_, _/_, _%_, _^_, _<_, _≤_};
 ghost use lib.ListN.{length, take};
 ghost use Rattle.words.specs.Bit.{bit, bitAt};
 ghost use Rattle.words.specs.Section.{halfAt};
-ghost use Rattle.machine.specs.Part.{stagesAt};
+ghost use Rattle.machine.specs.Part.{stagesAt, entryAt};
 ghost use Rattle.machine.specs.Turn.{stageRow};
 ghost use Rattle.form.specs.Well.{PartIn, Entries, EntriesIn};
 ghost use Rattle.stage.specs.Gather.{Gathered, GatherBits, gatheredRow};
@@ -42,6 +42,16 @@ fn gather_word(l: &[u32], p: &[u32], n: usize, j: usize) -> u32
         x |= picked(l, pair_of(p, n, j, h)) << (2 * h);
     }
     x
+}
+
+// Word w of the bits that section k gathers from 256 words.
+pub fn section_word(words: &[u32], at: usize, k: usize, l: &[u32], w: usize) -> u32
+    requires { ⌜ PartIn 256 (now words) at × (k < stagesAt (now words) at + 2) × EntriesIn 256 (now words) at × (length (now l) ≡ 256) × (w < 256) ⌝ }
+    ensures { λ r. ⌜ ((b : ℕ) → b < 32 → bit r b ≡ bitAt (now (l .entry)) (entryAt 256 (now (words .entry)) at k (32 * w + b))) ⌝ }
+{
+    let from = part::section(words, at, k);
+    let to = from + 4096;
+    gather_word(l, &words[from..to], 256, w)
 }
 
 // Gathers n words.

@@ -10,10 +10,11 @@ use lib.Dec.{eqb}
 use lib.ListN.{length, getD, take, drop, replicate, length-drop, length-append, length-replicate, List·getD-append}
 use lib.Seq.{sets, length-sets, length-take-le, take-take, take-at, drop-at, getD-take}
 use Rattle.machine.specs.Part.{stagesAt, lastAt, startAt, normalAt, endAt}
-use Rattle.machine.specs.Turn.{Block, readRow, stageRow, captured, begins, ended, afterRead, afterStage, afterStore, stored, turned, written}
+use Rattle.machine.specs.Turn.{Block, readRow, stageRow, captured, begins, ended, afterRead, afterStage, afterStore, storedWord, stored, turned, written}
 use Rattle.machine.proofs.StageLaws.{stage-length}
 use Rattle.machine.proofs.TurnLaws.{read-length, captured-length}
 use Rattle.words.proofs.ListLaws.{zeros-front, put-sets}
+use Rattle.words.specs.Section.{listOf}
 use Rattle.words.proofs.SectionLaws.{length-listOf}
 use Rattle.stage.specs.Gather.{gatheredRow}
 use Rattle.turns.specs.Block.{held, blockIn, roomRead, roomStaged, roomTurned}
@@ -97,7 +98,7 @@ begins-part W o x e h = rw (ne-eqb (stagesAt W o) 0 (λ q. h (e ∙ q)), begins)
 abbrev pub TurnDone : List ℕ → List ℕ → List ℕ → (o phase k : ℕ) → List ℕ → (o′ phase′ k′ : ℕ) → List ℕ → List ℕ → Type 0
 TurnDone W old new o phase k room o′ phase′ k′ room′ new′ =
     (blockIn 256 W o′ phase′ k′ room′ ≡ turned 256 13 W old phase (blockIn 256 W o phase k room) new)
-    × ((new′ ≡ written W phase (blockIn 256 W o phase k room) new) × (room′ ≡ roomTurned 256 13 W o k old new phase room))
+    × ((new′ ≡ written 256 W old phase (blockIn 256 W o phase k room) new) × (room′ ≡ roomTurned 256 13 W o k old new phase room))
 
 abbrev block : (part phase stage : ℕ) → List ℕ → List ℕ → Block
 block o f k row caps = record { part = o; phase = f; stage = k; row = row; caps = caps }
@@ -167,15 +168,19 @@ module _ (W old new : List ℕ) (o phase k : ℕ) (room : List ℕ) (long : leng
   unfolding blockIn held turned afterStage written roomTurned
   stage-done-more room′ e f h = rw (e, ne-eqb (k + 1) (stagesAt W o) h) (ap₂ (block o 1 (k + 1)) (stage-row room′ f) (stage-caps room′ f), (refl, f))
 
-  stores : (new′ : List ℕ) → new′ ≡ sets new (startAt W o) (take (normalAt W o) (take 256 (drop 512 room))) → new′ ≡ sets new (startAt W o) (take (normalAt W o) (drop 512 room))
-  stores new′ f = f ∙ ap (sets new (startAt W o)) (take-take (normalAt W o) 256 (drop 512 room) few)
+  -- the new state after the store turn, from the captured words that were lent
+  abbrev Wrote : List ℕ → List ℕ → Type 0
+  Wrote caps new′ = new′ ≡ sets new (startAt W o) (listOf (storedWord 256 W o old (take (normalAt W o) caps)) (normalAt W o))
 
-  pub store-done-last : (new′ : List ℕ) → phase ≡ 2 → new′ ≡ sets new (startAt W o) (take (normalAt W o) (take 256 (drop 512 room))) → lastAt W o ≡ 1
+  stores : (new′ : List ℕ) → Wrote (take 256 (drop 512 room)) new′ → Wrote (drop 512 room) new′
+  stores new′ f = f ∙ ap (λ (x : List ℕ). sets new (startAt W o) (listOf (storedWord 256 W o old x) (normalAt W o))) (take-take (normalAt W o) 256 (drop 512 room) few)
+
+  pub store-done-last : (new′ : List ℕ) → phase ≡ 2 → Wrote (take 256 (drop 512 room)) new′ → lastAt W o ≡ 1
       → TurnDone W old new o phase k room o 3 0 room new′
   unfolding blockIn held turned ended written stored roomTurned
   store-done-last new′ e f h = rw e (sym (after-last 256 W (blockIn 256 W o 2 k room) h), (stores new′ f, refl))
 
-  pub store-done-next : (new′ : List ℕ) (o′ f′ k′ : ℕ) → phase ≡ 2 → new′ ≡ sets new (startAt W o) (take (normalAt W o) (take 256 (drop 512 room))) → (lastAt W o ≡ 1 → ⊥)
+  pub store-done-next : (new′ : List ℕ) (o′ f′ k′ : ℕ) → phase ≡ 2 → Wrote (take 256 (drop 512 room)) new′ → (lastAt W o ≡ 1 → ⊥)
       → o′ ≡ endAt 256 W o → f′ ≡ begins W o′ .phase → k′ ≡ 0 → TurnDone W old new o phase k room o′ f′ k′ room new′
   unfolding blockIn held turned begins written stored roomTurned
   store-done-next new′ o′ f′ k′ e f h p q r = rw e (first, (stores new′ f, refl))

@@ -1,4 +1,5 @@
 pub mod SetsLaws
+pub mod StoreLaws
 pub mod AppendLaws
 pub mod CaptureLaws
 pub mod BlockLaws

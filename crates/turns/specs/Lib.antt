@@ -1,3 +1,4 @@
 pub mod Window
 pub mod Capture
+pub mod Store
 pub mod Block

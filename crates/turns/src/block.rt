@@ -68,7 +68,7 @@ impl BlockState {
         requires { ⌜ BlockWell 256 (now words) (length (now old)) (length (now new)) (self .part) (self .phase) (self .stage) × (length (now room) ≡ 1024) ⌝ }
         ensures block { λ r. ⌜ blockIn 256 (now (words .entry)) (r .part) (r .phase) (r .stage) (now (room .exit))
             ≡ turned 256 13 (now (words .entry)) (now (old .entry)) (self .phase) (blockIn 256 (now (words .entry)) (self .part) (self .phase) (self .stage) (now (room .entry))) (now (new .entry)) ⌝ }
-        ensures state { λ r. ⌜ now (new .exit) ≡ written (now (words .entry)) (self .phase) (blockIn 256 (now (words .entry)) (self .part) (self .phase) (self .stage) (now (room .entry))) (now (new .entry)) ⌝ }
+        ensures state { λ r. ⌜ now (new .exit) ≡ written 256 (now (words .entry)) (now (old .entry)) (self .phase) (blockIn 256 (now (words .entry)) (self .part) (self .phase) (self .stage) (now (room .entry))) (now (new .entry)) ⌝ }
         ensures room { λ r. ⌜ now (room .exit) ≡ roomTurned 256 13 (now (words .entry)) (self .part) (self .stage) (now (old .entry)) (now (new .entry)) (self .phase) (now (room .entry)) ⌝ }
     {
         let at = self.part;
@@ -89,7 +89,7 @@ impl BlockState {
             return self;
         }
         if phase == 2 {
-            store::store(words, at, &room[512..768], new);
+            store::store(words, at, &room[512..768], old, new);
             if part::last(words, at) == 1 {
                 self.phase = 3;
                 self.stage = 0;

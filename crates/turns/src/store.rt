@@ -1,14 +1,17 @@
-// Captured words: document 01, "A write-out location w captures positions 32w..32w+31" and "The store turn puts normal captured words, as they
-// are, at state start onward." A block's room has its positions in words 0..255 and its captured words from word 512 on.
+// Captured words: document 01, "A write-out location w captures positions 32w..32w+31" and "The store turn puts normal captured words .. at state
+// start onward", by 5/13 where they are enabled. A block's room has its positions in words 0..255 and its captured words from word 512 on.
 use form::part;
+use stage::section_word;
 ghost use mathlib.Core.Path.{_≡_};
 ghost use Prim.Native.Nat.{_+_, _<_, _≤_};
-ghost use lib.ListN.{length, take, drop};
+ghost use lib.ListN.{length, getD, take, drop};
 ghost use lib.Seq.{sets};
 ghost use Rattle.machine.specs.Part.{startAt, normalAt};
-ghost use Rattle.machine.specs.Turn.{captured};
+ghost use Rattle.machine.specs.Turn.{captured, storedWord};
+ghost use Rattle.words.specs.Section.{listOf};
 ghost use Rattle.turns.specs.Capture.{capturedWord};
-ghost use Rattle.form.specs.Well.{PartIn, Captures};
+ghost use Rattle.turns.specs.Store.{chosenWord, Storing};
+ghost use Rattle.form.specs.Well.{PartIn, EntriesIn, Captures};
 
 // Captured word l after stage k.
 fn capture_word(words: &[u32], at: usize, k: usize, room: &[u32], l: usize) -> u32
@@ -33,13 +36,60 @@ pub fn capture(words: &[u32], at: usize, k: usize, room: &mut [u32])
     }
 }
 
-// The store turn.
-pub fn store(words: &[u32], at: usize, caps: &[u32], new: &mut [u32])
-    requires { ⌜ PartIn 256 (now words) at × Captures 256 (now words) at × (length (now caps) ≡ 256) × (0 < normalAt (now words) at → startAt (now words) at + normalAt (now words) at ≤ length (now new)) ⌝ }
-    ensures { λ _. ⌜ now (new .exit) ≡ sets (now (new .entry)) (startAt (now (words .entry)) at) (take (normalAt (now (words .entry)) at) (now (caps .entry))) ⌝ }
+// Bit by bit: the captured bit xor data inv where the gathered bit, cleared where set0 is 1 and then inverted where inv is 1, is 1; else the held bit.
+fn chosen_word(cap: u32, held: u32, gathered: u32, inv: u32, set0: u32, data_inv: u32) -> u32
+    ensures { λ r. ⌜ r ≡ chosenWord cap held gathered inv set0 data_inv ⌝ }
+{
+    let enable = (gathered ^ (gathered & set0)) ^ inv;
+    held ^ (((cap ^ data_inv) ^ held) & enable)
+}
+
+// The word that is stored for captured word l; captured words past the normal ones are 0.
+fn store_word(words: &[u32], at: usize, caps: &[u32], old: &[u32], l: usize) -> u32
+    requires { ⌜ Storing 256 (now words) at (now caps) (length (now old)) × (l < normalAt (now words) at) × (startAt (now words) at + l < length (now old)) ⌝ }
+    ensures { λ r. ⌜ r ≡ storedWord 256 (now (words .entry)) at (now (old .entry)) (now (caps .entry)) l ⌝ }
+{
+    let k = part::stages(words, at) + 1;
+    let lane = part::section(words, at, k) + 4096 + 4 * l;
+    let start = part::start(words, at);
+    let gathered = section_word(words, at, k, caps, l);
+    chosen_word(
+        caps[l],
+        old[start + l],
+        gathered,
+        words[lane],
+        words[lane + 1],
+        words[lane + 2],
+    )
+}
+
+// All normal words.
+fn store_words(words: &[u32], at: usize, caps: &[u32], old: &[u32], new: &mut [u32])
+    requires { ⌜ Storing 256 (now words) at (now caps) (length (now old)) × (0 < normalAt (now words) at → startAt (now words) at + normalAt (now words) at ≤ length (now new)) ⌝ }
+    ensures { λ _. ⌜ now (new .exit) ≡ sets (now (new .entry)) (startAt (now (words .entry)) at) (listOf (storedWord 256 (now (words .entry)) at (now (old .entry)) (now (caps .entry))) (normalAt (now (words .entry)) at)) ⌝ }
 {
     let start = part::start(words, at);
     for l in 0..part::normal(words, at) {
-        new[start + l] = caps[l];
+        new[start + l] = store_word(words, at, caps, old, l);
     }
+}
+
+// The first m words of one list into another.
+fn copy_front(out: &mut [u32], from: &[u32], m: usize)
+    requires { ⌜ (m ≤ length (now out)) × (m ≤ length (now from)) ⌝ }
+    ensures { λ _. ⌜ now (out .exit) ≡ sets (now (out .entry)) 0 (listOf (λ i. getD (now (from .entry)) i 0) m) ⌝ }
+{
+    for i in 0..m {
+        out[i] = from[i];
+    }
+}
+
+// The store turn.
+pub fn store(words: &[u32], at: usize, caps: &[u32], old: &[u32], new: &mut [u32])
+    requires { ⌜ PartIn 256 (now words) at × Captures 256 (now words) at × EntriesIn 256 (now words) at × (length (now caps) ≡ 256) × (0 < normalAt (now words) at → (startAt (now words) at + normalAt (now words) at ≤ length (now old)) × (startAt (now words) at + normalAt (now words) at ≤ length (now new))) ⌝ }
+    ensures { λ _. ⌜ now (new .exit) ≡ sets (now (new .entry)) (startAt (now (words .entry)) at) (listOf (storedWord 256 (now (words .entry)) at (now (old .entry)) (take (normalAt (now (words .entry)) at) (now (caps .entry)))) (normalAt (now (words .entry)) at)) ⌝ }
+{
+    let mut front = [0u32; 256];
+    copy_front(&mut front, caps, part::normal(words, at));
+    store_words(words, at, &front, old, new);
 }

@@ -19,6 +19,7 @@ pub mod plans;
 pub mod run_checker;
 pub mod run_damage;
 pub mod sets;
+pub mod stored_bits;
 pub mod tally;
 pub mod value_checker;
 

@@ -32,10 +32,19 @@ pub fn m8() -> Plan {
     Plan { blocks: 2, layout, stages: vec![parts.collect()], ..Plan::default() }
 }
 
+/// "M10 now has set0 and inv 1 and data inv 0 throughout" (5/13): its bits are always enabled, and not inverted.
 pub fn m10() -> Plan {
+    m10_with(u32::MAX, u32::MAX, 0)
+}
+
+/// The same with these words in every lane of its enable table.
+pub fn m10_with(set0: u32, inv: u32, data_inv: u32) -> Plan {
     let mut part = plain_part(&[&[128]]);
     part.stages[0].slots[LEVEL_0 + 4096] = 2;
     part.stages[0].slots[4096] = 3;
+    part.tables.enable_set0.fill(set0);
+    part.tables.enable_inv.fill(inv);
+    part.tables.data_inv.fill(data_inv);
     Plan {
         blocks: 1,
         gates: vec![Gate { pin: 3, first: 2, second: 5 }],

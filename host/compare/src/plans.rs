@@ -36,14 +36,25 @@ struct Maker<'a> {
     gates: Vec<Option<(u32, u32)>>,
     /// Gates by the pins of their fan-ins.
     by_fan_ins: HashMap<(u32, u32), Vec<u32>>,
+    /// Whether every slot of level 0 is filled, and half of the words stored that may be, or more.
+    full: bool,
 }
 
 pub fn any(random: &mut Random, size: Size) -> Plan {
+    made(random, size, false)
+}
+
+/// A plan of which a run stores many bits that carry a pin.
+pub fn full(random: &mut Random, size: Size) -> Plan {
+    made(random, size, true)
+}
+
+fn made(random: &mut Random, size: Size, full: bool) -> Plan {
     let majors = random.between(1, size.majors);
     let blocks = random.pick(&[1, 1, 2, 3, 5, 17, 1024]);
     let inputs = if random.chance(3) { random.between(1, size.inputs) } else { random.between(1, 60) };
     let homes = (0..inputs).map(|_| random.pick(&[Home::Layout, Home::Layout, Home::Unstaged])).collect();
-    let mut maker = Maker { random, homes, gates: vec![None; inputs], by_fan_ins: HashMap::new() };
+    let mut maker = Maker { random, homes, gates: vec![None; inputs], by_fan_ins: HashMap::new(), full };
     let mut stages = Vec::new();
     for major in 0..majors {
         let parts = maker.random.between(if major == 0 { 1 } else { 0 }, size.parts);
@@ -94,7 +105,7 @@ impl Maker<'_> {
     /// A stage over these pins. In stage 0 what is read is noted.
     fn stage(&mut self, from: &[u32], read: &mut HashSet<u32>, first: bool) -> Stage {
         let mut stage = Stage::empty();
-        let filled = self.random.pick(&[3, 40, 400, 8192]);
+        let filled = if self.full { 8192 } else { self.random.pick(&[3, 40, 400, 8192]) };
         for index in LEVEL_0..LEVEL_0 + 8192 {
             if !from.is_empty() && self.random.below(8192) < filled {
                 stage.slots[index] = self.random.pick(from);
@@ -158,7 +169,11 @@ impl Maker<'_> {
     fn locations(&mut self, part: &mut Part) {
         let other = model_counts(part).write_outs() as usize;
         let most = 256 - other;
-        let count = self.random.pick(&[0, 1, 2, 7, most]).min(most);
+        let count = if self.full {
+            self.random.between(most / 2, most)
+        } else {
+            self.random.pick(&[0, 1, 2, 7, most]).min(most)
+        };
         for _ in 0..count {
             let stage = self.random.below(part.stages.len());
             part.stages[stage].locations.push(self.random.below(256) as u32);
@@ -242,6 +257,26 @@ pub fn tables(random: &mut Random) -> Tables {
         enable_inv: lanes(),
         enable_set0: lanes(),
         data_inv: lanes(),
+    }
+}
+
+/// Gives every part an enable table of any kind: bits that are taken from captured bits, from past them and from around
+/// their end, cleared and inverted here and there, in some lanes throughout.
+pub fn any_enables(random: &mut Random, plan: &mut Plan) {
+    for part in plan.stages.iter_mut().flatten() {
+        let captured = 32 * model_counts(part).normal as usize;
+        let Tables { enable, enable_inv, enable_set0, data_inv, .. } = &mut part.tables;
+        for entry in enable {
+            *entry = match random.below(8) {
+                0 => random.pick(&[0, captured.saturating_sub(1), captured.min(8191), 8191]),
+                1..=5 if captured > 0 => random.below(captured),
+                _ => random.below(8192),
+            } as u32;
+        }
+        for word in enable_inv.iter_mut().chain(enable_set0).chain(data_inv) {
+            let (one, other) = (random.word(), random.word());
+            *word = random.pick(&[0, u32::MAX, one, one & other, one | other]);
+        }
     }
 }
 

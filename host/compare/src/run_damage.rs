@@ -365,7 +365,7 @@ fn of_harmless() -> Vec<(u32, &'static str, Change)> {
                     for lane in 0..256 {
                         let lane_at = part.sections_at() + SECTION_WORDS * section + 4096 + 4 * lane;
                         case.words[lane_at + 3] = random.word();
-                        if section >= part.stages {
+                        if section == part.stages {
                             case.words[lane_at + random.below(3)] = random.word();
                         }
                     }
@@ -421,25 +421,9 @@ fn of_harmless() -> Vec<(u32, &'static str, Change)> {
             }
             Some(())
         }),
-        (0, "any locations", |random, case, parts| {
-            for part in parts {
-                for index in 0..normal_words(&case.words, part) {
-                    let location = random.below(256 * part.stages) as u32;
-                    set_half(&mut case.words, part.at + 128, index, location);
-                }
-            }
-            Some(())
-        }),
-        (0, "any gates and permutations", |random, case, parts| {
-            for part in parts {
-                for word in part.sections_at()..part.sections_at() + SECTION_WORDS * part.stages {
-                    let in_permutation = (word - part.sections_at()) % SECTION_WORDS < 4096;
-                    let mask = if in_permutation { 0x1FFF_1FFF } else { u32::MAX };
-                    case.words[word] = random.word() & mask;
-                }
-            }
-            Some(())
-        }),
+        (0, "any locations", any_locations),
+        (0, "any gates and permutations", any_gates),
+        (0, "any enables", any_enables),
         (0, "any reads", any_reads),
         (0, "longer states", |random, case, _| {
             let (old, new) = (random.below(50), random.below(50));
@@ -533,6 +517,56 @@ fn any_storing(random: &mut Random, case: &Case, parts: &[PartPlace]) -> Option<
     let storing: Vec<PartPlace> =
         parts.iter().copied().filter(|part| normal_words(&case.words, part) > 0).collect();
     any(random, &storing).copied()
+}
+
+/// Any reads, gates, locations and enables: all that a part does.
+pub fn scrambled(random: &mut Random, case: &mut Case, parts: &[PartPlace]) -> Option<()> {
+    any_reads(random, case, parts)?;
+    any_gates(random, case, parts)?;
+    any_locations(random, case, parts)?;
+    any_enables(random, case, parts)
+}
+
+fn any_locations(random: &mut Random, case: &mut Case, parts: &[PartPlace]) -> Option<()> {
+    for part in parts {
+        for index in 0..normal_words(&case.words, part) {
+            let location = random.below(256 * part.stages) as u32;
+            set_half(&mut case.words, part.at + 128, index, location);
+        }
+    }
+    Some(())
+}
+
+fn any_gates(random: &mut Random, case: &mut Case, parts: &[PartPlace]) -> Option<()> {
+    for part in parts {
+        for section in 0..part.stages {
+            any_section(random, case, part, section);
+        }
+    }
+    Some(())
+}
+
+/// Other enables. Of some parts they are taken from captured words alone.
+pub fn any_enables(random: &mut Random, case: &mut Case, parts: &[PartPlace]) -> Option<()> {
+    for part in parts {
+        any_section(random, case, part, part.stages + 1);
+        let captured = 32 * normal_words(&case.words, part);
+        if captured > 0 && random.chance(2) {
+            let at = part.sections_at() + SECTION_WORDS * (part.stages + 1);
+            for index in 0..8192 {
+                set_half(&mut case.words, at, index, random.below(captured) as u32);
+            }
+        }
+    }
+    Some(())
+}
+
+/// Another permutation, and other words for the lanes.
+fn any_section(random: &mut Random, case: &mut Case, part: &PartPlace, section: usize) {
+    let at = part.sections_at() + SECTION_WORDS * section;
+    for (index, word) in case.words[at..at + SECTION_WORDS].iter_mut().enumerate() {
+        *word = random.word() & if index < 4096 { 0x1FFF_1FFF } else { u32::MAX };
+    }
 }
 
 /// Other reads everywhere: words inside the states, masks of 32 bits in a lane at most.

@@ -3,7 +3,7 @@
 //! An index chip asks the filter before it reads flash. "No" is sure: the key was not put in. "Maybe" is no answer: the
 //! key goes on to flash, which alone says yes.
 //!
-//! The netlist (host/netlists/src/filter.rs) and the model below share the numbers here and nothing else.
+//! The netlists (host/netlists/src/filter.rs) and the model below share the numbers here and nothing else.
 
 use random::Random;
 
@@ -18,6 +18,24 @@ pub const PORTS: usize = 8;
 /// Key bits that each hash bit takes the parity of.
 const TAPS: usize = 7;
 const SEED: u64 = 20_240_801;
+
+/// How a netlist's registers keep their bits: by logic, being enabled at every edge of the clock, or by enables.
+#[derive(Debug, Clone, Copy, PartialEq, Eq)]
+pub enum Holding {
+    Logic,
+    Enable,
+}
+
+impl Holding {
+    pub const ALL: [Holding; 2] = [Holding::Logic, Holding::Enable];
+
+    pub fn name(self) -> &'static str {
+        match self {
+            Holding::Logic => "logic",
+            Holding::Enable => "enable",
+        }
+    }
+}
 
 /// One bit of a hash: the parity of some key bits, and of the AND of two others.
 #[derive(Debug, Clone, Copy)]
@@ -44,6 +62,8 @@ fn hash_bit(random: &mut Random) -> HashBit {
 /// What is put on the ports in one cycle.
 #[derive(Debug, Clone, PartialEq, Eq)]
 pub struct Cycle {
+    /// The clock has an edge at the end of the cycle. Where it has none, nothing is put in or emptied.
+    pub clock: bool,
     /// Empties the filter at the end of the cycle.
     pub clear: bool,
     /// Puts the key of port 0 in at the end of the cycle.
@@ -54,7 +74,7 @@ pub struct Cycle {
 
 impl Cycle {
     pub fn idle() -> Self {
-        Cycle { clear: false, insert: false, ports: [(0, false); PORTS] }
+        Cycle { clock: true, clear: false, insert: false, ports: [(0, false); PORTS] }
     }
 }
 
@@ -95,6 +115,9 @@ impl Filter {
     /// The answers of a cycle, port by port, where a key is looked up; then what the cycle puts in or clears.
     pub fn cycle(&mut self, cycle: &Cycle) -> [Option<Answer>; PORTS] {
         let answers = cycle.ports.map(|(key, looks_up)| looks_up.then(|| self.look_up(key)));
+        if !cycle.clock {
+            return answers;
+        }
         if cycle.insert {
             for register in self.registers(cycle.ports[0].0) {
                 self.set[register] = true;

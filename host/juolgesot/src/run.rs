@@ -7,7 +7,8 @@ use crate::refusal::Refusal;
 pub const BLOCK_ROOM: usize = 1024;
 
 /// Runs one major stage: `starts` are those of its blocks and their end, `turns` names a block for each turn. Bits are
-/// read from the old state, or (staged) from the new one, and stored into the new one. Gives the turns left.
+/// read from the old state, or (staged) from the new one, and stored into the new one: where a bit is enabled, with its
+/// data inversion; where not, as the old state has it. Gives the turns left.
 pub fn run(
     words: &[u32],
     starts: &[u64],

@@ -1,4 +1,4 @@
-//! "The run", and refusals 15 and 16.
+//! "The run", with 5/13's store turn, and refusals 15 and 16.
 
 use crate::record::{below, LANES, SLOTS};
 use crate::script::{part_words, HEAD_WORDS, SECTION_WORDS};
@@ -169,9 +169,7 @@ impl<'a> Block<'a> {
                 }
             }
             Phase::Store => {
-                if part.normal > 0 {
-                    new[part.state_start..part.state_start + part.normal].copy_from_slice(&self.captured);
-                }
+                store(part, &self.captured, old, new);
                 self.part += 1;
                 Phase::Read
             }
@@ -210,13 +208,71 @@ fn evaluate(section: &[u32], before: &[bool]) -> Vec<bool> {
     }
     for position in (1..SLOTS).rev() {
         let (a, b) = below(position);
-        let lane = &section[SLOTS / 2 + 4 * (position / 32)..];
-        let flag = |word: u32| word >> (position % 32) & 1 == 1;
-        let (xora, xorb, orb) = (flag(lane[0]), flag(lane[1]), flag(lane[2]));
+        let flag = |word: usize| lane_bit(section, word, position);
+        let (xora, xorb, orb) = (flag(0), flag(1), flag(2));
         bits[position] = (bits[a] ^ xora) && ((bits[b] ^ xorb) || orb);
     }
     bits.truncate(SLOTS);
     bits
+}
+
+/// Bit `place` of some words, from the first word's bit 0 on.
+fn bit(words: &[u32], place: usize) -> bool {
+    words[place / 32] >> (place % 32) & 1 == 1
+}
+
+/// Bit `place` of one of a section's four words a lane.
+fn lane_bit(section: &[u32], word: usize, place: usize) -> bool {
+    section[SLOTS / 2 + 4 * (place / 32) + word] >> (place % 32) & 1 == 1
+}
+
+/// "Gather 8192 bits from the captured words (0 beyond the normal ones) by the enable permutation, clear where set0 is
+/// 1, then invert where inv is 1."
+fn enables(part: Part<'_>, captured: &[u32]) -> Vec<bool> {
+    let section = part.section(part.stages + 1);
+    let mut enables = Vec::new();
+    for place in 0..SLOTS {
+        let from = entry(section, place);
+        let mut enable = from / 32 < part.normal && bit(captured, from);
+        if lane_bit(section, 1, place) {
+            enable = false;
+        }
+        if lane_bit(section, 0, place) {
+            enable = !enable;
+        }
+        enables.push(enable);
+    }
+    enables
+}
+
+/// The store turn: "Where that gives 1, store the captured bit xor data inv; where 0, store the old state's bit at the
+/// same place."
+fn store(part: Part<'_>, captured: &[u32], old: &[u32], new: &mut [u32]) {
+    let section = part.section(part.stages + 1);
+    let enables = enables(part, captured);
+    for place in 0..32 * part.normal {
+        let at = 32 * part.state_start + place;
+        let stored =
+            if enables[place] { bit(captured, place) ^ lane_bit(section, 2, place) } else { bit(old, at) };
+        let word = &mut new[at / 32];
+        *word = *word & !(1 << (at % 32)) | (stored as u32) << (at % 32);
+    }
+}
+
+/// What a part captures, and its enable bits.
+pub struct Caught {
+    pub words: Vec<u32>,
+    pub enables: Vec<bool>,
+}
+
+/// Of the first part of a block, if its words are in form: what its store turn finds.
+pub fn caught(block: &[u32], old: &[u32], new: &[u32]) -> Option<Caught> {
+    let part = Part::first_of(block, (old.len(), new.len()))?;
+    let mut alone = Block::new(vec![part]);
+    for _ in 1..part.turns() {
+        alone.turn(old, &mut new.to_vec());
+    }
+    Some(Caught { enables: enables(part, &alone.captured), words: alone.captured })
 }
 
 pub struct Ran {

@@ -43,7 +43,7 @@ pub enum Layout {
 }
 
 /// Makes a design's netlist.
-type Make = fn(&mut Builder, &mut Random);
+pub type Make = fn(&mut Builder, &mut Random);
 
 pub const SEED: u64 = 20_240_700;
 
@@ -100,12 +100,17 @@ pub fn forty() -> Vec<Design> {
 /// Three of the forty that differ in the words of their scripts: as few as any (18,176), the middle (184,576), and more
 /// than all but one (854,784).
 pub fn small_mid_and_large() -> Vec<Design> {
+    named(&["counter of 8", "Bloom filter of 64", "multiplier of 12"])
+}
+
+/// Some of the forty, by their names.
+pub fn named(names: &[&str]) -> Vec<Design> {
     let mut forty = forty();
-    let mut take = |name: &str| {
-        let place = forty.iter().position(|design| design.name == name).expect("one of the forty");
+    let mut take = |name: &&str| {
+        let place = forty.iter().position(|design| design.name == *name).expect("one of the forty");
         forty.swap_remove(place)
     };
-    ["counter of 8", "Bloom filter of 64", "multiplier of 12"].iter().map(|name| take(name)).collect()
+    names.iter().map(|name| take(name)).collect()
 }
 
 /// Designs whose staged pins come to lie in duplicate words.
@@ -131,7 +136,7 @@ const MANY_SPLITS: [usize; 63] = {
     splits
 };
 
-fn made(list: Vec<(&str, Make, &[usize], Clusters, usize, Layout)>, first_seed: u64) -> Vec<Design> {
+pub fn made(list: Vec<(&str, Make, &[usize], Clusters, usize, Layout)>, first_seed: u64) -> Vec<Design> {
     list.into_iter()
         .zip(first_seed..)
         .map(|((name, make, splits, clusters, blocks, layout), seed)| {

@@ -2,6 +2,7 @@
 
 pub mod circuits;
 pub mod designs;
+pub mod enabled;
 pub mod filter;
 
 use netlistdb::{Direction, HierName, NetlistDB, VecCSR};

@@ -20,6 +20,15 @@ pub struct OracleTables {
     pub staged_duplicates: usize,
 }
 
+/// Where the bits of a part lie, as `make_inputs_outputs` placed them.
+pub struct OraclePlaces {
+    pub state_start: u32,
+    pub normal_words: u32,
+    /// For each endpoint of the part, the place of its bit in the part's state. An SRAM has none, nor has a register
+    /// of 0.
+    pub endpoints: Vec<Option<u16>>,
+}
+
 /// State start and SRAM start of each part of a major stage, as the heads of the parts in the script have them.
 fn oracle_starts(script: &FlattenedScriptV1, stage: usize, parts: usize) -> Vec<(u32, u32)> {
     let mut starts = vec![(0, 0); parts];
@@ -34,16 +43,29 @@ fn oracle_starts(script: &FlattenedScriptV1, stage: usize, parts: usize) -> Vec<
     starts
 }
 
-/// What `make_inputs_outputs` makes: positions (registers and SRAM outputs; staged pins) and each part's tables.
+/// The place of an endpoint's activation.
+fn oracle_place(flattening: &FlatteningPart, endpoint: EndpointGroup) -> Option<u16> {
+    let (pin, key) = match endpoint {
+        EndpointGroup::RAMBlock(_) => return None,
+        EndpointGroup::DFF(dff) if dff.d_iv == 0 => return None,
+        EndpointGroup::DFF(dff) => (dff.d_iv >> 1, dff.en_iv << 1 | (dff.d_iv & 1)),
+        EndpointGroup::PrimaryOutput(idx) => (idx >> 1, 2 | (idx & 1)),
+        EndpointGroup::StagedIOPin(idx) => (idx, 2),
+    };
+    *flattening.comb_outputs_activations.get(&pin).unwrap().get(&key).unwrap()
+}
+
+/// What `make_inputs_outputs` makes: positions (registers and SRAM outputs; staged pins), each part's tables and places.
 /// It is asked again for each part in turn, the part's starts being read from the script that GEM made.
 pub fn oracle_inputs_outputs(
     aig: &AIG, stageds: &[&StagedAIG],
     parts_in_stages: &[&[Partition]],
     script: &FlattenedScriptV1
-) -> (IndexMap<usize, u32>, IndexMap<usize, u32>, Vec<OracleTables>) {
+) -> (IndexMap<usize, u32>, IndexMap<usize, u32>, Vec<OracleTables>, Vec<OraclePlaces>) {
     let mut input_map = IndexMap::new();
     let mut staged_io_map = IndexMap::new();
     let mut tables = Vec::new();
+    let mut places = Vec::new();
     for (stage, (parts, staged)) in parts_in_stages.iter().zip(stageds).enumerate() {
         let starts = oracle_starts(script, stage, parts.len());
         for (part, &(state_start, sram_start)) in parts.iter().zip(&starts) {
@@ -61,6 +83,13 @@ pub fn oracle_inputs_outputs(
                     _ => false
                 }
             }).count();
+            places.push(OraclePlaces {
+                state_start,
+                normal_words: flattening.num_normal_writeouts,
+                endpoints: part.endpoints.iter().map(|&endpoint| {
+                    oracle_place(&flattening, staged.get_endpoint_group(aig, endpoint))
+                }).collect()
+            });
             tables.push(OracleTables {
                 sram: flattening.sram_duplicate_permute,
                 sram_inv: flattening.sram_duplicate_inv,
@@ -73,5 +102,5 @@ pub fn oracle_inputs_outputs(
             });
         }
     }
-    (input_map, staged_io_map, tables)
+    (input_map, staged_io_map, tables, places)
 }

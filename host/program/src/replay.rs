@@ -4,42 +4,55 @@ use crate::files;
 use crate::progress::{while_working, Progress};
 use crate::{Failure, Outcome};
 use ::replay::{traffic, Counts, Netlist, Replay, TRAFFIC};
-use filter::Cycle;
+use filter::{Cycle, Holding};
+use juolgesot::Script;
 
 pub const HELP: &str = "
-usage: juolgesot replay [--traffic FILE] [--plan FILE --ports FILE] [--script FILE] [--lookups N]
+usage: juolgesot replay [--filter logic|enable] [--traffic FILE] [--lookups N]
+       juolgesot replay [--plan FILE --ports FILE] [--script FILE] [--traffic FILE] [--lookups N]
 
 Builds the script of a Bloom filter (128 registers, 3 hashes, 8 look-up ports) and replays traffic through the run,
 cycle by cycle. Each answer of the gates, and each register, is held to a plain software model of the filter. A no must
 be sure: flash does not hold the key. A maybe goes on to flash, which alone says yes. Prints the counts; fails on the
 first difference with the cycle and the pin.
 
+Two filters come with it, and both are replayed: in one the registers hold their bits by logic, in the other by
+enables, and half of them are stored inverted. Each insert and clear is put on the ports without an edge of the clock
+first: all registers must hold. Fails where no register was seen to hold, or no inverted one to be stored, though a
+clear emptied the filter.
+
+--filter   only the one that holds by logic, or by enables
 --traffic  lines `insert KEY [COUNT [STEP]]`, `lookup KEY [COUNT [STEP]]`, `clear` (host/replay/src/traffic.rs);
            default: the traffic that comes with it, 102,707 look-ups
---plan     a plan record in the place of the one that comes with it, --ports where its ports are
---script   a script of that plan that is built already (`juolgesot build`, or GEM's by make_filter)
+--plan     a plan record in the place of those that come with it, --ports where its ports are
+--script   a script of that plan, or of --filter's, that is built already (`juolgesot build`, or GEM's by make_filter)
 --lookups  stop after so many
 ";
 
 pub fn call(words: &[String]) -> Outcome {
-    let words = crate::Words::read(words, &["--traffic", "--plan", "--ports", "--script", "--lookups"])?;
+    let options = ["--filter", "--traffic", "--plan", "--ports", "--script", "--lookups"];
+    let words = crate::Words::read(words, &options)?;
     if !words.plain.is_empty() {
         return Err(Failure::Usage(format!("what is '{}'?", words.plain[0])));
     }
-    let netlist = netlist(&words)?;
+    let netlists = netlists(&words)?;
     let cycles = cycles(&words)?;
-    let script = match words.option("--script") {
-        Some(path) => files::script(path)?.1,
-        None => while_working("building", || juolgesot::build(&netlist.record))?,
-    };
-    println!("filter: a script of {} words, {} state words", script.words.len(), script.state_words);
-    let mut replay = Replay::new(&netlist, script).map_err(Failure::Failed)?;
+    for (name, netlist) in &netlists {
+        replay(name, netlist, script(&words, netlist)?, &cycles)?;
+    }
+    Ok(())
+}
+
+fn replay(name: &str, netlist: &Netlist, script: Script, cycles: &[Cycle]) -> Outcome {
+    println!("{}: a script of {} words, {} state words", name, script.words.len(), script.state_words);
+    let mut replay = Replay::new(netlist, script).map_err(Failure::Failed)?;
     let mut progress = Progress::of("cycles");
     for (number, cycle) in cycles.iter().enumerate() {
-        replay.cycle(cycle).map_err(|what| Failure::Failed(format!("DIFFERENCE: {}", what)))?;
+        replay.cycle(cycle).map_err(|what| Failure::Failed(format!("DIFFERENCE: {}: {}", name, what)))?;
         progress.tell(number as u64 + 1, cycles.len() as u64);
     }
     print(&replay.counts);
+    replay.finish().map_err(|what| Failure::Failed(format!("{}: {}", name, what)))?;
     println!("no difference from the software model in any answer or register, {:.1} s", progress.seconds());
     Ok(())
 }
@@ -48,12 +61,45 @@ fn text(path: &str) -> Result<String, Failure> {
     files::read(path).map(|bytes| String::from_utf8_lossy(&bytes).into_owned())
 }
 
-fn netlist(words: &crate::Words) -> Result<Netlist, Failure> {
-    match (words.option("--plan"), words.option("--ports")) {
-        (None, None) => Ok(Netlist::stored()),
-        (Some(plan), Some(ports)) => Ok(Netlist { record: files::read(plan)?, ports: text(ports)? }),
+/// The filters that are asked for, with what they are called.
+fn netlists(words: &crate::Words) -> Result<Vec<(String, Netlist)>, Failure> {
+    let stored =
+        |holding: Holding| (format!("filter that holds by {}", holding.name()), Netlist::stored(holding));
+    match (words.option("--filter"), words.option("--plan"), words.option("--ports")) {
+        (None, None, None) if words.option("--script").is_some() => {
+            Err(Failure::Usage("--script is of one plan: --filter or --plan says which".to_string()))
+        }
+        (None, None, None) => Ok(Holding::ALL.map(stored).into()),
+        (Some(name), None, None) => match Holding::ALL.iter().find(|holding| holding.name() == name) {
+            Some(&holding) => Ok(vec![stored(holding)]),
+            None => Err(Failure::Usage(format!("--filter is logic or enable, not {}", name))),
+        },
+        (None, Some(plan), Some(ports)) => {
+            let netlist = Netlist { record: files::read(plan)?, ports: text(ports)? };
+            Ok(vec![(format!("filter of {}", plan), netlist)])
+        }
+        (Some(_), ..) => Err(Failure::Usage("--filter, or --plan and --ports, not both".to_string())),
         _ => Err(Failure::Usage("--plan and --ports belong together".to_string())),
     }
+}
+
+/// The script of a netlist's plan: built, or read from a file that is of that plan by its numbers.
+fn script(words: &crate::Words, netlist: &Netlist) -> Result<Script, Failure> {
+    let path = match words.option("--script") {
+        None => return Ok(while_working("building", || juolgesot::build(&netlist.record))?),
+        Some(path) => path,
+    };
+    let (blocks, script) = files::script(path)?;
+    let sizes = juolgesot::plan_sizes(&netlist.record)?;
+    let of_plan = [netlist.blocks() as u64, sizes.starts as u64, sizes.words as u64, sizes.state_words];
+    let of_script = [blocks, script.starts.len() as u64, script.words.len() as u64, script.state_words];
+    if of_plan != of_script {
+        return Err(Failure::Failed(format!(
+            "{} is no script of this plan: blocks, starts, words and state words are {:?}, and {:?} by the plan",
+            path, of_script, of_plan
+        )));
+    }
+    Ok(script)
 }
 
 /// The cycles of the traffic, up to the last look-up that is asked for.
@@ -75,7 +121,10 @@ fn cycles(words: &crate::Words) -> Result<Vec<Cycle>, Failure> {
 }
 
 fn print(counts: &Counts) {
-    println!("cycles       {:8}", counts.cycles);
+    println!(
+        "cycles       {:8}   {} of them without an edge of the clock",
+        counts.cycles, counts.without_edge
+    );
     println!("inserted     {:8}", counts.inserts);
     println!("looked up    {:8}", counts.looked_up);
     println!("no           {:8}   none of them is in flash", counts.no);
@@ -87,4 +136,9 @@ fn print(counts: &Counts) {
         "false maybe  {:8}   flash did not hold the key ({} found)",
         counts.false_maybe, counts.found_in_flash
     );
+    println!(
+        "held         {:8}   bits of registers that were not enabled, while their data differed",
+        counts.held
+    );
+    println!("inverted     {:8}   bits of registers that were stored inverted", counts.inverted);
 }

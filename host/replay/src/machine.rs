@@ -35,16 +35,24 @@ impl std::fmt::Display for Trouble {
 }
 
 impl Machine {
-    /// All bits are 0 at the start. `blocks` is the plan's number of blocks.
-    pub fn new(script: Script, blocks: usize) -> Self {
-        let stages = (script.starts.len() - 1) / blocks;
+    /// All bits are 0 at the start. `blocks` and `stages` are the plan's numbers of blocks and major stages.
+    pub fn new(script: Script, blocks: usize, stages: usize) -> Result<Self, String> {
+        if blocks == 0 || stages == 0 || blocks.checked_mul(stages) != script.starts.len().checked_sub(1) {
+            return Err(format!(
+                "a script of {} starts is none of {} blocks in {} major stages",
+                script.starts.len(),
+                blocks,
+                stages
+            ));
+        }
         let turns = (0..stages)
             .map(|stage| {
                 finishing_turns(&script.words, &script.starts[stage * blocks..(stage + 1) * blocks + 1])
             })
             .collect();
         let state = vec![0; script.state_words as usize];
-        Machine { blocks, turns, old: state.clone(), new: state, room: vec![0; BLOCK_ROOM * blocks], script }
+        let room = vec![0; BLOCK_ROOM * blocks];
+        Ok(Machine { blocks, turns, old: state.clone(), new: state, room, script })
     }
 
     /// The state that the next cycle reads.

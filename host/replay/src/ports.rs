@@ -12,10 +12,18 @@ pub struct Place {
 }
 
 impl Place {
-    /// A run stores a pin's value as it is.
+    /// The stored bit as it stands: a run has applied the inversion.
     pub fn get(self, state: &[u32]) -> bool {
-        self.pin.of_value(self.position.get(state))
+        self.position.get(state)
     }
+}
+
+/// A register: its output, and what the gates give it.
+#[derive(Debug, Clone, Copy)]
+pub struct Register {
+    pub output: Place,
+    pub data: InvertedPin,
+    pub enable: InvertedPin,
 }
 
 struct PortPlaces {
@@ -29,25 +37,39 @@ pub struct Ports {
     clear: Place,
     insert: Place,
     ports: Vec<PortPlaces>,
-    registers: Vec<Place>,
+    registers: Vec<Register>,
+}
+
+/// The numbers of a line: two of a port, four of a register.
+struct Line {
+    place: Place,
+    more: Option<(InvertedPin, InvertedPin)>,
 }
 
 impl Ports {
-    /// Reads lines `NAME: PIN POSITION`; `#` begins a comment.
+    /// Reads lines `NAME: PIN POSITION`, or `NAME: PIN POSITION DATA ENABLE` for a register; `#` begins a comment.
     pub fn read(text: &str, state_words: usize) -> Result<Self, String> {
-        let mut places = HashMap::new();
+        let mut lines = HashMap::new();
         for (number, line) in text.lines().enumerate() {
             let line = line.split('#').next().unwrap_or("").trim();
             if !line.is_empty() {
-                let (name, place) =
-                    place(line).ok_or_else(|| format!("line {}: not NAME: PIN POSITION", number + 1))?;
-                if place.position.word() >= state_words {
-                    return Err(format!("line {}: {} is outside the state", number + 1, place.position));
+                let (name, line) = read_line(line)
+                    .ok_or_else(|| format!("line {}: not NAME: PIN POSITION [DATA ENABLE]", number + 1))?;
+                let position = line.place.position;
+                if position.word() >= state_words {
+                    return Err(format!("line {}: {} is outside the state", number + 1, position));
                 }
-                places.insert(name.to_string(), place);
+                lines.insert(name.to_string(), line);
             }
         }
-        let find = |name: String| places.get(&name).copied().ok_or(format!("the ports have no '{}'", name));
+        let line = |name: &str| lines.get(name).ok_or(format!("the ports have no '{}'", name));
+        let find = |name: String| line(&name).map(|line| line.place);
+        let register = |number: usize| {
+            let name = format!("register {}", number);
+            let Line { place: output, more } = *line(&name)?;
+            let (data, enable) = more.ok_or(format!("'{}' has no data and enable", name))?;
+            Ok(Register { output, data, enable })
+        };
         let port = |port: usize| {
             Ok(PortPlaces {
                 look: find(format!("in look {}", port))?,
@@ -62,15 +84,13 @@ impl Ports {
             clear: find("in clear".to_string())?,
             insert: find("in insert".to_string())?,
             ports: (0..PORTS).map(port).collect::<Result<_, String>>()?,
-            registers: (0..REGISTERS)
-                .map(|register| find(format!("register {}", register)))
-                .collect::<Result<_, _>>()?,
+            registers: (0..REGISTERS).map(register).collect::<Result<_, String>>()?,
         })
     }
 
     /// Puts a cycle's inputs into the state that the cycle reads.
     pub fn put(&self, cycle: &Cycle, state: &mut [u32]) {
-        self.clock.position.set(state, true);
+        self.clock.position.set(state, cycle.clock);
         self.clear.position.set(state, cycle.clear);
         self.insert.position.set(state, cycle.insert);
         for (places, (key, looks_up)) in self.ports.iter().zip(cycle.ports) {
@@ -86,17 +106,22 @@ impl Ports {
         self.ports[port].maybe
     }
 
-    pub fn registers(&self) -> &[Place] {
+    pub fn registers(&self) -> &[Register] {
         &self.registers
     }
 }
 
-fn place(line: &str) -> Option<(&str, Place)> {
+fn read_line(line: &str) -> Option<(&str, Line)> {
     let (name, numbers) = line.split_once(':')?;
-    let mut numbers = numbers.split_whitespace().map(|number| number.parse().ok());
-    let (pin, position) = (numbers.next()??, numbers.next()??);
-    match numbers.next() {
-        None => Some((name.trim(), Place { pin: InvertedPin(pin), position: StatePosition(position) })),
-        Some(_) => None,
-    }
+    let numbers: Vec<u32> =
+        numbers.split_whitespace().map(|word| word.parse().ok()).collect::<Option<_>>()?;
+    let (pin, position, more) = match numbers[..] {
+        [pin, position] => (pin, position, None),
+        [pin, position, data, enable] => (pin, position, Some((InvertedPin(data), InvertedPin(enable)))),
+        _ => return None,
+    };
+    Some((
+        name.trim(),
+        Line { place: Place { pin: InvertedPin(pin), position: StatePosition(position) }, more },
+    ))
 }

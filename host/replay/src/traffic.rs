@@ -66,7 +66,8 @@ fn number(word: &str) -> Option<u32> {
 }
 
 /// The cycles that do these events in their order. Look-ups share a cycle, up to one a port; a cycle's insert or clear
-/// comes after its look-ups, and an insert takes port 0.
+/// comes after its look-ups, and an insert takes port 0. Before each insert and clear the same is put on the ports
+/// without an edge of the clock: nothing may come of it.
 pub fn cycles(events: &[Event]) -> Vec<Cycle> {
     let mut cycles = Vec::new();
     let mut waiting = Vec::new();
@@ -80,12 +81,12 @@ pub fn cycles(events: &[Event]) -> Vec<Cycle> {
                 let mut cycle = look_ups(&mut waiting, 1);
                 cycle.insert = true;
                 cycle.ports[0].0 = key;
-                cycles.push(cycle);
+                cycles.extend([without_edge(&cycle), cycle]);
             }
             Event::Clear => {
                 let mut cycle = look_ups(&mut waiting, 0);
                 cycle.clear = true;
-                cycles.push(cycle);
+                cycles.extend([without_edge(&cycle), cycle]);
             }
         }
         if waiting.len() == PORTS {
@@ -96,6 +97,11 @@ pub fn cycles(events: &[Event]) -> Vec<Cycle> {
         cycles.push(look_ups(&mut waiting, 0));
     }
     cycles
+}
+
+/// The same insert or clear with no edge, and nothing looked up.
+fn without_edge(cycle: &Cycle) -> Cycle {
+    Cycle { clock: false, ports: cycle.ports.map(|(key, _)| (key, false)), ..cycle.clone() }
 }
 
 /// A cycle of the waiting look-ups, from a port on.

@@ -37,7 +37,7 @@ gather-requires c κs =
     let W = start .args .words .now in
     let from = known .section .result in
     let p = cut W from (from + 4096) _ 4096 (known .section .ensures .0) refl (omega arith) in
-    (omega arith, omega (arith, p .long), omega arith, entries-cut 256 W _ _ _ p (start .pre .1) (start .pre .2))
+    (omega arith, omega (arith, p .long), omega arith, entries-cut 256 W _ _ _ p (omega (arith, start .pre .1)) (start .pre .2))
 
 mul-levels : tie.Need-mul-levels
 mul-levels c = search needs
@@ -74,7 +74,7 @@ returns c =
     let at : from ≡ sectionAt 256 W (start .args .at) (start .args .k) = known .section .ensures .0 in
     let p = cut W from (from + 4096) _ 4096 at refl (omega arith) in
     let t = cut W (from + 4096) (from + 5120) (sectionAt 256 W (start .args .at) (start .args .k) + 4096) 1024 (ap (λ (x : ℕ). x + 4096) at) (omega arith) (omega arith) in
-    stage-end 256 W (start .args .at) (start .args .k) 8 refl _ _ (start .args .l .now) _ _ p t (entries-cut 256 W _ _ _ p (start .pre .1) (start .pre .2)) (start .pre .3)
+    stage-end 256 W (start .args .at) (start .args .k) 8 refl _ _ (start .args .l .now) _ _ p t (entries-cut 256 W _ _ _ p (omega (arith, start .pre .1)) (start .pre .2)) (start .pre .3)
     (gathered .gather .ensures) (staged .levels .ensures 8 refl) (λ i. c .slice-known3 .given i .fits)
 
 pub stage-turn-spec : {M : Type 1} → statement M

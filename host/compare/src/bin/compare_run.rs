@@ -1,16 +1,16 @@
-//! Compares the library's run with the model's, and the model's with the values of the gates.
+//! Compares the library's run with the model's, and the model's with the values of the gates and the enables.
 //!
 //! compare_run [PLANS] [SEED]    PLANS is what make_plans wrote; stops at the first difference
 
 use compare::came::Came;
 use compare::comparison::Comparison;
-use compare::marked::m10;
+use compare::marked::{m10, m10_with};
 use compare::plans::{self, Size};
 use compare::run_checker::RunChecker;
 use compare::run_damage::{self, all_turns, case_of, parts, state, Case, PartPlace};
+use compare::stored_bits::{self, StoredBits};
 use model::build::{accept, Accepted};
-use model::record::{self, EMPTY};
-use model::value::Values;
+use model::record;
 use plan::stored;
 use random::Random;
 
@@ -28,6 +28,7 @@ fn main() {
     }
     marked(&mut checker);
     random_scripts(&mut checker, random);
+    scrambled_scripts(&mut checker, random);
     damaged_scripts(&mut checker, random);
     short_rooms(&mut checker, random);
 
@@ -38,24 +39,24 @@ fn main() {
 /// The scripts that GEM made.
 fn netlists(checker: &mut RunChecker, random: &mut Random, path: &str) {
     let cases = stored::read(&std::fs::read(path).expect("the plans can be read"));
-    let mut bits = 0;
+    let mut seen = StoredBits::default();
     for case in cases.iter().filter(|case| !case.staged_duplicate) {
         let held = record::words(&case.record);
         let accepted = accept(case.record.len(), &held).expect("a plan in order");
-        bits += full_run(checker, random, "netlists through GEM", &accepted, &case.script.words);
+        seen += full_run(checker, random, "netlists through GEM", &accepted, &case.script.words);
     }
-    println!("netlists: every stored bit has its pin's value by the gates ({} bits)", bits);
+    seen.print("netlists");
 }
 
 /// Runs a script's major stages one after another, each to its end and before that in other orders and with other
-/// turns; then holds every stored bit to the value of its pin by the gates. Gives the number of bits.
+/// turns; then holds what they stored to the gates and the enables. Gives the number of bits.
 fn full_run(
     checker: &mut RunChecker,
     random: &mut Random,
     kind: &str,
     plan: &Accepted<'_>,
     words: &[u32],
-) -> u64 {
+) -> StoredBits {
     let starts = plan.starts();
     let state_words = plan.sizes().state_words as usize;
     let old = state(random, state_words);
@@ -83,63 +84,76 @@ fn full_run(
         }
         words = case.words;
     }
-    stored_bits(plan, &old, &new)
+    stored_bits::check(plan, &words, &old, &new)
 }
 
-fn stored_bits(plan: &Accepted<'_>, old: &[u32], new: &[u32]) -> u64 {
-    let mut bits = 0;
-    for (number, part) in plan.plan.parts.iter().enumerate() {
-        let mut values = Values::of(part, &plan.gates, &plan.found, old, new);
-        let mut word = plan.blocks.state_starts[number] as usize;
-        for stage in &part.stages {
-            for &location in stage.locations {
-                for bit in 0..32 {
-                    let position = 32 * location as usize + bit;
-                    let pin = if position == 0 { EMPTY } else { stage.at(position) };
-                    if pin != EMPTY {
-                        let held = new[word] >> bit & 1 == 1;
-                        assert_eq!(held, values.value(pin), "part {}, word {}, bit {}", number, word, bit);
-                        bits += 1;
-                    }
-                }
-                word += 1;
-            }
-        }
-    }
-    bits
-}
-
-/// M10: old word 1 stores 1, old word 3 stores 0xFFFFFFFE.
+/// M10: old word 1 stores 1, old word 3 stores 0xFFFFFFFE. With other enables it holds, or stores the inverse.
 fn marked(checker: &mut RunChecker) {
-    let plan = m10();
-    for (old, stored) in [(1, 1), (3, 0xFFFF_FFFE)] {
-        let mut case = case_of(&mut Random::new(1), &plan).expect("M10 is in order");
-        case.old[0] = old;
-        let ran = checker.check("M10", &case, 0, true).expect("M10 is in form");
-        assert_eq!((ran.new[1], ran.turns_left), (stored, 0), "M10");
+    const HELD: u32 = 0x1234_5678;
+    let never = m10_with(u32::MAX, 0, 0);
+    let inverted = m10_with(u32::MAX, u32::MAX, u32::MAX);
+    // Entries are 0: every bit is enabled by captured bit 0, that of gate 3.
+    let by_gate = m10_with(0, 0, 0);
+    let unless_gate = m10_with(0, u32::MAX, 0);
+    for (name, plan, stored) in [
+        ("M10", m10(), [1, 0xFFFF_FFFE]),
+        ("M10, never enabled", never, [HELD, HELD]),
+        ("M10, inverted", inverted, [0xFFFF_FFFE, 1]),
+        ("M10, enabled by its gate", by_gate, [1, HELD]),
+        ("M10, enabled but by its gate", unless_gate, [HELD, 0xFFFF_FFFE]),
+    ] {
+        for (old, stored) in [1, 3].into_iter().zip(stored) {
+            let mut case = case_of(&mut Random::new(1), &plan).expect("M10 is in order");
+            case.old = vec![old, HELD];
+            let ran = checker.check(name, &case, 0, true).expect("M10 is in form");
+            assert_eq!((ran.new[1], ran.turns_left), (stored, 0), "{}", name);
+        }
     }
 }
 
 const SMALL: Size = Size { majors: 2, parts: 3, stages: 3, inputs: 9000, wide: false };
+/// Stored bits of random plans that carry a pin, at least, and those of each kind.
+const STORED_BITS: u64 = 1_000_000;
+const BITS_OF_A_KIND: u64 = 20_000;
+/// Random plans, at most.
+const MOST_PLANS: usize = 1000;
 
+/// Placements and enables of every kind.
 fn random_scripts(checker: &mut RunChecker, random: &mut Random) {
-    let mut bits = 0;
-    for _ in 0..40 {
-        let plan = plans::any(random, SMALL);
+    let mut seen = StoredBits::default();
+    for index in 0..MOST_PLANS {
+        if index >= 40 && seen.carried >= STORED_BITS {
+            break;
+        }
+        let mut plan = if index % 4 == 0 { plans::any(random, SMALL) } else { plans::full(random, SMALL) };
+        plans::any_enables(random, &mut plan);
         let record = plan.record();
         let held = record::words(&record);
         if let Ok(accepted) = accept(record.len(), &held) {
             let words = accepted.words();
-            bits += full_run(checker, random, "random placements", &accepted, &words);
+            seen += full_run(checker, random, "random placements and enables", &accepted, &words);
         }
     }
-    println!("random plans: every stored bit has its pin's value by the gates ({} bits)", bits);
+    seen.print("random plans");
+    assert!(seen.carried >= STORED_BITS, "too few stored bits: {:?}", seen);
+    seen.assert_each(BITS_OF_A_KIND);
+}
+
+/// Scripts that no plan made: any reads, gates, locations and enables.
+fn scrambled_scripts(checker: &mut RunChecker, random: &mut Random) {
+    for _ in 0..60 {
+        let (mut case, places) = small_case(random);
+        if run_damage::scrambled(random, &mut case, &places).is_some() {
+            checker.check("random scripts of no plan", &case, 0, true).expect("the script is in form");
+        }
+    }
 }
 
 /// A script of a block of several parts, one of one part, and an empty one, some of them with several rounds.
 fn small_case(random: &mut Random) -> (Case, Vec<PartPlace>) {
     loop {
         let mut plan = plans::any(random, Size { majors: 1, parts: 5, stages: 3, inputs: 9000, wide: false });
+        plans::any_enables(random, &mut plan);
         plan.blocks = random.between(1, plan.stages[0].len() + 2) as u32;
         if let Some(case) = case_of(random, &plan) {
             let places = parts(&case.words, &case.starts);

@@ -204,11 +204,16 @@ impl Fuzz {
         let random = &mut self.random;
         let mut case = self.scripts.next(|| loop {
             let size = Size { majors: 1, parts: 3, stages: 2, inputs: 3000, wide: false };
-            let plan = plans::any(random, size);
+            let mut plan = plans::any(random, size);
+            plans::any_enables(random, &mut plan);
             if let Some(case) = run_damage::case_of(random, &plan) {
                 return case;
             }
         });
+        if random.chance(2) {
+            let places = run_damage::parts(&case.words, &case.starts);
+            let _ = run_damage::any_enables(random, &mut case, &places);
+        }
         match random.below(6) {
             0 => damage_words(random, &mut case.words),
             1 => {

@@ -40,17 +40,19 @@ fn netlists() -> Vec<Input> {
 /// Different pins that the part reads, at least.
 const PINS_READ: usize = 500;
 
-/// A random plan of one part of two stages, every slot of its first one filled, on two blocks.
+/// A random plan of one part of two stages, on two blocks: every slot of its first stage is filled, and it stores many
+/// words, under enables of every kind.
 fn one_part(random: &mut Random) -> Plan {
-    let is_full = |part: &Part| {
+    let reads_many = |part: &Part| {
         let read: HashSet<u32> = part.stages[0].slots[LEVEL_0..].iter().copied().collect();
         part.stages.len() == 2 && read.len() >= PINS_READ && !read.contains(&EMPTY)
     };
     loop {
         let size = Size { majors: 1, parts: 1, stages: 2, inputs: 3000, wide: false };
-        let mut plan = plans::any(random, size);
+        let mut plan = plans::full(random, size);
+        plans::any_enables(random, &mut plan);
         plan.blocks = 2;
-        if is_full(&plan.stages[0][0]) && Expected::of(&plan.record()).answer.is_ok() {
+        if reads_many(&plan.stages[0][0]) && Expected::of(&plan.record()).answer.is_ok() {
             return plan;
         }
     }

@@ -1,95 +1,65 @@
--- `turns::store::store` meets its contract. The invariant: l words are stored.
+-- `turns::store::store` meets its contract: the words are stored from the captured ones with zeros behind them.
 -- Assumes nothing.
-use mathlib.Core.Path.{_≡_, refl}
-use Prim.Native.Nat.{_-_, _≤_}
+use mathlib.Core.Path.{_≡_, ap, _∙_}
+use mathlib.Core.List.{List}
+use Prim.Native.Nat.{ℕ, _≤_}
 use borrow.Author.Needs.{needs}
 use native.Mathlib.Omega.{arith}
-use lib.ListN.{length, getD, length-set}
+use lib.ListN.{length, getD, replicate}
 use lib.Seq.{sets}
 use Rattle.words.specs.Section.{listOf}
 use Rattle.machine.specs.Part.{startAt, normalAt}
-use Rattle.turns.proofs.SetsLaws.{stored-more, take-is}
+use Rattle.turns.proofs.StoreLaws.{padded-length, stored-padded}
 use Rattle.turns.proofs.store.store.Statement.{statement}
 use Rattle.turns.proofs.store.store.Tie as tie
 
-abbrev Inv-loop : tie.InvT-loop
-Inv-loop words at caps new₀ start l₀ l-end new l =
-    (l ≤ l-end) × (l-end ≡ normalAt words at) × (start ≡ startAt words at) × (length new ≡ length new₀) × (new ≡ sets new₀ start (listOf (λ i. getD caps i 0) l))
+slice-aggregate-copy-front : tie.Need-slice-aggregate-copy-front
+slice-aggregate-copy-front c = search needs
 
-abbrev μ-loop : tie.MeasureT-loop
-μ-loop words at caps new₀ start l₀ l-end new l = l-end - l
-
-start-requires : tie.Need-start-requires Inv-loop μ-loop
-start-requires c κs = search needs
-
-normal-requires : tie.Need-normal-requires Inv-loop μ-loop
+normal-requires : tie.Need-normal-requires
 normal-requires c κs = search needs
 
-loop-holds : tie.Need-loop-holds Inv-loop μ-loop
-unfolding listOf
-loop-holds c = (omega arith, c .normal .ensures, c .before .start .ensures, refl, refl)
+copy-front-requires : tie.Need-copy-front-requires
+copy-front-requires c κs = search needs
 
-mul-new : tie.Need-mul-new Inv-loop μ-loop
-mul-new c = search needs
+slice-aggregate-store-words : tie.Need-slice-aggregate-store-words
+slice-aggregate-store-words c = search needs
 
-shared-slice-read-new : tie.Need-shared-slice-read-new Inv-loop μ-loop
-shared-slice-read-new c = search needs
+store-words-requires : tie.Need-store-words-requires
+store-words-requires c κs =
+    let start = c .before .before .before .before .before .before .before .before .before .before in (
+      record {
+        part = start .pre .0;
+        captures = start .pre .1;
+        entries = start .pre .2;
+        room = padded-length _ (listOf (λ i. getD (start .args .caps .now) i 0) (c .before .before .before .before .normal .result)) (c .before .before .before .copy-front .ensures);
+        held = λ any. start .pre .4 any .0;
+      },
+      λ any. start .pre .4 any .1,
+    )
 
-add-new : tie.Need-add-new Inv-loop μ-loop
-add-new c =
-    let start = c .before .before .before .before .before .before .before .before in
-    let inside = start .pre .3 (omega arith) in
-    omega arith
+same-length : tie.Need-same-length
+same-length c = search needs
 
-mul-new-2 : tie.Need-mul-new-2 Inv-loop μ-loop
-mul-new-2 c =
-    let start = c .before .before .before .before .before .before .before .before in
-    let inside = start .pre .3 (omega arith) in
-    omega arith
-
-slice-write-new : tie.Need-slice-write-new Inv-loop μ-loop
-slice-write-new c =
-    let start = c .before .before .before .before .before .before .before .before in
-    let inside = start .pre .3 (omega arith) in
-    omega arith
-
-add-l : tie.Need-add-l Inv-loop μ-loop
-add-l c = search needs
-
-loop-less : tie.Need-loop-less Inv-loop μ-loop
-loop-less c = search needs
-
-loop-again : tie.Need-loop-again Inv-loop μ-loop
-loop-again c =
-    let l = c .before .before .loop in
-    (omega arith, l .inv .1, l .inv .2, simp length-set (l .inv .3), stored-more _ _ _ _ _ (l .inv .4))
-
-same-length : tie.Need-same-length Inv-loop μ-loop
-same-length c = c .before .loop .inv .3
-
-returns : tie.Need-returns Inv-loop μ-loop
+returns : tie.Need-returns
 returns c =
-    let l = c .before .loop in
-    let start = c .before .before .before .before .before .before .before in
-    let e : l .l ≡ normalAt (start .args .words .now) (start .args .at) = omega arith in
-    rw (← l .inv .2, ← e, take-is (start .args .caps .now) (l .l) (omega arith)) (l .inv .4)
+    let start = c .before .before .before .before .before .before .before .before .before .before .before .before .before in
+    let W = start .args .words .now in
+    let o = start .args .at in
+    let caps = start .args .caps .now in
+    let few : normalAt W o ≤ 256 = start .pre .1 .few in
+    let copied = c .before .before .before .before .before .before .copy-front .ensures ∙ ap (λ (x : ℕ). sets (replicate 256 0) 0 (listOf (λ i. getD caps i 0) x)) (c .before .before .before .before .before .before .before .normal .ensures) in
+    c .before .before .store-words .ensures
+    ∙ ap (λ (x : List ℕ). sets (start .args .new .now) (startAt W o) x) (stored-padded W o (start .args .old .now) caps _ (normalAt W o) few (omega arith) copied)
 
 pub store-spec : {M : Type 1} → statement M
 store-spec =
     tie.close
     (tie.spec
-    Inv-loop
-    μ-loop
-    start-requires
+    slice-aggregate-copy-front
     normal-requires
-    loop-holds
-    mul-new
-    shared-slice-read-new
-    add-new
-    mul-new-2
-    slice-write-new
-    add-l
-    loop-less
-    loop-again
+    copy-front-requires
+    slice-aggregate-store-words
+    store-words-requires
     same-length
     returns)

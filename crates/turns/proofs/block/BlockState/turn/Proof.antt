@@ -85,7 +85,7 @@ store-requires c κs =
     let start = c .before .before .before .before .before .before .before .before .before .before in
     let well = start .pre .0 .well (omega (arith, c .before .before .before .if4 .taken)) in
     let room = start .args .room .now in
-    (well .part, well .captures, length-take-le 256 (drop 512 room) (rw (length-drop 512 room) (omega arith)), well .stores)
+    (well .part, well .captures, well .entries, length-take-le 256 (drop 512 room) (rw (length-drop 512 room) (omega arith)), well .stores)
 
 last-requires : tie.Need-last-requires
 last-requires c κs =

@@ -1,0 +1,1 @@
+// Build and run put together: definitions and theorem, no code.
