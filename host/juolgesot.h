@@ -51,11 +51,14 @@ uint32_t juolgesot_run(const uint32_t *words, size_t words_len, const uint64_t *
                        uint32_t *new_, size_t new_len, uint32_t *room, size_t room_len,
                        uint64_t *first, uint64_t *second);
 
-/* The value of a pin by the gates, in a part, between two states.
- * 0: *first is the bit. Refused by 32, 5, 6. */
+/* The value of a pin by the gates, and of every gate, in a part, between two states. A part past the plan reads
+ * nothing; what lies behind a state is 0; the value of the empty pin, 0xFFFFFFFF, is 0. The time grows with the gates.
+ * 0: *first is the pin's bit, and bits begins with (gates + 31) / 32 words: bit g % 32 of word g / 32 is the value of
+ * the pin of gate g of the plan's list, and bits past the last gate are 0. Refused by 32, 5, 6, 14. */
 uint32_t juolgesot_value(const uint8_t *plan, size_t plan_len, uint32_t *room, size_t room_len,
                          const uint32_t *old, size_t old_len, const uint32_t *new_, size_t new_len,
-                         uint32_t part, uint32_t pin, uint64_t *first, uint64_t *second);
+                         uint32_t *bits, size_t bits_len, uint32_t part, uint32_t pin,
+                         uint64_t *first, uint64_t *second);
 
 #ifdef __cplusplus
 }

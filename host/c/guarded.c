@@ -204,6 +204,7 @@ static void run(void)
     }
 }
 
+/* M10's gate: the pin's bit, and the gate's, in as many words as are lent. The empty pin is no pin. */
 static void value(void)
 {
     uint8_t *plan = between_pages(sizeof m10, m10);
@@ -212,10 +213,23 @@ static void value(void)
     for (uint32_t word = 0; word < 4; word++) {
         uint32_t *old = between_pages(4, &word);
         uint32_t *new_ = between_pages(0, &word);
-        is("value", juolgesot_value(plan, sizeof m10, room, ROOM, old, 1, new_, 0, 0, 3, first, second), 0);
-        is("gate 3", *first, word == 1);
-        is_zero(room, ROOM);
-        calls++;
+        for (size_t lent = 0; lent < 3; lent++) {
+            uint32_t *bits = room_of(lent);
+            is("value", juolgesot_value(plan, sizeof m10, room, ROOM, old, 1, new_, 0, bits, lent, 0, 3, first, second),
+               lent == 0 ? 14 : 0);
+            is("gate 3", *first, lent > 0 && word == 1);
+            is("second", *second, 0);
+            for (size_t i = 0; i < lent; i++)
+                is("word of the gates' bits", bits[i], i == 0 ? word == 1 : 0x5A5A5A5A);
+            is_zero(room, ROOM);
+        }
+        uint32_t *bits = room_of(1);
+        is("empty pin", juolgesot_value(plan, sizeof m10, room, ROOM, old, 1, new_, 0, bits, 1, 0, 0xFFFFFFFFu, first, second), 0);
+        is("its bit", *first, 0);
+        is("gate 3 beside it", bits[0], word == 1);
+        is("short room", juolgesot_value(plan, sizeof m10, room, ROOM - 1, old, 1, new_, 0, bits, 0, 0, 3, first, second), 32);
+        is("cut plan", juolgesot_value(plan, sizeof m10 - 4, room, ROOM, old, 1, new_, 0, bits, 0, 0, 3, first, second), 5);
+        calls += 6;
     }
 }
 

@@ -202,6 +202,8 @@ pub unsafe extern "C" fn juolgesot_value(
     old_len: usize,
     new: *const u32,
     new_len: usize,
+    bits: *mut u32,
+    bits_len: usize,
     part: u32,
     pin: u32,
     first: &mut u64,
@@ -209,12 +211,17 @@ pub unsafe extern "C" fn juolgesot_value(
 ) -> u32 {
     let (plan, room) = unsafe { (from_raw_parts(plan, plan_len), from_raw_parts_mut(room, room_len)) };
     let (old, new) = unsafe { (from_raw_parts(old, old_len), from_raw_parts(new, new_len)) };
+    let bits = unsafe { from_raw_parts_mut(bits, bits_len) };
     let words = record::words(plan);
     let answer = if (room.len() as u64) < record::room_words(&words) {
         Err(Refused::plain(32))
     } else {
         room.fill(0);
-        value::answer(plan.len(), &words, part, pin, old, new)
+        value::answer(plan.len(), &words, part, pin, old, new, bits.len())
     };
-    tell(answer.map(u64::from), first, second)
+    let answer = answer.map(|value::Answer { bit, gate_words }| {
+        bits[..gate_words.len()].copy_from_slice(&gate_words);
+        bit as u64
+    });
+    tell(answer, first, second)
 }

@@ -43,12 +43,12 @@ listed-refused a r q A e f x = rw (sym e ∙ f) (refl, (refl, (refl, x)))
 
 -- and of a pin
 pub value-bit : (o : Valued) (r : Answer) (v : ℕ) (A : Type 0) → r ≡ answerOf o → r ≡ Bit v → A → (0 ≡ valueNumber o) × ((v ≡ valueFirst o) × ((0 ≡ valueSecond o) × A))
-value-bit (bit b) r v A e f a = (refl, ((cc), (refl, a)))
+value-bit (bit b ws) r v A e f a = (refl, ((cc), (refl, a)))
 value-bit (unvalued k i) r v A e f a = let z : _≡_ {A = ℕ} 0 1 = cc in absurd (omega arith)
 
 pub value-refused : (o : Valued) (r : Answer) (x : Refusal) (A : Type 0) → r ≡ answerOf o → r ≡ NotValued x → A
     → (x .number ≡ valueNumber o) × ((x .part ≡ valueFirst o) × ((x .item ≡ valueSecond o) × A))
-value-refused (bit b) r x A e f a = let z : _≡_ {A = ℕ} 0 1 = cc in absurd (omega arith)
+value-refused (bit b ws) r x A e f a = let z : _≡_ {A = ℕ} 0 1 = cc in absurd (omega arith)
 value-refused (unvalued k i) r x A e f a =
     let q : NotValued x ≡ NotValued (record { number = k; part = 0; item = i }) = sym f ∙ e in
     let s : x ≡ record { number = k; part = 0; item = i } = cc in

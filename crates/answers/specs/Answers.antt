@@ -36,15 +36,15 @@ listedSecond (Refused r) = r .item
 
 -- of a pin: 0 with its bit and 0; or the number with part 0 and the item
 abbrev pub valueNumber : Valued → ℕ
-valueNumber (bit v) = 0
+valueNumber (bit v ws) = 0
 valueNumber (unvalued n i) = n
 
 abbrev pub valueFirst : Valued → ℕ
-valueFirst (bit v) = v
+valueFirst (bit v ws) = v
 valueFirst (unvalued n i) = 0
 
 abbrev pub valueSecond : Valued → ℕ
-valueSecond (bit v) = 0
+valueSecond (bit v ws) = 0
 valueSecond (unvalued n i) = i
 
 -- of a run: 0 with the turns left and 0; or the number with part 0 and the item

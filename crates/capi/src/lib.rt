@@ -4,7 +4,7 @@ ghost use mathlib.Core.Path.{_≡_};
 ghost use lib.ListN.{length};
 ghost use Rattle.reads.specs.Outcome.{outcome, resultAfter, roomAfter};
 ghost use Rattle.listing.specs.Listing.{listed, textAfter};
-ghost use Rattle.values.specs.Values.{outcome as valued, roomAfter as planRoomAfter};
+ghost use Rattle.values.specs.Values.{outcome as valued, bitsAfter, roomAfter as planRoomAfter};
 ghost use Rattle.flatten.specs.Flatten.{sizing, building, startsAfter, wordsAfter, roomAfter as builtRoomAfter};
 ghost use Rattle.machine.specs.Run.{outcome as ranAs, newAfter, roomAfter as runRoomAfter};
 ghost use Rattle.capi.specs.Promised.{Promised};
@@ -75,24 +75,27 @@ pub extern "C" fn juolgesot_list(
     }
 }
 
-// The value of a pin in a part of a plan, between two states: `first` is the bit, or the refusal's part; `second` is 0, or its item.
+// The value of a pin in a part of a plan, between two states: `first` is the bit, or the refusal's part; `second` is 0, or its item. `bits` then
+// begins with one bit a gate: the value of its pin.
 #[no_mangle]
 pub extern "C" fn juolgesot_value(
     plan: &[u8],
     room: &mut [u32],
     old: &[u32],
     new: &[u32],
+    bits: &mut [u32],
     part: u32,
     pin: u32,
     first: &mut u64,
     second: &mut u64,
 ) -> u32
-    ensures { λ r. ⌜ r ≡ valueNumber (valued (now (plan .entry)) part (now (old .entry)) (now (new .entry)) (length (now (room .entry))) pin) ⌝ }
-    ensures { λ r. ⌜ now (first .exit) ≡ valueFirst (valued (now (plan .entry)) part (now (old .entry)) (now (new .entry)) (length (now (room .entry))) pin) ⌝ }
-    ensures { λ r. ⌜ now (second .exit) ≡ valueSecond (valued (now (plan .entry)) part (now (old .entry)) (now (new .entry)) (length (now (room .entry))) pin) ⌝ }
+    ensures { λ r. ⌜ r ≡ valueNumber (valued (now (plan .entry)) part (now (old .entry)) (now (new .entry)) (length (now (room .entry))) (length (now (bits .entry))) pin) ⌝ }
+    ensures { λ r. ⌜ now (first .exit) ≡ valueFirst (valued (now (plan .entry)) part (now (old .entry)) (now (new .entry)) (length (now (room .entry))) (length (now (bits .entry))) pin) ⌝ }
+    ensures { λ r. ⌜ now (second .exit) ≡ valueSecond (valued (now (plan .entry)) part (now (old .entry)) (now (new .entry)) (length (now (room .entry))) (length (now (bits .entry))) pin) ⌝ }
     ensures { λ r. ⌜ now (room .exit) ≡ planRoomAfter (now (plan .entry)) (now (room .entry)) ⌝ }
+    ensures { λ r. ⌜ now (bits .exit) ≡ bitsAfter (valued (now (plan .entry)) part (now (old .entry)) (now (new .entry)) (length (now (room .entry))) (length (now (bits .entry))) pin) (now (bits .entry)) ⌝ }
 {
-    match values::value(plan, part, old, new, room, Pin(pin)) {
+    match values::value(plan, part, old, new, room, bits, Pin(pin)) {
         Answer::Bit(b) => {
             *first = b as u64;
             *second = 0;

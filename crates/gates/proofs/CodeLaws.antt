@@ -1,35 +1,32 @@
 -- The value of a pin and the values of all gates in the code's terms: what an answer says, one law for each way out, and what one more gate
 -- makes of the bits stored so far.
 -- Assumes nothing.
-use mathlib.Core.Path.{_≡_, refl, sym, ap, ap₂, _∙_}
-use mathlib.Core.Bool.{true, _&&_}
+use mathlib.Core.Path.{_≡_, refl, sym, ap, ap₂, _∙_, fun-ext}
 use mathlib.Core.List.{List}
 use mathlib.Core.Logic.{⊎-elim}
 use mathlib.Core.Option.{Option, none, some}
 use Prim.Native.Nat.{ℕ, zero, suc, _+_, _*_, _/_, _%_, _^_, _≤_, _<_, min}
 use native.Mathlib.Decide.{ℕ-discrete}
 use native.Mathlib.Omega.{arith}
-use borrow.Author.Tests.{leb-true, lt-ltb, le-ltb, eq-eqb, ne-eqb}
+use borrow.Author.Tests.{lt-ltb, le-ltb, eq-eqb, ne-eqb}
 use lib.Bits.{differ}
 use lib.ListN.{length, getD, replicate, length-replicate}
 use lib.Pow.{pow-pos}
 use lib.Seq.{getD-set-same, getD-set-other}
 use Rattle.words.specs.Bit.{bit, bitAt, wordOf, setBit}
-use Rattle.words.proofs.BitLaws.{lt-or-ge, bit-zero, bit-ext, bit-wordOf, wordOf-lt, with-lt, at-set-bit, set-bit-length}
+use Rattle.words.specs.Section.{listOf}
+use Rattle.words.proofs.BitLaws.{lt-or-ge, bit-zero, bit-ext, bit-wordOf, wordOf-lt, with-lt, at-lt, at-set-bit, set-bit-length}
 use Rattle.words.proofs.ListLaws.{zeros-at}
-use Rattle.words.proofs.SectionLaws.{listOf-is}
+use Rattle.words.proofs.SectionLaws.{length-listOf, getD-listOf, listOf-is}
 use Rattle.pinmap.specs.PinMap.{look, foundOf}
 use Rattle.pinmap.specs.declared.Found.{Found}
 use Rattle.pinmap.specs.declared.Found.the-variants as known-as
 use Rattle.record.specs.Record.{gatesOf, gatePin, gateFirst, gateSecond}
-use Rattle.record.specs.Tests.{allBelow}
-use Rattle.record.specs.Form.{isPin, isPinIv, gateForm}
-use Rattle.record.proofs.TestLaws.{and-true, all-at}
 use Rattle.gates.specs.Gates.{badGate, gateOf, gateBit, value}
-use Rattle.gates.specs.Values.{gateFoundOf, gateValue, gateWords, storeBit, Given, Askable, ValuedBelow}
+use Rattle.gates.specs.Values.{gateFoundOf, gateValue, gateWords, storeBit, Given, ValuedBelow}
 use Rattle.gates.specs.declared.GateFound.{GateFound}
 use Rattle.gates.specs.declared.GateFound.the-variants as found-as
-use Rattle.gates.proofs.GateLaws.{gate-at, first-falls, second-falls, pins-monotone}
+use Rattle.gates.proofs.GateLaws.{gate-at, first-falls, second-falls}
 use Rattle.gates.proofs.ValueLaws.{value-read, value-gate, value-else, value-lt}
 
 -- ---- what an answer says
@@ -87,23 +84,6 @@ module _ (d known : List ℕ) (given : Given d known) (x : ℕ) (r : Found) (ans
 
 -- ---- all gates
 
--- refusal 5 excluded, every gate's pin can be asked for
-pub pins-askable : (d : List ℕ) → allBelow (gateForm d) (gatesOf d) ≡ true → (g : ℕ) → g < gatesOf d → Askable (gatePin d g)
-unfolding gateForm
-pins-askable d h g l =
-    let form = all-at (gateForm d) (gatesOf d) g h l in
-    let (ab, c) = and-true (isPin (gatePin d g) && isPinIv (gateFirst d g)) (isPinIv (gateSecond d g)) form in
-    let (a, b) = and-true (isPin (gatePin d g)) (isPinIv (gateFirst d g)) ab in
-    let m : gatePin d g ≤ 2 ^ 30 = leb-true _ _ a in
-    omega arith
-
-pub valued-less : (d known bits : List ℕ) (p q : ℕ) → ValuedBelow d known bits p → q ≤ p → ValuedBelow d known bits q
-valued-less d known bits p q v h = record { room = v .room; held = λ g l k. v .held g l (omega arith) }
-
--- the bit of a pin's gate
-pub bit-stored : (d known bits : List ℕ) (x g : ℕ) → ValuedBelow d known bits (x + 1) → gateOf d x ≡ some g → bitAt bits g ≡ value d (look known) x
-bit-stored d known bits x g v o = let (l, e) = gate-at d x g o in v .held g l (omega arith) ∙ ap (value d (look known)) e
-
 pub value-of-gate : (d : List ℕ) (inp : ℕ → Option ℕ) (g : ℕ) → g < gatesOf d → gateValue d inp g ≡ value d inp (gatePin d g)
 unfolding gateValue
 value-of-gate d inp g h = rw (lt-ltb g (gatesOf d) h, gateValue)
@@ -111,6 +91,13 @@ value-of-gate d inp g h = rw (lt-ltb g (gatesOf d) h, gateValue)
 pub value-past : (d : List ℕ) (inp : ℕ → Option ℕ) (g : ℕ) → gatesOf d ≤ g → gateValue d inp g ≡ 0
 unfolding gateValue
 value-past d inp g h = rw (le-ltb g (gatesOf d) h, gateValue)
+
+-- y is the bit of the pin's gate, which is one of the first n
+pub bit-stored : (d known bits : List ℕ) (n x g y : ℕ) → ValuedBelow d known bits n → gateOf d x ≡ some g → g < n → y ≡ bitAt bits g
+    → (y ≡ value d (look known) x) × (y < 2)
+bit-stored d known bits n x g y v o h e =
+    let (l, p) = gate-at d x g o in
+    (e ∙ (v .held g h ∙ (value-of-gate d (look known) g l ∙ ap (value d (look known)) p)), omega (arith, at-lt bits g))
 
 pub gate-value-lt : (d : List ℕ) (inp : ℕ → Option ℕ) → ((x v : ℕ) → inp x ≡ some v → v < 2) → (g : ℕ) → gateValue d inp g < 2
 gate-value-lt d inp h g = ⊎-elim
@@ -144,15 +131,8 @@ stored-none d known l n e = rw e (record {
   free = λ q h. ap (λ (x : ℕ). bit x (q % 32)) (zeros-at n (q / 32)) ∙ bit-zero (q % 32);
 })
 
--- the gates with a pin below gate g's are those before it
-pub stored-below : (d known l : List ℕ) (n g : ℕ) → badGate d ≡ none → gatesOf d ≤ 32 * n → g < gatesOf d → Stored d known l n g → ValuedBelow d known l (gatePin d g)
-stored-below d known l n g good room h s = record {
-  room = omega (arith, s .size);
-  held = λ i k p.
-      s .held i
-      (⊎-elim (λ t. t) (λ t. absurd (omega (arith, pins-monotone d good g i t k))) (lt-or-ge i g))
-      ∙ value-of-gate d (look known) i k;
-}
+pub stored-below : (d known l : List ℕ) (n g : ℕ) → gatesOf d ≤ 32 * n → Stored d known l n g → ValuedBelow d known l g
+stored-below d known l n g room s = record { room = omega (arith, s .size); held = s .held }
 
 set-fits : (l : List ℕ) (p : ℕ) → p / 32 < length l → ((w : ℕ) → getD l w 0 < 2 ^ 32) → (w : ℕ) → getD (setBit l p) w 0 < 2 ^ 32
 unfolding setBit
@@ -217,3 +197,27 @@ stored-all d known l n g given h k s =
 
     every : (q : ℕ) → bitAt l q ≡ gateValue d (look known) q
     every q = ⊎-elim (λ t. s .held q t) (λ t. s .free q t ∙ sym (value-past d (look known) q (omega arith))) (lt-or-ge q g)
+
+-- words that hold all values hold each gate's
+pub words-valued : (d known l : List ℕ) (n : ℕ) → Given d known → gatesOf d ≤ 32 * n → l ≡ gateWords d (look known) n → ValuedBelow d known l (gatesOf d)
+unfolding gateWords bitAt
+words-valued d known l n given room e = record {
+  room = omega (arith, ap length e ∙ length-listOf (λ w. wordOf (λ i. gateValue d (look known) (32 * w + i)) 32) n);
+  held = λ g h.
+      ap (λ (m : List ℕ). bit (getD m (g / 32) 0) (g % 32)) e
+      ∙ (ap (λ (w : ℕ). bit w (g % 32)) (getD-listOf (λ w. wordOf (λ i. gateValue d (look known) (32 * w + i)) 32) n (g / 32) (omega arith))
+      ∙ (bit-wordOf (λ i. gateValue d (look known) (32 * (g / 32) + i)) 32 (λ i z. gate-value-lt d (look known) (given .bits) (32 * (g / 32) + i)) (g % 32) (omega arith)
+      ∙ ap (gateValue d (look known)) (omega arith)));
+}
+
+-- only the values of the gates' pins matter
+pub words-ext : (d : List ℕ) (inp jnp : ℕ → Option ℕ) (n : ℕ) → ((g : ℕ) → g < gatesOf d → value d inp (gatePin d g) ≡ value d jnp (gatePin d g))
+    → gateWords d inp n ≡ gateWords d jnp n
+unfolding gateWords
+words-ext d inp jnp n e = ap (λ (f : ℕ → ℕ). listOf (λ w. wordOf (λ k. f (32 * w + k)) 32) n) (fun-ext same)
+  where
+    same : (g : ℕ) → gateValue d inp g ≡ gateValue d jnp g
+    same g = ⊎-elim
+        (λ l. value-of-gate d inp g l ∙ (e g l ∙ sym (value-of-gate d jnp g l)))
+        (λ l. value-past d inp g l ∙ sym (value-past d jnp g l))
+        (lt-or-ge g (gatesOf d))

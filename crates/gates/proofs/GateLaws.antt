@@ -8,7 +8,7 @@ use mathlib.Core.Option.{none, some}
 use Prim.Native.Nat.{ℕ, zero, suc, _+_, _-_, _/_, _%_, _≤_, _<_, min}
 use native.Mathlib.Numerals.{add-one}
 use native.Mathlib.Omega.{arith}
-use borrow.Author.Tests.{ltb-true, lt-ltb, le-ltb, eq-eqb, ne-eqb, eqb-true, not-true, not-false}
+use borrow.Author.Tests.{ltb-true, lt-ltb, le-ltb, eq-eqb, ne-eqb, eqb-true, not-false}
 use lib.Bits.{bitAnd, bitXor, differ}
 use lib.Dec.{ltb, eqb}
 use Rattle.words.proofs.BitLaws.{differ-lt}
@@ -70,15 +70,6 @@ gate-at d x g h =
     let (l, e, p) = not-at (λ g. not (eqb (gatePin d g) x)) (gatesOf d) g h in
     (l, eqb-true _ _ (not-false _ e))
 
-pub gate-none : (d : List ℕ) (x : ℕ) → gateOf d x ≡ none → (g : ℕ) → g < gatesOf d → gatePin d g ≡ x → ⊥
-unfolding gateOf
-gate-none d x h g l e =
-    let t : not (eqb (gatePin d g) x) ≡ true = not-none (λ g. not (eqb (gatePin d g) x)) (gatesOf d) h g l in
-    let u : eqb (gatePin d g) x ≡ false = not-true _ t in
-    let v : eqb (gatePin d g) x ≡ true = eq-eqb _ _ e in
-    let z : _≡_ {A = ℕ} 0 1 = cc in
-    omega arith
-
 pub none-gate : (d : List ℕ) (x : ℕ) → ((g : ℕ) → g < gatesOf d → gatePin d g ≡ x → ⊥) → gateOf d x ≡ none
 unfolding gateOf
 none-gate d x h = none-not (λ g. not (eqb (gatePin d g) x)) (gatesOf d) (λ g l. ap not (ne-eqb _ _ (h g l)))
@@ -89,9 +80,6 @@ module _ (d : List ℕ) (good : badGate d ≡ none) where
   pub right-at : (g : ℕ) → g < gatesOf d → Right d g
   unfolding badGate
   right-at g l = right-parts d g (not-none (gateRight d) (gatesOf d) good g l)
-
-  pub pin-positive : (g : ℕ) → g < gatesOf d → 0 < gatePin d g
-  pin-positive g l = omega (arith, right-at g l .above)
 
   step : (g : ℕ) → g + 1 < gatesOf d → gatePin d g < gatePin d (g + 1)
   step g l = rw (before-next d g) at (right-at (g + 1) l .above)

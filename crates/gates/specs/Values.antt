@@ -49,17 +49,17 @@ storeBit l p (suc v) = setBit l p
 abbrev pub Askable : ℕ → Type 0
 Askable x = x < 2 ^ 32 - 1
 
--- there is a bit for each gate, and the gates with a pin below p have their values there
-pub record ValuedBelow (d known bits : List ℕ) (p : ℕ) : Type 0 where
+-- there is a bit for each gate, and the first n gates have their values there
+pub record ValuedBelow (d known bits : List ℕ) (n : ℕ) : Type 0 where
   pub room : gatesOf d ≤ 32 * length bits
-  pub held : (g : ℕ) → g < gatesOf d → gatePin d g < p → bitAt bits g ≡ value d (look known) (gatePin d g)
+  pub held : (g : ℕ) → g < n → bitAt bits g ≡ gateValue d (look known) g
 
--- what the value of gate g's pin asks where the gates below it have theirs
+-- what it asks to store gate g's value: the gates before it have theirs
 pub record Ready (d known bits : List ℕ) (g : ℕ) : Type 0 where
   pub given : Given d known
   pub inside : g < gatesOf d
   pub askable : Askable (gatePin d g)
-  pub below : ValuedBelow d known bits (gatePin d g)
+  pub below : ValuedBelow d known bits g
 
 -- what the values of all gates ask
 pub record Fillable (d known bits : List ℕ) : Type 0 where

@@ -136,19 +136,23 @@ fn and_gate(a: u32, first: PinIv, b: u32, second: PinIv) -> u32
     (a ^ first.inversion()) & (b ^ second.inversion())
 }
 
-// The value of a pin: what is known of it; else, for a gate, the AND of its fan-ins' values; else 0. Fan-in pins are smaller.
-pub fn value(d: &[u8], known: &[u32], pin: Pin) -> u32
-    requires { ⌜ Given (now d) (now known) × Askable (pin .0) ⌝ }
+// The value of a pin: what is known of it; else, for a gate, its bit in `bits` where it is one of the first `done` gates, and the AND of its
+// fan-ins' values where not; else 0. Fan-in pins are smaller.
+pub fn value(d: &[u8], known: &[u32], bits: &[u32], done: u32, pin: Pin) -> u32
+    requires { ⌜ Given (now d) (now known) × Askable (pin .0) × ValuedBelow (now d) (now known) (now bits) done ⌝ }
     ensures { λ r. ⌜ (r ≡ value (now (d .entry)) (look (now (known .entry))) (pin .0)) × (r < 2) ⌝ }
 {
     match pinmap::look_up(known, pin) {
         Found::Value(v) => v,
         Found::Missing => match find_gate(d, pin) {
             GateFound::Gate(g) => {
+                if g < done {
+                    return bit_at(bits, g as usize);
+                }
                 let first = gate_first(d, g);
                 let second = gate_second(d, g);
-                let a = value(d, known, first.pin());
-                let b = value(d, known, second.pin());
+                let a = value(d, known, bits, done, first.pin());
+                let b = value(d, known, bits, done, second.pin());
                 and_gate(a, first, b, second)
             }
             GateFound::Missing => 0,
@@ -156,49 +160,18 @@ pub fn value(d: &[u8], known: &[u32], pin: Pin) -> u32
     }
 }
 
-// The value of a pin, where the gates up to it have theirs in `bits`.
-fn pin_value(d: &[u8], known: &[u32], bits: &[u32], pin: Pin) -> u32
-    requires { ⌜ Given (now d) (now known) × Askable (pin .0) × ValuedBelow (now d) (now known) (now bits) (pin .0 + 1) ⌝ }
-    ensures { λ r. ⌜ (r ≡ value (now (d .entry)) (look (now (known .entry))) (pin .0)) × (r < 2) ⌝ }
-{
-    match pinmap::look_up(known, pin) {
-        Found::Value(v) => v,
-        Found::Missing => match find_gate(d, pin) {
-            GateFound::Gate(g) => bit_at(bits, g as usize),
-            GateFound::Missing => 0,
-        },
-    }
-}
-
-// The value of gate g's pin, where the gates below it have theirs in `bits`.
-fn gate_value(d: &[u8], known: &[u32], bits: &[u32], g: u32) -> u32
-    requires { ⌜ Ready (now d) (now known) (now bits) g ⌝ }
-    ensures { λ r. ⌜ (r ≡ value (now (d .entry)) (look (now (known .entry))) (gatePin (now (d .entry)) g)) × (r < 2) ⌝ }
-{
-    match pinmap::look_up(known, gate_pin(d, g)) {
-        Found::Value(v) => v,
-        Found::Missing => {
-            let first = gate_first(d, g);
-            let second = gate_second(d, g);
-            let a = pin_value(d, known, bits, first.pin());
-            let b = pin_value(d, known, bits, second.pin());
-            and_gate(a, first, b, second)
-        }
-    }
-}
-
-// Stores the value of gate g's pin in its bit, which is clear.
+// Stores the value of gate g's pin in its bit, which is clear. The gates before it have theirs, so no call goes deeper than a fan-in.
 fn store_gate(d: &[u8], known: &[u32], bits: &mut [u32], g: u32)
     requires { ⌜ Ready (now d) (now known) (now bits) g ⌝ }
     ensures { λ _. ⌜ now (bits .exit) ≡ storeBit (now (bits .entry)) g (value (now (d .entry)) (look (now (known .entry))) (gatePin (now (d .entry)) g)) ⌝ }
 {
-    if gate_value(d, known, bits, g) == 0 {
+    if value(d, known, bits, g, gate_pin(d, g)) == 0 {
         return;
     }
     set_bit(bits, g as usize);
 }
 
-// The values of all gates in one pass up the list: bit g is the value of gate g's pin. A fan-in is known, the pin of a gate before, or neither.
+// The values of all gates in one pass up the list: bit g is the value of gate g's pin.
 pub fn all_values(d: &[u8], known: &[u32], bits: &mut [u32])
     requires { ⌜ Fillable (now d) (now known) (now bits) ⌝ }
     ensures { λ _. ⌜ now (bits .exit) ≡ gateWords (now (d .entry)) (look (now (known .entry))) (length (now (bits .entry))) ⌝ }

@@ -3,24 +3,28 @@
 use mathlib.Core.Path.{_≡_, refl, sym, ap, _∙_}
 use mathlib.Core.Bool.{true, false}
 use mathlib.Core.Option.{Option, none, some}
-use mathlib.Core.List.{List}
+use mathlib.Core.List.{List, _++_}
 use Prim.Native.Nat.{ℕ, _+_, _≤_, _<_}
 use native.Mathlib.Omega.{arith}
 use borrow.Author.Tests.{eq-eqb, ne-eqb, le-leb, lt-leb}
-use lib.ListN.{length, replicate, length-replicate}
+use lib.ListN.{length, drop, replicate, length-replicate}
+use Rattle.words.proofs.ListLaws.{put-sets}
+use Rattle.words.proofs.SectionLaws.{length-listOf}
 use Rattle.pinmap.specs.PinMap.{look}
+use Rattle.record.specs.Record.{gatesOf, gatePin}
 use Rattle.record.specs.Form.{empty, roomWords, planForm}
+use Rattle.record.proofs.FormLaws.{formed}
 use Rattle.gates.specs.declared.GateList.{GateList}
 use Rattle.gates.specs.declared.GateList.the-variants.{Good, Bad}
 use Rattle.gates.specs.Gates.{badGate, value}
-use Rattle.gates.specs.Values.{gateListOf, Given}
+use Rattle.gates.specs.Values.{gateListOf, gateWords, Given, ValuedBelow, Fillable}
 use Rattle.gates.proofs.ValueLaws.{value-ext}
+use Rattle.gates.proofs.CodeLaws.{words-valued, words-ext}
 use Rattle.slots.specs.Puts.{filled}
 use Rattle.slots.proofs.PutLaws.{filled-length}
 use Rattle.positions.specs.Input.{input}
-use Rattle.values.specs.declared.Answer.the-variants.{Bit, Refused}
-use Rattle.values.specs.Known.{knownPuts, Clear, Asked}
-use Rattle.values.specs.Values.{pinValue, valued, outcome, answerOf, roomAfter}
+use Rattle.values.specs.Known.{knownPuts, Asked}
+use Rattle.values.specs.Values.{Outcome, bit, refused, pinValue, bitWords, gateValues, lentBits, valued, outcome, bitsAfter, roomAfter}
 use Rattle.values.proofs.KnownLaws.{known-bit, known-look}
 
 -- ---- the value over the table t of state bits
@@ -36,12 +40,29 @@ module _ (d : List ℕ) (p : ℕ) (old new t : List ℕ) (is : t ≡ filled 3276
   unfolding pinValue
   pin-value x h = rw (ne-eqb _ _ h, pinValue)
 
-  pub value-is : badGate d ≡ none → (x r : ℕ) → x < empty → r ≡ value d (look t) x → r ≡ pinValue d p old new x
-  value-is g x r l e =
-      e
-      ∙ (value-ext d g (look t) (input d p old new) x
+  -- below the empty pin the table has what the part reads
+  value-same : badGate d ≡ none → (x : ℕ) → x < empty → value d (look t) x ≡ value d (input d p old new) x
+  value-same g x l =
+      value-ext d g (look t) (input d p old new) x
       (λ y m. ap (λ (a : List ℕ). look a y) is ∙ known-look d p old new 32768 (omega arith) y (λ (z : y ≡ empty). omega arith))
-      ∙ sym (pin-value x (λ (z : x ≡ empty). omega arith)))
+
+  pub value-is : badGate d ≡ none → (x r : ℕ) → x < empty → r ≡ value d (look t) x → r ≡ pinValue d p old new x
+  value-is g x r l e = e ∙ (value-same g x l ∙ sym (pin-value x (λ (z : x ≡ empty). omega arith)))
+
+  -- all gates' pins are below it
+  module _ (form : planForm d ≡ true) (good : badGate d ≡ none) where
+    pub fillable : (bits : List ℕ) → length bits ≡ bitWords d → Fillable d t bits
+    fillable bits n = record { given = given good; room = omega arith; askable = λ g l. omega (arith, formed d form .gate g l .pin) }
+
+    pub all-valued : (n : ℕ) (bits : List ℕ) → n ≡ bitWords d → bits ≡ gateWords d (look t) n → ValuedBelow d t bits (gatesOf d)
+    all-valued n bits m e = words-valued d t bits n (given good) (omega arith) e
+
+    pub values-are : (n : ℕ) (bits : List ℕ) → n ≡ bitWords d → bits ≡ gateWords d (look t) n → bits ≡ gateValues d p old new
+    unfolding gateValues
+    values-are n bits m e =
+        e
+        ∙ (words-ext d (look t) (input d p old new) n (λ g l. value-same good (gatePin d g) (omega (arith, formed d form .gate g l .pin)))
+        ∙ ap (gateWords d (input d p old new)) m)
 
 pub value-empty : (d : List ℕ) (p : ℕ) (old new : List ℕ) (x : ℕ) → x ≡ empty → 0 ≡ pinValue d p old new x
 unfolding pinValue
@@ -59,23 +80,47 @@ list-bad (some h) r g p q = cc
 
 -- ---- the ways out
 
-module _ (d : List ℕ) (p : ℕ) (old new : List ℕ) (r x : ℕ) where
-  pub value-short : r < roomWords d → Refused (record { number = 32; part = 0; item = 0 }) ≡ answerOf (outcome d p old new r x)
-  unfolding outcome
-  value-short h = rw (lt-leb _ _ h, outcome)
+module _ (d : List ℕ) (p : ℕ) (old new : List ℕ) (b x : ℕ) where
+  pub lent-short : b < bitWords d → lentBits d p old new b x ≡ refused 14 0
+  unfolding lentBits
+  lent-short h = rw (lt-leb _ _ h, lentBits)
 
-  module _ (h : roomWords d ≤ r) where
-    pub value-form : planForm d ≡ false → Refused (record { number = 5; part = 0; item = 0 }) ≡ answerOf (outcome d p old new r x)
+  pub lent-enough : bitWords d ≤ b → lentBits d p old new b x ≡ bit (pinValue d p old new x) (gateValues d p old new)
+  unfolding lentBits
+  lent-enough h = rw (le-leb _ _ h, lentBits)
+
+  module _ (r : ℕ) where
+    pub out-short : r < roomWords d → outcome d p old new r b x ≡ refused 32 0
     unfolding outcome
-    value-form f = rw (le-leb _ _ h, f, outcome)
+    out-short h = rw (lt-leb _ _ h, outcome)
 
-    pub value-gate : planForm d ≡ true → (g : ℕ) → badGate d ≡ some g → Refused (record { number = 6; part = 0; item = g }) ≡ answerOf (outcome d p old new r x)
-    unfolding outcome valued
-    value-gate f g e = rw (le-leb _ _ h, f, e, outcome)
+    module _ (h : roomWords d ≤ r) where
+      pub out-form : planForm d ≡ false → outcome d p old new r b x ≡ refused 5 0
+      unfolding outcome
+      out-form f = rw (le-leb _ _ h, f, outcome)
 
-    pub value-bit : planForm d ≡ true → badGate d ≡ none → (v : ℕ) → v ≡ pinValue d p old new x → Bit v ≡ answerOf (outcome d p old new r x)
-    unfolding outcome valued
-    value-bit f e v q = ap Bit q ∙ rw (le-leb _ _ h, f, e, outcome)
+      pub out-gate : planForm d ≡ true → (g : ℕ) → badGate d ≡ some g → outcome d p old new r b x ≡ refused 6 g
+      unfolding outcome valued
+      out-gate f g e = rw (le-leb _ _ h, f, e, outcome)
+
+      pub out-lent : planForm d ≡ true → badGate d ≡ none → outcome d p old new r b x ≡ lentBits d p old new b x
+      unfolding outcome valued
+      out-lent f e = rw (le-leb _ _ h, f, e, outcome)
+
+-- ---- the lent bits
+
+pub bits-kept : (o : Outcome) (n i : ℕ) (bits : List ℕ) → o ≡ refused n i → bits ≡ bitsAfter o bits
+unfolding bitsAfter
+bits-kept o n i bits e = rw e
+
+-- the first k words come back as ws
+pub bits-held : (o : Outcome) (v k : ℕ) (ws bits : List ℕ) → o ≡ bit v ws → length ws ≡ k → k ≤ length bits → ws ++ drop k bits ≡ bitsAfter o bits
+unfolding bitsAfter
+bits-held o v k ws bits e n l = put-sets bits 0 k ws (omega arith) n ∙ rw e
+
+pub values-length : (d : List ℕ) (p : ℕ) (old new : List ℕ) → length (gateValues d p old new) ≡ bitWords d
+unfolding gateValues gateWords
+values-length d p old new = length-listOf _ (bitWords d)
 
 -- ---- the room
 

@@ -4,15 +4,17 @@ pub mod known;
 ghost use mathlib.Core.Path.{_≡_};
 ghost use lib.ListN.{length, replicate};
 ghost use Rattle.values.specs.Known.{Asked};
-ghost use Rattle.values.specs.Values.{pinValue, outcome, answerOf, roomAfter};
+ghost use Rattle.values.specs.Values.{bitWords, pinValue, gateValues, refused, lentBits, outcome, answerOf, bitsAfter, roomAfter};
 use gates::GateList;
 use gates::check_gates;
 use known::fill_known;
 use record::form::plan_form;
 use record::places::room_words;
+use record::places::word_at;
 use words::clear::clear;
 use words::refusals::GATE_ORDER;
 use words::refusals::PLAN_FORM;
+use words::refusals::RESULT_SHORT;
 use words::refusals::ROOM_SHORT;
 use words::refusals::Refusal;
 use words::units::EMPTY_PIN;
@@ -24,47 +26,94 @@ pub enum Answer {
     Refused(Refusal),
 }
 
-// The value of a pin, with a room that is clear before and after. The empty pin is no pin.
-fn pin_bit(plan: &[u8], part: usize, old: &[u32], new: &[u32], room: &mut [u32], pin: Pin) -> u32
-    requires { ⌜ Asked (now plan) (now room) ⌝ }
+// How many words have one bit a gate.
+fn bit_words(d: &[u8]) -> usize
+    ensures { λ r. ⌜ r ≡ bitWords (now (d .entry)) ⌝ }
+{
+    (word_at(d, 2) as usize + 31) / 32
+}
+
+// The values of all gates into `bits`, and the value of a pin. The empty pin is no pin. The room is clear before and after.
+fn fill_bits(
+    plan: &[u8],
+    part: usize,
+    old: &[u32],
+    new: &[u32],
+    room: &mut [u32],
+    bits: &mut [u32],
+    pin: Pin,
+) -> u32
+    requires { ⌜ Asked (now plan) (now room) × (length (now bits) ≡ bitWords (now plan)) ⌝ }
     ensures { λ r. ⌜ r ≡ pinValue (now (plan .entry)) part (now (old .entry)) (now (new .entry)) (pin .0) ⌝ }
     ensures { λ _. ⌜ now (room .exit) ≡ replicate (length (now (room .entry))) 0 ⌝ }
+    ensures { λ _. ⌜ now (bits .exit) ≡ gateValues (now (plan .entry)) part (now (old .entry)) (now (new .entry)) ⌝ }
 {
-    if pin.0 == EMPTY_PIN {
-        return 0;
-    }
     fill_known(plan, part, old, new, room);
-    let bit = gates::value(plan, &room[..32768], pin);
+    gates::all_values(plan, &room[..32768], bits);
+    let mut bit = 0;
+    if pin.0 != EMPTY_PIN {
+        bit = gates::value(plan, &room[..32768], bits, word_at(plan, 2), pin);
+    }
     clear(room);
     bit
 }
 
-// The value of a pin in a part, between the old state and the new.
-pub fn value(plan: &[u8], part: u32, old: &[u32], new: &[u32], room: &mut [u32], pin: Pin) -> Answer
-    ensures { λ r. ⌜ r ≡ answerOf (outcome (now (plan .entry)) part (now (old .entry)) (now (new .entry)) (length (now (room .entry))) (pin .0)) ⌝ }
+// A refusal, which no part is told with.
+fn refuse(number: u32, item: u32) -> Answer
+    ensures { λ r. ⌜ r ≡ answerOf (refused number item) ⌝ }
+{
+    Answer::Refused(Refusal {
+        number,
+        part: 0,
+        item: item as u64,
+    })
+}
+
+// The answer of a plan that 32, 5 and 6 let pass.
+fn value_lent(
+    plan: &[u8],
+    part: usize,
+    old: &[u32],
+    new: &[u32],
+    room: &mut [u32],
+    bits: &mut [u32],
+    pin: Pin,
+) -> Answer
+    requires { ⌜ Asked (now plan) (now room) ⌝ }
+    ensures { λ r. ⌜ r ≡ answerOf (lentBits (now (plan .entry)) part (now (old .entry)) (now (new .entry)) (length (now (bits .entry))) (pin .0)) ⌝ }
+    ensures { λ _. ⌜ now (room .exit) ≡ replicate (length (now (room .entry))) 0 ⌝ }
+    ensures { λ _. ⌜ now (bits .exit) ≡ bitsAfter (lentBits (now (plan .entry)) part (now (old .entry)) (now (new .entry)) (length (now (bits .entry))) (pin .0)) (now (bits .entry)) ⌝ }
+{
+    let words = bit_words(plan);
+    if bits.len() < words {
+        return refuse(RESULT_SHORT, 0);
+    }
+    Answer::Bit(fill_bits(plan, part, old, new, room, &mut bits[..words], pin))
+}
+
+// The value of a pin in a part, between the old state and the new. `bits` then begins with one bit a gate: the value of its pin.
+pub fn value(
+    plan: &[u8],
+    part: u32,
+    old: &[u32],
+    new: &[u32],
+    room: &mut [u32],
+    bits: &mut [u32],
+    pin: Pin,
+) -> Answer
+    ensures { λ r. ⌜ r ≡ answerOf (outcome (now (plan .entry)) part (now (old .entry)) (now (new .entry)) (length (now (room .entry))) (length (now (bits .entry))) (pin .0)) ⌝ }
     ensures { λ _. ⌜ now (room .exit) ≡ roomAfter (now (plan .entry)) (now (room .entry)) ⌝ }
+    ensures { λ _. ⌜ now (bits .exit) ≡ bitsAfter (outcome (now (plan .entry)) part (now (old .entry)) (now (new .entry)) (length (now (room .entry))) (length (now (bits .entry))) (pin .0)) (now (bits .entry)) ⌝ }
 {
     if room.len() < room_words(plan) {
-        return Answer::Refused(Refusal {
-            number: ROOM_SHORT,
-            part: 0,
-            item: 0,
-        });
+        return refuse(ROOM_SHORT, 0);
     }
     clear(room);
     if !plan_form(plan) {
-        return Answer::Refused(Refusal {
-            number: PLAN_FORM,
-            part: 0,
-            item: 0,
-        });
+        return refuse(PLAN_FORM, 0);
     }
     match check_gates(plan) {
-        GateList::Bad(g) => Answer::Refused(Refusal {
-            number: GATE_ORDER,
-            part: 0,
-            item: g as u64,
-        }),
-        GateList::Good => Answer::Bit(pin_bit(plan, part as usize, old, new, room, pin)),
+        GateList::Bad(g) => refuse(GATE_ORDER, g),
+        GateList::Good => value_lent(plan, part as usize, old, new, room, bits, pin),
     }
 }

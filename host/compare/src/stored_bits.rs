@@ -95,7 +95,7 @@ struct Stored<'a> {
 impl<'a> Stored<'a> {
     fn of(plan: &'a Accepted<'_>, number: usize, old: &[u32], new: &[u32]) -> Self {
         let part = &plan.plan.parts[number];
-        let mut by_gates = Values::of(part, &plan.gates, &plan.found, old, new);
+        let by_gates = Values::of(&plan.plan, Some(part), &plan.found, old, new);
         let mut values = Vec::new();
         for stage in &part.stages {
             for &location in stage.locations {

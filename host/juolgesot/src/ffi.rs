@@ -81,6 +81,8 @@ extern "C" {
         old_len: usize,
         new: *const u32,
         new_len: usize,
+        bits: *mut u32,
+        bits_len: usize,
         part: u32,
         pin: u32,
         first: *mut u64,
@@ -181,12 +183,20 @@ pub fn run(
     })
 }
 
-/// Code 0: `first` is the bit, `second` 0.
-pub fn value(plan: &[u8], room: &mut [u32], old: &[u32], new: &[u32], part: u32, pin: u32) -> Answer {
+/// Code 0: `first` is the pin's bit, `second` 0, and `bits` begins with a bit for each gate.
+pub fn value(
+    plan: &[u8],
+    room: &mut [u32],
+    old: &[u32],
+    new: &[u32],
+    bits: &mut [u32],
+    part: u32,
+    pin: u32,
+) -> Answer {
     Answer::of(|first, second| {
         call!(
             juolgesot_value,
-            [plan.as_ptr, room.as_mut_ptr, old.as_ptr, new.as_ptr],
+            [plan.as_ptr, room.as_mut_ptr, old.as_ptr, new.as_ptr, bits.as_mut_ptr],
             part,
             pin,
             first,

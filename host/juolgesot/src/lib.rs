@@ -17,10 +17,10 @@ mod value;
 
 pub use listing::{list, list_into, LIST_ROOM, LIST_TEXT};
 pub use plan::Script;
-pub use plan_room::plan_room;
+pub use plan_room::{gate_words, plan_room};
 pub use plans::{build, build_into, plan_sizes, plan_sizes_into, Sizes};
 pub use refusal::Refusal;
 pub use rounds::{read_rounds, read_rounds_into, ReadRounds, LANES, ROUND_WORDS, SET_ROOM};
 pub use run::{finishing_turns, run, run_into, BLOCK_ROOM};
 pub use units::{InvertedPin, LocalPosition, Pin, StatePosition};
-pub use value::{value, value_into};
+pub use value::{value, value_into, Values};

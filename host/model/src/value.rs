@@ -1,69 +1,73 @@
 //! "The value of a pin by the gates".
 
-use crate::plan::{self, Found, Gates};
-use crate::record::{self, Part, EMPTY};
+use crate::plan::{self, Found};
+use crate::record::{self, Part, Plan, EMPTY};
 use crate::Refused;
-use std::collections::HashMap;
 
 /// Values of pins for one part, over the two states.
-pub struct Values<'a> {
-    gates: &'a Gates,
-    /// Pins known already; those that the part reads in stage 0 from the start.
-    known: HashMap<u32, bool>,
+pub struct Values {
+    /// The pins that the part reads in stage 0 and their state bits, ascending by pin.
+    read: Vec<(u32, bool)>,
+    /// The gates' pins and their values, as far as they are worked out, in the order of the list: ascending by pin, as
+    /// 6 is excluded.
+    gates: Vec<(u32, bool)>,
 }
 
-impl<'a> Values<'a> {
-    pub fn of(part: &Part<'_>, gates: &'a Gates, found: &Found, old: &[u32], new: &[u32]) -> Self {
-        let mut values = Values::of_nothing_read(gates);
-        for &pin in part.stages[0].level_0().iter().filter(|&&pin| pin != EMPTY) {
+impl Values {
+    /// A part that is not there reads nothing: only the gates speak. What lies behind a state is 0.
+    pub fn of(plan: &Plan<'_>, part: Option<&Part<'_>>, found: &Found, old: &[u32], new: &[u32]) -> Self {
+        let mut read = Vec::new();
+        let slots = part.map_or(&[][..], |part| part.stages[0].level_0());
+        for &pin in slots.iter().filter(|&&pin| pin != EMPTY) {
             if let Some(bit) = found.bit(pin) {
                 let word = (bit.position >> 5) as usize;
                 let held = if bit.staged { new.get(word) } else { old.get(word) };
-                values.known.insert(pin, held.copied().unwrap_or(0) >> (bit.position & 31) & 1 == 1);
+                read.push((pin, held.copied().unwrap_or(0) >> (bit.position & 31) & 1 == 1));
             }
         }
+        read.sort_unstable();
+        let mut values = Values { read, gates: Vec::new() };
+        values.work_up(plan.gates);
         values
     }
 
-    /// Of a part that is not there: only the gates speak.
-    pub fn of_nothing_read(gates: &'a Gates) -> Self {
-        Values { gates, known: HashMap::new() }
+    /// From the first gate to the last: fan-ins are below their gates.
+    fn work_up(&mut self, gates: &[u32]) {
+        for gate in gates.chunks(3) {
+            let fan_in = |inverted: u32| self.value(inverted >> 1) ^ (inverted & 1 == 1);
+            let bit = known(&self.read, gate[0]).unwrap_or_else(|| fan_in(gate[1]) && fan_in(gate[2]));
+            self.gates.push((gate[0], bit));
+        }
     }
 
-    pub fn value(&mut self, pin: u32) -> bool {
-        if let Some(&value) = self.known.get(&pin) {
-            return value;
-        }
-        let value = match self.gates.fan_ins(pin) {
-            None => false,
-            Some((first, second)) => {
-                let first = self.value(first >> 1) ^ (first & 1 == 1);
-                let second = self.value(second >> 1) ^ (second & 1 == 1);
-                first && second
-            }
-        };
-        self.known.insert(pin, value);
-        value
+    /// "Its state bit if the part reads it in stage 0; else, for a gate, the AND of its fan-ins' values, inversions
+    /// applied; else 0".
+    pub fn value(&self, pin: u32) -> bool {
+        known(&self.read, pin).or_else(|| known(&self.gates, pin)).unwrap_or(false)
     }
 
-    /// How many ways lead down from a pin to pins that are read, or are no gates: 2^64 - 1 at most.
-    pub fn paths(&self, pin: u32, known: &mut HashMap<u32, u64>) -> u64 {
-        if self.known.contains_key(&pin) {
-            return 1;
-        }
-        if let Some(&paths) = known.get(&pin) {
-            return paths;
-        }
-        let paths = self.gates.fan_ins(pin).map_or(1, |(first, second)| {
-            self.paths(first >> 1, known).saturating_add(self.paths(second >> 1, known))
-        });
-        known.insert(pin, paths);
-        paths
+    /// One bit a gate: bit g mod 32 of word g/32 is that of gate g.
+    pub fn gate_words(&self) -> Vec<u32> {
+        let word = |gates: &[(u32, bool)]| gates.iter().rev().fold(0, |word, gate| word << 1 | gate.1 as u32);
+        self.gates.chunks(32).map(word).collect()
     }
 }
 
-/// What a call answers where the room is long enough: 5 and 6 are the only other refusals. A part past the plan reads
-/// nothing, the empty pin is no pin, and what lies behind a state is 0.
+/// The value of a pin in a list that ascends by pin.
+fn known(list: &[(u32, bool)], pin: u32) -> Option<bool> {
+    list.binary_search_by_key(&pin, |&(pin, _)| pin).ok().map(|index| list[index].1)
+}
+
+/// What a call answers with 0.
+#[derive(Debug, Clone, PartialEq, Eq)]
+pub struct Answer {
+    /// The value of the pin that is asked for.
+    pub bit: bool,
+    pub gate_words: Vec<u32>,
+}
+
+/// What a call answers where the room is long enough: 5, 6, and 14 where so many words for the gates' bits are too few.
+/// The empty pin is no pin.
 pub fn answer(
     record_bytes: usize,
     words: &[u32],
@@ -71,15 +75,16 @@ pub fn answer(
     pin: u32,
     old: &[u32],
     new: &[u32],
-) -> Result<bool, Refused> {
+    bits_words: usize,
+) -> Result<Answer, Refused> {
     let plan = record::plan(record_bytes, words).ok_or(Refused::plain(5))?;
     if let Some(fault) = plan::gate_fault(&plan) {
         return Err(fault);
     }
-    let gates = Gates::of(&plan);
-    let mut values = match plan.parts.get(part as usize) {
-        Some(part) => Values::of(part, &gates, &Found::of(&plan), old, new),
-        None => Values::of_nothing_read(&gates),
-    };
-    Ok(pin != EMPTY && values.value(pin))
+    let gates = plan.gates.len() / 3;
+    if bits_words < (gates + 31) / 32 {
+        return Err(Refused::plain(14));
+    }
+    let values = Values::of(&plan, plan.parts.get(part as usize), &Found::of(&plan), old, new);
+    Ok(Answer { bit: pin != EMPTY && values.value(pin), gate_words: values.gate_words() })
 }

@@ -45,7 +45,7 @@ store-gate-requires c κs =
       given = s .pre .given;
       inside = omega arith;
       askable = s .pre .askable _ (omega arith);
-      below = stored-below (s .args .d .now) (s .args .known .now) _ _ _ (s .pre .given .gates) (room k) (omega arith) (l .loop .inv .1);
+      below = stored-below (s .args .d .now) (s .args .known .now) _ _ _ (room k) (l .loop .inv .1);
     }
 
 add-g : tie.Need-add-g Inv-loop μ-loop

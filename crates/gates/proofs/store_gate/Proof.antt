@@ -1,6 +1,6 @@
 -- `gates::store_gate` meets its contract: a bit that is 0 needs no store.
 -- Assumes nothing.
-use mathlib.Core.Path.{_∙_}
+use mathlib.Core.Path.{ap, _∙_}
 use Rattle.pinmap.specs.PinMap.{look}
 use Rattle.record.specs.Record.{gatePin}
 use Rattle.gates.specs.Gates.{value}
@@ -9,8 +9,11 @@ use borrow.Author.Needs.{needs}
 use Rattle.gates.proofs.store_gate.Statement.{statement}
 use Rattle.gates.proofs.store_gate.Tie as tie
 
-gate-value-requires : tie.Need-gate-value-requires
-gate-value-requires c κs = search needs
+gate-pin-requires : tie.Need-gate-pin-requires
+gate-pin-requires c κs = search needs
+
+value-requires : tie.Need-value-requires
+value-requires c κs = search needs
 
 same-length : tie.Need-same-length
 same-length c = search needs
@@ -18,10 +21,9 @@ same-length c = search needs
 returns : tie.Need-returns
 returns c =
     let v = c .before in
-    let s = v .before .before .before .before .before .args in
-    store-none (s .bits .now) (s .g) (value (s .d .now) (look (s .known .now)) (gatePin (s .d .now) (s .g))) (v .gate-value .result)
-    (v .gate-value .ensures .0)
-    (c .if1 .taken)
+    let s = v .before .before .before .before .before .before .args in
+    let e = v .value .ensures .0 ∙ ap (value (s .d .now) (look (s .known .now))) (v .before .gate-pin .ensures) in
+    store-none (s .bits .now) (s .g) (value (s .d .now) (look (s .known .now)) (gatePin (s .d .now) (s .g))) _ e (c .if1 .taken)
 
 set-bit-requires : tie.Need-set-bit-requires
 set-bit-requires c κs = search needs
@@ -33,13 +35,19 @@ returns-2 : tie.Need-returns-2
 returns-2 c =
     let b = c .before .before in
     let v = b .before .before .before in
-    let s = v .before .before .before .before .before .args in
+    let s = v .before .before .before .before .before .before .args in
+    let e = v .value .ensures .0 ∙ ap (value (s .d .now) (look (s .known .now))) (v .before .gate-pin .ensures) in
     b .set-bit .ensures
-    ∙ store-some (s .bits .now) (s .g) (value (s .d .now) (look (s .known .now)) (gatePin (s .d .now) (s .g))) (v .gate-value .result)
-    (v .gate-value .ensures .0)
-    (b .before .before .if1 .left)
+    ∙ store-some (s .bits .now) (s .g) (value (s .d .now) (look (s .known .now)) (gatePin (s .d .now) (s .g))) _ e (b .before .before .if1 .left)
 
 pub store-gate-spec : {M : Type 1} → statement M
 store-gate-spec =
     tie.close
-    (tie.spec gate-value-requires same-length returns set-bit-requires same-length-2 returns-2)
+    (tie.spec
+    gate-pin-requires
+    value-requires
+    same-length
+    returns
+    set-bit-requires
+    same-length-2
+    returns-2)

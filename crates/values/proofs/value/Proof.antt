@@ -1,19 +1,45 @@
 -- `values::value` meets its contract: one law for each way out.
 -- Assumes nothing.
-use mathlib.Core.Path.{sym, _∙_}
+use mathlib.Core.Path.{_≡_, sym, ap, _∙_}
+use mathlib.Core.Bool.{true}
+use Prim.Native.Nat.{_≤_, _<_}
 use native.Mathlib.Omega.{arith}
 use borrow.Author.Tests.{not-true, not-false}
 use lib.ListN.{length}
-use Rattle.values.proofs.AnswerLaws.{value-short, value-form, value-gate, value-bit, list-good, list-bad, room-short, room-zeros, room-again, room-asked}
+use Rattle.record.specs.Form.{roomWords, planForm}
+use Rattle.values.specs.Values.{Outcome, answerOf, bitsAfter}
+use Rattle.values.proofs.AnswerLaws.{list-good, list-bad, out-short, out-form, out-gate, out-lent, bits-kept, room-short, room-zeros, room-again, room-asked}
 use borrow.Author.Needs.{needs}
 use Rattle.values.proofs.value.Statement.{statement}
 use Rattle.values.proofs.value.Tie as tie
 
+abbrev start : tie.After-room-words → tie.Start
+start c = c .before .before .before .before .before .before
+
+enough : (c : tie.Else1) → roomWords (start (c .before) .args .plan .now) ≤ length (start (c .before) .args .room .now)
+enough c = omega (arith, c .before .room-words .ensures .0, c .if1 .left)
+
+abbrev plan-of : tie.Else2 → tie.Start
+plan-of c =
+    let t = c .before .before .before .before .before .before in
+    start (t .before)
+
+formed : (c : tie.Else2) → planForm (plan-of c .args .plan .now) ≡ true
+formed c = sym (c .before .plan-form .ensures) ∙ not-false _ (c .if2 .left)
+
 room-words-requires : tie.Need-room-words-requires
 room-words-requires c κs = search needs
 
+refuse-requires : tie.Need-refuse-requires
+refuse-requires c κs = search needs
+
 returns : tie.Need-returns
-returns c = let o = c .before .before .before .before .before .before .args in (value-short (o .plan .now) (o .part) (o .old .now) (o .new .now) (length (o .room .now)) (o .pin .0) (omega (arith, c .if1 .taken, c .before .room-words .ensures .0)), room-short (o .plan .now) (o .room .now) (omega (arith, c .if1 .taken, c .before .room-words .ensures .0)))
+returns c =
+    let w = c .before .before in
+    let o = start w .args in
+    let h : length (o .room .now) < roomWords (o .plan .now) = omega (arith, w .room-words .ensures .0, c .before .if1 .taken) in
+    let e = out-short (o .plan .now) (o .part) (o .old .now) (o .new .now) (length (o .bits .now)) (o .pin .0) (length (o .room .now)) h in
+    (c .refuse .ensures ∙ ap answerOf (sym e), (room-short (o .plan .now) (o .room .now) h, bits-kept _ 32 0 (o .bits .now) e))
 
 clear-requires : tie.Need-clear-requires
 clear-requires c κs = search needs
@@ -21,11 +47,22 @@ clear-requires c κs = search needs
 plan-form-requires : tie.Need-plan-form-requires
 plan-form-requires c κs = search needs
 
+refuse-requires-2 : tie.Need-refuse-requires-2
+refuse-requires-2 c κs = search needs
+
 same-length : tie.Need-same-length
 same-length c = search needs
 
 returns-2 : tie.Need-returns-2
-returns-2 c = let o = c .before .before .before .before .before .before .before .before .before .before .before .before .args in (value-form (o .plan .now) (o .part) (o .old .now) (o .new .now) (length (o .room .now)) (o .pin .0) (omega (arith, c .before .before .before .before .before .before .if1 .left, c .before .before .before .before .before .before .before .room-words .ensures .0)) (sym (c .before .plan-form .ensures) ∙ not-true _ (c .if2 .taken)), room-zeros (o .plan .now) (o .room .now) (omega (arith, c .before .before .before .before .before .before .if1 .left, c .before .before .before .before .before .before .before .room-words .ensures .0)) _ (c .before .before .before .before .clear .ensures))
+returns-2 c =
+    let f = c .before .before in
+    let z = f .before .before .before in
+    let t = z .before .before in
+    let o = start (t .before) .args in
+    let e = out-form (o .plan .now) (o .part) (o .old .now) (o .new .now) (length (o .bits .now)) (o .pin .0) (length (o .room .now)) (enough t)
+    (sym (f .plan-form .ensures) ∙ not-true _ (c .before .if2 .taken)) in
+    let zeros = room-zeros (o .plan .now) (o .room .now) (enough t) _ (z .clear .ensures) in
+    (c .refuse2 .ensures ∙ ap answerOf (sym e), (zeros, bits-kept _ 5 0 (o .bits .now) e))
 
 check-gates-requires : tie.Need-check-gates-requires
 check-gates-requires c κs = search needs
@@ -33,43 +70,82 @@ check-gates-requires c κs = search needs
 enum-known-g : tie.Need-enum-known-g
 enum-known-g c = search needs
 
-cast-t19 : tie.Need-cast-t19
-cast-t19 c = search needs
+refuse-requires-3 : tie.Need-refuse-requires-3
+refuse-requires-3 c κs = search needs
 
 enum-told : tie.Need-enum-told
 enum-told c = search needs
 
-pin-bit-requires : tie.Need-pin-bit-requires
-pin-bit-requires c κs = let o = c .before .before .before .before .before .before .before .before .before .before .before .before .before .before .before .before .args in room-asked (o .plan .now) (o .room .now) (omega (arith, c .before .before .before .before .before .before .before .before .before .before .if1 .left, c .before .before .before .before .before .before .before .before .before .before .before .room-words .ensures .0)) _ (c .before .before .before .before .before .before .before .before .clear .ensures) (sym (c .before .before .before .before .before .plan-form .ensures) ∙ not-false _ (c .before .before .before .before .if2 .left)) (list-good _ _ (c .before .before .before .check-gates .ensures) (c .before .enum-told .given .1))
+value-lent-requires : tie.Need-value-lent-requires
+value-lent-requires c κs =
+    let told = c .before .before in
+    let g = told .before .before in
+    let f = g .before .before in
+    let z = f .before .before .before in
+    let t = z .before .before in
+    let o = start (t .before) .args in
+    room-asked (o .plan .now) (o .room .now) (enough t) _ (z .clear .ensures) (formed (g .before))
+    (list-good _ _ (g .check-gates .ensures) (told .enum-told .given .1))
 
 same-length-2 : tie.Need-same-length-2
 same-length-2 c = search needs
 
 returns-3 : tie.Need-returns-3
-returns-3 c = let o = c .before .before .before .before .before .before .before .before .before .before .before .before .before .before .before .before .args in (value-gate (o .plan .now) (o .part) (o .old .now) (o .new .now) (length (o .room .now)) (o .pin .0) (omega (arith, c .before .before .before .before .before .before .before .before .before .before .if1 .left, c .before .before .before .before .before .before .before .before .before .before .before .room-words .ensures .0)) (sym (c .before .before .before .before .before .plan-form .ensures) ∙ not-false _ (c .before .before .before .before .if2 .left)) _ (list-bad _ _ _ (c .before .before .before .check-gates .ensures) (c .before .g .given .1)), room-zeros (o .plan .now) (o .room .now) (omega (arith, c .before .before .before .before .before .before .before .before .before .before .if1 .left, c .before .before .before .before .before .before .before .before .before .before .before .room-words .ensures .0)) _ (c .before .before .before .before .before .before .before .before .clear .ensures))
+returns-3 c =
+    let n = c .before .before in
+    let g = n .before .before in
+    let f = g .before .before in
+    let z = f .before .before .before in
+    let t = z .before .before in
+    let o = start (t .before) .args in
+    let e = out-gate (o .plan .now) (o .part) (o .old .now) (o .new .now) (length (o .bits .now)) (o .pin .0) (length (o .room .now)) (enough t)
+    (formed (g .before))
+    _
+    (list-bad _ _ _ (g .check-gates .ensures) (n .g .given .1)) in
+    let zeros = room-zeros (o .plan .now) (o .room .now) (enough t) _ (z .clear .ensures) in
+    (c .refuse3 .ensures ∙ ap answerOf (sym e), (zeros, bits-kept _ 6 _ (o .bits .now) e))
 
 same-length-3 : tie.Need-same-length-3
 same-length-3 c = search needs
 
+same-length-4 : tie.Need-same-length-4
+same-length-4 c = search needs
+
 returns-4 : tie.Need-returns-4
-returns-4 c = let o = c .before .before .before .before .before .before .before .before .before .before .before .before .before .before .before .before .before .before .before .args in (value-bit (o .plan .now) (o .part) (o .old .now) (o .new .now) (length (o .room .now)) (o .pin .0) (omega (arith, c .before .before .before .before .before .before .before .before .before .before .before .before .before .if1 .left, c .before .before .before .before .before .before .before .before .before .before .before .before .before .before .room-words .ensures .0)) (sym (c .before .before .before .before .before .before .before .before .plan-form .ensures) ∙ not-false _ (c .before .before .before .before .before .before .before .if2 .left)) (list-good _ _ (c .before .before .before .before .before .before .check-gates .ensures) (c .before .before .before .before .enum-told .given .1)) _ (c .before .before .pin-bit .ensures .0), room-again (o .plan .now) (o .room .now) (omega (arith, c .before .before .before .before .before .before .before .before .before .before .before .before .before .if1 .left, c .before .before .before .before .before .before .before .before .before .before .before .before .before .before .room-words .ensures .0)) _ (c .before .before .before .before .before .before .before .before .before .before .before .clear .ensures) _ (c .before .before .pin-bit .ensures .1))
+returns-4 c =
+    let v = c .before .before .before .before in
+    let told = v .before .before .before in
+    let g = told .before .before in
+    let f = g .before .before in
+    let z = f .before .before .before in
+    let t = z .before .before in
+    let o = start (t .before) .args in
+    let e = out-lent (o .plan .now) (o .part) (o .old .now) (o .new .now) (length (o .bits .now)) (o .pin .0) (length (o .room .now)) (enough t)
+    (formed (g .before))
+    (list-good _ _ (g .check-gates .ensures) (told .enum-told .given .1)) in
+    let zeros = room-again (o .plan .now) (o .room .now) (enough t) _ (z .clear .ensures) _ (v .value-lent .ensures .1 .0) in
+    let bits = v .value-lent .ensures .1 .1 ∙ ap (λ (r : Outcome). bitsAfter r (o .bits .now)) (sym e) in
+    (v .value-lent .ensures .0 ∙ ap answerOf (sym e), (zeros, bits))
 
 pub value-spec : {M : Type 1} → statement M
 value-spec =
     tie.close
     (tie.spec
     room-words-requires
+    refuse-requires
     returns
     clear-requires
     plan-form-requires
+    refuse-requires-2
     same-length
     returns-2
     check-gates-requires
     enum-known-g
-    cast-t19
+    refuse-requires-3
     enum-told
-    pin-bit-requires
+    value-lent-requires
     same-length-2
     returns-3
     same-length-3
+    same-length-4
     returns-4)

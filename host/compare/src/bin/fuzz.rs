@@ -13,7 +13,7 @@ use compare::run_checker::RunChecker;
 use compare::run_damage::{self, Case};
 use compare::sets;
 use compare::tally::Tally;
-use compare::value_checker::{few_paths, Question, ValueChecker};
+use compare::value_checker::{Question, ValueChecker, ValueRoom};
 use random::Random;
 use std::time::{Duration, Instant};
 
@@ -249,11 +249,12 @@ impl Fuzz {
             pin if random.chance(2) => pin,
             _ => random.pick(&[0, 1, 2, 50, 200, 1 << 30, u32::MAX]),
         };
-        let (more_room, room_is_zero) = (if random.chance(12) { -1 } else { 0 }, random.chance(2));
-        for pin in few_paths(&record, part, &[pin]) {
-            self.values
-                .check("fuzz", Question { record: &record, part, pin, old, new, more_room, room_is_zero });
-        }
+        let lent = ValueRoom {
+            more_room: if random.chance(12) { -1 } else { 0 },
+            room_is_zero: random.chance(2),
+            more_bits: random.pick(&[0, 0, 0, 1, 40, -1, -3]),
+        };
+        let _ = self.values.check("fuzz", Question { record: &record, part, pin, old, new, lent });
         "value"
     }
 }
