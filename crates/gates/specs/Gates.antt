@@ -7,23 +7,21 @@ use Prim.Native.Nat.{ℕ, zero, suc, _/_, _%_, min}
 use lib.Bits.{differ}
 use lib.Dec.{ltb, eqb}
 use Rattle.record.specs.Record.{gatesOf, gatePin, gateFirst, gateSecond}
-use Rattle.record.specs.Tests.{firstNot}
+use Rattle.gatelist.specs.GateList.{beforeOver, rightOver, badOver, gateOver}
 
--- the pin of the gate before, 0 before the first: so a first pin 0 is not above it
+-- refusal 6 and the gate of a pin, as `gatelist` has them of any gate list: here its gates are those of a plan record
 unfoldable pub pinBefore : List ℕ → ℕ → ℕ
-pinBefore d zero = 0
-pinBefore d (suc g) = gatePin d g
+pinBefore d g = beforeOver (gatePin d) g
 
--- 6: "gate list not strictly ascending, pin 0, or a fan-in pin not below its gate"
 unfoldable pub gateRight : List ℕ → ℕ → Bool
-gateRight d g = ltb (pinBefore d g) (gatePin d g) && ltb (gateFirst d g / 2) (gatePin d g) && ltb (gateSecond d g / 2) (gatePin d g)
+gateRight d g = rightOver (gatePin d) (gateFirst d) (gateSecond d) g
 
 unfoldable pub badGate : List ℕ → Option ℕ
-badGate d = firstNot (gateRight d) (gatesOf d)
+badGate d = badOver (gatePin d) (gateFirst d) (gateSecond d) (gatesOf d)
 
 -- the gate whose pin is x
 unfoldable pub gateOf : List ℕ → ℕ → Option ℕ
-gateOf d x = firstNot (λ g. not (eqb (gatePin d g) x)) (gatesOf d)
+gateOf d x = gateOver (gatePin d) (gatesOf d) x
 
 -- "the AND of its fan-ins' values, inversions applied": r gives the value of a pin
 unfoldable pub gateBit : List ℕ → ℕ → (ℕ → ℕ) → ℕ

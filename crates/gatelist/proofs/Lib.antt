@@ -1,0 +1,2 @@
+pub mod GateListLaws
+pub mod WordLaws

@@ -1,0 +1,78 @@
+-- `gatelist::check_list` meets its contract. The loop's invariant: the answer from gate g on is the answer, and `before` is the pin before it.
+-- Assumes nothing.
+use mathlib.Core.Path.{_≡_, sym, ap, _∙_}
+use Prim.Native.Nat.{_-_, _≤_}
+use native.Mathlib.Omega.{arith}
+use borrow.Author.Needs.{needs}
+use Rattle.record.specs.Tests.{firstFrom}
+use Rattle.gatelist.specs.GateList.{beforeOver}
+use Rattle.gatelist.specs.Words.{listPin, wholeGates, allGates, listRight, badList, formOf}
+use Rattle.gatelist.proofs.GateListLaws.{before-first, before-next}
+use Rattle.gatelist.proofs.WordLaws.{list-from, list-fault, list-next, list-cut, list-good}
+use Rattle.gatelist.proofs.check_list.Statement.{statement}
+use Rattle.gatelist.proofs.check_list.Tie as tie
+
+abbrev Inv-loop : tie.InvT-loop
+Inv-loop l gates before₀ g₀ before g =
+    (g ≤ wholeGates l) × (before .0 ≡ beforeOver (listPin l) g) × (firstFrom (listRight l) (allGates l - g) g ≡ badList l)
+
+abbrev μ-loop : tie.MeasureT-loop
+μ-loop l gates before₀ g₀ before g = gates - g
+
+loop-holds : tie.Need-loop-holds Inv-loop μ-loop
+loop-holds c = (omega arith, sym (before-first _), list-from _)
+
+gate-right-requires : tie.Need-gate-right-requires Inv-loop μ-loop
+gate-right-requires c κs = search needs
+
+pin-of-requires : tie.Need-pin-of-requires Inv-loop μ-loop
+pin-of-requires c κs = search needs
+
+add-g : tie.Need-add-g Inv-loop μ-loop
+add-g c = search needs
+
+loop-less : tie.Need-loop-less Inv-loop μ-loop
+loop-less c = search needs
+
+loop-again : tie.Need-loop-again Inv-loop μ-loop
+loop-again c =
+    let t = c .before in
+    let a = t .before .before .before in
+    let l = a .before .before .args .l .now in
+    let e = sym (t .before .gate-right .ensures) ∙ t .if1 .taken in
+    (omega arith, c .pin-of .ensures ∙ sym (before-next (listPin l) (a .loop .g)), list-next l (a .loop .g) (omega arith) (a .loop .inv .2) e)
+
+returns : tie.Need-returns Inv-loop μ-loop
+returns c =
+    let a = c .before .before .before in
+    let l = a .before .before .args .l .now in
+    let e = sym (c .before .gate-right .ensures) ∙ c .if1 .left in
+    ap formOf (list-fault l (a .loop .g) (omega arith) (a .loop .inv .2) e)
+
+returns-2 : tie.Need-returns-2 Inv-loop μ-loop
+returns-2 c =
+    let a = c .before .before in
+    let l = a .before .before .args .l .now in
+    ap formOf (list-cut l (a .loop .g) (omega arith) (omega arith) (a .loop .inv .2))
+
+returns-3 : tie.Need-returns-3 Inv-loop μ-loop
+returns-3 c =
+    let a = c .before .before in
+    let l = a .before .before .args .l .now in
+    ap formOf (list-good l (a .loop .g) (omega arith) (omega arith) (a .loop .inv .2))
+
+pub check-list-spec : {M : Type 1} → statement M
+check-list-spec =
+    tie.close
+    (tie.spec
+    Inv-loop
+    μ-loop
+    loop-holds
+    gate-right-requires
+    pin-of-requires
+    add-g
+    loop-less
+    loop-again
+    returns
+    returns-2
+    returns-3)

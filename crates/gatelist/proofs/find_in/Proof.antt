@@ -1,0 +1,50 @@
+-- `gatelist::find_in` meets its contract: a gate that has the pin is the pin's gate, and where the pin has a gate the search by halves ends at it.
+-- Assumes nothing.
+use mathlib.Core.Path.{sym, ap, _∙_}
+use borrow.Author.Needs.{needs}
+use Rattle.gatelist.specs.Words.{listedOf}
+use Rattle.gatelist.proofs.WordLaws.{found-gate, found-none}
+use Rattle.gatelist.proofs.find_in.Statement.{statement}
+use Rattle.gatelist.proofs.find_in.Tie as tie
+
+guess-requires : tie.Need-guess-requires
+guess-requires c κs = search needs
+
+has-pin-requires : tie.Need-has-pin-requires
+has-pin-requires c κs = search needs
+
+returns : tie.Need-returns
+returns c =
+    let s = c .before .before .before .before in
+    ap listedOf (sym (found-gate (s .args .l .now) (s .pre) (s .args .pin .0) _ (sym (c .before .has-pin .ensures) ∙ c .if1 .taken)))
+
+first-not-below-requires : tie.Need-first-not-below-requires
+first-not-below-requires c κs = search needs
+
+has-pin-requires-2 : tie.Need-has-pin-requires-2
+has-pin-requires-2 c κs = search needs
+
+returns-2 : tie.Need-returns-2
+returns-2 c =
+    let p = c .before .before .before in
+    let s = p .before .before .before .before in
+    ap listedOf (sym (found-gate (s .args .l .now) (s .pre) (s .args .pin .0) _ (sym (c .before .has-pin2 .ensures) ∙ c .if2 .taken)))
+
+returns-3 : tie.Need-returns-3
+returns-3 c =
+    let p = c .before .before .before in
+    let s = p .before .before .before .before in
+    let f = c .before .before .first-not-below .ensures in
+    ap listedOf (sym (found-none (s .args .l .now) (s .pre) (s .args .pin .0) _ f (sym (c .before .has-pin2 .ensures) ∙ c .if2 .left)))
+
+pub find-in-spec : {M : Type 1} → statement M
+find-in-spec =
+    tie.close
+    (tie.spec
+    guess-requires
+    has-pin-requires
+    returns
+    first-not-below-requires
+    has-pin-requires-2
+    returns-2
+    returns-3)

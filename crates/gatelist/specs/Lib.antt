@@ -1,0 +1,2 @@
+pub mod GateList
+pub mod Words
