@@ -4,14 +4,14 @@ use mathlib.Core.Path.{_≡_, ap}
 use mathlib.Core.List.{List, [], _∷_, _++_, append-assoc}
 use Prim.Native.Nat.{ℕ, _*_, _^_}
 use native.Mathlib.Omega.{arith}
-use Rattle.listing.specs.Text.{decimal}
+use Rattle.text.specs.Text.{decimal}
 use Rattle.listing.specs.Section.{places}
 use Rattle.listing.specs.Listing.{roundsWord, refusedWord, atWord}
-use Rattle.listing.specs.Writing.{Put}
+use Rattle.text.specs.Writing.{Put}
 use Rattle.listing.specs.Answer.{answerText}
 use Rattle.listing.specs.declared.answer.Answer.{Answer}
 use Rattle.listing.specs.declared.answer.Answer.the-variants.{Rounds, Refused, Bad}
-use Rattle.listing.proofs.WritingLaws.{put-then, put-is, put-wide}
+use Rattle.text.proofs.WritingLaws.{put-then, put-is, put-wide}
 
 pub put-rounds : (n : ℕ) (s : List ℕ) {a b c d : List ℕ} {o p q r : ℕ}
     → Put 7 roundsWord a o b p → Put 21 (decimal n ++ (10 ∷ [])) b p c q → Put (256 * (74 * 2 ^ 32)) (places 256 s n 256 0) c q d r

@@ -9,7 +9,8 @@ use Rattle.reads.specs.Asked.{ask, readSetOf}
 use Rattle.reads.specs.Search.{piecesIn, insertPiece, ordered, joined, firstRoom, tryFrom, firstWin, longest}
 use Rattle.reads.specs.Outcome.{packed, readSet, fitted, outcome}
 use Rattle.listing.specs.Records.{numberAt, positionAt, endAt, kindAt, recordAt, recordsFrom}
-use Rattle.listing.specs.Text.{decimalIn, hexDigit, hexIn, kindLetter, line}
+use Rattle.text.specs.Text.{decimalIn}
+use Rattle.listing.specs.Line.{hexDigit, hexIn, kindLetter, line}
 use Rattle.listing.specs.Listing.{laneLines, lines, printed, printedAt, said, listing}
 
 pub example : List ℕ

@@ -21,10 +21,12 @@ use Rattle.reads.proofs.RoundLaws.{longest-ge}
 use Rattle.reads.proofs.PackingLaws.{lanes-packing}
 use Rattle.reads.proofs.OutcomeLaws.{placed-passed, fitted-placed}
 use Rattle.listing.specs.Records.{records}
-use Rattle.listing.specs.Text.{decimalIn, decimal, hex, field, kindLetter, line}
+use Rattle.text.specs.Text.{decimalIn, decimal, field}
+use Rattle.listing.specs.Line.{hex, kindLetter, line}
 use Rattle.listing.specs.Listing.{laneLines, lines, refusedWord, printed, printedAt, said, listing, listed, textAfter}
 use Rattle.listing.specs.declared.Listed.the-variants.{Text, Refused}
-use Rattle.listing.proofs.TextLaws.{decimal-one, decimal-more, decimal-short, hex-length}
+use Rattle.text.proofs.TextLaws.{decimal-one, decimal-more, decimal-short}
+use Rattle.listing.proofs.LineLaws.{hex-length}
 use Rattle.listing.proofs.ListLaws.{after-text}
 
 -- a number below 10^(k+1) has at most k+1 digits

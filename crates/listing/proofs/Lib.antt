@@ -1,5 +1,4 @@
-pub mod WritingLaws
-pub mod TextLaws
+pub mod LineLaws
 pub mod RecordLaws
 pub mod SectionLaws
 pub mod AnswerLaws

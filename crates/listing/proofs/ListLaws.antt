@@ -12,7 +12,7 @@ use Rattle.reads.specs.Search.{longest}
 use Rattle.reads.specs.Asked.{readSetOf}
 use Rattle.reads.specs.Outcome.{Outcome, placed, refused, outcome, resultAfter, roomAfter}
 use Rattle.listing.specs.Records.{Parsed, records}
-use Rattle.listing.specs.Text.{decimal}
+use Rattle.text.specs.Text.{decimal}
 use Rattle.listing.specs.Listing.{roundsWord, printed, printedAt, said, listing, listed, textAfter}
 use Rattle.listing.specs.Answer.{answered, found, answerTo, sectionAfter, answerText}
 use Rattle.listing.specs.declared.answer.Answer.{Answer}

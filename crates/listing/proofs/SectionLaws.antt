@@ -6,7 +6,7 @@ use Prim.Native.Nat.{ℕ, suc, _+_, _-_, _≤_, _<_}
 use native.Mathlib.Omega.{arith}
 use borrow.Author.Tests.{eq-eqb, ne-eqb}
 use lib.ListN.{getD}
-use Rattle.listing.specs.Text.{line}
+use Rattle.listing.specs.Line.{line}
 use Rattle.listing.specs.Section.{placeOf, placeLine, lanePlaces, places}
 
 module _ (L : ℕ) (s : List ℕ) where

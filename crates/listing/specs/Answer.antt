@@ -7,7 +7,7 @@ use Rattle.reads.specs.Search.{longest}
 use Rattle.reads.specs.Asked.{readSetOf}
 use Rattle.reads.specs.Outcome.{Outcome, placed, refused, outcome, resultAfter}
 use Rattle.listing.specs.Records.{Parsed}
-use Rattle.listing.specs.Text.{decimal}
+use Rattle.text.specs.Text.{decimal}
 use Rattle.listing.specs.Listing.{roundsWord, refusedWord, atWord}
 use Rattle.listing.specs.Section.{places}
 use Rattle.listing.specs.declared.answer.Answer.{Answer}

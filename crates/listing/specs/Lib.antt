@@ -1,7 +1,6 @@
 pub mod Records
 pub mod Reading
-pub mod Text
+pub mod Line
 pub mod Listing
-pub mod Writing
 pub mod Section
 pub mod Answer

@@ -11,7 +11,8 @@ use Rattle.reads.specs.Search.{Lane, longest}
 use Rattle.reads.specs.Asked.{readSetOf}
 use Rattle.reads.specs.Outcome.{Outcome, placed, refused, outcome}
 use Rattle.listing.specs.Records.{Parsed, records}
-use Rattle.listing.specs.Text.{decimal, line}
+use Rattle.text.specs.Text.{decimal}
+use Rattle.listing.specs.Line.{line}
 use Rattle.listing.specs.declared.Listed.{Listed}
 use Rattle.listing.specs.declared.Listed.the-variants.{Text, Refused}
 

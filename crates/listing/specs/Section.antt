@@ -6,7 +6,7 @@ use mathlib.Core.List.{List, [], _++_}
 use Prim.Native.Nat.{ℕ, zero, suc, _+_, _*_}
 use lib.Dec.{eqb}
 use lib.ListN.{getD}
-use Rattle.listing.specs.Text.{line}
+use Rattle.listing.specs.Line.{line}
 
 abbrev pub placeOf : ℕ → ℕ → ℕ → ℕ
 placeOf L i r = 2 * L * r + 2 * i

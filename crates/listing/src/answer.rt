@@ -1,13 +1,13 @@
 // The answer as text.
 ghost use mathlib.Core.List.{[], _∷_, _++_};
 ghost use Prim.Native.Nat.{_^_};
-ghost use Rattle.listing.specs.Text.{decimal};
+ghost use Rattle.text.specs.Text.{decimal};
+ghost use Rattle.text.specs.Writing.{Put};
 ghost use Rattle.listing.specs.Listing.{refusedWord, atWord};
 ghost use Rattle.listing.specs.Answer.{answerText};
-ghost use Rattle.listing.specs.Writing.{Put};
-use crate::lines::put_bytes;
 use crate::lines::put_lanes;
-use crate::text::put_number;
+use text::put_bytes;
+use text::put_number;
 
 // Rounds that a read section holds; a refusal's number; or the byte of a bad record.
 pub enum Answer {

@@ -1,8 +1,8 @@
 // The listing program's work: records read, lanes printed. Document 01, "Listing program".
 pub mod answer;
+pub mod line;
 pub mod lines;
 pub mod records;
-pub mod text;
 
 ghost use mathlib.Core.Path.{_≡_};
 ghost use Prim.Native.Nat.{_≤_};

@@ -1,26 +1,11 @@
 // The lines of a read section: by lane, then round.
 ghost use mathlib.Core.Path.{_≡_};
 ghost use Prim.Native.Nat.{_*_, _^_, _<_};
-ghost use lib.ListN.{getD, length};
+ghost use lib.ListN.{getD};
 ghost use Rattle.listing.specs.Section.{placeLine, lanePlaces, places};
-ghost use Rattle.listing.specs.Writing.{Put};
-use crate::text::put;
-use crate::text::put_line;
+ghost use Rattle.text.specs.Writing.{Put};
+use crate::line::put_line;
 use words::edition::Edition;
-
-// All bytes of a text.
-pub fn put_bytes(out: &mut [u8], at: usize, text: &[u8]) -> usize
-    requires { ⌜ (at < 2 ^ 61) × (length (now text) < 2 ^ 61) ⌝ }
-    ensures { λ r. ⌜ Put (length (now (text .entry))) (now (text .entry)) (now (out .entry)) at (now (out .exit)) r ⌝ }
-{
-    let mut end = at;
-    let mut i = 0;
-    while i < text.len() {
-        end = put(out, end, text[i]);
-        i += 1;
-    }
-    end
-}
 
 // A word of a section, 0 past its end.
 fn word_at(section: &[u32], i: usize) -> u32

@@ -1,5 +1,5 @@
 -- `listing::answer::put_bad` meets its contract: the words, then the byte. Assumes nothing.
-use Rattle.listing.proofs.WritingLaws.{put-then}
+use Rattle.text.proofs.WritingLaws.{put-then}
 use borrow.Author.Needs.{needs}
 use Rattle.listing.proofs.answer.put_bad.Statement.{statement}
 use Rattle.listing.proofs.answer.put_bad.Tie as tie

@@ -1,5 +1,5 @@
 -- `listing::answer::put_refused` meets its contract: the word, then the number. Assumes nothing.
-use Rattle.listing.proofs.WritingLaws.{put-then}
+use Rattle.text.proofs.WritingLaws.{put-then}
 use borrow.Author.Needs.{needs}
 use Rattle.listing.proofs.answer.put_refused.Statement.{statement}
 use Rattle.listing.proofs.answer.put_refused.Tie as tie

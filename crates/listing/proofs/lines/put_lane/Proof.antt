@@ -3,7 +3,7 @@ use native.Mathlib.Nat.{sub-zero}
 use Rattle.listing.proofs.SectionLaws.{next-round, last-round}
 use Rattle.listing.specs.Section.{lanePlaces}
 use Prim.Native.Nat.{_-_, _*_, _≤_}
-use Rattle.listing.proofs.WritingLaws.{Going, going-start, going-long, going-more, going-done}
+use Rattle.text.proofs.WritingLaws.{Going, going-start, going-long, going-more, going-done}
 use native.Mathlib.Omega.{arith}
 use borrow.Author.Needs.{needs}
 use Rattle.listing.proofs.lines.put_lane.Statement.{statement}

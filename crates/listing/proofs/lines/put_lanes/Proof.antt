@@ -2,7 +2,7 @@
 use Rattle.listing.proofs.SectionLaws.{next-lane, last-lane}
 use Rattle.listing.specs.Section.{places}
 use Prim.Native.Nat.{_-_, _*_, _^_, _≤_}
-use Rattle.listing.proofs.WritingLaws.{Going, going-start, going-long, going-more, going-done}
+use Rattle.text.proofs.WritingLaws.{Going, going-start, going-long, going-more, going-done}
 use native.Mathlib.Omega.{arith}
 use borrow.Author.Needs.{needs}
 use Rattle.listing.proofs.lines.put_lanes.Statement.{statement}

@@ -1,5 +1,5 @@
 -- `listing::lines::put_place` meets its contract: no line where the mask is 0, else the line of the two words. Assumes nothing.
-use Rattle.listing.proofs.WritingLaws.{put-none, put-is}
+use Rattle.text.proofs.WritingLaws.{put-none, put-is}
 use mathlib.Core.List.{[]}
 use Rattle.listing.proofs.SectionLaws.{no-line, one-line}
 use mathlib.Core.Path.{sym, _∙_}

@@ -1,4 +1,4 @@
--- `listing::lines::put_bytes` meets its contract. The invariant: what is written, with the bytes from i on, is the whole text. Assumes nothing.
+-- `text::put_bytes` meets its contract. The invariant: what is written, with the bytes from i on, is the whole text. Assumes nothing.
 use mathlib.Core.List.{[], _∷_}
 use native.Mathlib.Numerals.{add-one}
 use lib.Seq.{drop-cons}
@@ -6,11 +6,11 @@ use lib.ListN.{drop-of-length-le}
 use lib.ListN.{length, drop}
 use Prim.Native.Nat.{_-_, _≤_}
 use mathlib.Core.Path.{_∙_}
-use Rattle.listing.proofs.WritingLaws.{Going, going-start, going-long, going-more, going-done}
+use Rattle.text.proofs.WritingLaws.{Going, going-start, going-long, going-more, going-done}
 use native.Mathlib.Omega.{arith}
 use borrow.Author.Needs.{needs}
-use Rattle.listing.proofs.lines.put_bytes.Statement.{statement}
-use Rattle.listing.proofs.lines.put_bytes.Tie as tie
+use Rattle.text.proofs.put_bytes.Statement.{statement}
+use Rattle.text.proofs.put_bytes.Tie as tie
 
 abbrev Inv-loop : tie.InvT-loop
 Inv-loop out₀ at text end₀ i₀ out end i = (i ≤ length text) × Going (drop i text) text i out₀ at out end

@@ -7,7 +7,7 @@ use native.Mathlib.Omega.{arith}
 use lib.ListN.{length, set, length-append}
 use lib.Seq.{sets, set-out, length-sets}
 use Rattle.words.proofs.ListLaws.{sets-append}
-use Rattle.listing.specs.Writing.{Put}
+use Rattle.text.specs.Writing.{Put}
 
 pub put-none : (k : ℕ) (l : List ℕ) (at : ℕ) → Put k [] l at l at
 put-none k l at = record { ends = omega arith; holds = refl; short = omega arith }

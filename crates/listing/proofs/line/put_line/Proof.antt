@@ -1,8 +1,8 @@
--- `listing::text::put_line` meets its contract: its fields, one after the other. Assumes nothing.
-use Rattle.listing.proofs.TextLaws.{put-fields}
+-- `listing::line::put_line` meets its contract: its fields, one after the other. Assumes nothing.
+use Rattle.listing.proofs.LineLaws.{put-fields}
 use borrow.Author.Needs.{needs}
-use Rattle.listing.proofs.text.put_line.Statement.{statement}
-use Rattle.listing.proofs.text.put_line.Tie as tie
+use Rattle.listing.proofs.line.put_line.Statement.{statement}
+use Rattle.listing.proofs.line.put_line.Tie as tie
 
 put-number-requires : tie.Need-put-number-requires
 put-number-requires c κs = search needs

@@ -1,16 +1,16 @@
--- `listing::text::put_decimal` meets its contract. The measure is the number itself: its tenth is smaller. Assumes nothing.
-use Rattle.listing.proofs.TextLaws.{put-first, put-last}
+-- `text::put_decimal` meets its contract. The measure is the number itself: its tenth is smaller. Assumes nothing.
+use Rattle.text.proofs.TextLaws.{put-first, put-last}
 use borrow.Author.Needs.{needs}
 use Prim.Native.Nat.{ℕ, _<_}
 use borrow.Fn.Kinds.{In}
 use borrow.Fn.PlainCycle.{Measures, is, falls, and}
-use Rattle.listing.proofs.text.put_decimal.Reads as put-decimal
-use Rattle.listing.proofs.text.put_decimal.Kinds as put-decimal-kinds
-use Rattle.listing.proofs.text.+put_decimal.Lts-put_decimal as put-decimal-lts
-use Rattle.listing.proofs.text.digit.Reads as digit-reads
-use Rattle.listing.proofs.text.put.Reads as put-reads
-use Rattle.listing.proofs.text.+put_decimal.{statement}
-use Rattle.listing.proofs.text.+put_decimal.Tie.{close}
+use Rattle.text.proofs.put_decimal.Reads as put-decimal
+use Rattle.text.proofs.put_decimal.Kinds as put-decimal-kinds
+use Rattle.text.proofs.+put_decimal.Lts-put_decimal as put-decimal-lts
+use Rattle.text.proofs.digit.Reads as digit-reads
+use Rattle.text.proofs.put.Reads as put-reads
+use Rattle.text.proofs.+put_decimal.{statement}
+use Rattle.text.proofs.+put_decimal.Tie.{close}
 
 abbrev μ-put-decimal : Measures 1 put-decimal-kinds.ps ℕ
 μ-put-decimal κs a = a .1 .1 .0

@@ -1,8 +1,8 @@
--- `listing::text::put_number` meets its contract: a number, then the byte after it. Assumes nothing.
-use Rattle.listing.proofs.WritingLaws.{put-then}
+-- `text::put_number` meets its contract: a number, then the byte after it. Assumes nothing.
+use Rattle.text.proofs.WritingLaws.{put-then}
 use borrow.Author.Needs.{needs}
-use Rattle.listing.proofs.text.put_number.Statement.{statement}
-use Rattle.listing.proofs.text.put_number.Tie as tie
+use Rattle.text.proofs.put_number.Statement.{statement}
+use Rattle.text.proofs.put_number.Tie as tie
 
 put-decimal-requires : tie.Need-put-decimal-requires
 put-decimal-requires c κs = search needs

@@ -1,8 +1,8 @@
--- `listing::text::hex_digit` meets its contract, by the two cases of a digit. Assumes nothing.
-use Rattle.listing.proofs.TextLaws.{hex-low, hex-high}
+-- `listing::line::hex_digit` meets its contract, by the two cases of a digit. Assumes nothing.
+use Rattle.listing.proofs.LineLaws.{hex-low, hex-high}
 use borrow.Author.Needs.{needs}
-use Rattle.listing.proofs.text.hex_digit.Statement.{statement}
-use Rattle.listing.proofs.text.hex_digit.Tie as tie
+use Rattle.listing.proofs.line.hex_digit.Statement.{statement}
+use Rattle.listing.proofs.line.hex_digit.Tie as tie
 
 cast-result : tie.Need-cast-result
 cast-result c = search needs

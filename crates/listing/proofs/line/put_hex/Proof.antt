@@ -1,14 +1,14 @@
--- `listing::text::put_hex` meets its contract. The invariant: what is stored, with the k digits that are left, is the whole text. Assumes nothing.
-use Rattle.listing.specs.Text.{hex, hexIn}
+-- `listing::line::put_hex` meets its contract. The invariant: what is stored, with the k digits that are left, is the whole text. Assumes nothing.
+use Rattle.listing.specs.Line.{hex, hexIn}
 use Prim.Native.Nat.{_-_, _≤_}
 use mathlib.Core.List.{[], _∷_}
-use Rattle.listing.proofs.WritingLaws.{Going, going-start, going-long, going-more, going-done}
-use Rattle.listing.proofs.TextLaws.{hex-top}
+use Rattle.text.proofs.WritingLaws.{Going, going-start, going-long, going-more, going-done}
+use Rattle.listing.proofs.LineLaws.{hex-top}
 use mathlib.Core.Path.{_≡_, _∙_}
 use native.Mathlib.Omega.{arith}
 use borrow.Author.Needs.{needs}
-use Rattle.listing.proofs.text.put_hex.Statement.{statement}
-use Rattle.listing.proofs.text.put_hex.Tie as tie
+use Rattle.listing.proofs.line.put_hex.Statement.{statement}
+use Rattle.listing.proofs.line.put_hex.Tie as tie
 
 abbrev Inv-loop : tie.InvT-loop
 Inv-loop out₀ at n end₀ k₀ out end k = (k ≤ 8) × Going (hexIn k n) (hex n) (8 - k) out₀ at out end

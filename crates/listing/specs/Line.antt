@@ -1,18 +1,10 @@
--- Numbers and lines as text, in ASCII: document 01, "Listing program", the last sentence.
+-- Lines as text, in ASCII: document 01, "Listing program", the last sentence.
 -- Assumes nothing.
 use mathlib.Core.Bool.{true, false}
 use mathlib.Core.List.{List, [], _∷_, _++_}
 use Prim.Native.Nat.{ℕ, zero, suc, _+_, _*_, _/_, _%_, _^_}
 use lib.Dec.{ltb}
-
--- decimal digits, the most significant first, no more than f of them
-unfoldable pub decimalIn : ℕ → ℕ → List ℕ
-decimalIn zero n = []
-decimalIn (suc f) n = elim (ltb n 10) [ true ↦ (48 + n) ∷ [] | false ↦ decimalIn f (n / 10) ++ ((48 + n % 10) ∷ []) ]
-
--- twenty hold every 64-bit number
-abbrev pub decimal : ℕ → List ℕ
-decimal n = decimalIn 20 n
+use Rattle.text.specs.Text.{field}
 
 -- a lower-case hex digit: 0 to 9, then a to f
 unfoldable pub hexDigit : ℕ → ℕ
@@ -26,10 +18,6 @@ hexIn (suc k) n = hexDigit (n / 2 ^ (4 * k) % 16) ∷ hexIn k n
 -- "in eight lower-case hex digits"
 abbrev pub hex : ℕ → List ℕ
 hex n = hexIn 8 n
-
--- a number and a blank
-abbrev pub field : ℕ → List ℕ
-field n = decimal n ++ (32 ∷ [])
 
 -- "kind": s for a staged word, which has bit 31 set, and n for one that is not
 unfoldable pub kindLetter : ℕ → ℕ

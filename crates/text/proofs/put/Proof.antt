@@ -1,8 +1,8 @@
--- `listing::text::put` meets its contract: a store inside the lent bytes, and none past them. Assumes nothing.
-use Rattle.listing.proofs.WritingLaws.{put-byte, put-past}
+-- `text::put` meets its contract: a store inside the lent bytes, and none past them. Assumes nothing.
+use Rattle.text.proofs.WritingLaws.{put-byte, put-past}
 use borrow.Author.Needs.{needs}
-use Rattle.listing.proofs.text.put.Statement.{statement}
-use Rattle.listing.proofs.text.put.Tie as tie
+use Rattle.text.proofs.put.Statement.{statement}
+use Rattle.text.proofs.put.Tie as tie
 
 add-result : tie.Need-add-result
 add-result c = search needs
