@@ -8,8 +8,8 @@ use filter::{Cycle, Holding};
 use juolgesot::Script;
 
 pub const HELP: &str = "
-usage: juolgesot replay [--filter logic|enable] [--traffic FILE] [--lookups N]
-       juolgesot replay [--plan FILE --ports FILE] [--script FILE] [--traffic FILE] [--lookups N]
+usage: juolgesot replay [--filter logic|enable [--script FILE]] [--traffic FILE] [--lookups N]
+       juolgesot replay --plan FILE --ports FILE [--script FILE] [--traffic FILE] [--lookups N]
 
 Builds the script of a Bloom filter (128 registers, 3 hashes, 8 look-up ports) and replays traffic through the run,
 cycle by cycle. Each answer of the gates, and each register, is held to a plain software model of the filter. A no must
