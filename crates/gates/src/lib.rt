@@ -2,7 +2,7 @@
 ghost use mathlib.Core.Path.{_≡_};
 ghost use mathlib.Core.Bool.{_&&_};
 ghost use mathlib.Core.Option.{none};
-ghost use Prim.Native.Nat.{_+_, _%_, _<_, min};
+ghost use Prim.Native.Nat.{_%_, _<_, min};
 ghost use lib.Bits.{differ};
 ghost use lib.Dec.{ltb, eqb};
 ghost use lib.ListN.{length};

@@ -3,8 +3,8 @@ ghost use mathlib.Core.Path.{_≡_};
 ghost use mathlib.Core.Bool.{true};
 ghost use mathlib.Core.Option.{some};
 ghost use mathlib.Core.List.{_++_};
-ghost use Prim.Native.Nat.{_+_, _-_, _^_, _≤_, _<_};
-ghost use lib.ListN.{length, take, drop};
+ghost use Prim.Native.Nat.{_+_, _-_, _^_, _<_};
+ghost use lib.ListN.{take, drop};
 ghost use Rattle.words.specs.Bit.{bitAt};
 ghost use Rattle.pinmap.specs.PinMap.{afterPuts};
 ghost use Rattle.record.specs.Record.{partsOf, slotAt};
@@ -25,7 +25,6 @@ use record::bodies::slot;
 use record::places::position_base;
 use record::places::word_at;
 use words::bits::bit_at;
-use words::clear::clear;
 use words::units::EMPTY_PIN;
 use words::units::Pin;
 
