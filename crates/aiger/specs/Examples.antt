@@ -1,0 +1,93 @@
+-- The format's own examples, as its paper prints them, and the readings of a difference that it leaves open: one list with one claim.
+-- Assumes nothing.
+use mathlib.Core.Path.{_≡_, refl}
+use mathlib.Core.List.{List, [], _∷_, _++_}
+use mathlib.Core.Option.{bind}
+use Prim.Native.Nat.{ℕ, _^_, _-_, _+_}
+use Rattle.record.specs.Tests.{firstFrom, allBelow}
+use Rattle.text.specs.Text.{decimalIn}
+use Rattle.gatelist.specs.GateList.{beforeOver, rightOver}
+use Rattle.gatelist.specs.Words.{listRight, badList}
+use Rattle.aiger.specs.Reading.{Difference, whole, wrong, cut, Reading, gates, refused, differenceAt, digitsFrom, numberIn, endedBy, fieldAt, startWith, isMarked, fieldsOf, headerOf, endOf, lineAt, linesFrom, startOf, groupsIn, differenceIn, literalOf, gateAt, gatesFrom, readAiger}
+use Rattle.aiger.specs.Writing.{Writing, written, refused as unwritten, differenceBytes, groupBytes, headerText, gateBytes, gatesBytes, follows, gateWritable, writable, textOf, writeAiger}
+
+-- what the definitions give, and what is said
+pub record Example : Type 0 where
+  pub got : List ℕ
+  pub said : List ℕ
+
+-- a difference: its number and the byte behind it, or the refusal's number
+unfoldable pub told : Difference → List ℕ
+told (whole x at) = x ∷ at ∷ []
+told wrong = 19 ∷ []
+told cut = 20 ∷ []
+
+-- a number's bytes, and what they are read as
+unfoldable pub coded : ℕ → List ℕ
+coded x = differenceBytes x ++ told (differenceAt (differenceBytes x) 0)
+
+-- a file: inputs, latches, outputs, gates and the list; or the refusal's number
+unfoldable pub readAs : Reading → List ℕ
+readAs (gates h l) = h .inputs ∷ h .latches ∷ h .outputs ∷ h .gates ∷ l
+readAs (refused n) = n ∷ []
+
+-- a text, or the refusal's number
+unfoldable pub writtenAs : Writing → List ℕ
+writtenAs (written t) = t
+writtenAs (unwritten n) = n ∷ []
+
+-- `aig 5 2 0 2 3`, `10`, `6`, the gates, and a symbol of those that follow: `i0 x`
+unfoldable pub halfAdder : List ℕ → List ℕ
+halfAdder behind =
+    (97 ∷ 105 ∷ 103 ∷ 32 ∷ 53 ∷ 32 ∷ 50 ∷ 32 ∷ 48 ∷ 32 ∷ 50 ∷ 32 ∷ 51 ∷ 10 ∷ []) ++ ((49 ∷ 48 ∷ 10 ∷ 54 ∷ 10 ∷ []) ++ ((2 ∷ 2 ∷ 3 ∷ 2 ∷ 1 ∷ []) ++ behind))
+
+unfoldable pub adderGates : List ℕ
+adderGates = 3 ∷ 4 ∷ 2 ∷ 4 ∷ 5 ∷ 3 ∷ 5 ∷ 9 ∷ 7 ∷ []
+
+-- `aig 0 0 0 0 0`
+unfoldable pub emptyFile : List ℕ
+emptyFile = 97 ∷ 105 ∷ 103 ∷ 32 ∷ 48 ∷ 32 ∷ 48 ∷ 32 ∷ 48 ∷ 32 ∷ 48 ∷ 32 ∷ 48 ∷ 10 ∷ []
+
+unfoldable pub examples : List Example
+examples =
+    record { got = coded 0; said = 0 ∷ 0 ∷ 1 ∷ [] }
+    ∷ record { got = coded 1; said = 1 ∷ 1 ∷ 1 ∷ [] }
+    ∷ record { got = coded 127; said = 0x7f ∷ 127 ∷ 1 ∷ [] }
+    ∷ record { got = coded 128; said = 0x80 ∷ 0x01 ∷ 128 ∷ 2 ∷ [] }
+    ∷ record { got = coded 258; said = 0x82 ∷ 0x02 ∷ 258 ∷ 2 ∷ [] }
+    ∷ record { got = coded 16383; said = 0xff ∷ 0x7f ∷ 16383 ∷ 2 ∷ [] }
+    ∷ record { got = coded 16387; said = 0x83 ∷ 0x80 ∷ 0x01 ∷ 16387 ∷ 3 ∷ [] }
+    ∷ record { got = coded (2 ^ 28 - 1); said = 0xff ∷ 0xff ∷ 0xff ∷ 0x7f ∷ 268435455 ∷ 4 ∷ [] }
+    ∷ record { got = coded (2 ^ 28 + 7); said = 0x87 ∷ 0x80 ∷ 0x80 ∷ 0x80 ∷ 0x01 ∷ 268435463 ∷ 5 ∷ [] }
+    -- the half adder, read and written: L = O = 0 then
+    ∷ record { got = readAs (readAiger (halfAdder (2 ∷ 105 ∷ 48 ∷ 32 ∷ 120 ∷ 10 ∷ []))); said = 2 ∷ 0 ∷ 2 ∷ 3 ∷ adderGates }
+    ∷ record {
+      got = writtenAs (writeAiger adderGates);
+      said = (97 ∷ 105 ∷ 103 ∷ 32 ∷ 53 ∷ 32 ∷ 50 ∷ 32 ∷ 48 ∷ 32 ∷ 48 ∷ 32 ∷ 51 ∷ 10 ∷ []) ++ (2 ∷ 2 ∷ 3 ∷ 2 ∷ 1 ∷ 2 ∷ []);
+    }
+    -- the empty file
+    ∷ record { got = readAs (readAiger emptyFile); said = 0 ∷ 0 ∷ 0 ∷ 0 ∷ [] }
+    ∷ record { got = writtenAs (writeAiger []); said = emptyFile }
+    -- no last byte: 20; not shortest: 19; a fifth byte of 128, cut there or not: 19; four of them and no more: 20; out of range: 19
+    ∷ record { got = readAs (readAiger (halfAdder [])); said = 20 ∷ [] }
+    ∷ record { got = readAs (readAiger (halfAdder (0x82 ∷ 0 ∷ []))); said = 19 ∷ [] }
+    ∷ record { got = readAs (readAiger (halfAdder (0x80 ∷ 0x80 ∷ 0x80 ∷ 0x80 ∷ 0x80 ∷ []))); said = 19 ∷ [] }
+    ∷ record { got = readAs (readAiger (halfAdder (0xff ∷ 0xff ∷ 0xff ∷ 0xff ∷ []))); said = 20 ∷ [] }
+    ∷ record { got = readAs (readAiger (halfAdder (10 ∷ []))); said = 19 ∷ [] }
+    -- an early end, of a line and of the header: 18; a gap: 33
+    ∷ record { got = readAs (readAiger (97 ∷ 105 ∷ 103 ∷ 32 ∷ 48 ∷ 32 ∷ 48 ∷ 32 ∷ 48 ∷ 32 ∷ 49 ∷ 32 ∷ 48 ∷ 10 ∷ 48 ∷ [])); said = 18 ∷ [] }
+    ∷ record { got = readAs (readAiger []); said = 18 ∷ [] }
+    ∷ record { got = writtenAs (writeAiger (3 ∷ 4 ∷ 2 ∷ 5 ∷ 9 ∷ 7 ∷ [])); said = 33 ∷ [] }
+    ∷ []
+
+unfoldable pub given : List Example → List (List ℕ)
+given [] = []
+given (e ∷ es) = e .got ∷ given es
+
+unfoldable pub wanted : List Example → List (List ℕ)
+wanted [] = []
+wanted (e ∷ es) = e .said ∷ wanted es
+
+pub examples-right : given examples ≡ wanted examples
+unfolding told coded readAs writtenAs halfAdder adderGates emptyFile examples given wanted bind firstFrom allBelow decimalIn beforeOver rightOver listRight badList digitsFrom numberIn endedBy fieldAt startWith isMarked fieldsOf headerOf endOf lineAt linesFrom startOf groupsIn differenceIn literalOf gateAt gatesFrom readAiger groupBytes headerText gateBytes gatesBytes follows gateWritable writable textOf writeAiger
+examples-right = refl

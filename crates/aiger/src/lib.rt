@@ -1,0 +1,1 @@
+// Binary AIGER: definitions and laws, no code. Document 02, 1/13.

@@ -1,0 +1,4 @@
+pub mod FieldLaws
+pub mod StartLaws
+pub mod GroupLaws
+pub mod ListLaws

@@ -1,0 +1,7 @@
+pub mod PairLaws
+pub mod StageLaws
+pub mod PlaceLaws
+pub mod JudgeLaws
+pub mod ReachLaws
+pub mod RightLaws
+pub mod CountLaws

@@ -1,0 +1,3 @@
+pub mod SubtreeLaws
+pub mod JudgeCode
+pub mod ListingLaws
