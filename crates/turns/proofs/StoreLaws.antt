@@ -8,9 +8,9 @@ use native.Mathlib.Omega.{arith}
 use lib.Bits.{bitAnd, bitXor, differ}
 use lib.ListN.{length, getD, take, replicate, getD-replicate, length-replicate, List·getD-eq-default}
 use lib.Seq.{sets, length-sets, getD-take}
-use Rattle.words.specs.Bit.{bit, bitAt}
+use Rattle.words.specs.Bit.{bit, bitAt, wordOf}
 use Rattle.words.specs.Section.{listOf}
-use Rattle.words.proofs.BitLaws.{lt-or-ge, bit-lt, bit-ext, bit-and, bit-xor, differ-lt}
+use Rattle.words.proofs.BitLaws.{lt-or-ge, bit-lt, bit-ext, bit-and, bit-xor, bit-wordOf, differ-lt}
 use Rattle.words.proofs.SectionLaws.{length-listOf, listOf-ext}
 use Rattle.machine.specs.Part.{stagesAt, startAt, sectionAt, entryAt, laneWordAt}
 use Rattle.machine.specs.Turn.{taken, gatheredBit, chosen, chosenBits, storedBit, storedWord}
@@ -75,7 +75,8 @@ module _ (n : ℕ) (W : List ℕ) (o : ℕ) (old : List ℕ) where
 
   -- THE STORED WORD, from whole words
   pub stored-is : (caps : List ℕ) (l r g : ℕ) → r < 2 ^ 32 → r ≡ chosenWord (getD caps l 0) (getD old (startAt W o + l) 0) g (lane l 0) (lane l 1) (lane l 2)
-      → ((b : ℕ) → b < 32 → bit g b ≡ bitAt caps (entryAt n W o (stagesAt W o + 1) (32 * l + b))) → r ≡ storedWord n W o old caps l
+      → ((b : ℕ) → b < 32 → min (bit g b) (1 - bit (lane l 1) b) ≡ min (bitAt caps (entryAt n W o (stagesAt W o + 1) (32 * l + b))) (1 - bit (lane l 1) b))
+      → r ≡ storedWord n W o old caps l
   unfolding storedBit gatheredBit
   stored-is caps l r g small e each = bit-ext 32 r (storedWord n W o old caps l) small (stored-word-lt n W o old caps l) (λ k h. ap (λ (x : ℕ). bit x k) e ∙ here k h ∙ sym (stored-word-bit n W o old caps l k h))
     where
@@ -98,10 +99,22 @@ module _ (n : ℕ) (W : List ℕ) (o : ℕ) (old : List ℕ) where
       at : (q : ℕ) → bitAt caps q ≡ bitAt caps′ q
       at q = ap (λ (x : ℕ). bit x (q % 32)) (same (q / 32))
 
+-- what all of set0 clears: nothing need be gathered
+pub cleared-all : (b v : ℕ) → b < 32 → min (bit 0 b) (1 - bit 0xFFFFFFFF b) ≡ min v (1 - bit 0xFFFFFFFF b)
+unfolding wordOf
+cleared-all b v h = let one : bit 0xFFFFFFFF b ≡ 1 = ones b h in omega (arith, one)
+  where
+    full : wordOf (λ k. 1) 32 ≡ 0xFFFFFFFF
+    full = refl
+
+    ones : (b : ℕ) → b < 32 → bit 0xFFFFFFFF b ≡ 1
+    ones b h = ap (λ (x : ℕ). bit x b) (sym full) ∙ bit-wordOf (λ k. 1) 32 (λ k l. omega arith) b h
+
 -- as the code has it: section k at word s, state start a
 pub stored-code : (W : List ℕ) (o : ℕ) (old caps : List ℕ) (l k s a g r : ℕ) → k ≡ stagesAt W o + 1 → s ≡ sectionAt 256 W o k → a ≡ startAt W o → r < 2 ^ 32
     → r ≡ chosenWord (getD caps l 0) (getD old (a + l) 0) g (getD W (s + 4096 + 4 * l) 0) (getD W (s + 4096 + 4 * l + 1) 0) (getD W (s + 4096 + 4 * l + 2) 0)
-    → ((b : ℕ) → b < 32 → bit g b ≡ bitAt caps (entryAt 256 W o k (32 * l + b))) → r ≡ storedWord 256 W o old caps l
+    → ((b : ℕ) → b < 32 → min (bit g b) (1 - bit (getD W (s + 4096 + 4 * l + 1) 0) b) ≡ min (bitAt caps (entryAt 256 W o k (32 * l + b))) (1 - bit (getD W (s + 4096 + 4 * l + 1) 0) b))
+    → r ≡ storedWord 256 W o old caps l
 unfolding laneWordAt
 stored-code W o old caps l k s a g r stages section start small e each =
     let zeroth : s + 4096 + 4 * l ≡ sectionAt 256 W o (stagesAt W o + 1) + 16 * 256 + 4 * l + 0 = omega (arith, at) in
@@ -117,7 +130,7 @@ stored-code W o old caps l k s a g r stages section start small e each =
     ∙ ap (λ (x : ℕ). chosenWord cap held g (getD W x 0) one two) zeroth
     ∙ ap (λ (x : ℕ). chosenWord cap held g (lane 256 W o old l 0) (getD W x 0) two) first
     ∙ ap (λ (x : ℕ). chosenWord cap held g (lane 256 W o old l 0) (lane 256 W o old l 1) (getD W x 0)) second in
-    stored-is 256 W o old caps l r g small is (λ b h. each b h ∙ ap (λ (x : ℕ). bitAt caps (entryAt 256 W o x (32 * l + b))) stages)
+    stored-is 256 W o old caps l r g small is (λ b h. rw (first, stages) at (each b h))
   where
     at : s ≡ sectionAt 256 W o (stagesAt W o + 1)
     at = section ∙ ap (sectionAt 256 W o) stages

@@ -3,10 +3,11 @@
 use form::part;
 use stage::section_word;
 ghost use mathlib.Core.Path.{_≡_};
-ghost use Prim.Native.Nat.{_+_, _<_, _≤_};
+ghost use Prim.Native.Nat.{ℕ, _+_, _*_, _-_, _<_, _≤_, min};
 ghost use lib.ListN.{length, getD, take, drop};
 ghost use lib.Seq.{sets};
-ghost use Rattle.machine.specs.Part.{startAt, normalAt};
+ghost use Rattle.words.specs.Bit.{bit, bitAt};
+ghost use Rattle.machine.specs.Part.{stagesAt, startAt, normalAt, entryAt};
 ghost use Rattle.machine.specs.Turn.{captured, storedWord};
 ghost use Rattle.words.specs.Section.{listOf};
 ghost use Rattle.turns.specs.Capture.{capturedWord};
@@ -44,6 +45,17 @@ fn chosen_word(cap: u32, held: u32, gathered: u32, inv: u32, set0: u32, data_inv
     held ^ (((cap ^ data_inv) ^ held) & enable)
 }
 
+// Word l of the bits that section k gathers from 256 words, but for those that set0 clears: they may be anything, and where it clears all, none is gathered.
+fn kept_word(words: &[u32], at: usize, k: usize, caps: &[u32], l: usize, set0: u32) -> u32
+    requires { ⌜ PartIn 256 (now words) at × (k < stagesAt (now words) at + 2) × EntriesIn 256 (now words) at × (length (now caps) ≡ 256) × (l < 256) ⌝ }
+    ensures { λ r. ⌜ ((b : ℕ) → b < 32 → min (bit r b) (1 - bit set0 b) ≡ min (bitAt (now (caps .entry)) (entryAt 256 (now (words .entry)) at k (32 * l + b))) (1 - bit set0 b)) ⌝ }
+{
+    if set0 == 0xFFFFFFFF {
+        return 0;
+    }
+    section_word(words, at, k, caps, l)
+}
+
 // The word that is stored for captured word l; captured words past the normal ones are 0.
 fn store_word(words: &[u32], at: usize, caps: &[u32], old: &[u32], l: usize) -> u32
     requires { ⌜ Storing 256 (now words) at (now caps) (length (now old)) × (l < normalAt (now words) at) × (startAt (now words) at + l < length (now old)) ⌝ }
@@ -52,13 +64,14 @@ fn store_word(words: &[u32], at: usize, caps: &[u32], old: &[u32], l: usize) -> 
     let k = part::stages(words, at) + 1;
     let lane = part::section(words, at, k) + 4096 + 4 * l;
     let start = part::start(words, at);
-    let gathered = section_word(words, at, k, caps, l);
+    let set0 = words[lane + 1];
+    let gathered = kept_word(words, at, k, caps, l, set0);
     chosen_word(
         caps[l],
         old[start + l],
         gathered,
         words[lane],
-        words[lane + 1],
+        set0,
         words[lane + 2],
     )
 }

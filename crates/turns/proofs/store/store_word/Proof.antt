@@ -30,8 +30,17 @@ add-lane-2 c = search needs
 start-requires : tie.Need-start-requires
 start-requires c κs = search needs
 
-section-word-requires : tie.Need-section-word-requires
-section-word-requires c κs = search needs
+add-set0 : tie.Need-add-set0
+add-set0 c = search needs
+
+mul-set0 : tie.Need-mul-set0
+mul-set0 c = search needs
+
+shared-slice-read-set0 : tie.Need-shared-slice-read-set0
+shared-slice-read-set0 c = search needs
+
+kept-word-requires : tie.Need-kept-word-requires
+kept-word-requires c κs = search needs
 
 mul-chosen-word : tie.Need-mul-chosen-word
 mul-chosen-word c = search needs
@@ -63,28 +72,20 @@ mul-chosen-word-4 c = search needs
 shared-slice-read-chosen-word-4 : tie.Need-shared-slice-read-chosen-word-4
 shared-slice-read-chosen-word-4 c = search needs
 
-add-chosen-word-3 : tie.Need-add-chosen-word-3
-add-chosen-word-3 c = search needs
-
-mul-chosen-word-5 : tie.Need-mul-chosen-word-5
-mul-chosen-word-5 c = search needs
-
-shared-slice-read-chosen-word-5 : tie.Need-shared-slice-read-chosen-word-5
-shared-slice-read-chosen-word-5 c = search needs
-
 chosen-word-requires : tie.Need-chosen-word-requires
 chosen-word-requires c κs = search needs
 
 returns : tie.Need-returns
 returns c =
-    let gathered = c .before .before .before .before .before .before in
-    let start = gathered .before .before .before .before .before .before .before in
+    let kept = c .before .before .before .before .before in
+    let begin = kept .before .before in
+    let start = begin .before .before .before .before .before .before in
     let W = start .args .words .now in
     let o = start .args .at in
-    let stages : gathered .before .before .before .stages .result + 1 ≡ stagesAt W o + 1 = omega (arith, gathered .before .before .before .stages .ensures) in
+    let stages : begin .before .before .stages .result + 1 ≡ stagesAt W o + 1 = omega (arith, begin .before .before .stages .ensures) in
     let small : c .chosen-word .result < 2 ^ 32 = omega arith in
-    stored-code W o (start .args .old .now) (start .args .caps .now) (start .args .l) _ _ _ _ _ stages (gathered .before .before .section .ensures .0) (gathered .before .start .ensures) small
-    (c .chosen-word .ensures) (gathered .section-word .ensures)
+    stored-code W o (start .args .old .now) (start .args .caps .now) (start .args .l) _ _ _ _ _ stages (begin .before .section .ensures .0) (begin .start .ensures) small
+    (c .chosen-word .ensures) (kept .kept-word .ensures)
 
 pub store-word-spec : {M : Type 1} → statement M
 store-word-spec =
@@ -97,7 +98,10 @@ store-word-spec =
     mul-lane
     add-lane-2
     start-requires
-    section-word-requires
+    add-set0
+    mul-set0
+    shared-slice-read-set0
+    kept-word-requires
     mul-chosen-word
     shared-slice-read-chosen-word
     add-chosen-word
@@ -108,8 +112,5 @@ store-word-spec =
     add-chosen-word-2
     mul-chosen-word-4
     shared-slice-read-chosen-word-4
-    add-chosen-word-3
-    mul-chosen-word-5
-    shared-slice-read-chosen-word-5
     chosen-word-requires
     returns)
