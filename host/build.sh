@@ -58,10 +58,24 @@ copy_oracle() {
         return 1
     fi
     sed "s/$call/flattening_parts[part_id].oracle_given(/" "$copy/flatten.rs" >"$copy/flatten_given.rs"
-    for name in flatten flatten_given; do
+    cut_one_bit "$copy/pe.rs" >"$copy/one_bit.rs"
+    for name in flatten flatten_given one_bit; do
         cat "$HOST/oracle/tails/$name.rs" >>"$copy/$name.rs"
     done
     cp "$HOST/oracle/src/lib.rs" "$copy/lib.rs"
+}
+
+# cut_one_bit FILE: GEM's place_bit and purge_bit stand inside another function of pe.rs: the lines from where the one begins to
+# where the other ends.
+cut_one_bit() {
+    local name
+    for name in place_bit purge_bit; do
+        if [ "$(grep -c "^    fn $name($" "$1")" != 1 ]; then
+            echo "host: pe.rs has not one function $name" >&2
+            return 1
+        fi
+    done
+    awk '/^    fn place_bit\($/ { on = 1 } on { print } on && /^    fn purge_bit\($/ { last = 1 } last && /^    }$/ { exit }' "$1"
 }
 
 # GEM's files as the crate oracle, with stand-ins for the crates that they name.
@@ -153,7 +167,7 @@ build_shared() {
 build_comparisons() {
     local name
     extern "${SHARED[@]}"
-    for name in replay_answers make_answers compare_{rounds,listing,plans,run,value} fuzz m10; do
+    for name in replay_answers make_answers compare_{rounds,listing,plans,run,value,aiger,repair} aiger_outputs fuzz m10; do
         at_once program "$name" "$HOST/compare/src/bin/$name.rs" "${EXTERN[@]}"
     done
     all_done

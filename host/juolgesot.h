@@ -1,6 +1,6 @@
 /* Juolgesot for C: the functions that target/staticlib/libcapi.a exports (x86-64).
  *
- * Each returns 0, or the number of a refusal of document 01; then *first is the part and *second the item of its place,
+ * Each returns 0, or the number of a refusal of documents 01 and 02; then *first is the part and *second the item of its place,
  * and the others are 0. A slice is a pointer and its length in items. Slices must not overlap; nothing else is asked of
  * a caller, and no pointer is kept. Pointers to empty slices are not read, but must not be null.
  *
@@ -16,11 +16,16 @@
 extern "C" {
 #endif
 
-/* Words of room: for a read set and for a listing; for a plan, with 16 more for each part; for each block of a run. */
+/* Words of room: for a read set and for a listing; for a plan, with 16 more for each part; for each block of a run; for a
+ * repair, with 4 more for each whole or half entry of its count list. */
 #define JUOLGESOT_SET_ROOM 16384
 #define JUOLGESOT_PLAN_ROOM 65536
 #define JUOLGESOT_PART_ROOM 16
 #define JUOLGESOT_BLOCK_ROOM 1024
+#define JUOLGESOT_REPAIR_ROOM 65536
+#define JUOLGESOT_ENTRY_ROOM 4
+/* Slots of a stage, as a plan record has them: slot j of level h is word 2^(13-h) + j - 1. */
+#define JUOLGESOT_STAGE_SLOTS 16383
 
 /* The rounds of a read set: word, mask, word, mask ..
  * 0: *first is the number of rounds, and out begins with 512 words a round. Refused by 32, 1, 2, 3, 4, 14. */
@@ -59,6 +64,33 @@ uint32_t juolgesot_value(const uint8_t *plan, size_t plan_len, uint32_t *room, s
                          const uint32_t *old, size_t old_len, const uint32_t *new_, size_t new_len,
                          uint32_t *bits, size_t bits_len, uint32_t part, uint32_t pin,
                          uint64_t *first, uint64_t *second);
+
+/* The gates of a binary AIGER file, three words each: pin, first and second fan-in (twice a pin, plus 1 where inverted).
+ * 0: gates, inputs, latches, outputs, and out begins with the words. Three words for each two bytes always are enough.
+ * Refused by 18, 19 or 20, 14. */
+uint32_t juolgesot_read_aiger(const uint8_t *bytes, size_t bytes_len, uint32_t *out, size_t out_len,
+                              uint64_t *first, uint64_t *second, uint64_t *third, uint64_t *fourth);
+
+/* The binary AIGER file of a gate list, without latches and outputs.
+ * 0: *first is the number of bytes, and out begins with them. 64 bytes and 10 a gate always are enough.
+ * Refused by 33, 14. */
+uint32_t juolgesot_write_aiger(const uint32_t *gates, size_t gates_len, uint8_t *out, size_t out_len,
+                               uint64_t *first, uint64_t *second);
+
+/* Places a node at a slot of a level (0 to 13) of one stage. gates: three words each, as above. levels: by pin; one past the
+ * end has none. counts: node, count, node, count .., how often each node stands at levels 1 and up, in any order.
+ * 0: *first is the number of entries (node, count) that after begins with, the counts as they then are; a caller must not
+ * lean on their order. Refused by 32, 5, 6, 24, 25, 26, 14 (also where a count would pass 2^32 - 1). */
+uint32_t juolgesot_place_bit(const uint32_t *gates, size_t gates_len, const uint32_t *levels, size_t levels_len,
+                             const uint32_t *counts, size_t counts_len, uint32_t *slots, size_t slots_len,
+                             uint32_t *after, size_t after_len, uint32_t *room, size_t room_len,
+                             uint32_t level, uint32_t slot, uint32_t node, uint64_t *first, uint64_t *second);
+
+/* Clears a slot of a level and, unless it is empty, the two slots under it, and so on down.
+ * 0: as above. Refused by 32, 5, 34, 14. */
+uint32_t juolgesot_purge_bit(const uint32_t *counts, size_t counts_len, uint32_t *slots, size_t slots_len,
+                             uint32_t *after, size_t after_len, uint32_t *room, size_t room_len,
+                             uint32_t level, uint32_t slot, uint64_t *first, uint64_t *second);
 
 #ifdef __cplusplus
 }

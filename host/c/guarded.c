@@ -1,5 +1,5 @@
 /* The functions of juolgesot.h called from C, every lent slice and number between two pages that may not be touched:
- * once up against the page behind it, once against the page before it. Document 01's marked examples. */
+ * once up against the page behind it, once against the page before it. Document 01's marked examples, and others. */
 #define _GNU_SOURCE
 #include "../juolgesot.h"
 #include <stdio.h>
@@ -233,6 +233,93 @@ static void value(void)
     }
 }
 
+/* The half adder of the format's paper, and back; cut, damaged, a word and a byte too few. */
+static void aiger(void)
+{
+    static const uint8_t adder[] = "aig 5 2 0 2 3\n10\n6\n\2\2\3\2\1\2";
+    static const uint32_t adder_gates[] = {3, 4, 2, 4, 5, 3, 5, 9, 7};
+    static const char text[] = "aig 5 2 0 0 3\n\2\2\3\2\1\2";
+    size_t length = sizeof adder - 1, written = sizeof text - 1;
+    uint8_t *bytes = between_pages(length, adder);
+    uint32_t *out = between_pages(4 * 9, NULL);
+    uint32_t *short_out = between_pages(4 * 8, NULL);
+    uint64_t *first = number(), *second = number(), *third = number(), *fourth = number();
+    is("AIGER", juolgesot_read_aiger(bytes, length, out, 9, first, second, third, fourth), 0);
+    is("gates", *first, 3);
+    is("inputs", *second, 2);
+    is("latches", *third, 0);
+    is("outputs", *fourth, 2);
+    if (memcmp(out, adder_gates, sizeof adder_gates) != 0)
+        fail("the gates of the half adder");
+    is("short gates", juolgesot_read_aiger(bytes, length, short_out, 8, first, second, third, fourth), 14);
+    is("its fourth number", *fourth, 0);
+    is("cut gates", juolgesot_read_aiger(between_pages(length - 1, adder), length - 1, out, 9, first, second, third, fourth), 20);
+    is("cut lines", juolgesot_read_aiger(between_pages(18, adder), 18, out, 9, first, second, third, fourth), 18);
+    is("no file", juolgesot_read_aiger(between_pages(0, adder), 0, out, 9, first, second, third, fourth), 18);
+    static const uint8_t wrong[] = "aig 1 0 0 0 1\n\0\0";
+    is("a difference of 0", juolgesot_read_aiger(between_pages(sizeof wrong, wrong), sizeof wrong, out, 9, first, second, third, fourth), 19);
+
+    uint32_t *gates = between_pages(sizeof adder_gates, adder_gates);
+    uint8_t *file = between_pages(written, NULL);
+    is("written", juolgesot_write_aiger(gates, 9, file, written, first, second), 0);
+    is("bytes", *first, written);
+    if (memcmp(file, text, written) != 0)
+        fail("the half adder, written");
+    is("short file", juolgesot_write_aiger(gates, 9, between_pages(written - 1, NULL), written - 1, first, second), 14);
+    is("a cut gate", juolgesot_write_aiger(gates, 8, file, written, first, second), 33);
+    calls += 9;
+}
+
+/* Gate 3 of pins 1 and 2, placed at level 2: carried to level 1, split at level 0; and cleared again. */
+static void repair(void)
+{
+    static const uint32_t gate[] = {3, 2, 5}, pin_levels[] = {0, 0, 0, 1}, nine[] = {9, 4};
+    static const uint32_t placed[][2] = {{2048 + 5, 3}, {4096 + 5, 3}, {8192 + 5, 1}, {8192 + 4096 + 5, 2}};
+    enum { STAGE = JUOLGESOT_STAGE_SLOTS, NONE_ROOM = JUOLGESOT_REPAIR_ROOM, ENTRY = JUOLGESOT_ENTRY_ROOM };
+    uint32_t *gates = between_pages(sizeof gate, gate);
+    uint32_t *levels = between_pages(sizeof pin_levels, pin_levels);
+    uint32_t *counts = between_pages(sizeof nine, nine);
+    uint32_t *slots = between_pages(4 * STAGE, NULL);
+    uint32_t *after = between_pages(4 * 4, NULL);
+    uint32_t *room = room_of(NONE_ROOM + ENTRY);
+    uint64_t *first = number(), *second = number();
+    memset(slots, 0xFF, 4 * STAGE);
+    is("short room", juolgesot_place_bit(gates, 3, levels, 4, counts, 2, slots, STAGE, after, 4, room, NONE_ROOM + ENTRY - 1, 2, 5, 3, first, second), 32);
+    is("first word of a short room", room[0], 0x5A5A5A5A);
+    is("placed", juolgesot_place_bit(gates, 3, levels, 4, counts, 2, slots, STAGE, after, 4, room, NONE_ROOM + ENTRY, 2, 5, 3, first, second), 0);
+    is("entries", *first, 2);
+    is("second", *second, 0);
+    is_zero(room, NONE_ROOM + ENTRY);
+    for (uint32_t index = 1; index <= STAGE; index++) {
+        uint32_t expected = 0xFFFFFFFFu;
+        for (int i = 0; i < 4; i++)
+            if (placed[i][0] == index)
+                expected = placed[i][1];
+        is("slot", slots[index - 1], expected);
+    }
+    is("count of 9", after[0] == 9 ? after[1] : after[3], 4);
+    is("count of 3", after[0] == 3 ? after[1] : after[3], 2);
+    is("not empty", juolgesot_place_bit(gates, 3, levels, 4, counts, 2, slots, STAGE, after, 4, room, NONE_ROOM + ENTRY, 1, 5, 3, first, second), 24);
+    is("a level of 32", juolgesot_place_bit(gates, 3, levels, 4, counts, 2, slots, STAGE, after, 4, room, NONE_ROOM + ENTRY, 32, 0, 3, first, second), 5);
+    is("a cut gate", juolgesot_place_bit(gates, 2, levels, 4, counts, 2, slots, STAGE, after, 4, room, NONE_ROOM + ENTRY, 3, 9, 3, first, second), 6);
+    is("no level", juolgesot_place_bit(gates, 3, levels, 3, counts, 2, slots, STAGE, after, 4, room, NONE_ROOM + ENTRY, 3, 9, 3, first, second), 25);
+    is("no gate", juolgesot_place_bit(gates, 0, levels, 4, counts, 2, slots, STAGE, after, 4, room, NONE_ROOM + ENTRY, 3, 9, 3, first, second), 26);
+    is("not listed", juolgesot_purge_bit(counts, 2, slots, STAGE, after, 4, room, NONE_ROOM + ENTRY, 2, 5, first, second), 34);
+
+    uint32_t *two = between_pages(4 * 4, after);
+    uint32_t *room_of_two = room_of(NONE_ROOM + 2 * ENTRY);
+    uint32_t *one = between_pages(4 * 2, NULL);
+    is("short counts", juolgesot_purge_bit(two, 4, slots, STAGE, one, 1, room_of_two, NONE_ROOM + 2 * ENTRY, 2, 5, first, second), 14);
+    is("cleared", juolgesot_purge_bit(two, 4, slots, STAGE, one, 2, room_of_two, NONE_ROOM + 2 * ENTRY, 2, 5, first, second), 0);
+    is("entries", *first, 1);
+    if (memcmp(one, nine, sizeof nine) != 0)
+        fail("the counts after clearing");
+    for (uint32_t index = 1; index <= STAGE; index++)
+        is("slot", slots[index - 1], 0xFFFFFFFFu);
+    is_zero(room_of_two, NONE_ROOM + 2 * ENTRY);
+    calls += 10;
+}
+
 int main(void)
 {
     for (at_end = 0; at_end < 2; at_end++) {
@@ -243,6 +330,8 @@ int main(void)
         build();
         run();
         value();
+        aiger();
+        repair();
     }
     printf("C: %d calls between guard pages, no difference\n", calls);
     return 0;

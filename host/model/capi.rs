@@ -4,7 +4,8 @@
 #![deny(unsafe_op_in_unsafe_fn)]
 
 use model::build::{accept, Accepted, Sizes};
-use model::{listing, record, rounds, run, value, Refused};
+use model::repair::{self, Netlist, Place, Repaired};
+use model::{aiger, listing, record, rounds, run, value, Refused};
 use std::slice::{from_raw_parts, from_raw_parts_mut};
 
 /// Writes the result, or a refusal's place, and gives the code.
@@ -80,8 +81,14 @@ pub unsafe extern "C" fn juolgesot_list(
 
 /// Writes sizes, or a refusal's place, and gives the code.
 fn tell_sizes(answer: Result<Sizes, Refused>, results: [&mut u64; 4]) -> u32 {
+    let numbers = |sizes: Sizes| [sizes.starts, sizes.words, sizes.state_words, sizes.sram_words];
+    tell_four(answer.map(numbers), results)
+}
+
+/// Writes four results, or a refusal's place, and gives the code.
+fn tell_four(answer: Result<[u64; 4], Refused>, results: [&mut u64; 4]) -> u32 {
     let (code, values) = match answer {
-        Ok(sizes) => (0, [sizes.starts, sizes.words, sizes.state_words, sizes.sram_words]),
+        Ok(values) => (0, values),
         Err(refused) => (refused.number, [refused.part, refused.item, 0, 0]),
     };
     for (result, value) in results.into_iter().zip(values) {
@@ -224,4 +231,142 @@ pub unsafe extern "C" fn juolgesot_value(
         bit as u64
     });
     tell(answer, first, second)
+}
+
+/// # Safety
+/// Each pointer is to its length of words or bytes, none of them shared.
+#[no_mangle]
+pub unsafe extern "C" fn juolgesot_read_aiger(
+    bytes: *const u8,
+    bytes_len: usize,
+    out: *mut u32,
+    out_len: usize,
+    first: &mut u64,
+    second: &mut u64,
+    third: &mut u64,
+    fourth: &mut u64,
+) -> u32 {
+    let (bytes, out) = unsafe { (from_raw_parts(bytes, bytes_len), from_raw_parts_mut(out, out_len)) };
+    let mut list = Vec::new();
+    let answer = aiger::read(bytes, &mut list).and_then(|header| match out.get_mut(..list.len()) {
+        Some(out) => {
+            out.copy_from_slice(&list);
+            Ok([header.gates, header.inputs, header.latches, header.outputs])
+        }
+        None => Err(Refused::plain(14)),
+    });
+    tell_four(answer, [first, second, third, fourth])
+}
+
+/// # Safety
+/// Each pointer is to its length of words or bytes, none of them shared.
+#[no_mangle]
+pub unsafe extern "C" fn juolgesot_write_aiger(
+    gates: *const u32,
+    gates_len: usize,
+    out: *mut u8,
+    out_len: usize,
+    first: &mut u64,
+    second: &mut u64,
+) -> u32 {
+    let (gates, out) = unsafe { (from_raw_parts(gates, gates_len), from_raw_parts_mut(out, out_len)) };
+    let mut bytes = Vec::new();
+    let answer = aiger::write(gates, &mut bytes).and_then(|()| match out.get_mut(..bytes.len()) {
+        Some(out) => {
+            out.copy_from_slice(&bytes);
+            Ok(bytes.len() as u64)
+        }
+        None => Err(Refused::plain(14)),
+    });
+    tell(answer, first, second)
+}
+
+/// Fills the lent results, clears the room, and gives the code; `*first` is the number of entries.
+fn tell_repaired(
+    answer: Result<Repaired, Refused>,
+    slots: &mut [u32],
+    after: &mut [u32],
+    room: &mut [u32],
+    first: &mut u64,
+    second: &mut u64,
+) -> u32 {
+    if !matches!(answer, Err(Refused { number: 32, .. })) {
+        room.fill(0);
+    }
+    let answer = answer.map(|repaired| {
+        slots[..repaired.slots.len()].copy_from_slice(&repaired.slots);
+        after[..repaired.counts.len()].copy_from_slice(&repaired.counts);
+        repaired.counts.len() as u64 / 2
+    });
+    tell(answer, first, second)
+}
+
+/// # Safety
+/// Each pointer is to its length of words, none of them shared.
+#[no_mangle]
+pub unsafe extern "C" fn juolgesot_place_bit(
+    gates: *const u32,
+    gates_len: usize,
+    levels: *const u32,
+    levels_len: usize,
+    counts: *const u32,
+    counts_len: usize,
+    slots: *mut u32,
+    slots_len: usize,
+    after: *mut u32,
+    after_len: usize,
+    room: *mut u32,
+    room_len: usize,
+    level: u32,
+    slot: u32,
+    node: u32,
+    first: &mut u64,
+    second: &mut u64,
+) -> u32 {
+    let (gates, levels, counts) = unsafe {
+        (
+            from_raw_parts(gates, gates_len),
+            from_raw_parts(levels, levels_len),
+            from_raw_parts(counts, counts_len),
+        )
+    };
+    let (slots, after, room) = unsafe {
+        (
+            from_raw_parts_mut(slots, slots_len),
+            from_raw_parts_mut(after, after_len),
+            from_raw_parts_mut(room, room_len),
+        )
+    };
+    let netlist = Netlist { gates, levels };
+    let answer = repair::place(netlist, counts, slots, after_len, room_len, Place { level, slot }, node);
+    tell_repaired(answer, slots, after, room, first, second)
+}
+
+/// # Safety
+/// Each pointer is to its length of words, none of them shared.
+#[no_mangle]
+pub unsafe extern "C" fn juolgesot_purge_bit(
+    counts: *const u32,
+    counts_len: usize,
+    slots: *mut u32,
+    slots_len: usize,
+    after: *mut u32,
+    after_len: usize,
+    room: *mut u32,
+    room_len: usize,
+    level: u32,
+    slot: u32,
+    first: &mut u64,
+    second: &mut u64,
+) -> u32 {
+    let counts = unsafe { from_raw_parts(counts, counts_len) };
+    let (slots, after, room) = unsafe {
+        (
+            from_raw_parts_mut(slots, slots_len),
+            from_raw_parts_mut(after, after_len),
+            from_raw_parts_mut(room, room_len),
+        )
+    };
+    let answer = repair::clear(counts, slots, after_len, room_len, Place { level, slot });
+    tell_repaired(answer, slots, after, room, first, second)
 }

@@ -95,7 +95,7 @@ module _ (l : List ℕ) (W : ListWritable l) where
   writable-at g h = writable-parts l g (all-at (gateWritable l) (wholeGates l) g (W .each) h)
 
   -- no gate is cut
-  whole-list : length l ≡ 3 * wholeGates l
+  pub whole-list : length l ≡ 3 * wholeGates l
   whole-list = go (ltb (wholeGates l) (allGates l)) refl
     where
       go : (t : Bool) → ltb (wholeGates l) (allGates l) ≡ t → length l ≡ 3 * wholeGates l
@@ -110,7 +110,7 @@ module _ (l : List ℕ) (W : ListWritable l) where
       let before = pins g (omega arith) in
       omega arith
 
-  list-as : ListAs (wholeGates l) (inputsOf l + 1) l
+  pub list-as : ListAs (wholeGates l) (inputsOf l + 1) l
   list-as = record { long = whole-list; each = each }
     where
       each : (g : ℕ) → g < wholeGates l → GateAs l g (inputsOf l + 1 + g)
@@ -120,7 +120,7 @@ module _ (l : List ℕ) (W : ListWritable l) where
           let pin = pins g h in
           record { pin = pin; first = omega arith; second = writable-at g h .under }
 
-  last-fits : inputsOf l + wholeGates l ≤ 2 ^ 30
+  pub last-fits : inputsOf l + wholeGates l ≤ 2 ^ 30
   last-fits = go (wholeGates l) refl
     where
       go : (n : ℕ) → wholeGates l ≡ n → inputsOf l + wholeGates l ≤ 2 ^ 30
@@ -166,16 +166,19 @@ file-parts bs h l e = go (startOf bs) refl
         let both = listed-parts (s .header) (gatesOf bs s) h l (sym (read-start bs s p) ∙ e) in
         record { start = s; next = both .1 .0; start-is = p; gates-are = both .1 .1; header-is = sym (both .0) }
 
-write-good : (l : List ℕ) → writable l ≡ true → writeAiger l ≡ written (textOf l)
+pub write-good : (l : List ℕ) → writable l ≡ true → writeAiger l ≡ written (textOf l)
 unfolding writeAiger
 write-good l e = rw (e, writeAiger)
+
+pub write-bad : (l : List ℕ) → writable l ≡ false → writeAiger l ≡ Writing.refused 33
+unfolding writeAiger
+write-bad l e = rw (e, writeAiger)
 
 record ListWritten (l t : List ℕ) : Type 0 where
   good : writable l ≡ true
   is : t ≡ textOf l
 
 write-parts : (l t : List ℕ) → writeAiger l ≡ written t → ListWritten l t
-unfolding writeAiger
 write-parts l t e = go (writable l) refl
   where
     go : (b : Bool) → writable l ≡ b → ListWritten l t
@@ -184,7 +187,7 @@ write-parts l t e = go (writable l) refl
         let same : textOf l ≡ t = cc in
         record { good = p; is = sym same }
     go false p =
-        let f : Writing.refused 33 ≡ written t = rw (p, writeAiger) at e in
+        let f : Writing.refused 33 ≡ written t = sym (write-bad l p) ∙ e in
         let z : _≡_ {A = ℕ} 0 1 = cc in
         absurd (omega arith)
 
@@ -243,7 +246,7 @@ module _ (n v : ℕ) (l : List ℕ) (L : ListAs n v l) where
       let next : listPin l (suc g) ≡ listPin l g + 1 = omega arith in
       eq-eqb _ _ next
 
-  as-writable : 0 < v → v + n ≤ suc (2 ^ 30) → ListWritable l
+  pub as-writable : 0 < v → v + n ≤ suc (2 ^ 30) → ListWritable l
   unfolding badList
   as-writable p fits =
       let long = L .long in

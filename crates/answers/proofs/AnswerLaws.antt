@@ -17,7 +17,20 @@ use Rattle.machine.specs.Run.{Ran, ran, refused as notRun}
 use Rattle.run.specs.declared.Ran.{Ran as RunAnswer}
 use Rattle.run.specs.declared.Ran.the-variants.{Left, Refused as NotRun}
 use Rattle.run.specs.Answers.{ranOf}
-use Rattle.answers.specs.Answers.{roundsNumber, roundsFirst, roundsSecond, listedNumber, listedFirst, listedSecond, valueNumber, valueFirst, valueSecond, ranNumber, ranFirst, ranSecond}
+use Rattle.nodes.specs.Outcome.{Outcome as Repair, repaired, refused as notRepaired}
+use Rattle.settle.specs.declared.Repaired.{Repaired}
+use Rattle.settle.specs.declared.Repaired.the-variants.{Listed as Relisted, Refused as NotRepaired}
+use Rattle.settle.specs.Settle.{repairedOf}
+use Rattle.aiger.specs.Reading.{Reading, gates, refused as unread}
+use Rattle.aiger.specs.Writing.{Writing, written, refused as unwritten}
+use Rattle.aigread.specs.Told.{gatesTold}
+use Rattle.aigread.specs.declared.start.Header.{Header}
+use Rattle.aigread.specs.declared.Gates.{Gates}
+use Rattle.aigread.specs.declared.Gates.the-variants.{Read, Refused as NotRead}
+use Rattle.aigwrite.specs.Told.{textTold}
+use Rattle.aigwrite.specs.declared.Text.{Text as TextAnswer}
+use Rattle.aigwrite.specs.declared.Text.the-variants.{Bytes, Refused as NotWritten}
+use Rattle.answers.specs.Answers.{roundsNumber, roundsFirst, roundsSecond, listedNumber, listedFirst, listedSecond, valueNumber, valueFirst, valueSecond, ranNumber, ranFirst, ranSecond, repairNumber, repairFirst, repairSecond, readNumber, readFirst, readSecond, readThird, readFourth, writtenNumber, writtenFirst, writtenSecond}
 
 -- what the last two clauses say stays as it is
 pub rounds-placed : (o : Outcome) (r : Rounds) (n : ℕ) (A : Type 0) → r ≡ roundsOf o → r ≡ Placed n → A
@@ -65,4 +78,47 @@ run-refused (ran n new) r x A e f a = let z : _≡_ {A = ℕ} 0 1 = cc in absurd
 run-refused (notRun k i) r x A e f a =
     let q : NotRun x ≡ NotRun (record { number = k; part = 0; item = i }) = sym f ∙ e in
     let s : x ≡ record { number = k; part = 0; item = i } = cc in
+    ((cc), ((cc), ((cc), a)))
+
+-- and of a placing or a clearing
+pub repair-listed : (o : Repair) (r : Repaired) (n : ℕ) (A : Type 0) → r ≡ repairedOf o → r ≡ Relisted n → A
+    → (0 ≡ repairNumber o) × ((n ≡ repairFirst o) × ((0 ≡ repairSecond o) × A))
+repair-listed (repaired es cs) r n A e f a = (refl, ((cc), (refl, a)))
+repair-listed (notRepaired k i) r n A e f a = let z : _≡_ {A = ℕ} 0 1 = cc in absurd (omega arith)
+
+pub repair-refused : (o : Repair) (r : Repaired) (x : Refusal) (A : Type 0) → r ≡ repairedOf o → r ≡ NotRepaired x → A
+    → (x .number ≡ repairNumber o) × ((x .part ≡ repairFirst o) × ((x .item ≡ repairSecond o) × A))
+repair-refused (repaired es cs) r x A e f a = let z : _≡_ {A = ℕ} 0 1 = cc in absurd (omega arith)
+repair-refused (notRepaired k i) r x A e f a =
+    let q : NotRepaired x ≡ NotRepaired (record { number = k; part = 0; item = i }) = sym f ∙ e in
+    let s : x ≡ record { number = k; part = 0; item = i } = cc in
+    ((cc), ((cc), ((cc), a)))
+
+-- and of gates read and written
+pub gates-read : (o : Reading) (r : Gates) (h : Header) (A : Type 0) → r ≡ gatesTold o → r ≡ Read h → A
+    → (0 ≡ readNumber o) × ((h .gates ≡ readFirst o) × ((h .inputs ≡ readSecond o) × ((h .latches ≡ readThird o) × ((h .outputs ≡ readFourth o) × A))))
+gates-read (gates k l) r h A e f a =
+    let q : Read h ≡ Read (record { inputs = k .inputs; latches = k .latches; outputs = k .outputs; gates = k .gates }) = sym f ∙ e in
+    let s : h ≡ record { inputs = k .inputs; latches = k .latches; outputs = k .outputs; gates = k .gates } = cc in
+    (refl, ((cc), ((cc), ((cc), ((cc), a)))))
+gates-read (unread n) r h A e f a = let z : _≡_ {A = ℕ} 0 1 = cc in absurd (omega arith)
+
+pub gates-refused : (o : Reading) (r : Gates) (x : Refusal) (A : Type 0) → r ≡ gatesTold o → r ≡ NotRead x → A
+    → (x .number ≡ readNumber o) × ((x .part ≡ readFirst o) × ((x .item ≡ readSecond o) × ((0 ≡ readThird o) × ((0 ≡ readFourth o) × A))))
+gates-refused (gates k l) r x A e f a = let z : _≡_ {A = ℕ} 0 1 = cc in absurd (omega arith)
+gates-refused (unread n) r x A e f a =
+    let q : NotRead x ≡ NotRead (record { number = n; part = 0; item = 0 }) = sym f ∙ e in
+    let s : x ≡ record { number = n; part = 0; item = 0 } = cc in
+    ((cc), ((cc), ((cc), (refl, (refl, a)))))
+
+pub text-written : (o : Writing) (r : TextAnswer) (n : ℕ) (A : Type 0) → r ≡ textTold o → r ≡ Bytes n → A → (0 ≡ writtenNumber o) × ((n ≡ writtenFirst o) × ((0 ≡ writtenSecond o) × A))
+text-written (written t) r n A e f a = (refl, ((cc), (refl, a)))
+text-written (unwritten k) r n A e f a = let z : _≡_ {A = ℕ} 0 1 = cc in absurd (omega arith)
+
+pub text-refused : (o : Writing) (r : TextAnswer) (x : Refusal) (A : Type 0) → r ≡ textTold o → r ≡ NotWritten x → A
+    → (x .number ≡ writtenNumber o) × ((x .part ≡ writtenFirst o) × ((x .item ≡ writtenSecond o) × A))
+text-refused (written t) r x A e f a = let z : _≡_ {A = ℕ} 0 1 = cc in absurd (omega arith)
+text-refused (unwritten n) r x A e f a =
+    let q : NotWritten x ≡ NotWritten (record { number = n; part = 0; item = 0 }) = sym f ∙ e in
+    let s : x ≡ record { number = n; part = 0; item = 0 } = cc in
     ((cc), ((cc), ((cc), a)))

@@ -1,12 +1,16 @@
 -- What the exported functions hand out: 0 or the refusal's number, and two numbers. Document 01, "Numbered refusals": each returns number and place.
 -- Assumes nothing.
 use Prim.Native.Nat.{ℕ}
+use lib.ListN.{length}
 use Rattle.reads.specs.Search.{longest}
 use Rattle.reads.specs.Outcome.{Outcome, placed, refused}
 use Rattle.values.specs.Values.{Outcome as Valued, bit, refused as unvalued}
 use Rattle.machine.specs.Run.{Ran, ran, refused as notRun}
+use Rattle.nodes.specs.Outcome.{Outcome as Repair, repaired, refused as notRepaired}
 use Rattle.listing.specs.declared.Listed.{Listed}
 use Rattle.listing.specs.declared.Listed.the-variants.{Text, Refused}
+use Rattle.aiger.specs.Reading.{Reading, gates, refused as unread}
+use Rattle.aiger.specs.Writing.{Writing, written, refused as unwritten}
 
 -- of a read set: 0 with the rounds and 0; or the number with part 0 and the item
 abbrev pub roundsNumber : Outcome → ℕ
@@ -59,3 +63,49 @@ ranFirst (notRun n i) = 0
 abbrev pub ranSecond : Ran → ℕ
 ranSecond (ran k new) = 0
 ranSecond (notRun n i) = i
+
+-- of a placing or a clearing: 0 with the entries of the new count list and 0; or the number with part 0 and the item
+abbrev pub repairNumber : Repair → ℕ
+repairNumber (repaired es cs) = 0
+repairNumber (notRepaired n i) = n
+
+abbrev pub repairFirst : Repair → ℕ
+repairFirst (repaired es cs) = length cs
+repairFirst (notRepaired n i) = 0
+
+abbrev pub repairSecond : Repair → ℕ
+repairSecond (repaired es cs) = 0
+repairSecond (notRepaired n i) = i
+
+-- of gates read from AIGER: 0 with gates, inputs, latches and outputs; or the number with four times 0
+abbrev pub readNumber : Reading → ℕ
+readNumber (gates h l) = 0
+readNumber (unread n) = n
+
+abbrev pub readFirst : Reading → ℕ
+readFirst (gates h l) = h .gates
+readFirst (unread n) = 0
+
+abbrev pub readSecond : Reading → ℕ
+readSecond (gates h l) = h .inputs
+readSecond (unread n) = 0
+
+abbrev pub readThird : Reading → ℕ
+readThird (gates h l) = h .latches
+readThird (unread n) = 0
+
+abbrev pub readFourth : Reading → ℕ
+readFourth (gates h l) = h .outputs
+readFourth (unread n) = 0
+
+-- of gates written as AIGER: 0 with the bytes and 0; or the number with twice 0
+abbrev pub writtenNumber : Writing → ℕ
+writtenNumber (written t) = 0
+writtenNumber (unwritten n) = n
+
+abbrev pub writtenFirst : Writing → ℕ
+writtenFirst (written t) = length t
+writtenFirst (unwritten n) = 0
+
+abbrev pub writtenSecond : Writing → ℕ
+writtenSecond w = 0

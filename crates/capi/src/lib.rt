@@ -7,13 +7,20 @@ ghost use Rattle.listing.specs.Listing.{listed, textAfter};
 ghost use Rattle.values.specs.Values.{outcome as valued, bitsAfter, roomAfter as planRoomAfter};
 ghost use Rattle.flatten.specs.Flatten.{sizing, building, startsAfter, wordsAfter, roomAfter as builtRoomAfter};
 ghost use Rattle.machine.specs.Run.{outcome as ranAs, newAfter, roomAfter as runRoomAfter};
+ghost use Rattle.aiger.specs.Reading.{readAiger};
+ghost use Rattle.aiger.specs.Writing.{writeAiger};
+ghost use Rattle.aiger.specs.Outcome.{fitting, listAfter as gatesAfter, holding, textAfter as aigerAfter};
+ghost use Rattle.nodes.specs.Outcome.{placed, cleared, slotsAfter, listAfter, roomAfter as repairRoomAfter};
 ghost use Rattle.capi.specs.Promised.{Promised};
-ghost use Rattle.answers.specs.Answers.{roundsNumber, roundsFirst, roundsSecond, listedNumber, listedFirst, listedSecond, valueNumber, valueFirst, valueSecond, ranNumber, ranFirst, ranSecond};
+ghost use Rattle.answers.specs.Answers.{roundsNumber, roundsFirst, roundsSecond, listedNumber, listedFirst, listedSecond, valueNumber, valueFirst, valueSecond, ranNumber, ranFirst, ranSecond, readNumber, readFirst, readSecond, readThird, readFourth, writtenNumber, writtenFirst, writtenSecond, repairNumber, repairFirst, repairSecond};
 ghost use Rattle.capi.specs.Answers.{builtNumber, builtFirst, builtSecond, builtThird, builtFourth};
+use aigread::Gates;
+use aigwrite::Text;
 use flatten::Flattened;
 use listing::Listed;
 use rounds::Rounds;
 use run::Ran;
+use settle::Repaired;
 use values::Answer;
 use words::units::Pin;
 
@@ -211,6 +218,147 @@ pub extern "C" fn juolgesot_build(
             *second = refusal.item;
             *third = 0;
             *fourth = 0;
+            refusal.number
+        }
+    }
+}
+
+// A node placed at a slot of a level of one stage: `first` is the entries of the new count list, or the refusal's part; `second` is 0, or its item.
+#[no_mangle]
+pub extern "C" fn juolgesot_place_bit(
+    gates: &[u32],
+    levels: &[u32],
+    counts: &[u32],
+    slots: &mut [u32],
+    after: &mut [u32],
+    room: &mut [u32],
+    level: u32,
+    slot: u32,
+    node: u32,
+    first: &mut u64,
+    second: &mut u64,
+) -> u32
+    ensures { λ r. ⌜ r ≡ repairNumber (placed 13 (now (gates .entry)) (now (levels .entry)) (now (counts .entry)) (now (slots .entry)) (length (now (after .entry))) (length (now (room .entry))) level slot node) ⌝ }
+    ensures { λ r. ⌜ now (first .exit) ≡ repairFirst (placed 13 (now (gates .entry)) (now (levels .entry)) (now (counts .entry)) (now (slots .entry)) (length (now (after .entry))) (length (now (room .entry))) level slot node) ⌝ }
+    ensures { λ r. ⌜ now (second .exit) ≡ repairSecond (placed 13 (now (gates .entry)) (now (levels .entry)) (now (counts .entry)) (now (slots .entry)) (length (now (after .entry))) (length (now (room .entry))) level slot node) ⌝ }
+    ensures { λ r. ⌜ now (slots .exit) ≡ slotsAfter (placed 13 (now (gates .entry)) (now (levels .entry)) (now (counts .entry)) (now (slots .entry)) (length (now (after .entry))) (length (now (room .entry))) level slot node) (now (slots .entry)) ⌝ }
+    ensures { λ r. ⌜ now (after .exit) ≡ listAfter (placed 13 (now (gates .entry)) (now (levels .entry)) (now (counts .entry)) (now (slots .entry)) (length (now (after .entry))) (length (now (room .entry))) level slot node) (now (after .entry)) ⌝ }
+    ensures { λ r. ⌜ now (room .exit) ≡ repairRoomAfter (now (counts .entry)) (now (room .entry)) ⌝ }
+{
+    match repair::place_bit(
+        gates,
+        levels,
+        counts,
+        slots,
+        after,
+        room,
+        level,
+        slot,
+        Pin(node),
+    ) {
+        Repaired::Listed(n) => {
+            *first = n as u64;
+            *second = 0;
+            0
+        }
+        Repaired::Refused(refusal) => {
+            *first = refusal.part as u64;
+            *second = refusal.item;
+            refusal.number
+        }
+    }
+}
+
+// A slot of a level of one stage cleared, with what stands below it: the numbers are as for a placing.
+#[no_mangle]
+pub extern "C" fn juolgesot_purge_bit(
+    counts: &[u32],
+    slots: &mut [u32],
+    after: &mut [u32],
+    room: &mut [u32],
+    level: u32,
+    slot: u32,
+    first: &mut u64,
+    second: &mut u64,
+) -> u32
+    ensures { λ r. ⌜ r ≡ repairNumber (cleared 13 (now (counts .entry)) (now (slots .entry)) (length (now (after .entry))) (length (now (room .entry))) level slot) ⌝ }
+    ensures { λ r. ⌜ now (first .exit) ≡ repairFirst (cleared 13 (now (counts .entry)) (now (slots .entry)) (length (now (after .entry))) (length (now (room .entry))) level slot) ⌝ }
+    ensures { λ r. ⌜ now (second .exit) ≡ repairSecond (cleared 13 (now (counts .entry)) (now (slots .entry)) (length (now (after .entry))) (length (now (room .entry))) level slot) ⌝ }
+    ensures { λ r. ⌜ now (slots .exit) ≡ slotsAfter (cleared 13 (now (counts .entry)) (now (slots .entry)) (length (now (after .entry))) (length (now (room .entry))) level slot) (now (slots .entry)) ⌝ }
+    ensures { λ r. ⌜ now (after .exit) ≡ listAfter (cleared 13 (now (counts .entry)) (now (slots .entry)) (length (now (after .entry))) (length (now (room .entry))) level slot) (now (after .entry)) ⌝ }
+    ensures { λ r. ⌜ now (room .exit) ≡ repairRoomAfter (now (counts .entry)) (now (room .entry)) ⌝ }
+{
+    match repair::purge_bit(counts, slots, after, room, level, slot) {
+        Repaired::Listed(n) => {
+            *first = n as u64;
+            *second = 0;
+            0
+        }
+        Repaired::Refused(refusal) => {
+            *first = refusal.part as u64;
+            *second = refusal.item;
+            refusal.number
+        }
+    }
+}
+
+// The gates of a binary AIGER file: gates, inputs, latches and outputs, or the refusal's part and item and twice 0.
+#[no_mangle]
+pub extern "C" fn juolgesot_read_aiger(
+    bytes: &[u8],
+    out: &mut [u32],
+    first: &mut u64,
+    second: &mut u64,
+    third: &mut u64,
+    fourth: &mut u64,
+) -> u32
+    ensures { λ r. ⌜ r ≡ readNumber (fitting (length (now (out .entry))) (readAiger (now (bytes .entry)))) ⌝ }
+    ensures { λ r. ⌜ now (first .exit) ≡ readFirst (fitting (length (now (out .entry))) (readAiger (now (bytes .entry)))) ⌝ }
+    ensures { λ r. ⌜ now (second .exit) ≡ readSecond (fitting (length (now (out .entry))) (readAiger (now (bytes .entry)))) ⌝ }
+    ensures { λ r. ⌜ now (third .exit) ≡ readThird (fitting (length (now (out .entry))) (readAiger (now (bytes .entry)))) ⌝ }
+    ensures { λ r. ⌜ now (fourth .exit) ≡ readFourth (fitting (length (now (out .entry))) (readAiger (now (bytes .entry)))) ⌝ }
+    ensures { λ r. ⌜ now (out .exit) ≡ gatesAfter (fitting (length (now (out .entry))) (readAiger (now (bytes .entry)))) (now (out .entry)) ⌝ }
+{
+    match aigread::read_gates(bytes, out) {
+        Gates::Read(header) => {
+            *first = header.gates;
+            *second = header.inputs;
+            *third = header.latches;
+            *fourth = header.outputs;
+            0
+        }
+        Gates::Refused(refusal) => {
+            *first = refusal.part as u64;
+            *second = refusal.item;
+            *third = 0;
+            *fourth = 0;
+            refusal.number
+        }
+    }
+}
+
+// The binary AIGER text of a gate list: `first` is its length, or the refusal's part; `second` is 0, or its item.
+#[no_mangle]
+pub extern "C" fn juolgesot_write_aiger(
+    gates: &[u32],
+    out: &mut [u8],
+    first: &mut u64,
+    second: &mut u64,
+) -> u32
+    ensures { λ r. ⌜ r ≡ writtenNumber (holding (length (now (out .entry))) (writeAiger (now (gates .entry)))) ⌝ }
+    ensures { λ r. ⌜ now (first .exit) ≡ writtenFirst (holding (length (now (out .entry))) (writeAiger (now (gates .entry)))) ⌝ }
+    ensures { λ r. ⌜ now (second .exit) ≡ writtenSecond (holding (length (now (out .entry))) (writeAiger (now (gates .entry)))) ⌝ }
+    ensures { λ r. ⌜ now (out .exit) ≡ aigerAfter (holding (length (now (out .entry))) (writeAiger (now (gates .entry)))) (now (out .entry)) ⌝ }
+{
+    match aigwrite::write_gates(gates, out) {
+        Text::Bytes(n) => {
+            *first = n as u64;
+            *second = 0;
+            0
+        }
+        Text::Refused(refusal) => {
+            *first = refusal.part as u64;
+            *second = refusal.item;
             refusal.number
         }
     }

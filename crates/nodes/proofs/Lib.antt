@@ -5,3 +5,4 @@ pub mod JudgeLaws
 pub mod ReachLaws
 pub mod RightLaws
 pub mod CountLaws
+pub mod UndoneLaws

@@ -4,12 +4,13 @@ use indexmap::{IndexMap, IndexSet};
 use oracle::aig::{DriverType, RAMBlock, AIG, DFF};
 use oracle::flatten::OracleTables;
 use oracle::flatten_given::{oracle_build_given, OracleGiven};
+use oracle::one_bit::{oracle_place_bit, oracle_purge_bit, OracleLevels, OracleStage};
 use oracle::pe::{BoomerangStage, Partition};
 use oracle::staging::StagedAIG;
 use plan::{Endpoint, Part, Plan, Script, Tables, EMPTY};
 use std::any::Any;
 use std::collections::BTreeMap;
-use std::panic::catch_unwind;
+use std::panic::{catch_unwind, AssertUnwindSafe};
 use std::time::{Duration, Instant};
 
 pub const NAME: &str = "GEM's Rust";
@@ -211,5 +212,68 @@ fn oracle_tables(tables: &Tables) -> OracleTables {
         enable_set0: tables.enable_set0.clone(),
         data_inv: tables.data_inv.clone(),
         staged_duplicates: 0,
+    }
+}
+
+/// GEM's `place_bit` and `purge_bit`, over gates (three words each) and the levels of pins.
+pub struct Placer {
+    levels: OracleLevels,
+}
+
+/// A stage that GEM places on.
+pub struct PlacerStage {
+    stage: OracleStage,
+}
+
+impl Placer {
+    /// None where GEM cannot be asked: it has a list by pin.
+    pub fn of(gates: &[u32], levels: &[u32]) -> Option<Self> {
+        let most = gates.chunks_exact(3).map(|gate| gate[0].max(gate[1] >> 1).max(gate[2] >> 1)).max();
+        let most = most.unwrap_or(0);
+        if most > MOST_PIN {
+            return None;
+        }
+        let mut drivers = vec![DriverType::InputPort(0); most as usize + 1];
+        for gate in gates.chunks_exact(3) {
+            drivers[gate[0] as usize] = DriverType::AndGate(gate[1] as usize, gate[2] as usize);
+        }
+        let aig = AIG { drivers, ..AIG::default() };
+        let level = levels.iter().map(|&level| level as usize).collect();
+        let id2order = (0..levels.len()).map(|pin| (pin, pin)).collect();
+        Some(Placer { levels: OracleLevels { aig, level, id2order } })
+    }
+
+    /// False where it panicked; the stage is then as it was at that moment.
+    pub fn place(&self, stage: &mut PlacerStage, level: u32, slot: u32, node: u32) -> bool {
+        let call =
+            || oracle_place_bit(&self.levels, &mut stage.stage, level as usize, slot as usize, node as usize);
+        catch_unwind(AssertUnwindSafe(call)).is_ok()
+    }
+
+    pub fn purge(&self, stage: &mut PlacerStage, level: u32, slot: u32) -> bool {
+        let call = || oracle_purge_bit(&self.levels, &mut stage.stage, level as usize, slot as usize);
+        catch_unwind(AssertUnwindSafe(call)).is_ok()
+    }
+}
+
+impl PlacerStage {
+    /// Of a stage's slots by index, from 1 on, and a count list.
+    pub fn of(slots: &[u32], counts: &[u32]) -> Self {
+        let level = |level: u32| {
+            let from = (1 << (13 - level)) - 1;
+            slots[from..2 * from + 1].iter().map(|&pin| oracle_pin(pin)).collect()
+        };
+        let counts = counts.chunks_exact(2).map(|entry| (entry[0] as usize, entry[1] as usize)).collect();
+        PlacerStage { stage: OracleStage { hier: (0..=13).map(level).collect(), counts } }
+    }
+
+    pub fn slots(&self) -> Vec<u32> {
+        let pin = |&pin: &usize| if pin == usize::MAX { EMPTY } else { pin as u32 };
+        self.stage.hier.iter().rev().flatten().map(pin).collect()
+    }
+
+    /// Nodes and counts, in GEM's order.
+    pub fn counts(&self) -> Vec<(u32, u64)> {
+        self.stage.counts.iter().map(|(&node, &count)| (node as u32, count as u64)).collect()
     }
 }

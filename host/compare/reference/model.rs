@@ -36,3 +36,37 @@ pub fn flatten_timed(plan: &Plan) -> (Script, Duration) {
     let script = Script { starts: accepted.starts(), words: accepted.words(), state_words, sram_words };
     (script, start.elapsed())
 }
+
+/// GEM's `place_bit` and `purge_bit`, which are not known here.
+pub enum Placer {}
+
+/// A stage that GEM places on.
+pub struct PlacerStage;
+
+impl Placer {
+    pub fn of(_: &[u32], _: &[u32]) -> Option<Self> {
+        None
+    }
+
+    pub fn place(&self, _: &mut PlacerStage, _: u32, _: u32, _: u32) -> bool {
+        match *self {}
+    }
+
+    pub fn purge(&self, _: &mut PlacerStage, _: u32, _: u32) -> bool {
+        match *self {}
+    }
+}
+
+impl PlacerStage {
+    pub fn of(_: &[u32], _: &[u32]) -> Self {
+        PlacerStage
+    }
+
+    pub fn slots(&self) -> Vec<u32> {
+        Vec::new()
+    }
+
+    pub fn counts(&self) -> Vec<(u32, u64)> {
+        Vec::new()
+    }
+}

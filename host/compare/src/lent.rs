@@ -1,4 +1,4 @@
-//! Slices lent to a call. Each ends, or begins, at a page that may not be touched, turn about; on its other side lie
+//! Slices lent to a call. Each ends, or begins, at a page that may not be touched, now so, now so; on its other side lie
 //! items that are looked at afterwards. What is lent to be read only lies in pages that cannot be written.
 
 use crate::pages::{Item, Pages};
@@ -9,14 +9,15 @@ use std::ops::Range;
 const GUARD: usize = 64;
 
 thread_local! {
-    static AT_END: Cell<bool> = Cell::new(false);
+    static LENT: Cell<u64> = Cell::new(0);
 }
 
-/// Where the next slice lies in its pages: at their end, or at their beginning.
-fn turn_about() -> bool {
-    AT_END.with(|at_end| {
-        at_end.set(!at_end.get());
-        at_end.get()
+/// Where the next slice lies in its pages: at their end, or at their beginning. Not simply turn about: a call that is lent
+/// two, four or six slices would then have each of them on the same side every time.
+fn is_at_end() -> bool {
+    LENT.with(|lent| {
+        lent.set(lent.get() + 1);
+        lent.get().count_ones() % 2 == 1
     })
 }
 
@@ -24,7 +25,7 @@ fn turn_about() -> bool {
 fn places<T: Item>(length: usize) -> (Pages, Range<usize>, Range<usize>) {
     let pages = Pages::at_least((length + GUARD) * std::mem::size_of::<T>());
     let end = pages.bytes() / std::mem::size_of::<T>();
-    if turn_about() {
+    if is_at_end() {
         (pages, end - length..end, end - length - GUARD..end - length)
     } else {
         (pages, 0..length, length..length + GUARD)

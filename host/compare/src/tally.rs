@@ -22,16 +22,29 @@ impl Tally {
         self.count_timed(kind, Duration::ZERO);
     }
 
+    pub fn count_many(&mut self, kind: &str, count: u64) {
+        self.line(kind).count += count;
+    }
+
     pub fn count_timed(&mut self, kind: &str, time: Duration) {
-        let line = match self.lines.iter().position(|line| line.kind == kind) {
+        let line = self.line(kind);
+        line.count += 1;
+        line.time += time;
+    }
+
+    fn line(&mut self, kind: &str) -> &mut Line {
+        match self.lines.iter().position(|line| line.kind == kind) {
             Some(place) => &mut self.lines[place],
             None => {
                 self.lines.push(Line { kind: kind.to_string(), count: 0, time: Duration::ZERO });
                 self.lines.last_mut().expect("just pushed")
             }
-        };
-        line.count += 1;
-        line.time += time;
+        }
+    }
+
+    /// How often this kind came.
+    pub fn times(&self, kind: &str) -> u64 {
+        self.lines.iter().find(|line| line.kind == kind).map_or(0, |line| line.count)
     }
 
     pub fn total(&self) -> u64 {

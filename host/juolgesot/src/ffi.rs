@@ -88,6 +88,61 @@ extern "C" {
         first: *mut u64,
         second: *mut u64,
     ) -> u32;
+
+    fn juolgesot_read_aiger(
+        bytes: *const u8,
+        bytes_len: usize,
+        out: *mut u32,
+        out_len: usize,
+        first: *mut u64,
+        second: *mut u64,
+        third: *mut u64,
+        fourth: *mut u64,
+    ) -> u32;
+
+    fn juolgesot_write_aiger(
+        gates: *const u32,
+        gates_len: usize,
+        out: *mut u8,
+        out_len: usize,
+        first: *mut u64,
+        second: *mut u64,
+    ) -> u32;
+
+    fn juolgesot_place_bit(
+        gates: *const u32,
+        gates_len: usize,
+        levels: *const u32,
+        levels_len: usize,
+        counts: *const u32,
+        counts_len: usize,
+        slots: *mut u32,
+        slots_len: usize,
+        after: *mut u32,
+        after_len: usize,
+        room: *mut u32,
+        room_len: usize,
+        level: u32,
+        slot: u32,
+        node: u32,
+        first: *mut u64,
+        second: *mut u64,
+    ) -> u32;
+
+    fn juolgesot_purge_bit(
+        counts: *const u32,
+        counts_len: usize,
+        slots: *mut u32,
+        slots_len: usize,
+        after: *mut u32,
+        after_len: usize,
+        room: *mut u32,
+        room_len: usize,
+        level: u32,
+        slot: u32,
+        first: *mut u64,
+        second: *mut u64,
+    ) -> u32;
 }
 
 /// What a call gives back: 0 and two results, or a refusal's number and its place (part, item).
@@ -107,7 +162,7 @@ impl Answer {
 }
 
 /// What a call on a plan gives back: 0 with the number of starts and of words, the state's words and SRAM's words; or
-/// a refusal's number, its place in the first two and 0 in the others.
+/// a refusal's number, its place in the first two and 0 in the others. Of an AIGER file the four are other numbers.
 #[derive(Debug, Clone, Copy, PartialEq, Eq)]
 pub struct PlanAnswer {
     pub code: u32,
@@ -199,6 +254,64 @@ pub fn value(
             [plan.as_ptr, room.as_mut_ptr, old.as_ptr, new.as_ptr, bits.as_mut_ptr],
             part,
             pin,
+            first,
+            second
+        )
+    })
+}
+
+/// Code 0: the numbers of gates, inputs, latches and outputs; `out` begins with three words a gate.
+pub fn read_aiger(bytes: &[u8], out: &mut [u32]) -> PlanAnswer {
+    PlanAnswer::of(|[first, second, third, fourth]| {
+        call!(juolgesot_read_aiger, [bytes.as_ptr, out.as_mut_ptr], first, second, third, fourth)
+    })
+}
+
+/// Code 0: `first` is the number of bytes written to `out`, `second` 0.
+pub fn write_aiger(gates: &[u32], out: &mut [u8]) -> Answer {
+    Answer::of(|first, second| call!(juolgesot_write_aiger, [gates.as_ptr, out.as_mut_ptr], first, second))
+}
+
+/// Code 0: `first` is the number of entries (node, count) that `after` begins with, `second` 0.
+pub fn place_bit(
+    gates: &[u32],
+    levels: &[u32],
+    counts: &[u32],
+    slots: &mut [u32],
+    after: &mut [u32],
+    room: &mut [u32],
+    level: u32,
+    slot: u32,
+    node: u32,
+) -> Answer {
+    Answer::of(|first, second| {
+        call!(
+            juolgesot_place_bit,
+            [gates.as_ptr, levels.as_ptr, counts.as_ptr, slots.as_mut_ptr, after.as_mut_ptr, room.as_mut_ptr],
+            level,
+            slot,
+            node,
+            first,
+            second
+        )
+    })
+}
+
+/// Code 0: as above.
+pub fn purge_bit(
+    counts: &[u32],
+    slots: &mut [u32],
+    after: &mut [u32],
+    room: &mut [u32],
+    level: u32,
+    slot: u32,
+) -> Answer {
+    Answer::of(|first, second| {
+        call!(
+            juolgesot_purge_bit,
+            [counts.as_ptr, slots.as_mut_ptr, after.as_mut_ptr, room.as_mut_ptr],
+            level,
+            slot,
             first,
             second
         )

@@ -1,4 +1,4 @@
-//! The numbered refusals of document 01.
+//! The numbered refusals of documents 01 and 02.
 
 use crate::ffi::Answer;
 use std::fmt;
@@ -32,7 +32,7 @@ impl Refusal {
             2 => "its word is not above the one before, its word is 2^27 or more without the staged flag, or its mask is 0 or missing",
             3 => "there is nothing to read",
             4 => "every piece size ended without room in the lanes",
-            5 => "a number is outside the plan ranges, a kind is unknown, or a list is not as long as its count",
+            5 => "a number is outside its range, a kind is unknown, or a list is out of form or not as long as its count",
             6 => "its pin is 0 or not above the gate before, or a fan-in pin is not below it",
             7 => "a write-out location is above 255, or the part has more than 256 write-out words",
             8 => "the state would have more than 2^27 words, or SRAM more than 2^32 - 1",
@@ -41,11 +41,19 @@ impl Refusal {
             11 => "a pin is computed by its gate that the part also reads in stage 0",
             12 => "its pin has no position, one outside the state, or a staged one that no earlier major stage stores as a normal word",
             13 => "the entry is above 8191",
-            14 => "the lent result room is shorter than needed",
+            14 => "the lent result room is shorter than needed, or a count would pass 2^32 - 1",
             15 => "its script words are not well formed for the run",
             16 => "it names no block",
             17 => "a bad record",
+            18 => "something is wrong before the gates of the AIGER file: its header, a latch or output line, or an early end",
+            19 => "a difference of the AIGER file is out of range, not in its shortest form, or over five bytes",
+            20 => "the AIGER file ends within its gates",
+            24 => "a slot of the subtree is not empty",
+            25 => "a node that would be placed has no level, one above its place, or one not below its gate's",
+            26 => "a node that would be placed at its level, 1 or up, is no gate",
             32 => "the working room is too short",
+            33 => "the gate list cannot be written as AIGER: its pins have a gap, a second fan-in is larger than the first, or it is no gate list",
+            34 => "a node's count is less than its slots that would be cleared",
             _ => "an unknown refusal",
         }
     }

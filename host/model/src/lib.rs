@@ -4,11 +4,13 @@
 //! It is the second opinion of the comparisons: held to GEM's Rust on every case where GEM's
 //! sources are at hand, and the reference where they are not.
 
+pub mod aiger;
 pub mod blocks;
 pub mod build;
 pub mod listing;
 pub mod plan;
 pub mod record;
+pub mod repair;
 pub mod rounds;
 pub mod run;
 pub mod script;

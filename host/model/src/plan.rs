@@ -48,15 +48,20 @@ pub fn counts_of(endpoints: &[u32], locations: u64) -> Counts {
 }
 
 pub fn gate_fault(plan: &Plan<'_>) -> Option<Refused> {
+    bad_gate(plan.gates).map(|gate| Refused::at(6, 0, gate))
+}
+
+/// The first gate that is not as refusal 6 asks; a cut one is not.
+pub fn bad_gate(gates: &[u32]) -> Option<usize> {
     let mut before = 0;
-    for (index, gate) in plan.gates.chunks(3).enumerate() {
-        let pin = gate[0];
-        if pin <= before || gate[1] >> 1 >= pin || gate[2] >> 1 >= pin {
-            return Some(Refused::at(6, 0, index));
+    gates.chunks(3).position(|gate| match *gate {
+        [pin, first, second] => {
+            let is_bad = pin <= before || first >> 1 >= pin || second >> 1 >= pin;
+            before = pin;
+            is_bad
         }
-        before = pin;
-    }
-    None
+        _ => true,
+    })
 }
 
 pub fn location_fault(plan: &Plan<'_>, counts: &[Counts]) -> Option<Refused> {

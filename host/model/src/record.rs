@@ -48,6 +48,11 @@ impl Stage<'_> {
         self.slots[index - 1]
     }
 
+    /// All of them, from position 1 on.
+    pub fn slots(&self) -> &[u32] {
+        self.slots
+    }
+
     pub fn level_0(&self) -> &[u32] {
         &self.slots[SLOTS - 1..]
     }

@@ -1,7 +1,9 @@
 //! `juolgesot bench`.
 
+mod aiger;
 mod build;
 mod inputs;
+mod repair;
 mod rounds;
 mod run;
 
@@ -19,6 +21,8 @@ read rounds  beside GEM's Rust, small sets to large
 build        beside GEM's Rust, on three netlists (small, mid and large, by the words of their scripts) and on a random
              part alone, twice, and so on to sixteen times; the time for each part too
 run          beside host/model's run, in turns a second, on the scripts of the same plans
+repair       beside GEM's own functions, on a full stage; and what a count list costs
+AIGER        beside host/model's plain reader and writer, on a million gates
 
 Where GEM's sources were missing, host/model stands in for GEM's Rust, and there are no netlists.
 --seconds: for each row (default 1). --svg: writes the ratios as a chart.
@@ -62,6 +66,8 @@ pub fn call(words: &[String]) -> Outcome {
     let inputs = inputs::all(&mut random);
     build::rows(&mut table, &inputs, time)?;
     run::rows(&mut table, &inputs, &mut random, time)?;
+    aiger::rows(&mut table, &mut random, time)?;
+    repair::rows(&mut table, time)?;
     if let Some(path) = words.option("--svg") {
         crate::files::write(path, chart::ratios(&table.rows).as_bytes())?;
     }

@@ -1,5 +1,6 @@
 //! `juolgesot`: the library from a shell, and what is shown with it.
 
+mod aiger;
 mod bench;
 mod build;
 mod chart;
@@ -7,6 +8,7 @@ mod compare;
 mod files;
 mod list;
 mod progress;
+mod repair;
 mod replay;
 mod run;
 
@@ -29,7 +31,7 @@ struct Verb {
     call: fn(&[String]) -> Outcome,
 }
 
-const VERBS: [Verb; 6] = [
+const VERBS: [Verb; 8] = [
     Verb {
         name: "compare",
         summary: "both builders on the same plans, a line each",
@@ -43,6 +45,18 @@ const VERBS: [Verb; 6] = [
         summary: "lanes and rounds of requested positions",
         help: list::HELP,
         call: list::call,
+    },
+    Verb {
+        name: "aiger",
+        summary: "gate lists from binary AIGER, and back",
+        help: aiger::HELP,
+        call: aiger::call,
+    },
+    Verb {
+        name: "repair",
+        summary: "one node of a plan's stage placed or cleared",
+        help: repair::HELP,
+        call: repair::call,
     },
     Verb {
         name: "replay",

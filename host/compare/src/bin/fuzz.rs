@@ -5,10 +5,14 @@
 //! Each call is held to the model: its answer, every word of its results, its room, and the guards beside each lent
 //! slice; a touch of a page beside one ends the program. Stops at the first difference.
 
+use compare::aiger_checker::AigerChecker;
+use compare::aiger_files;
 use compare::checker::{Checker, Lent, OutLength};
 use compare::list_checker::ListChecker;
 use compare::plan_checker::{More, PlanChecker};
 use compare::plans::{self, Size};
+use compare::repair_checker::{self, RepairChecker, Work};
+use compare::repairs;
 use compare::run_checker::RunChecker;
 use compare::run_damage::{self, Case};
 use compare::sets;
@@ -51,8 +55,11 @@ struct Fuzz {
     plans: PlanChecker,
     runs: RunChecker,
     values: ValueChecker,
+    aiger: AigerChecker,
+    repairs: RepairChecker,
     records: Pool<Vec<u32>>,
     scripts: Pool<Case>,
+    stages: Pool<repairs::Case>,
 }
 
 /// Something that is damaged again and again before another is made.
@@ -86,8 +93,11 @@ impl Fuzz {
             plans: PlanChecker::new(),
             runs: RunChecker::new(),
             values: ValueChecker::new(),
+            aiger: AigerChecker::new(),
+            repairs: RepairChecker::new(),
             records: Pool::new(),
             scripts: Pool::new(),
+            stages: Pool::new(),
         }
     }
 
@@ -97,6 +107,8 @@ impl Fuzz {
         self.plans.answers.print();
         self.runs.answers.print();
         self.values.answers.print();
+        self.aiger.answers.print();
+        self.repairs.answers.print();
     }
 
     /// Read sets and listings are quick and come most often.
@@ -107,6 +119,9 @@ impl Fuzz {
             35..=37 => self.plan(),
             38..=40 => self.run(),
             41..=43 => self.value(),
+            44..=53 => self.read_aiger(),
+            54..=58 => self.write_aiger(),
+            59..=61 => self.repair(),
             _ => self.read_rounds(),
         };
         self.functions.count_timed(name, start.elapsed());
@@ -256,6 +271,55 @@ impl Fuzz {
         };
         let _ = self.values.check("fuzz", Question { record: &record, part, pin, old, new, lent });
         "value"
+    }
+
+    fn read_aiger(&mut self) -> &'static str {
+        let random = &mut self.random;
+        let mut bytes = aiger_files::any(random, 12).bytes();
+        if !random.chance(4) {
+            damage_bytes(random, &mut bytes);
+        }
+        let more = random.pick(&[0, 0, 0, 1, 50, -1, -3, -1000]);
+        self.aiger.read("fuzz", &bytes, more);
+        "read_aiger"
+    }
+
+    fn write_aiger(&mut self) -> &'static str {
+        let random = &mut self.random;
+        let mut gates = aiger_files::list(random, 12);
+        if !random.chance(3) {
+            damage_words(random, &mut gates);
+        }
+        let more = random.pick(&[0, 0, 0, 1, 50, -1, -3, -1000]);
+        self.aiger.write("fuzz", &gates, more);
+        "write_aiger"
+    }
+
+    fn repair(&mut self) -> &'static str {
+        let random = &mut self.random;
+        let mut case = self.stages.next(|| repairs::any(random, 12));
+        let work = random.pick(&[Work::Place, Work::Clear]);
+        case.aim(random);
+        if work == Work::Clear && !random.chance(4) {
+            case.aim_at_held(random);
+        }
+        match random.below(9) {
+            0 => damage_words(random, &mut case.gates),
+            1 => damage_words(random, &mut case.levels),
+            2 => damage_words(random, &mut case.counts),
+            3 => damage_words(random, &mut case.slots),
+            4 => case.place.level = any_word(random),
+            5 => case.place.slot = any_word(random),
+            6 => case.node = any_word(random),
+            _ => {}
+        }
+        let more = repair_checker::More {
+            room: if random.chance(12) { random.pick(&[-1, -4, -100_000]) } else { random.pick(&[0, 0, 5]) },
+            room_is_zero: random.chance(2),
+            after: random.pick(&[0, 0, 3, -1]),
+        };
+        let _ = self.repairs.check("fuzz", work, &case, more);
+        "place_bit and purge_bit"
     }
 }
 

@@ -1,0 +1,4 @@
+pub mod OutcomeLaws
+pub mod FormLaws
+pub mod CodeLaws
+pub mod WholeLaws

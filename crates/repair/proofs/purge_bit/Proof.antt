@@ -1,0 +1,93 @@
+-- `repair::purge_bit` meets its contract: 32 before all others, and a room that is cleared whole.
+-- Assumes nothing.
+use mathlib.Core.Path.{sym, _∙_}
+use Prim.Native.Nat.{_≤_, _<_}
+use native.Mathlib.Omega.{arith}
+use borrow.Author.Tests.{leb-true, leb-false}
+use lib.ListN.{length}
+use Rattle.nodes.specs.Outcome.{roomWords}
+use Rattle.settle.proofs.EndLaws.{refused-end}
+use Rattle.repair.proofs.OutcomeLaws.{room-short, clear-32}
+use Rattle.repair.proofs.WholeLaws.{zeros-length, zeros-own, room-left, whole-end}
+use borrow.Author.Needs.{needs}
+use Rattle.repair.proofs.purge_bit.Statement.{statement}
+use Rattle.repair.proofs.purge_bit.Tie as tie
+use Rattle.repair.proofs.purge_bit.Reads as reads
+use Rattle.repair.proofs.purge_bit.Lts as lts
+use Rattle.repair.proofs.purge_over.Reads as purge-over-reads
+use Rattle.settle.proofs.refused.Reads as refused-reads
+use Rattle.repair.proofs.room_enough.Reads as room-enough-reads
+use Rattle.words.proofs.clear.clear.Reads as clear-reads
+
+room-enough-requires : tie.Need-room-enough-requires
+room-enough-requires c κs = search needs
+
+clear-requires : tie.Need-clear-requires
+clear-requires c κs = search needs
+
+purge-over-requires : tie.Need-purge-over-requires
+purge-over-requires c κs =
+    let e = c .before .before .before .before .before in
+    let t1 = e .before .before in
+    let r = t1 .before in
+    let s = r .before .before .before .before .before .before in
+    let h : roomWords (s .args .counts .now) ≤ length (s .args .room .now) = leb-true _ _ (sym (r .room-enough .ensures) ∙ t1 .if1 .taken) in
+    (zeros-own (s .args .room .now) (e .clear .last .0) (e .clear .ensures), omega (arith, zeros-length (s .args .room .now) (e .clear .last .0) (e .clear .ensures)))
+
+clear-requires-2 : tie.Need-clear-requires-2
+clear-requires-2 c κs = search needs
+
+same-length : tie.Need-same-length
+same-length c = search needs
+
+same-length-2 : tie.Need-same-length-2
+same-length-2 c = search needs
+
+same-length-3 : tie.Need-same-length-3
+same-length-3 c = search needs
+
+returns : tie.Need-returns
+returns c =
+    let g = c .before .before in
+    let b1 = g .before .before .before .before .before .before in
+    let d = b1 .before .before in
+    let e = d .before .before .before .before .before .before in
+    let t1 = e .before .before in
+    let r = t1 .before in
+    let s = r .before .before .before .before .before .before in
+    let h : roomWords (s .args .counts .now) ≤ length (s .args .room .now) = leb-true _ _ (sym (r .room-enough .ensures) ∙ t1 .if1 .taken) in
+    let l = zeros-length (s .args .room .now) (e .clear .last .0) (e .clear .ensures) in
+    whole-end _ _ _ _ _ _ _ (s .args .counts .now) (s .args .room .now) (rw l at (d .purge-over .ensures))
+    (room-left (s .args .room .now) (e .clear .last .0) (e .clear .ensures) (s .args .counts .now) (d .purge-over .last .1 .1 .1 .0) _ h (d .purge-over .kept .1 .1 .1 .0) (g .clear2 .ensures))
+
+refused-requires : tie.Need-refused-requires
+refused-requires c κs = search needs
+
+same-length-4 : tie.Need-same-length-4
+same-length-4 c = search needs
+
+returns-2 : tie.Need-returns-2
+returns-2 c =
+    let t1 = c .before in
+    let r = t1 .before in
+    let s = r .before .before .before .before .before .before in
+    let h : length (s .args .room .now) < roomWords (s .args .counts .now) = leb-false _ _ (sym (r .room-enough .ensures) ∙ t1 .if1 .left) in
+    whole-end _ _ _ _ _ _ _ (s .args .counts .now) (s .args .room .now)
+    (refused-end _ _ (s .args .slots .now) (s .args .after .now) 32 0 (clear-32 (s .args .counts .now) (s .args .slots .now) (length (s .args .after .now)) (s .args .level) (s .args .slot) (length (s .args .room .now)) h) (c .refused .ensures))
+    (sym (room-short (s .args .counts .now) (s .args .room .now) h))
+
+pub purge-bit-spec : {M : Type 1} → statement M
+purge-bit-spec =
+    tie.close
+    (tie.spec
+    room-enough-requires
+    clear-requires
+    purge-over-requires
+    clear-requires-2
+    same-length
+    same-length-2
+    same-length-3
+    returns
+    refused-requires
+    same-length-4
+    returns-2)

@@ -1,0 +1,250 @@
+// Placing and clearing one node of a stage: document 02, 7/13. The Rust is `place_bit` and `purge_bit` of src/pe.rs.
+ghost use mathlib.Core.Path.{_≡_};
+ghost use mathlib.Core.Option.{none};
+ghost use Prim.Native.Nat.{_^_, _≤_, _<_};
+ghost use lib.Dec.{leb};
+ghost use lib.ListN.{length, replicate};
+ghost use Rattle.gatelist.specs.Words.{badList};
+ghost use Rattle.nodes.specs.Stage.{width};
+ghost use Rattle.nodes.specs.Placing.{placing, Judged};
+ghost use Rattle.nodes.specs.Outcome.{roomWords, placeRight, placedAt, placed, clearedAt, cleared, slotsAfter, listAfter, roomAfter};
+ghost use Rattle.subtree.specs.Subtree.{Added, Listable};
+ghost use Rattle.settle.specs.Settle.{repairedOf, Ended, placedSpots, Entered};
+ghost use Rattle.repair.specs.Repair.{Placed, Placeable};
+use gatelist::ListForm;
+use gatelist::check_list;
+use settle::Repaired;
+use settle::numbers;
+use settle::place_spots;
+use settle::purge_spots;
+use settle::refused;
+use subtree::Judgement;
+use subtree::Place;
+use subtree::carry_down;
+use subtree::judge;
+use subtree::level_of;
+use subtree::list_reached;
+use subtree::split_gate;
+use subtree::subtree_empty;
+use tally::check_counts;
+use words::clear::clear;
+use words::edition::Edition;
+use words::refusals;
+use words::units::Pin;
+
+// How many slots a level has.
+fn width_of(level: u32) -> usize
+    requires { ⌜ level ≤ 13 ⌝ }
+    ensures { λ r. ⌜ r ≡ width 13 level ⌝ }
+{
+    1 << (Edition::LEVELS - level)
+}
+
+// Whether there is such a place.
+fn place_form(level: u32, slot: u32) -> bool
+    ensures { λ r. ⌜ r ≡ placeRight 13 level slot ⌝ }
+{
+    if Edition::LEVELS < level {
+        return false;
+    }
+    (slot as usize) < width_of(level)
+}
+
+// The place of a slot.
+fn place_of(level: u32, slot: u32) -> Place
+    requires { ⌜ (level ≤ 13) × (slot < width 13 level) ⌝ }
+    ensures { λ r. ⌜ Placed level slot r ⌝ }
+{
+    let width = width_of(level);
+    Place {
+        level,
+        width,
+        index: width + slot as usize,
+    }
+}
+
+// Lists what placing a judged node puts: above its level it is carried, at its level split.
+fn list_placing(gates: &[u32], levels: &[u32], list: &mut [u32], at: Place, node: Pin) -> usize
+    requires { ⌜ Listable (now gates) (now levels) (now list) 0 (at .level) (at .width) (at .index) (node .0) ⌝ }
+    ensures { λ r. ⌜ Added (now (list .entry)) 0 (placing (now (gates .entry)) (now (levels .entry)) (at .level) (at .width) (at .index) (node .0)) (now (list .exit)) r ⌝ }
+{
+    if level_of(levels, node) == at.level {
+        return split_gate(gates, levels, list, 0, at, node);
+    }
+    carry_down(gates, levels, list, 0, at, node)
+}
+
+// Places a judged node.
+fn place_node(
+    gates: &[u32],
+    levels: &[u32],
+    counts: &[u32],
+    slots: &mut [u32],
+    after: &mut [u32],
+    map: &mut [u32],
+    at: Place,
+    node: Pin,
+) -> Repaired
+    requires { ⌜ Judged (now gates) (now levels) (at .level) (node .0) × Placeable at (node .0) × Entered (now counts) (now map) ⌝ }
+    ensures { λ r. ⌜ Ended (placedSpots (now (counts .entry)) (now (slots .entry)) (length (now (after .entry))) (placing (now (gates .entry)) (now (levels .entry)) (at .level) (at .width) (at .index) (node .0))) r (now (slots .entry)) (now (slots .exit)) (now (after .entry)) (now (after .exit)) ⌝ }
+{
+    let mut list = [0u32; 32768];
+    let n = list_placing(gates, levels, &mut list, at, node);
+    place_spots(counts, slots, after, map, &list[..2 * n])
+}
+
+// Places a node at a place of the stage: 24, 25, 26, then 14.
+fn place_at(
+    gates: &[u32],
+    levels: &[u32],
+    counts: &[u32],
+    slots: &mut [u32],
+    after: &mut [u32],
+    map: &mut [u32],
+    level: u32,
+    slot: u32,
+    node: Pin,
+) -> Repaired
+    requires { ⌜ (badList (now gates) ≡ none) × (level ≤ 13) × (slot < width 13 level) × (node .0 ≤ 2 ^ 30) × Entered (now counts) (now map) ⌝ }
+    ensures { λ r. ⌜ Ended (placedAt 13 (now (gates .entry)) (now (levels .entry)) (now (counts .entry)) (now (slots .entry)) (length (now (after .entry))) level slot (node .0)) r (now (slots .entry)) (now (slots .exit)) (now (after .entry)) (now (after .exit)) ⌝ }
+{
+    let at = place_of(level, slot);
+    if subtree_empty(slots, at) {
+        return match judge(gates, levels, level, node) {
+            Judgement::WrongLevel => refused(numbers::LEVEL, 0),
+            Judgement::Gateless => refused(numbers::NO_GATE, 0),
+            Judgement::Fine => place_node(gates, levels, counts, slots, after, map, at, node),
+        };
+    }
+    refused(numbers::NOT_EMPTY, 0)
+}
+
+// Clears a place of the stage: 34, then 14.
+fn purge_at(
+    counts: &[u32],
+    slots: &mut [u32],
+    after: &mut [u32],
+    map: &mut [u32],
+    level: u32,
+    slot: u32,
+) -> Repaired
+    requires { ⌜ (level ≤ 13) × (slot < width 13 level) × Entered (now counts) (now map) ⌝ }
+    ensures { λ r. ⌜ Ended (clearedAt 13 (now (counts .entry)) (now (slots .entry)) (length (now (after .entry))) level slot) r (now (slots .entry)) (now (slots .exit)) (now (after .entry)) (now (after .exit)) ⌝ }
+{
+    let mut list = [0u32; 32768];
+    let n = list_reached(slots, &mut list, 0, place_of(level, slot));
+    purge_spots(counts, slots, after, map, &list[..2 * n])
+}
+
+// Whether the working room is long enough for a count list.
+fn room_enough(counts: &[u32], room: &[u32]) -> bool
+    ensures { λ r. ⌜ r ≡ leb (roomWords (now (counts .entry))) (length (now (room .entry))) ⌝ }
+{
+    if room.len() < 65536 {
+        return false;
+    }
+    let entries = counts.len() / 2 + counts.len() % 2;
+    entries <= (room.len() - 65536) / 4
+}
+
+// Places a node with an empty map: 5, 6, then the rest.
+fn place_over(
+    gates: &[u32],
+    levels: &[u32],
+    counts: &[u32],
+    slots: &mut [u32],
+    after: &mut [u32],
+    map: &mut [u32],
+    level: u32,
+    slot: u32,
+    node: Pin,
+) -> Repaired
+    requires { ⌜ (now map ≡ replicate (length (now map)) 0) × (roomWords (now counts) ≤ length (now map)) ⌝ }
+    ensures { λ r. ⌜ Ended (placed 13 (now (gates .entry)) (now (levels .entry)) (now (counts .entry)) (now (slots .entry)) (length (now (after .entry))) (length (now (map .entry))) level slot (node .0)) r (now (slots .entry)) (now (slots .exit)) (now (after .entry)) (now (after .exit)) ⌝ }
+{
+    if 1073741824 < node.0 {
+        return refused(refusals::PLAN_FORM, 0);
+    }
+    if place_form(level, slot) {
+        if check_counts(counts, map) {
+            return match check_list(gates) {
+                ListForm::Bad(g) => refused(refusals::GATE_ORDER, g as u64),
+                ListForm::Good => {
+                    place_at(gates, levels, counts, slots, after, map, level, slot, node)
+                }
+            };
+        }
+        return refused(refusals::PLAN_FORM, 0);
+    }
+    refused(refusals::PLAN_FORM, 0)
+}
+
+// Clears a place with an empty map: 5, then the rest.
+fn purge_over(
+    counts: &[u32],
+    slots: &mut [u32],
+    after: &mut [u32],
+    map: &mut [u32],
+    level: u32,
+    slot: u32,
+) -> Repaired
+    requires { ⌜ (now map ≡ replicate (length (now map)) 0) × (roomWords (now counts) ≤ length (now map)) ⌝ }
+    ensures { λ r. ⌜ Ended (cleared 13 (now (counts .entry)) (now (slots .entry)) (length (now (after .entry))) (length (now (map .entry))) level slot) r (now (slots .entry)) (now (slots .exit)) (now (after .entry)) (now (after .exit)) ⌝ }
+{
+    if place_form(level, slot) {
+        if check_counts(counts, map) {
+            return purge_at(counts, slots, after, map, level, slot);
+        }
+        return refused(refusals::PLAN_FORM, 0);
+    }
+    refused(refusals::PLAN_FORM, 0)
+}
+
+// Places a node at a slot of a level, for any arguments. The answer, the lent slots, the lent list and the lent room are as document 02 says.
+pub fn place_bit(
+    gates: &[u32],
+    levels: &[u32],
+    counts: &[u32],
+    slots: &mut [u32],
+    after: &mut [u32],
+    room: &mut [u32],
+    level: u32,
+    slot: u32,
+    node: Pin,
+) -> Repaired
+    ensures { λ r. ⌜ r ≡ repairedOf (placed 13 (now (gates .entry)) (now (levels .entry)) (now (counts .entry)) (now (slots .entry)) (length (now (after .entry))) (length (now (room .entry))) level slot (node .0)) ⌝ }
+    ensures { λ _. ⌜ now (slots .exit) ≡ slotsAfter (placed 13 (now (gates .entry)) (now (levels .entry)) (now (counts .entry)) (now (slots .entry)) (length (now (after .entry))) (length (now (room .entry))) level slot (node .0)) (now (slots .entry)) ⌝ }
+    ensures { λ _. ⌜ now (after .exit) ≡ listAfter (placed 13 (now (gates .entry)) (now (levels .entry)) (now (counts .entry)) (now (slots .entry)) (length (now (after .entry))) (length (now (room .entry))) level slot (node .0)) (now (after .entry)) ⌝ }
+    ensures { λ _. ⌜ now (room .exit) ≡ roomAfter (now (counts .entry)) (now (room .entry)) ⌝ }
+{
+    if room_enough(counts, room) {
+        clear(room);
+        let answer = place_over(gates, levels, counts, slots, after, room, level, slot, node);
+        clear(room);
+        return answer;
+    }
+    refused(refusals::ROOM_SHORT, 0)
+}
+
+// Clears a slot of a level and what stands below it, for any arguments.
+pub fn purge_bit(
+    counts: &[u32],
+    slots: &mut [u32],
+    after: &mut [u32],
+    room: &mut [u32],
+    level: u32,
+    slot: u32,
+) -> Repaired
+    ensures { λ r. ⌜ r ≡ repairedOf (cleared 13 (now (counts .entry)) (now (slots .entry)) (length (now (after .entry))) (length (now (room .entry))) level slot) ⌝ }
+    ensures { λ _. ⌜ now (slots .exit) ≡ slotsAfter (cleared 13 (now (counts .entry)) (now (slots .entry)) (length (now (after .entry))) (length (now (room .entry))) level slot) (now (slots .entry)) ⌝ }
+    ensures { λ _. ⌜ now (after .exit) ≡ listAfter (cleared 13 (now (counts .entry)) (now (slots .entry)) (length (now (after .entry))) (length (now (room .entry))) level slot) (now (after .entry)) ⌝ }
+    ensures { λ _. ⌜ now (room .exit) ≡ roomAfter (now (counts .entry)) (now (room .entry)) ⌝ }
+{
+    if room_enough(counts, room) {
+        clear(room);
+        let answer = purge_over(counts, slots, after, room, level, slot);
+        clear(room);
+        return answer;
+    }
+    refused(refusals::ROOM_SHORT, 0)
+}

@@ -1,0 +1,47 @@
+//! `juolgesot aiger`.
+
+use crate::files;
+use crate::progress::while_working;
+use crate::{Failure, Outcome};
+use plan::script_file::words_of;
+
+pub const HELP: &str = "
+usage: juolgesot aiger read FILE OUT
+       juolgesot aiger write GATES OUT
+
+read: the AND gates of the binary AIGER file FILE as a gate list, in OUT; prints the numbers of the header. Latch and output
+lines, and what follows the gates, are passed over. write: the gate list GATES as a binary AIGER file without latches and
+outputs, in OUT; its pins must have no gap, and no second fan-in may be larger than the first.
+A gate list is little-endian u32 words, three a gate: its pin, then its fan-ins as twice a pin, plus 1 where inverted.
+";
+
+pub fn call(words: &[String]) -> Outcome {
+    let words = crate::Words::read(words, &[])?;
+    match &words.plain.iter().map(String::as_str).collect::<Vec<_>>()[..] {
+        ["read", file, out] => read(file, out),
+        ["write", gates, out] => write(gates, out),
+        _ => Err(Failure::Usage("read or write, a file and an output file are needed".to_string())),
+    }
+}
+
+fn read(file: &str, out: &str) -> Outcome {
+    let bytes = files::read(file)?;
+    let read = while_working("reading", || juolgesot::read_aiger(&bytes))?;
+    let header = read.header;
+    println!(
+        "{}: {} gates, {} inputs, {} latches, {} outputs",
+        file, header.gates, header.inputs, header.latches, header.outputs
+    );
+    files::write(out, &plan::bytes(&read.list))
+}
+
+fn write(gates: &str, out: &str) -> Outcome {
+    let bytes = files::read(gates)?;
+    if bytes.len() % 4 != 0 {
+        return Err(Failure::Failed(format!("{} is no list of words: it has {} bytes", gates, bytes.len())));
+    }
+    let list = words_of(&bytes);
+    let file = while_working("writing", || juolgesot::write_aiger(&list))?;
+    println!("{}: {} gates, {} bytes", out, list.len() / 3, file.len());
+    files::write(out, &file)
+}

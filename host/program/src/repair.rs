@@ -1,0 +1,115 @@
+//! `juolgesot repair`.
+
+use crate::files;
+use crate::{Failure, Outcome};
+use juolgesot::{levels, place_bit, plan_sizes, purge_bit, stage_counts, Netlist, Pin, Place};
+use model::record::{self, Plan, EMPTY};
+use std::ops::Range;
+
+pub const HELP: &str = "
+usage: juolgesot repair place PLAN PART STAGE LEVEL SLOT NODE OUT
+       juolgesot repair clear PLAN PART STAGE LEVEL SLOT OUT
+
+Places the pin NODE at a slot of a level (0 to 13) of one stage, or clears that slot and what it is made of, and writes the
+repaired plan record to OUT. PART is counted on through the major stages, all from 0.
+How often each node stands is counted from the stage's slots. Levels are worked from the gates: a pin that the stage can
+take from below (the first stage of a part: from the state; a later one: from the stage before) is at level 0, any other
+gate is one above its higher fan-in. A repair that is refused writes nothing. Says whether the plan is in order, or by what
+it is refused first, before and after.
+";
+
+pub fn call(words: &[String]) -> Outcome {
+    let words = crate::Words::read(words, &[])?;
+    match &words.plain.iter().map(String::as_str).collect::<Vec<_>>()[..] {
+        ["place", plan, part, stage, level, slot, node, out] => {
+            let node = Pin(number(node)?);
+            repair(plan, [part, stage, level, slot], out, |stage, place| {
+                let levels = levels(stage.gates, &stage.inputs, node);
+                let netlist = Netlist { gates: stage.gates, levels: &levels };
+                place_bit(netlist, &stage.counts, stage.slots, place, node)
+            })
+        }
+        ["clear", plan, part, stage, level, slot, out] => {
+            repair(plan, [part, stage, level, slot], out, |stage, place| {
+                purge_bit(&stage.counts, stage.slots, place)
+            })
+        }
+        _ => Err(Failure::Usage(
+            "place or clear, a plan, a place of it and an output file are needed".to_string(),
+        )),
+    }
+}
+
+fn number(word: &str) -> Result<u32, Failure> {
+    word.parse().map_err(|_| Failure::Usage(format!("{} is no number", word)))
+}
+
+/// A stage that is repaired.
+struct Stage<'a> {
+    gates: &'a [u32],
+    /// Pins that it can take from below.
+    inputs: Vec<Pin>,
+    counts: Vec<u32>,
+    slots: &'a mut [u32],
+}
+
+fn repair(
+    plan_path: &str,
+    place: [&str; 4],
+    out: &str,
+    work: impl FnOnce(Stage<'_>, Place) -> Result<Vec<u32>, juolgesot::Refusal>,
+) -> Outcome {
+    let (part, stage) = (number(place[0])? as usize, number(place[1])? as usize);
+    let place = Place { level: number(place[2])?, slot: number(place[3])? };
+    let bytes = files::read(plan_path)?;
+    let words = record::words(&bytes);
+    let plan = match record::plan(bytes.len(), &words) {
+        Some(plan) => plan,
+        None => return Err(Failure::Failed(order_of(&bytes))),
+    };
+    let (range, inputs) = find_stage(&plan, &words, part, stage)?;
+    let mut slots = words[range.clone()].to_vec();
+    let counts = stage_counts(&slots);
+    let entries = counts.len() / 2;
+    let after = work(Stage { gates: plan.gates, inputs, counts, slots: &mut slots }, place)?;
+    let changed = slots.iter().zip(&words[range.clone()]).filter(|(new, old)| new != old).count();
+    println!("{}: {} slots changed; {} nodes were counted, now {}", out, changed, entries, after.len() / 2);
+    let mut repaired = words.clone();
+    repaired[range].copy_from_slice(&slots);
+    let repaired = plan::bytes(&repaired);
+    println!("before: {}", order_of(&bytes));
+    println!("after: {}", order_of(&repaired));
+    files::write(out, &repaired)
+}
+
+/// Where the slots of a stage stand in the record, and the pins that it can take from below.
+fn find_stage(
+    plan: &Plan<'_>,
+    words: &[u32],
+    part: usize,
+    stage: usize,
+) -> Result<(Range<usize>, Vec<Pin>), Failure> {
+    let stages = match plan.parts.get(part) {
+        Some(part) => &part.stages,
+        None => return Err(Failure::Usage(format!("there are {} parts, no {}", plan.parts.len(), part))),
+    };
+    let slots = match stages.get(stage) {
+        Some(stage) => stage.slots(),
+        None => return Err(Failure::Usage(format!("the part has {} stages, no {}", stages.len(), stage))),
+    };
+    let from = (slots.as_ptr() as usize - words.as_ptr() as usize) / std::mem::size_of::<u32>();
+    let inputs: Vec<u32> = match stage {
+        0 => plan.layout.iter().chain(plan.positions.iter().step_by(3)).copied().collect(),
+        stage => stages[stage - 1].positions().map(|(_, pin)| pin).collect(),
+    };
+    let inputs = inputs.into_iter().filter(|&pin| pin != EMPTY).map(Pin).collect();
+    Ok((from..from + slots.len(), inputs))
+}
+
+/// By what a plan is refused, or that it is not.
+fn order_of(record: &[u8]) -> String {
+    match plan_sizes(record) {
+        Ok(sizes) => format!("the plan is in order, its script has {} words", sizes.words),
+        Err(refusal) => format!("the plan is {}", refusal),
+    }
+}
