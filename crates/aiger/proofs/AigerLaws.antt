@@ -11,10 +11,11 @@ use borrow.Author.Tests.{ltb-true, ltb-false, leb-true, le-leb, eqb-true, eq-eqb
 use lib.Dec.{leb, ltb, lit<}
 use lib.ListN.{length, take, drop, List·getD-eq-default}
 use lib.Seq.{drop-length, take-append-seam, drop-append-seam}
-use Rattle.record.specs.Record.{gatesOf as planGates, gatePin, gateFirst, gateSecond}
-use Rattle.record.specs.Form.{gateForm, isPin, isPinIv}
-use Rattle.record.specs.Tests.{allBelow}
-use Rattle.record.proofs.TestLaws.{and-true, true-and, all-at, all-true, not-none, none-not}
+use Rattle.plan_record.specs.Record.{gatesOf as planGates, gatePin, gateFirst, gateSecond}
+use Rattle.words.specs.Pins.{isPin, isPinIv}
+use Rattle.plan_record.specs.Form.{gateForm}
+use Rattle.words.specs.Tests.{allBelow}
+use Rattle.words.proofs.TestLaws.{and-true, true-and, all-at, all-true, not-none, none-not}
 use Rattle.gatelist.specs.GateList.{beforeOver, rightOver, badOver}
 use Rattle.gatelist.specs.Words.{listPin, listFirst, listSecond, wholeGates, allGates, listRight, badList}
 use Rattle.aiger.specs.Reading.{Header, lastVariable, Start, startOf, Gates, found, gatesFrom, gatesOf, Reading, gates, listed, readAiger}

@@ -9,7 +9,7 @@ use native.Mathlib.Omega.{arith}
 use borrow.Author.Tests.{leb-true, le-leb, eqb-true, eq-eqb}
 use lib.Dec.{leb, eqb, lit<}
 use lib.ListN.{getD}
-use Rattle.record.proofs.TestLaws.{and-true, some-not-none}
+use Rattle.words.proofs.TestLaws.{and-true, some-not-none}
 use Rattle.text.specs.Text.{decimal, field}
 use Rattle.aiger.specs.Reading.{Number, fieldAt, Header, lastVariable, Start, startWith, isMarked, fieldsOf, headerOf, linesFrom, startOf}
 use Rattle.aiger.specs.Writing.{headerText}

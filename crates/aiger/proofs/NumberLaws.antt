@@ -10,7 +10,7 @@ use native.Mathlib.Omega.{arith}
 use borrow.Author.Tests.{ltb-true, ltb-false, leb-true, le-leb, eq-eqb, eqb-true, eqb-false, ne-eqb}
 use lib.Dec.{leb, ltb, eqb}
 use lib.ListN.{length, getD, drop, length-append}
-use Rattle.record.proofs.TestLaws.{and-true, true-and, some-not-none}
+use Rattle.words.proofs.TestLaws.{and-true, true-and, some-not-none}
 use Rattle.text.specs.Text.{decimalIn, decimal}
 use Rattle.text.proofs.TextLaws.{decimal-one, decimal-more, decimal-rest}
 use Rattle.aiger.specs.Reading.{Number, isDigit, digitsFrom, numberIn, endedBy, fieldAt}

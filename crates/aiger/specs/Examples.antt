@@ -4,7 +4,7 @@ use mathlib.Core.Path.{_≡_, refl}
 use mathlib.Core.List.{List, [], _∷_, _++_}
 use mathlib.Core.Option.{bind}
 use Prim.Native.Nat.{ℕ, _^_, _-_, _+_}
-use Rattle.record.specs.Tests.{firstFrom, allBelow}
+use Rattle.words.specs.Tests.{firstFrom, allBelow}
 use Rattle.text.specs.Text.{decimalIn}
 use Rattle.gatelist.specs.GateList.{beforeOver, rightOver}
 use Rattle.gatelist.specs.Words.{listRight, badList}

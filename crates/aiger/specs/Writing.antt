@@ -5,7 +5,7 @@ use mathlib.Core.List.{List, [], _∷_, _++_}
 use mathlib.Core.Option.{Option, none, some}
 use Prim.Native.Nat.{ℕ, zero, suc, _+_, _*_, _-_, _/_, _%_, _^_}
 use lib.Dec.{leb, ltb, eqb}
-use Rattle.record.specs.Tests.{allBelow}
+use Rattle.words.specs.Tests.{allBelow}
 use Rattle.text.specs.Text.{decimal, field}
 use Rattle.gatelist.specs.Words.{listPin, listFirst, listSecond, wholeGates, badList}
 

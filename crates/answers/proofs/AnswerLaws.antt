@@ -13,23 +13,23 @@ use Rattle.listing.specs.declared.Listed.the-variants.{Text, Refused as NotList
 use Rattle.values.specs.Values.{Outcome as Valued, bit, refused as unvalued, answerOf}
 use Rattle.values.specs.declared.Answer.{Answer}
 use Rattle.values.specs.declared.Answer.the-variants.{Bit, Refused as NotValued}
-use Rattle.machine.specs.Run.{Ran, ran, refused as notRun}
+use Rattle.run_machine.specs.Run.{Ran, ran, refused as notRun}
 use Rattle.run.specs.declared.Ran.{Ran as RunAnswer}
 use Rattle.run.specs.declared.Ran.the-variants.{Left, Refused as NotRun}
 use Rattle.run.specs.Answers.{ranOf}
-use Rattle.nodes.specs.Outcome.{Outcome as Repair, repaired, refused as notRepaired}
-use Rattle.settle.specs.declared.Repaired.{Repaired}
-use Rattle.settle.specs.declared.Repaired.the-variants.{Listed as Relisted, Refused as NotRepaired}
-use Rattle.settle.specs.Settle.{repairedOf}
+use Rattle.repair_nodes.specs.Outcome.{Outcome as Repair, repaired, refused as notRepaired}
+use Rattle.repair_settle.specs.declared.Repaired.{Repaired}
+use Rattle.repair_settle.specs.declared.Repaired.the-variants.{Listed as Relisted, Refused as NotRepaired}
+use Rattle.repair_settle.specs.Settle.{repairedOf}
 use Rattle.aiger.specs.Reading.{Reading, gates, refused as unread}
 use Rattle.aiger.specs.Writing.{Writing, written, refused as unwritten}
-use Rattle.aigread.specs.Told.{gatesTold}
-use Rattle.aigread.specs.declared.start.Header.{Header}
-use Rattle.aigread.specs.declared.Gates.{Gates}
-use Rattle.aigread.specs.declared.Gates.the-variants.{Read, Refused as NotRead}
-use Rattle.aigwrite.specs.Told.{textTold}
-use Rattle.aigwrite.specs.declared.Text.{Text as TextAnswer}
-use Rattle.aigwrite.specs.declared.Text.the-variants.{Bytes, Refused as NotWritten}
+use Rattle.aiger_read.specs.Told.{gatesTold}
+use Rattle.aiger_read.specs.declared.start.Header.{Header}
+use Rattle.aiger_read.specs.declared.Gates.{Gates}
+use Rattle.aiger_read.specs.declared.Gates.the-variants.{Read, Refused as NotRead}
+use Rattle.aiger_write.specs.Told.{textTold}
+use Rattle.aiger_write.specs.declared.Text.{Text as TextAnswer}
+use Rattle.aiger_write.specs.declared.Text.the-variants.{Bytes, Refused as NotWritten}
 use Rattle.answers.specs.Answers.{roundsNumber, roundsFirst, roundsSecond, listedNumber, listedFirst, listedSecond, valueNumber, valueFirst, valueSecond, ranNumber, ranFirst, ranSecond, repairNumber, repairFirst, repairSecond, readNumber, readFirst, readSecond, readThird, readFourth, writtenNumber, writtenFirst, writtenSecond}
 
 -- what the last two clauses say stays as it is

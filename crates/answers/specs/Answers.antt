@@ -5,8 +5,8 @@ use lib.ListN.{length}
 use Rattle.reads.specs.Search.{longest}
 use Rattle.reads.specs.Outcome.{Outcome, placed, refused}
 use Rattle.values.specs.Values.{Outcome as Valued, bit, refused as unvalued}
-use Rattle.machine.specs.Run.{Ran, ran, refused as notRun}
-use Rattle.nodes.specs.Outcome.{Outcome as Repair, repaired, refused as notRepaired}
+use Rattle.run_machine.specs.Run.{Ran, ran, refused as notRun}
+use Rattle.repair_nodes.specs.Outcome.{Outcome as Repair, repaired, refused as notRepaired}
 use Rattle.listing.specs.declared.Listed.{Listed}
 use Rattle.listing.specs.declared.Listed.the-variants.{Text, Refused}
 use Rattle.aiger.specs.Reading.{Reading, gates, refused as unread}

@@ -8,7 +8,7 @@ use Prim.Native.Nat.{ℕ, _*_, _-_, _<_}
 use native.Mathlib.Omega.{arith}
 use lib.Dec.{leb}
 use lib.ListN.{length}
-use Rattle.machine.specs.Run.{Ran, ran, refused, outcome, newAfter, allLeft, badBlock, badTurn, runTurns}
+use Rattle.run_machine.specs.Run.{Ran, ran, refused, outcome, newAfter, allLeft, badBlock, badTurn, runTurns}
 use Rattle.promise.proofs.PromiseLaws.{as-run}
 use Rattle.answers.specs.Answers.{ranNumber, ranFirst}
 use Rattle.capi.specs.Promised.{Promised}

@@ -5,8 +5,8 @@ use mathlib.Core.Path.{_≡_}
 use mathlib.Core.List.{List}
 use Prim.Native.Nat.{ℕ, _<_}
 use lib.ListN.{length}
-use Rattle.record.specs.Record.{majorsOf}
-use Rattle.blocks.specs.Blocks.{stateWords}
+use Rattle.plan_record.specs.Record.{majorsOf}
+use Rattle.plan_blocks.specs.Blocks.{stateWords}
 use Rattle.promise.specs.Promise.{Accepted, assembled, startsOf, Kept}
 
 unfoldable pub Promised : (W starts old new : List ℕ) (number left : ℕ) (after : List ℕ) → Type 0

@@ -6,21 +6,21 @@ ghost use Rattle.reads.specs.Outcome.{outcome, resultAfter, roomAfter};
 ghost use Rattle.listing.specs.Listing.{listed, textAfter};
 ghost use Rattle.values.specs.Values.{outcome as valued, bitsAfter, roomAfter as planRoomAfter};
 ghost use Rattle.flatten.specs.Flatten.{sizing, building, startsAfter, wordsAfter, roomAfter as builtRoomAfter};
-ghost use Rattle.machine.specs.Run.{outcome as ranAs, newAfter, roomAfter as runRoomAfter};
+ghost use Rattle.run_machine.specs.Run.{outcome as ranAs, newAfter, roomAfter as runRoomAfter};
 ghost use Rattle.aiger.specs.Reading.{readAiger};
 ghost use Rattle.aiger.specs.Writing.{writeAiger};
 ghost use Rattle.aiger.specs.Outcome.{fitting, listAfter as gatesAfter, holding, textAfter as aigerAfter};
-ghost use Rattle.nodes.specs.Outcome.{placed, cleared, slotsAfter, listAfter, roomAfter as repairRoomAfter};
+ghost use Rattle.repair_nodes.specs.Outcome.{placed, cleared, slotsAfter, listAfter, roomAfter as repairRoomAfter};
 ghost use Rattle.capi.specs.Promised.{Promised};
 ghost use Rattle.answers.specs.Answers.{roundsNumber, roundsFirst, roundsSecond, listedNumber, listedFirst, listedSecond, valueNumber, valueFirst, valueSecond, ranNumber, ranFirst, ranSecond, readNumber, readFirst, readSecond, readThird, readFourth, writtenNumber, writtenFirst, writtenSecond, repairNumber, repairFirst, repairSecond};
 ghost use Rattle.capi.specs.Answers.{builtNumber, builtFirst, builtSecond, builtThird, builtFourth};
-use aigread::Gates;
-use aigwrite::Text;
+use aiger_read::Gates;
+use aiger_write::Text;
 use flatten::Flattened;
 use listing::Listed;
+use repair_settle::Repaired;
 use rounds::Rounds;
 use run::Ran;
-use settle::Repaired;
 use values::Answer;
 use words::units::Pin;
 
@@ -319,7 +319,7 @@ pub extern "C" fn juolgesot_read_aiger(
     ensures { λ r. ⌜ now (fourth .exit) ≡ readFourth (fitting (length (now (out .entry))) (readAiger (now (bytes .entry)))) ⌝ }
     ensures { λ r. ⌜ now (out .exit) ≡ gatesAfter (fitting (length (now (out .entry))) (readAiger (now (bytes .entry)))) (now (out .entry)) ⌝ }
 {
-    match aigread::read_gates(bytes, out) {
+    match aiger_read::read_gates(bytes, out) {
         Gates::Read(header) => {
             *first = header.gates;
             *second = header.inputs;
@@ -350,7 +350,7 @@ pub extern "C" fn juolgesot_write_aiger(
     ensures { λ r. ⌜ now (second .exit) ≡ writtenSecond (holding (length (now (out .entry))) (writeAiger (now (gates .entry)))) ⌝ }
     ensures { λ r. ⌜ now (out .exit) ≡ aigerAfter (holding (length (now (out .entry))) (writeAiger (now (gates .entry)))) (now (out .entry)) ⌝ }
 {
-    match aigwrite::write_gates(gates, out) {
+    match aiger_write::write_gates(gates, out) {
         Text::Bytes(n) => {
             *first = n as u64;
             *second = 0;

@@ -11,18 +11,18 @@ use lib.Dec.{leb}
 use lib.ListN.{length, replicate}
 use lib.Seq.{sets}
 use Rattle.words.specs.declared.refusals.Refusal.{Refusal}
-use Rattle.record.specs.Record.{blocksOf, majorsOf}
-use Rattle.record.specs.Form.{roomWords}
-use Rattle.record.proofs.TestLaws.{and-true}
-use Rattle.checks.specs.Refusals.{Refused, nowhere, planRefusal, planVerdict}
-use Rattle.checks.specs.Ready.{Ready, readyRoom, roomLeft}
-use Rattle.checks.specs.Verdicts.{verdictOf}
-use Rattle.record.proofs.TestLaws.{some-not-none}
-use Rattle.checks.specs.declared.Verdict.{Verdict}
-use Rattle.checks.specs.declared.Verdict.the-variants as verdict
-use Rattle.assembly.specs.Assembly.{scriptWords}
-use Rattle.assembly.proofs.StartLaws.{starts-length}
-use Rattle.layout.specs.Layout.{Sound, PlanRoom}
+use Rattle.plan_record.specs.Record.{blocksOf, majorsOf}
+use Rattle.plan_record.specs.Form.{roomWords}
+use Rattle.words.proofs.TestLaws.{and-true}
+use Rattle.plan_checks.specs.Refusals.{Refused, nowhere, planRefusal, planVerdict}
+use Rattle.plan_checks.specs.Ready.{Ready, readyRoom, roomLeft}
+use Rattle.plan_checks.specs.Verdicts.{verdictOf}
+use Rattle.words.proofs.TestLaws.{some-not-none}
+use Rattle.plan_checks.specs.declared.Verdict.{Verdict}
+use Rattle.plan_checks.specs.declared.Verdict.the-variants as verdict
+use Rattle.script_assembly.specs.Assembly.{scriptWords}
+use Rattle.script_assembly.proofs.StartLaws.{starts-length}
+use Rattle.script_layout.specs.Layout.{Sound, PlanRoom}
 use Rattle.flatten.specs.declared.sizes.Sizes.{Sizes}
 use Rattle.flatten.specs.declared.Flattened.{Flattened}
 use Rattle.flatten.specs.declared.Flattened.the-variants as flattened

@@ -11,17 +11,17 @@ use Rattle.words.specs.Edition.{partWords}
 use Rattle.words.specs.Sum.{sumTo}
 use Rattle.words.proofs.ListLaws.{zeros-front}
 use Rattle.words.proofs.SumLaws.{sum-more}
-use Rattle.record.specs.Record.{wordAt, blocksOf, majorsOf, countAt, partsOf, headBase}
-use Rattle.record.proofs.RecordLaws.{stages-at}
-use Rattle.blocks.specs.Blocks.{stateWords, sramWords}
-use Rattle.blocks.specs.Table.{cell}
-use Rattle.blocks.specs.Fill.{Tallied}
-use Rattle.positions.specs.Places.{Judgeable}
-use Rattle.assembly.specs.Assembly.{scriptWords}
-use Rattle.assembly.specs.Steps.{lengthOf, emptyBlocks}
-use Rattle.assembly.proofs.LengthLaws.{words-sum}
-use Rattle.layout.specs.Layout.{Sound}
-use Rattle.layout.proofs.RowLaws.{plan-passed, plan-formed}
+use Rattle.plan_record.specs.Record.{wordAt, blocksOf, majorsOf, countAt, partsOf, headBase}
+use Rattle.plan_record.proofs.RecordLaws.{stages-at}
+use Rattle.plan_blocks.specs.Blocks.{stateWords, sramWords}
+use Rattle.plan_blocks.specs.Table.{cell}
+use Rattle.plan_blocks.specs.Fill.{Tallied}
+use Rattle.plan_positions.specs.Places.{Judgeable}
+use Rattle.script_assembly.specs.Assembly.{scriptWords}
+use Rattle.script_assembly.specs.Steps.{lengthOf, emptyBlocks}
+use Rattle.script_assembly.proofs.LengthLaws.{words-sum}
+use Rattle.script_layout.specs.Layout.{Sound}
+use Rattle.script_layout.proofs.RowLaws.{plan-passed, plan-formed}
 use Rattle.flatten.specs.declared.sizes.Sizes.{Sizes}
 use Rattle.flatten.specs.Flatten.{sizesOf}
 use Rattle.flatten.specs.Answers.{sizesIn}

@@ -7,11 +7,11 @@ use Prim.Native.Nat.{ℕ, _+_, _*_}
 use lib.Dec.{leb}
 use lib.ListN.{length, replicate}
 use lib.Seq.{sets}
-use Rattle.record.specs.Record.{blocksOf, majorsOf}
-use Rattle.record.specs.Form.{roomWords}
-use Rattle.blocks.specs.Blocks.{stateWords, sramWords}
-use Rattle.checks.specs.Refusals.{Refused, nowhere, planVerdict}
-use Rattle.assembly.specs.Assembly.{scriptWords, scriptStarts}
+use Rattle.plan_record.specs.Record.{blocksOf, majorsOf}
+use Rattle.plan_record.specs.Form.{roomWords}
+use Rattle.plan_blocks.specs.Blocks.{stateWords, sramWords}
+use Rattle.plan_checks.specs.Refusals.{Refused, nowhere, planVerdict}
+use Rattle.script_assembly.specs.Assembly.{scriptWords, scriptStarts}
 
 -- ---- the sizes of a plan
 

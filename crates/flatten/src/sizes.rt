@@ -3,18 +3,18 @@ ghost use mathlib.Core.Path.{_≡_};
 ghost use Prim.Native.Nat.{_-_, _^_, _≤_};
 ghost use lib.ListN.{length};
 ghost use Rattle.words.specs.Sum.{sumTo};
-ghost use Rattle.record.specs.Record.{majorsOf, partsOf};
-ghost use Rattle.blocks.specs.Blocks.{sramWords};
-ghost use Rattle.assembly.specs.Assembly.{scriptWords};
-ghost use Rattle.assembly.specs.Steps.{lengthOf, emptyBlocks};
-ghost use Rattle.layout.specs.Layout.{Sound};
+ghost use Rattle.plan_record.specs.Record.{majorsOf, partsOf};
+ghost use Rattle.plan_blocks.specs.Blocks.{sramWords};
+ghost use Rattle.script_assembly.specs.Assembly.{scriptWords};
+ghost use Rattle.script_assembly.specs.Steps.{lengthOf, emptyBlocks};
+ghost use Rattle.script_layout.specs.Layout.{Sound};
 ghost use Rattle.flatten.specs.Flatten.{sizesOf};
 ghost use Rattle.flatten.specs.Answers.{sizesIn};
-use parttable::table::column_sum;
-use positions::planned::state_words;
-use record::bodies::parts_of;
-use record::places::head_base;
-use record::places::word_at;
+use plan_positions::planned::state_words;
+use plan_record::bodies::parts_of;
+use plan_record::places::head_base;
+use plan_record::places::word_at;
+use plan_table::table::column_sum;
 use words::edition::Edition;
 
 // How much a plan's result takes: starts, words of the script, words of the state, words of SRAM.

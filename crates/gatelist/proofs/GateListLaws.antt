@@ -11,7 +11,7 @@ use borrow.Author.Tests.{ltb-true, lt-ltb, le-ltb, eq-eqb, ne-eqb, eqb-true, not
 use lib.Dec.{ltb, eqb}
 use Rattle.sort.specs.Search.{Monotone, Between, least}
 use Rattle.sort.proofs.SearchLaws.{monotone-steps, least-between, search-found}
-use Rattle.record.proofs.TestLaws.{not-both, and-true, true-and, not-at, not-none, none-not, not-is}
+use Rattle.words.proofs.TestLaws.{not-both, and-true, true-and, not-at, not-none, none-not, not-is}
 use Rattle.gatelist.specs.GateList.{beforeOver, rightOver, badOver, gateOver}
 
 -- ---- refusal 6, gate by gate

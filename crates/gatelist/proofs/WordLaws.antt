@@ -10,8 +10,8 @@ use borrow.Author.Tests.{le-leb, lt-leb}
 use lib.Dec.{leb, ltb, eqb}
 use lib.ListN.{length}
 use Rattle.sort.specs.Search.{Monotone, least}
-use Rattle.record.specs.Tests.{firstFrom}
-use Rattle.record.proofs.TestLaws.{and-true, not-none, none-not, first-fault, first-next, first-end}
+use Rattle.words.specs.Tests.{firstFrom}
+use Rattle.words.proofs.TestLaws.{and-true, not-none, none-not, first-fault, first-next, first-end}
 use Rattle.gatelist.specs.GateList.{rightOver, badOver}
 use Rattle.gatelist.specs.Words.{listPin, listFirst, listSecond, wholeGates, allGates, listRight, badList, gateIn}
 use Rattle.gatelist.proofs.GateListLaws.{gate-at, first-falls, second-falls, pins-monotone, has-gate, least-gate}

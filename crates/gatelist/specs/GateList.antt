@@ -5,7 +5,7 @@ use mathlib.Core.Bool.{Bool, not, _&&_}
 use mathlib.Core.Option.{Option}
 use Prim.Native.Nat.{ℕ, zero, suc, _/_}
 use lib.Dec.{ltb, eqb}
-use Rattle.record.specs.Tests.{firstNot}
+use Rattle.words.specs.Tests.{firstNot}
 
 -- the pin of the gate before, 0 before the first: so a first pin 0 is not above it
 unfoldable pub beforeOver : (ℕ → ℕ) → ℕ → ℕ

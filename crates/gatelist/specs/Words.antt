@@ -6,7 +6,7 @@ use mathlib.Core.Option.{Option, none, some}
 use Prim.Native.Nat.{ℕ, _+_, _*_, _/_}
 use lib.Dec.{leb}
 use lib.ListN.{length, getD}
-use Rattle.record.specs.Tests.{firstNot}
+use Rattle.words.specs.Tests.{firstNot}
 use Rattle.gatelist.specs.GateList.{rightOver, gateOver}
 use Rattle.gatelist.specs.declared.ListForm.{ListForm}
 use Rattle.gatelist.specs.declared.ListForm.the-variants.{Good, Bad}

@@ -11,8 +11,8 @@ use Rattle.words.specs.declared.refusals.Refusal.{Refusal}
 use Rattle.reads.specs.Search.{longest}
 use Rattle.reads.specs.Asked.{readSetOf}
 use Rattle.reads.specs.Outcome.{Outcome, placed, refused, outcome, resultAfter}
-use Rattle.asks.proofs.FormLaws.{set-length-le}
-use Rattle.asks.proofs.StoreLaws.{take-front}
+use Rattle.reads_asked.proofs.FormLaws.{set-length-le}
+use Rattle.reads_asked.proofs.StoreLaws.{take-front}
 use Rattle.rounds.specs.Rounds.{roundsOf}
 use Rattle.rounds.specs.declared.Rounds.the-variants.{Placed, Refused as Denied}
 use Rattle.listing.specs.Records.{Parsed}

@@ -11,8 +11,8 @@ use lib.Dec.{leb, ltb}
 use lib.ListN.{length, getD, take, replicate, length-replicate}
 use lib.Seq.{sets, length-sets, length-take-le}
 use Rattle.reads.specs.Asked.{readSetOf}
-use Rattle.asks.specs.Rising.{Settable}
-use Rattle.asks.proofs.StoreLaws.{take-front}
+use Rattle.reads_asked.specs.Rising.{Settable}
+use Rattle.reads_asked.proofs.StoreLaws.{take-front}
 use Rattle.listing.specs.Records.{numberAt, positionAt, endAt, kindAt, recordAt, Parsed, recordsFrom, records}
 use Rattle.listing.specs.Reading.{readAs, readOf, setOf, setAfter}
 use Rattle.listing.specs.declared.records.Record.{Record}

@@ -15,8 +15,8 @@ use Rattle.reads.specs.Search.{Lane, lanesOf, longest}
 use Rattle.reads.specs.Asked.{readSetOf}
 use Rattle.reads.specs.Outcome.{placed, refused, packed, readSet, fitted, outcome}
 use Rattle.reads.proofs.OutcomeLaws.{placed-sound}
-use Rattle.tries.proofs.PairLaws.{pairs-length}
-use Rattle.asks.proofs.FormLaws.{set-length-le, set-form, set-small}
+use Rattle.reads_try.proofs.PairLaws.{pairs-length}
+use Rattle.reads_asked.proofs.FormLaws.{set-length-le, set-form, set-small}
 use Rattle.listing.specs.Records.{records}
 use Rattle.listing.specs.Answer.{found}
 use Rattle.listing.proofs.KeyLaws.{keys-ask, keys-few}

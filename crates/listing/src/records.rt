@@ -96,7 +96,7 @@ pub fn read_set_of(s: &[u8], set: &mut [u32]) -> Read
         Read::Refused(b) => Read::Refused(b),
         Read::Asked(n) => {
             let mut scratch = [0u64; 8192];
-            Read::Asked(asks::read_set(&mut keys[..n], &mut scratch, set))
+            Read::Asked(reads_asked::read_set(&mut keys[..n], &mut scratch, set))
         }
     }
 }

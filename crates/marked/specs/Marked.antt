@@ -10,17 +10,17 @@ use Rattle.reads.specs.Local.{maskIn, later, localAt, roundFrom, spotFrom, loca
 use Rattle.reads.specs.Outcome.{packed, readSet, fitted, outcome}
 use Rattle.words.specs.Sum.{sumTo}
 use Rattle.words.specs.Section.{listOf}
-use Rattle.counts.specs.Counts.{activationsOf, isIn, different, duplicatesIn}
-use Rattle.blocks.specs.Blocks.{leastTo, blockFor, costsAfter, blockIn, comesBefore, takenBefore}
+use Rattle.plan_counts.specs.Counts.{activationsOf, isIn, different, duplicatesIn}
+use Rattle.plan_blocks.specs.Blocks.{leastTo, blockFor, costsAfter, blockIn, comesBefore, takenBefore}
 use Rattle.marked.specs.Reads.{same, ask, positions, seen, readRounds}
 use Rattle.words.specs.Section.{entryOf}
 use Rattle.marked.specs.Plans.{duplicateWords, stagesIn, blocksOfParts, startsOfParts}
 use Rattle.words.specs.Bit.{bit, bitAt, wordOf}
 use Rattle.words.specs.Section.{placeOf, halfOf}
 use Rattle.reads.specs.ReadTurn.{appended, laneWord}
-use Rattle.machine.specs.Part.{normalAt, endAt, locationIn, readWordAt, readMaskAt, sectionAt, entryAt, laneWordAt}
-use Rattle.machine.specs.Turn.{stateWord, readRow, gate, gateAt, levelBit, positionBit, stageRow, captured, begins, ended, afterRead, afterStage, afterStore, chosenBits, storedWord, stored, turned, written}
-use Rattle.machine.specs.Run.{blocksFrom, step, runFrom, turnsFrom, turnsAfter, turnsLeft, allLeft}
+use Rattle.run_machine.specs.Part.{normalAt, endAt, locationIn, readWordAt, readMaskAt, sectionAt, entryAt, laneWordAt}
+use Rattle.run_machine.specs.Turn.{stateWord, readRow, gate, gateAt, levelBit, positionBit, stageRow, captured, begins, ended, afterRead, afterStage, afterStore, chosenBits, storedWord, stored, turned, written}
+use Rattle.run_machine.specs.Run.{blocksFrom, step, runFrom, turnsFrom, turnsAfter, turnsLeft, allLeft}
 use Rattle.marked.specs.Scripts.{locationsIn, locationsSeen, entrySeen, alwaysOn, gateThree, gateRun}
 
 -- what the definitions give, and what document 01 says

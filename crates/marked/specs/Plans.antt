@@ -1,10 +1,10 @@
--- M7 and M8: activations, and parts on blocks, with what the definitions of `counts` and `blocks` give for them.
+-- M7 and M8: activations, and parts on blocks, with what the definitions of `plan_counts` and `plan_blocks` give for them.
 -- Assumes nothing.
 use mathlib.Core.List.{List, [], _∷_, _++_}
 use Prim.Native.Nat.{ℕ, zero, suc, _+_, _/_}
 use Rattle.words.specs.Section.{listOf}
-use Rattle.counts.specs.Counts.{activationsOf, duplicatesIn}
-use Rattle.blocks.specs.Blocks.{blockIn, takenBefore}
+use Rattle.plan_counts.specs.Counts.{activationsOf, duplicatesIn}
+use Rattle.plan_blocks.specs.Blocks.{blockIn, takenBefore}
 
 -- M7: output 10, staged 5, a register with d = 10 and en = 1, output 11
 unfoldable pub duplicateWords : List ℕ

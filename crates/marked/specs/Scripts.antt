@@ -1,11 +1,11 @@
--- M6, M9 and M10: locations, the place of an entry, and a run, with what the definitions of `script`, `words` and `machine` give for them.
+-- M6, M9 and M10: locations, the place of an entry, and a run, with what the definitions of `script`, `words` and `run_machine` give for them.
 -- Assumes nothing.
 use mathlib.Core.List.{List, [], _∷_, _++_}
 use Prim.Native.Nat.{ℕ, zero, suc, _+_, _-_, _%_}
 use lib.ListN.{take, replicate}
 use Rattle.words.specs.Section.{placeOf, entryOf}
 use Rattle.script.specs.Script.{stageIn, halfIn, halfWords}
-use Rattle.machine.specs.Run.{runTurns, allLeft}
+use Rattle.run_machine.specs.Run.{runTurns, allLeft}
 
 -- M6: two locations in stage 0 and one in stage 1; the first two words
 unfoldable pub locationsIn : ℕ → ℕ

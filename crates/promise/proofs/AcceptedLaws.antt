@@ -5,14 +5,14 @@ use mathlib.Core.List.{List}
 use Prim.Native.Nat.{ℕ, _+_, _<_}
 use native.Mathlib.Omega.{arith}
 use Rattle.reads.specs.Outcome.{placed}
-use Rattle.record.specs.Record.{blocksOf, majorsOf, countAt, partsBefore, partsOf}
-use Rattle.record.proofs.FormLaws.{formed}
-use Rattle.blocks.proofs.StartLaws.{parts-mono, parts-next}
-use Rattle.partreads.specs.PartReads.{partReads, partLanes}
-use Rattle.checks.proofs.PassedLaws.{Passed, passed, placed-lanes}
-use Rattle.decode.specs.Decodable.{Decodable}
-use Rattle.decode.proofs.DecodableLaws.{decodable}
-use Rattle.meaning.specs.Meaning.{Sound}
+use Rattle.plan_record.specs.Record.{blocksOf, majorsOf, countAt, partsBefore, partsOf}
+use Rattle.plan_record.proofs.FormLaws.{formed}
+use Rattle.plan_blocks.proofs.StartLaws.{parts-mono, parts-next}
+use Rattle.plan_reads.specs.PartReads.{partReads, partLanes}
+use Rattle.plan_checks.proofs.PassedLaws.{Passed, passed, placed-lanes}
+use Rattle.promise_decode.specs.Decodable.{Decodable}
+use Rattle.promise_decode.proofs.DecodableLaws.{decodable}
+use Rattle.promise_meaning.specs.Meaning.{Sound}
 use Rattle.promise.specs.Promise.{Accepted}
 
 -- part i of a major stage is a part of the plan

@@ -9,20 +9,20 @@ use native.Mathlib.Nat.{zero-add}
 use native.Mathlib.Omega.{arith}
 use lib.ListN.{length, getD}
 use Rattle.reads.specs.Search.{longest}
-use Rattle.record.specs.Record.{blocksOf, majorsOf, countAt, partsBefore, partsOf}
-use Rattle.counts.specs.Counts.{writeOuts}
-use Rattle.blocks.specs.Blocks.{blockOf, stateOf, stateStart, sramStart}
-use Rattle.blocks.proofs.TotalLaws.{same-or}
-use Rattle.blocks.proofs.StartLaws.{state-in, state-apart}
-use Rattle.positions.proofs.MajorLaws.{major-is}
-use Rattle.partreads.specs.PartReads.{partLanes}
-use Rattle.assembly.specs.Steps.{lastMark, partsIn, partStart}
-use Rattle.assembly.proofs.RankLaws.{inBefore, part-at}
-use Rattle.machine.specs.Part.{roundsAt, readWordAt, readMaskAt}
-use Rattle.order.specs.Order.{partsAt, Stores, PartAt, Apart}
-use Rattle.order.proofs.StoreLaws.{stores-from, stores-until}
-use Rattle.decode.specs.Decoded.{Decoded}
-use Rattle.decode.proofs.InsideLaws.{read-before}
+use Rattle.plan_record.specs.Record.{blocksOf, majorsOf, countAt, partsBefore, partsOf}
+use Rattle.plan_counts.specs.Counts.{writeOuts}
+use Rattle.plan_blocks.specs.Blocks.{blockOf, stateOf, stateStart, sramStart}
+use Rattle.plan_blocks.proofs.TotalLaws.{same-or}
+use Rattle.plan_blocks.proofs.StartLaws.{state-in, state-apart}
+use Rattle.plan_positions.proofs.MajorLaws.{major-is}
+use Rattle.plan_reads.specs.PartReads.{partLanes}
+use Rattle.script_assembly.specs.Steps.{lastMark, partsIn, partStart}
+use Rattle.script_assembly.proofs.RankLaws.{inBefore, part-at}
+use Rattle.run_machine.specs.Part.{roundsAt, readWordAt, readMaskAt}
+use Rattle.promise_order.specs.Order.{partsAt, Stores, PartAt, Apart}
+use Rattle.promise_order.proofs.StoreLaws.{stores-from, stores-until}
+use Rattle.promise_decode.specs.Decoded.{Decoded}
+use Rattle.promise_decode.proofs.InsideLaws.{read-before}
 use Rattle.promise.specs.Promise.{Accepted, assembled, startsOf, StoredBy}
 use Rattle.promise.proofs.AcceptedLaws.{tests, lanes-found}
 use Rattle.promise.proofs.BlockLaws as Block

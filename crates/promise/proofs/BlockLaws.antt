@@ -11,19 +11,19 @@ use borrow.Author.Tests.{eq-eqb, ne-eqb}
 use lib.ListN.{length, getD, drop, length-drop}
 use lib.Seq.{getD-take, getD-drop, length-take-le}
 use Rattle.words.proofs.BitLaws.{lt-or-ge}
-use Rattle.record.specs.Record.{blocksOf, majorsOf, countAt, partsBefore, partsOf}
-use Rattle.blocks.specs.Blocks.{stateStart, sramStart}
-use Rattle.assembly.specs.Assembly.{wordsOfPart, blockStart, scriptStarts}
-use Rattle.assembly.specs.Steps.{lastMark, lengthOf, partsIn, partStart}
-use Rattle.assembly.proofs.StepLaws.{mark-last, mark-more}
-use Rattle.assembly.proofs.RankLaws.{part-at}
-use Rattle.assembly.proofs.LengthLaws.{words-length}
-use Rattle.assembly.proofs.StartLaws.{starts-length, start-at}
-use Rattle.assembly.proofs.PlaceLaws.{block-inside, empty-place, part-first, part-next, part-last, part-place, part-after}
-use Rattle.machine.specs.Part.{stagesAt, lastAt, endAt}
-use Rattle.order.specs.Order.{partsFrom, partsAt}
-use Rattle.decode.specs.Decoded.{Decoded}
-use Rattle.decode.proofs.DecodeLaws.{decoded}
+use Rattle.plan_record.specs.Record.{blocksOf, majorsOf, countAt, partsBefore, partsOf}
+use Rattle.plan_blocks.specs.Blocks.{stateStart, sramStart}
+use Rattle.script_assembly.specs.Assembly.{wordsOfPart, blockStart, scriptStarts}
+use Rattle.script_assembly.specs.Steps.{lastMark, lengthOf, partsIn, partStart}
+use Rattle.script_assembly.proofs.StepLaws.{mark-last, mark-more}
+use Rattle.script_assembly.proofs.RankLaws.{part-at}
+use Rattle.script_assembly.proofs.LengthLaws.{words-length}
+use Rattle.script_assembly.proofs.StartLaws.{starts-length, start-at}
+use Rattle.script_assembly.proofs.PlaceLaws.{block-inside, empty-place, part-first, part-next, part-last, part-place, part-after}
+use Rattle.run_machine.specs.Part.{stagesAt, lastAt, endAt}
+use Rattle.promise_order.specs.Order.{partsFrom, partsAt}
+use Rattle.promise_decode.specs.Decoded.{Decoded}
+use Rattle.promise_decode.proofs.DecodeLaws.{decoded}
 use Rattle.promise.specs.Promise.{Accepted, assembled, startsOf}
 use Rattle.promise.proofs.AcceptedLaws.{part-there, some-blocks, able}
 

@@ -14,20 +14,20 @@ use lib.ListN.{length, getD}
 use Rattle.words.specs.Sum.{sumTo}
 use Rattle.words.proofs.SumLaws.{sum-ext}
 use Rattle.words.proofs.BitLaws.{lt-or-ge}
-use Rattle.sort.specs.Sorted.{count}
-use Rattle.record.specs.Record.{blocksOf, majorsOf, partsBefore, stagesOf}
-use Rattle.blocks.specs.Blocks.{stateWords}
-use Rattle.assembly.specs.Assembly.{blockStart}
-use Rattle.assembly.specs.Steps.{partsIn}
-use Rattle.assembly.proofs.StepLaws.{mark-last, mark-more}
-use Rattle.assembly.proofs.PlaceLaws.{part-first}
-use Rattle.machine.specs.Part.{stagesAt, lastAt, endAt}
-use Rattle.machine.specs.Run.{Ran, ran, outcome, turnsFrom, turnsAfter, allLeft, badBlock, badTurn}
-use Rattle.order.specs.Order.{blockTurns}
-use Rattle.order.proofs.FormLaws.{from-last, from-more}
-use Rattle.order.proofs.BlockLaws.{empty-phase, left-none, left-read}
-use Rattle.order.proofs.AloneLaws.{Laid}
-use Rattle.order.proofs.OrderLaws.{sum-first, all-named, left-total}
+use Rattle.words.specs.Count.{count}
+use Rattle.plan_record.specs.Record.{blocksOf, majorsOf, partsBefore, stagesOf}
+use Rattle.plan_blocks.specs.Blocks.{stateWords}
+use Rattle.script_assembly.specs.Assembly.{blockStart}
+use Rattle.script_assembly.specs.Steps.{partsIn}
+use Rattle.script_assembly.proofs.StepLaws.{mark-last, mark-more}
+use Rattle.script_assembly.proofs.PlaceLaws.{part-first}
+use Rattle.run_machine.specs.Part.{stagesAt, lastAt, endAt}
+use Rattle.run_machine.specs.Run.{Ran, ran, outcome, turnsFrom, turnsAfter, allLeft, badBlock, badTurn}
+use Rattle.promise_order.specs.Order.{blockTurns}
+use Rattle.promise_order.proofs.FormLaws.{from-last, from-more}
+use Rattle.promise_order.proofs.BlockLaws.{empty-phase, left-none, left-read}
+use Rattle.promise_order.proofs.AloneLaws.{Laid}
+use Rattle.promise_order.proofs.OrderLaws.{sum-first, all-named, left-total}
 use Rattle.promise.specs.Promise.{Accepted, assembled, startsOf, stageRun, turnsOf, leftOver, Kept, Finishes, Finished}
 use Rattle.promise.proofs.AcceptedLaws.{able}
 use Rattle.promise.proofs.BlockLaws as Block

@@ -11,20 +11,20 @@ use borrow.Author.Tests.{eq-eqb, ne-eqb, lt-ltb, le-leb}
 use lib.Dec.{eqb}
 use lib.ListN.{length, getD, replicate, getD-replicate}
 use Rattle.words.proofs.BitLaws.{lt-or-ge}
-use Rattle.record.specs.Record.{blocksOf, majorsOf}
-use Rattle.record.proofs.TestLaws.{true-and, all-true, none-not}
-use Rattle.blocks.specs.Blocks.{stateWords}
-use Rattle.positions.proofs.MajorLaws.{start-is}
-use Rattle.assembly.specs.Assembly.{blockStart}
-use Rattle.assembly.specs.Steps.{lastMark, partsIn}
-use Rattle.assembly.proofs.StepLaws.{mark-last, mark-more}
-use Rattle.assembly.proofs.LengthLaws.{empty-length}
-use Rattle.assembly.proofs.StartLaws.{start-more}
-use Rattle.assembly.proofs.PlaceLaws.{empty-place, part-first}
-use Rattle.machine.specs.Part.{endAt}
-use Rattle.machine.specs.Run.{partForm, partsForm, emptyBlock, blockForm, badBlock}
-use Rattle.decode.specs.Fitting.{Fitting}
-use Rattle.decode.proofs.FormLaws.{part-form, fitting}
+use Rattle.plan_record.specs.Record.{blocksOf, majorsOf}
+use Rattle.words.proofs.TestLaws.{true-and, all-true, none-not}
+use Rattle.plan_blocks.specs.Blocks.{stateWords}
+use Rattle.plan_positions.proofs.MajorLaws.{start-is}
+use Rattle.script_assembly.specs.Assembly.{blockStart}
+use Rattle.script_assembly.specs.Steps.{lastMark, partsIn}
+use Rattle.script_assembly.proofs.StepLaws.{mark-last, mark-more}
+use Rattle.script_assembly.proofs.LengthLaws.{empty-length}
+use Rattle.script_assembly.proofs.StartLaws.{start-more}
+use Rattle.script_assembly.proofs.PlaceLaws.{empty-place, part-first}
+use Rattle.run_machine.specs.Part.{endAt}
+use Rattle.run_machine.specs.Run.{partForm, partsForm, emptyBlock, blockForm, badBlock}
+use Rattle.promise_decode.specs.Fitting.{Fitting}
+use Rattle.promise_decode.proofs.FormLaws.{part-form, fitting}
 use Rattle.promise.specs.Promise.{Accepted, assembled, startsOf, NeverRefused}
 use Rattle.promise.proofs.AcceptedLaws.{tests, some-blocks, lanes-found, able}
 use Rattle.promise.proofs.BlockLaws as Block

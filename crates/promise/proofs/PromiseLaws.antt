@@ -11,24 +11,24 @@ use lib.Dec.{leb}
 use lib.ListN.{length, getD, List·getD-eq-default}
 use Rattle.words.specs.Bit.{bit, bitAt}
 use Rattle.words.proofs.BitLaws.{bit-zero}
-use Rattle.record.specs.Record.{blocksOf, countAt, partsBefore, stagesOf, locationsOf}
-use Rattle.blocks.specs.Blocks.{stateStart, sramStart}
+use Rattle.plan_record.specs.Record.{blocksOf, countAt, partsBefore, stagesOf, locationsOf}
+use Rattle.plan_blocks.specs.Blocks.{stateStart, sramStart}
 use Rattle.values.specs.Values.{pinValue}
-use Rattle.assembly.specs.Steps.{lastMark, partsIn, partStart}
-use Rattle.assembly.proofs.RankLaws.{inBefore, part-at, part-found}
-use Rattle.machine.specs.Part.{stagesAt, startAt, entryAt, laneWordAt}
-use Rattle.machine.specs.Turn.{readRow, taken, gatheredBit, dataInv, chosen, storedBit}
-use Rattle.machine.specs.Run.{runTurns, allLeft, badBlock, badTurn, Ran, ran, refused, outcome}
-use Rattle.machine.proofs.StageLaws.{at-word}
-use Rattle.machine.proofs.TurnLaws.{taken-cleared, taken-nothing, stored-word-bit}
-use Rattle.order.specs.Order.{capturedBy, oneAfterAnother}
-use Rattle.order.proofs.BlockLaws.{caps-length}
-use Rattle.order.proofs.StoreLaws.{stores-in, store-at}
-use Rattle.order.proofs.AloneLaws.{Laid}
-use Rattle.order.proofs.OrderLaws.{in-any-order, untouched, stored}
-use Rattle.decode.specs.Decoded.{Decoded}
-use Rattle.meaning.specs.Meaning.{Sound}
-use Rattle.meaning.proofs.MeaningLaws.{captured-pin}
+use Rattle.script_assembly.specs.Steps.{lastMark, partsIn, partStart}
+use Rattle.script_assembly.proofs.RankLaws.{inBefore, part-at, part-found}
+use Rattle.run_machine.specs.Part.{stagesAt, startAt, entryAt, laneWordAt}
+use Rattle.run_machine.specs.Turn.{readRow, taken, gatheredBit, dataInv, chosen, storedBit}
+use Rattle.run_machine.specs.Run.{runTurns, allLeft, badBlock, badTurn, Ran, ran, refused, outcome}
+use Rattle.run_machine.proofs.StageLaws.{at-word}
+use Rattle.run_machine.proofs.TurnLaws.{taken-cleared, taken-nothing, stored-word-bit}
+use Rattle.promise_order.specs.Order.{capturedBy, oneAfterAnother}
+use Rattle.promise_order.proofs.BlockLaws.{caps-length}
+use Rattle.promise_order.proofs.StoreLaws.{stores-in, store-at}
+use Rattle.promise_order.proofs.AloneLaws.{Laid}
+use Rattle.promise_order.proofs.OrderLaws.{in-any-order, untouched, stored}
+use Rattle.promise_decode.specs.Decoded.{Decoded}
+use Rattle.promise_meaning.specs.Meaning.{Sound}
+use Rattle.promise_meaning.proofs.MeaningLaws.{captured-pin}
 use Rattle.promise.specs.Promise.{assembled, startsOf, stageRun, carried, Carries, enableEntry, invOf, set0Of, dataInvOf, partAt, enabled, StoredBy, Done, Demand3, AsRun}
 use Rattle.promise.proofs.AcceptedLaws.{part-there, some-blocks, able, sound}
 use Rattle.promise.proofs.BlockLaws.{starts-are}

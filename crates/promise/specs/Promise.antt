@@ -13,19 +13,19 @@ use lib.Bits.{differ}
 use lib.ListN.{length, getD, take, drop}
 use Rattle.words.specs.Sum.{sumTo}
 use Rattle.words.specs.Bit.{bit, bitAt}
-use Rattle.sort.specs.Sorted.{count}
-use Rattle.record.specs.Record.{blocksOf, majorsOf, partsBefore, countAt, stagesOf, locationsOf, locationAt, slotAt, tableAt}
-use Rattle.record.specs.Form.{empty}
-use Rattle.blocks.specs.Blocks.{blockOf, stateStart, stateWords}
-use Rattle.blocks.specs.Sums.{inBlock}
+use Rattle.words.specs.Count.{count}
+use Rattle.plan_record.specs.Record.{blocksOf, majorsOf, partsBefore, countAt, stagesOf, locationsOf, locationAt, slotAt, tableAt}
+use Rattle.words.specs.Pins.{empty}
+use Rattle.plan_blocks.specs.Blocks.{blockOf, stateStart, stateWords}
+use Rattle.plan_blocks.specs.Sums.{inBlock}
 use Rattle.values.specs.Values.{pinValue}
 use Rattle.script.specs.Script.{locationStage}
-use Rattle.checks.specs.Refusals.{planRefusal}
-use Rattle.assembly.specs.Assembly.{scriptWords, scriptStarts}
-use Rattle.assembly.specs.Steps.{partsIn, partStart}
-use Rattle.machine.specs.Turn.{taken, enableBit, chosen}
-use Rattle.machine.specs.Run.{ran, outcome, Running, runTurns, allLeft, badBlock, badTurn}
-use Rattle.order.specs.Order.{capturedBy, oneAfterAnother}
+use Rattle.plan_checks.specs.Refusals.{planRefusal}
+use Rattle.script_assembly.specs.Assembly.{scriptWords, scriptStarts}
+use Rattle.script_assembly.specs.Steps.{partsIn, partStart}
+use Rattle.run_machine.specs.Turn.{taken, enableBit, chosen}
+use Rattle.run_machine.specs.Run.{ran, outcome, Running, runTurns, allLeft, badBlock, badTurn}
+use Rattle.promise_order.specs.Order.{capturedBy, oneAfterAnother}
 
 -- ---- "an assembled accepted plan": nothing of it is refused. Its words, and the block starts of major stage s with their end
 

@@ -11,24 +11,24 @@ use lib.Dec.{leb, ltb}
 use lib.ListN.{length, getD, take}
 use lib.Pow.{pow-mono}
 use lib.Seq.{length-take-le}
-use Rattle.record.specs.Form.{empty}
-use Rattle.record.proofs.TestLaws.{not-both}
+use Rattle.words.specs.Pins.{empty}
+use Rattle.words.proofs.TestLaws.{not-both}
 use Rattle.gatelist.specs.Words.{badList}
-use Rattle.nodes.specs.Stage.{Spot, spotWords, spotsOf, width, indexOf, Rooted, emptyBelow}
-use Rattle.nodes.specs.Placing.{levelAt, placing, badLevel, noGate, Judged}
-use Rattle.nodes.specs.Clearing.{clearing}
-use Rattle.nodes.specs.Outcome.{refused, placeRight, placedAt, clearedAt}
-use Rattle.nodes.proofs.PairLaws.{words-length}
-use Rattle.nodes.proofs.PlaceLaws.{rooted-place}
-use Rattle.nodes.proofs.JudgeLaws.{placing-size, clearing-size}
-use Rattle.subtree.specs.Subtree.{judgementOf, Added, Listable, Reachable}
-use Rattle.subtree.specs.declared.Place.{Place}
-use Rattle.subtree.specs.declared.Judgement.{Judgement}
-use Rattle.subtree.specs.declared.Judgement.the-variants.{Fine, WrongLevel, Gateless}
-use Rattle.settle.specs.Settle.{Ended, placedSpots, clearedSpots, Spotted}
+use Rattle.repair_nodes.specs.Stage.{Spot, spotWords, spotsOf, width, indexOf, Rooted, emptyBelow}
+use Rattle.repair_nodes.specs.Placing.{levelAt, placing, badLevel, noGate, Judged}
+use Rattle.repair_nodes.specs.Clearing.{clearing}
+use Rattle.repair_nodes.specs.Outcome.{refused, placeRight, placedAt, clearedAt}
+use Rattle.repair_nodes.proofs.PairLaws.{words-length}
+use Rattle.repair_nodes.proofs.PlaceLaws.{rooted-place}
+use Rattle.repair_nodes.proofs.JudgeLaws.{placing-size, clearing-size}
+use Rattle.repair_subtree.specs.Subtree.{judgementOf, Added, Listable, Reachable}
+use Rattle.repair_subtree.specs.declared.Place.{Place}
+use Rattle.repair_subtree.specs.declared.Judgement.{Judgement}
+use Rattle.repair_subtree.specs.declared.Judgement.the-variants.{Fine, WrongLevel, Gateless}
+use Rattle.repair_settle.specs.Settle.{Ended, placedSpots, clearedSpots, Spotted}
 use Rattle.repair.specs.Repair.{Placed}
-use Rattle.settle.specs.declared.Repaired.{Repaired}
-use Rattle.settle.proofs.SpotLaws.{Sound, placing-sound, clearing-sound, sound-askable, sound-inside, added-words, spots-back}
+use Rattle.repair_settle.specs.declared.Repaired.{Repaired}
+use Rattle.repair_settle.proofs.SpotLaws.{Sound, placing-sound, clearing-sound, sound-askable, sound-inside, added-words, spots-back}
 use Rattle.repair.proofs.OutcomeLaws.{is-24, is-25, is-26, is-placed, is-cleared}
 
 -- ---- a level's slots

@@ -10,16 +10,16 @@ use borrow.Author.Tests.{eq-eqb, ne-eqb, eqb-true, eqb-false}
 use lib.Dec.{eqb}
 use lib.ListN.{length, getD, replicate, length-replicate}
 use Rattle.pinmap.specs.PinMap.{capacity}
-use Rattle.nodes.specs.Counts.{Count, counted, countsOf, nodesOf, countIn, entriesRight, countsRight}
-use Rattle.nodes.specs.Outcome.{roomWords}
-use Rattle.nodes.proofs.PairLaws.{pairs-length}
-use Rattle.record.proofs.TestLaws.{some-not-none}
-use Rattle.tally.specs.Tally.{through, entering, enteringAll, Held}
-use Rattle.tally.proofs.StepLaws.{all-odd, all-even}
-use Rattle.tally.proofs.HeldLaws.{held-zeros}
-use Rattle.tally.proofs.WayLaws.{EnterEnd, enter-end}
-use Rattle.settle.specs.Settle.{Entered}
-use Rattle.settle.proofs.SpotLaws.{count-small}
+use Rattle.repair_nodes.specs.Counts.{Count, counted, countsOf, nodesOf, countIn, entriesRight, countsRight}
+use Rattle.repair_nodes.specs.Outcome.{roomWords}
+use Rattle.repair_nodes.proofs.PairLaws.{pairs-length}
+use Rattle.words.proofs.TestLaws.{some-not-none}
+use Rattle.repair_tally.specs.Tally.{through, entering, enteringAll, Held}
+use Rattle.repair_tally.proofs.StepLaws.{all-odd, all-even}
+use Rattle.repair_tally.proofs.HeldLaws.{held-zeros}
+use Rattle.repair_tally.proofs.WayLaws.{EnterEnd, enter-end}
+use Rattle.repair_settle.specs.Settle.{Entered}
+use Rattle.repair_settle.proofs.SpotLaws.{count-small}
 use Rattle.repair.proofs.OutcomeLaws.{room-is}
 
 nothing-before : {b : Bool} (l : List Count) → entriesRight (nodesOf []) l ≡ b → entriesRight [] l ≡ b

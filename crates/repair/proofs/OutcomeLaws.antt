@@ -9,14 +9,14 @@ use native.Mathlib.Omega.{arith}
 use borrow.Author.Tests.{le-leb, lt-leb, lt-ltb, le-ltb}
 use lib.Dec.{leb, ltb}
 use lib.ListN.{length, replicate}
-use Rattle.record.specs.Form.{isPin}
+use Rattle.words.specs.Pins.{isPin}
 use Rattle.gatelist.specs.Words.{badList}
-use Rattle.nodes.specs.Stage.{Spot, width, indexOf, emptyBelow}
-use Rattle.nodes.specs.Placing.{placing, badLevel, noGate}
-use Rattle.nodes.specs.Clearing.{clearing}
-use Rattle.nodes.specs.Counts.{countsRight}
-use Rattle.nodes.specs.Outcome.{Outcome, refused, roomWords, placeRight, placedAt, placed, clearedAt, cleared, roomAfter}
-use Rattle.settle.specs.Settle.{placedSpots, clearedSpots}
+use Rattle.repair_nodes.specs.Stage.{Spot, width, indexOf, emptyBelow}
+use Rattle.repair_nodes.specs.Placing.{placing, badLevel, noGate}
+use Rattle.repair_nodes.specs.Clearing.{clearing}
+use Rattle.repair_nodes.specs.Counts.{countsRight}
+use Rattle.repair_nodes.specs.Outcome.{Outcome, refused, roomWords, placeRight, placedAt, placed, clearedAt, cleared, roomAfter}
+use Rattle.repair_settle.specs.Settle.{placedSpots, clearedSpots}
 
 -- ---- the room
 

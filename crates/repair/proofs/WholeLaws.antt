@@ -9,16 +9,16 @@ use native.Mathlib.Omega.{arith}
 use borrow.Author.Tests.{leb-true, leb-false, ltb-true, le-leb, lt-leb}
 use lib.Dec.{leb, ltb}
 use lib.ListN.{length, replicate, length-replicate}
-use Rattle.record.specs.Form.{isPin}
-use Rattle.record.proofs.TestLaws.{and-true}
+use Rattle.words.specs.Pins.{isPin}
+use Rattle.words.proofs.TestLaws.{and-true}
 use Rattle.gatelist.specs.Words.{badList, formOf}
 use Rattle.gatelist.specs.declared.ListForm.{ListForm}
 use Rattle.gatelist.specs.declared.ListForm.the-variants.{Good, Bad}
-use Rattle.nodes.specs.Stage.{width}
-use Rattle.nodes.specs.Counts.{countsRight}
-use Rattle.nodes.specs.Outcome.{Outcome, roomWords, placeRight, slotsAfter, listAfter, roomAfter}
-use Rattle.settle.specs.Settle.{repairedOf, Ended}
-use Rattle.settle.specs.declared.Repaired.{Repaired}
+use Rattle.repair_nodes.specs.Stage.{width}
+use Rattle.repair_nodes.specs.Counts.{countsRight}
+use Rattle.repair_nodes.specs.Outcome.{Outcome, roomWords, placeRight, slotsAfter, listAfter, roomAfter}
+use Rattle.repair_settle.specs.Settle.{repairedOf, Ended}
+use Rattle.repair_settle.specs.declared.Repaired.{Repaired}
 use Rattle.repair.proofs.OutcomeLaws.{room-is, room-clear}
 
 -- ---- the room

@@ -2,8 +2,8 @@
 -- Assumes nothing.
 use mathlib.Core.Path.{_≡_}
 use Prim.Native.Nat.{ℕ, _^_, _≤_}
-use Rattle.nodes.specs.Stage.{width, indexOf, Rooted}
-use Rattle.subtree.specs.declared.Place.{Place}
+use Rattle.repair_nodes.specs.Stage.{width, indexOf, Rooted}
+use Rattle.repair_subtree.specs.declared.Place.{Place}
 
 -- the place of slot j of level h
 pub record Placed (h j : ℕ) (p : Place) : Type 0 where

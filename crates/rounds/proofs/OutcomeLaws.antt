@@ -16,15 +16,15 @@ use Rattle.reads.specs.Search.{Lane, Tried, all, lanesOf, longest}
 use Rattle.reads.specs.Words.{roundsFrom}
 use Rattle.reads.specs.Outcome.{Outcome, placed, refused, packed, readSet, fitted, outcome, resultAfter, roomAfter}
 use Rattle.reads.proofs.SearchLaws.{win-first}
-use Rattle.tries.specs.Table.{tableOf}
-use Rattle.tries.specs.Tries.{lanesIn, triedOf}
-use Rattle.tries.specs.Decoded.{lanesAt, Kept}
-use Rattle.tries.proofs.PairLaws.{pairs-length}
-use Rattle.tries.proofs.TableLaws.{filled-of, filled-lanes}
-use Rattle.tries.proofs.TryLaws.{tried-kept}
-use Rattle.pieces.specs.Keys.{keysOf}
-use Rattle.readout.specs.Readout.{Readable}
-use Rattle.readout.proofs.FormLaws.{form-whole, form-masks}
+use Rattle.reads_try.specs.Table.{tableOf}
+use Rattle.reads_try.specs.Tries.{lanesIn, triedOf}
+use Rattle.reads_try.specs.Decoded.{lanesAt, Kept}
+use Rattle.reads_try.proofs.PairLaws.{pairs-length}
+use Rattle.reads_try.proofs.TableLaws.{filled-of, filled-lanes}
+use Rattle.reads_try.proofs.TryLaws.{tried-kept}
+use Rattle.reads_pieces.specs.Keys.{keysOf}
+use Rattle.reads_section.specs.Readout.{Readable}
+use Rattle.reads_section.proofs.FormLaws.{form-whole, form-masks}
 use Rattle.rounds.specs.declared.Rounds.{Rounds}
 use Rattle.rounds.specs.declared.Rounds.the-variants.{Placed}
 use Rattle.rounds.specs.Rounds.{roundsOf, isWon, tableAfter, Searchable, Solvable}

@@ -13,12 +13,12 @@ use lib.Seq.{take-all}
 use Rattle.reads.specs.ReadSet.{Pair, pairsOf}
 use Rattle.reads.specs.Search.{Tried, all, stuck, tryFrom, try, firstWin, lanesOf}
 use Rattle.reads.proofs.SearchLaws.{win-none, win-all, win-stuck, win-fuel}
-use Rattle.tries.specs.Table.{tableOf}
-use Rattle.tries.specs.Tries.{isAll, lanesIn, triedOf, Ready}
-use Rattle.tries.proofs.PairLaws.{pairs-length}
-use Rattle.pieces.specs.Keys.{keysOf, pieceCount, Orderable}
-use Rattle.pieces.proofs.KeyLaws.{count-le}
-use Rattle.pieces.proofs.RunLaws.{run-is}
+use Rattle.reads_try.specs.Table.{tableOf}
+use Rattle.reads_try.specs.Tries.{isAll, lanesIn, triedOf, Ready}
+use Rattle.reads_try.proofs.PairLaws.{pairs-length}
+use Rattle.reads_pieces.specs.Keys.{keysOf, pieceCount, Orderable}
+use Rattle.reads_pieces.proofs.KeyLaws.{count-le}
+use Rattle.reads_pieces.proofs.RunLaws.{run-is}
 use Rattle.rounds.specs.Rounds.{isWon, tableAfter, Searchable}
 
 pub zeros-length : {t : List ℕ} {n : ℕ} → t ≡ replicate n 0 → length t ≡ n

@@ -9,7 +9,7 @@ use lib.ListN.{length, getD, replicate}
 use Rattle.words.specs.Bit.{pop}
 use Rattle.reads.specs.Search.{Lane, longest}
 use Rattle.reads.specs.Outcome.{Outcome, placed, refused}
-use Rattle.tries.specs.Table.{tableOf}
+use Rattle.reads_try.specs.Table.{tableOf}
 use Rattle.rounds.specs.declared.Rounds.{Rounds}
 use Rattle.rounds.specs.declared.Rounds.the-variants.{Placed, Refused}
 

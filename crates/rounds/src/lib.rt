@@ -5,8 +5,8 @@ ghost use lib.ListN.{length, replicate};
 ghost use Rattle.reads.specs.ReadSet.{pairsOf};
 ghost use Rattle.reads.specs.Search.{try, lanesOf};
 ghost use Rattle.reads.specs.Outcome.{refused, readSet, fitted, outcome, resultAfter, roomAfter};
-ghost use Rattle.tries.specs.Table.{tableOf};
-ghost use Rattle.tries.specs.Tries.{isAll, lanesIn};
+ghost use Rattle.reads_try.specs.Table.{tableOf};
+ghost use Rattle.reads_try.specs.Tries.{isAll, lanesIn};
 ghost use Rattle.rounds.specs.Rounds.{roundsOf, isWon, tableAfter, Searchable, Solvable};
 use words::clear::clear;
 use words::edition::Edition;
@@ -32,8 +32,8 @@ fn try_pieces(
     ensures { λ _. ⌜ now (table .exit) ≡ tableOf (lanesIn (try lanes (pairsOf (now (set .entry))) k)) ⌝ }
 {
     let count = (set.len() / 2 + k - 1) / k;
-    pieces::order(set, &mut keys[..count], scratch, k);
-    tries::try_size(set, &keys[..count], table, lanes, k)
+    reads_pieces::order(set, &mut keys[..count], scratch, k);
+    reads_try::try_size(set, &keys[..count], table, lanes, k)
 }
 
 // The sizes n, n/2, n/4 .. 1, up to the first that places all: then true, with its lanes in the table. Else the table is empty.
@@ -88,18 +88,18 @@ pub fn rounds_over(
     if 16384 < set.len() {
         return refused(refusals::MANY_PAIRS, 0);
     }
-    if let readout::Form::Bad(i) = readout::check_form(set) {
+    if let reads_section::Form::Bad(i) = reads_section::check_form(set) {
         return refused(refusals::PAIR_FORM, i as u64);
     }
     if set.len() == 0 {
         return refused(refusals::NOTHING_TO_READ, 0);
     }
     if search_sizes(set, table, keys, scratch, lanes) {
-        let rounds = readout::longest_row(set, table, lanes);
+        let rounds = reads_section::longest_row(set, table, lanes);
         if out.len() < 2 * lanes * rounds {
             return refused(refusals::RESULT_SHORT, 0);
         }
-        readout::write_rounds(set, table, lanes, rounds, out);
+        reads_section::write_rounds(set, table, lanes, rounds, out);
         return Rounds::Placed(rounds as u32);
     }
     refused(refusals::NO_ROOM_FOUND, 0)

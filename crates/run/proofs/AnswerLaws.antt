@@ -9,14 +9,14 @@ use native.Mathlib.Omega.{arith}
 use borrow.Author.Tests.{le-leb, lt-leb, ltb-true}
 use lib.Dec.{leb}
 use lib.ListN.{length, getD, replicate}
-use Rattle.record.specs.Tests.{firstNot}
-use Rattle.record.proofs.TestLaws.{not-none}
-use Rattle.machine.specs.Turn.{Block}
-use Rattle.machine.specs.Run.{Running, blocksFrom, runFrom, runTurns, allLeft, badBlock, badTurn, blockForm, outcome, newAfter, roomAfter, refused}
-use Rattle.form.specs.declared.refuse.Found.{Found}
-use Rattle.form.specs.declared.refuse.Found.the-variants.{At, Nowhere}
-use Rattle.form.specs.Found.{foundOf}
-use Rattle.form.proofs.RefuseLaws.{blockGood, turnGood}
+use Rattle.words.specs.Tests.{firstNot}
+use Rattle.words.proofs.TestLaws.{not-none}
+use Rattle.run_machine.specs.Turn.{Block}
+use Rattle.run_machine.specs.Run.{Running, blocksFrom, runFrom, runTurns, allLeft, badBlock, badTurn, blockForm, outcome, newAfter, roomAfter, refused}
+use Rattle.run_form.specs.declared.refuse.Found.{Found}
+use Rattle.run_form.specs.declared.refuse.Found.the-variants.{At, Nowhere}
+use Rattle.run_form.specs.Found.{foundOf}
+use Rattle.run_form.proofs.RefuseLaws.{blockGood, turnGood}
 use Rattle.run.specs.declared.Ran.{Ran}
 use Rattle.run.specs.declared.Ran.the-variants.{Left}
 use Rattle.run.specs.Answers.{ranOf}

@@ -11,12 +11,12 @@ use borrow.Author.Tests.{leb-true, ltb-true, eqb-true, eqb-false}
 use lib.Dec.{leb, ltb, eqb}
 use lib.ListN.{length, getD}
 use Rattle.words.proofs.BitLaws.{lt-or-ge}
-use Rattle.record.proofs.TestLaws.{not-both, and-true, or-cases, all-at}
-use Rattle.machine.specs.Part.{stagesAt, lastAt, endAt}
-use Rattle.machine.specs.Turn.{Block, begins, ended, afterRead, afterStage, afterStore, turned}
-use Rattle.machine.specs.Run.{partForm, partsForm, emptyBlock, blockForm}
-use Rattle.form.specs.Well.{PartWell}
-use Rattle.form.proofs.FormLaws.{InForm, in-form, parts-well, parts-next}
+use Rattle.words.proofs.TestLaws.{not-both, and-true, or-cases, all-at}
+use Rattle.run_machine.specs.Part.{stagesAt, lastAt, endAt}
+use Rattle.run_machine.specs.Turn.{Block, begins, ended, afterRead, afterStage, afterStore, turned}
+use Rattle.run_machine.specs.Run.{partForm, partsForm, emptyBlock, blockForm}
+use Rattle.run_form.specs.Well.{PartWell}
+use Rattle.run_form.proofs.FormLaws.{InForm, in-form, parts-well, parts-next}
 use Rattle.run.specs.Good.{Parts, Good}
 
 -- ---- the parts from word o to word e

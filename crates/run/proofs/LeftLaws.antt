@@ -9,12 +9,12 @@ use native.Mathlib.Omega.{arith}
 use borrow.Author.Tests.{eqb-false, eq-eqb, ne-eqb}
 use lib.Dec.{eqb}
 use lib.ListN.{length, getD}
-use Rattle.machine.specs.Part.{stagesAt, lastAt, endAt}
-use Rattle.machine.specs.Turn.{Block}
-use Rattle.machine.specs.Run.{turnsFrom, turnsAfter, turnsLeft, allLeft}
-use Rattle.form.specs.Well.{PartIn}
-use Rattle.turns.specs.Block.{blockIn}
-use Rattle.form.proofs.FormLaws.{InForm}
+use Rattle.run_machine.specs.Part.{stagesAt, lastAt, endAt}
+use Rattle.run_machine.specs.Turn.{Block}
+use Rattle.run_machine.specs.Run.{turnsFrom, turnsAfter, turnsLeft, allLeft}
+use Rattle.run_form.specs.Well.{PartIn}
+use Rattle.run_turns.specs.Block.{blockIn}
+use Rattle.run_form.proofs.FormLaws.{InForm}
 use Rattle.run.specs.States.{partOf, phaseOf, stageOf, roomOf, blockOf, blocksIn}
 use Rattle.run.specs.Good.{Parts, PartsFrom, Good, GoodIn, Goods}
 use Rattle.run.proofs.GoodLaws.{parts-first, part-well, parts-rest, part-turns}

@@ -12,11 +12,11 @@ use lib.ListN.{length, getD, take, drop, set, length-drop, length-set}
 use lib.Seq.{sets, length-sets, length-take-le, getD-take, getD-drop, getD-set-same, getD-set-other, ext-getD}
 use Rattle.words.proofs.BitLaws.{lt-or-ge}
 use Rattle.words.proofs.ListLaws.{put-sets}
-use Rattle.machine.specs.Part.{stagesAt, normalAt}
-use Rattle.machine.specs.Turn.{Block, begins, ended}
-use Rattle.machine.specs.Run.{blocksFrom}
-use Rattle.turns.specs.Block.{held, blockIn}
-use Rattle.turns.proofs.SetsLaws.{take-sets, sets-in, sets-under, sets-over}
+use Rattle.run_machine.specs.Part.{stagesAt, normalAt}
+use Rattle.run_machine.specs.Turn.{Block, begins, ended}
+use Rattle.run_machine.specs.Run.{blocksFrom}
+use Rattle.run_turns.specs.Block.{held, blockIn}
+use Rattle.run_turns.proofs.SetsLaws.{take-sets, sets-in, sets-under, sets-over}
 use Rattle.run.specs.States.{roomOf, partOf, phaseOf, stageOf, stateWords, blockOf, blocksIn}
 
 -- ---- parts of lists

@@ -10,10 +10,10 @@ use native.Mathlib.Omega.{arith}
 use lib.ListN.{length, getD, drop, set}
 use lib.Seq.{sets, drop-cons, drop-length}
 use Rattle.words.proofs.BitLaws.{lt-or-ge}
-use Rattle.machine.specs.Part.{normalAt}
-use Rattle.machine.specs.Turn.{Block, ended, turned, written}
-use Rattle.machine.specs.Run.{Running, step, runFrom}
-use Rattle.turns.specs.Block.{blockIn, BlockWell}
+use Rattle.run_machine.specs.Part.{normalAt}
+use Rattle.run_machine.specs.Turn.{Block, ended, turned, written}
+use Rattle.run_machine.specs.Run.{Running, step, runFrom}
+use Rattle.run_turns.specs.Block.{blockIn, BlockWell}
 use Rattle.run.specs.States.{partOf, phaseOf, stageOf, stateWords, roomOf, blockOf, blocksIn, running}
 use Rattle.run.specs.Good.{Good, GoodIn, Goods, Named}
 use Rattle.run.proofs.StateLaws.{lent, lent-long, lent-same, lent-other, room-long, stored-block, blocks-set, blocks-at}

@@ -1,6 +1,6 @@
 -- The answer of a run in the code's terms: refusals are told at part 0.
 -- Assumes nothing.
-use Rattle.machine.specs.Run as machine
+use Rattle.run_machine.specs.Run as machine
 use Rattle.run.specs.declared.Ran.{Ran}
 use Rattle.run.specs.declared.Ran.the-variants.{Left, Refused}
 

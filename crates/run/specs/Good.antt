@@ -6,9 +6,9 @@ use mathlib.Core.Bool.{true}
 use mathlib.Core.List.{List}
 use Prim.Native.Nat.{ℕ, _+_, _*_, _-_, _<_, _≤_}
 use lib.ListN.{length, getD}
-use Rattle.machine.specs.Part.{stagesAt}
-use Rattle.machine.specs.Turn.{Block}
-use Rattle.machine.specs.Run.{partsForm, blockForm}
+use Rattle.run_machine.specs.Part.{stagesAt}
+use Rattle.run_machine.specs.Turn.{Block}
+use Rattle.run_machine.specs.Run.{partsForm, blockForm}
 use Rattle.run.specs.States.{roomOf, blockOf}
 
 -- parts in form from word o to word e

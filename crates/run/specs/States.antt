@@ -4,9 +4,9 @@
 use mathlib.Core.List.{List, [], _∷_}
 use Prim.Native.Nat.{ℕ, zero, suc, _+_, _*_, _/_, _%_, _^_}
 use lib.ListN.{getD, take, drop}
-use Rattle.machine.specs.Turn.{Block}
-use Rattle.machine.specs.Run.{Running}
-use Rattle.turns.specs.Block.{blockIn}
+use Rattle.run_machine.specs.Turn.{Block}
+use Rattle.run_machine.specs.Run.{Running}
+use Rattle.run_turns.specs.Block.{blockIn}
 
 -- the room of block b
 unfoldable pub roomOf : List ℕ → ℕ → List ℕ

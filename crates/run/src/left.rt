@@ -3,11 +3,11 @@ ghost use mathlib.Core.Path.{_≡_};
 ghost use mathlib.Core.List.{List};
 ghost use Prim.Native.Nat.{ℕ, _-_};
 ghost use lib.ListN.{length};
-ghost use Rattle.machine.specs.Run.{turnsAfter, turnsLeft, allLeft};
+ghost use Rattle.run_machine.specs.Run.{turnsAfter, turnsLeft, allLeft};
 ghost use Rattle.run.specs.States.{phaseOf, blockOf, blocksIn};
 ghost use Rattle.run.specs.Good.{PartsFrom, GoodIn, Goods};
 use crate::states::load_state;
-use form::part;
+use run_form::part;
 
 // The turns of the parts of a block after the one at word `at`.
 fn turns_after(words: &[u32], at: usize) -> usize

@@ -3,10 +3,10 @@ ghost use mathlib.Core.Path.{_≡_};
 ghost use Prim.Native.Nat.{_+_, _*_, _<_, _≤_};
 ghost use lib.ListN.{length};
 ghost use lib.Seq.{sets};
-ghost use Rattle.machine.specs.Run.{blocksFrom};
+ghost use Rattle.run_machine.specs.Run.{blocksFrom};
 ghost use Rattle.run.specs.States.{partOf, phaseOf, stageOf, stateWords, blocksIn};
 ghost use Rattle.run.specs.Good.{Beginnings};
-use turns::block::BlockState;
+use run_turns::block::BlockState;
 
 // The state that a block's room holds.
 pub fn load_state(room: &[u32]) -> BlockState

@@ -8,15 +8,15 @@ use Prim.Native.Nat.{ℕ, _+_, _≤_, _<_}
 use native.Mathlib.Omega.{arith}
 use borrow.Author.Tests.{leb-true, lt-ltb, le-ltb}
 use lib.Dec.{leb}
-use Rattle.record.specs.declared.bodies.Body.{Body}
-use Rattle.record.specs.Record.{partsOf, tableAt}
-use Rattle.record.specs.Body.{BodyOf}
-use Rattle.record.specs.Tests.{firstNot}
-use Rattle.record.proofs.TestLaws.{first-all, lowest-none}
-use Rattle.gates.specs.Gates.{badGate}
-use Rattle.counts.specs.Counts.{refusal7}
-use Rattle.counts.proofs.PartLaws.{passed}
-use Rattle.positions.specs.Positions.{thirteenRight, refusal13}
+use Rattle.plan_record.specs.declared.bodies.Body.{Body}
+use Rattle.plan_record.specs.Record.{partsOf, tableAt}
+use Rattle.plan_record.specs.Body.{BodyOf}
+use Rattle.words.specs.Tests.{firstNot}
+use Rattle.words.proofs.TestLaws.{first-all, lowest-none}
+use Rattle.plan_gates.specs.Gates.{badGate}
+use Rattle.plan_counts.specs.Counts.{refusal7}
+use Rattle.plan_counts.proofs.PartLaws.{passed}
+use Rattle.plan_positions.specs.Positions.{thirteenRight, refusal13}
 use Rattle.script.specs.Writers.{Accepted}
 
 sram-item : (d : List ℕ) (p i : ℕ) → i < 8192 → thirteenRight d p i ≡ leb (tableAt d p i) 8191

@@ -11,12 +11,12 @@ use borrow.Author.Tests.{eq-eqb, ne-eqb}
 use Rattle.pinmap.specs.PinMap.{look, foundOf}
 use Rattle.pinmap.specs.declared.Found.{Found}
 use Rattle.pinmap.specs.declared.Found.the-variants as known-as
-use Rattle.record.specs.Record.{slotAt}
-use Rattle.record.specs.Form.{empty}
-use Rattle.gates.proofs.CodeLaws.{known-some, known-none}
-use Rattle.slots.specs.Slots.{highest}
-use Rattle.slots.specs.Puts.{positionPuts, FilledWith, foundAt}
-use Rattle.slots.proofs.PutLaws.{positions-found, highest-is}
+use Rattle.plan_record.specs.Record.{slotAt}
+use Rattle.words.specs.Pins.{empty}
+use Rattle.plan_gates.proofs.CodeLaws.{known-some, known-none}
+use Rattle.plan_slots.specs.Slots.{highest}
+use Rattle.plan_slots.specs.Puts.{positionPuts, FilledWith, foundAt}
+use Rattle.plan_slots.proofs.PutLaws.{positions-found, highest-is}
 use Rattle.script.specs.Script.{stageEntry, pinEntry}
 
 found-at : (h v : ℕ) → foundAt h ≡ some v → v ≡ h

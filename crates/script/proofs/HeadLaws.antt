@@ -9,7 +9,7 @@ use native.Mathlib.Omega.{arith}
 use borrow.Author.Tests.{lt-ltb, le-ltb, le-leb, lt-leb}
 use lib.ListN.{length, set, replicate}
 use Rattle.words.specs.Sum.{sumTo}
-use Rattle.record.specs.Record.{stagesOf, stageLocations, locationsOf, locationAt}
+use Rattle.plan_record.specs.Record.{stagesOf, stageLocations, locationsOf, locationAt}
 use Rattle.script.specs.declared.head.Numbers.{Numbers}
 use Rattle.script.specs.Script.{locationStage, locationHalf}
 use Rattle.script.specs.Writers.{numberWords, endsBy}

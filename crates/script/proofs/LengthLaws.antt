@@ -19,8 +19,8 @@ use Rattle.reads.specs.Words.{roundsFrom, readSection}
 use Rattle.reads.specs.Outcome.{Outcome, placed, refused, packed}
 use Rattle.reads.proofs.PackingLaws.{lanes-packing}
 use Rattle.reads.proofs.SectionWordLaws.{section-length as reads-section}
-use Rattle.record.specs.Record.{stagesOf}
-use Rattle.partreads.specs.PartReads.{readWords, partReads, lanesIn, partLanes}
+use Rattle.plan_record.specs.Record.{stagesOf}
+use Rattle.plan_reads.specs.PartReads.{readWords, partReads, lanesIn, partLanes}
 use Rattle.script.specs.Script.{numbers, locationWords, laneList, stageSection, stageSections, sramSection, enableSection, partScript}
 use Rattle.script.proofs.SectionsLaws.{lanes-length}
 

@@ -14,14 +14,14 @@ use lib.Dec.{eqb}
 use lib.Pow.{shl-exact}
 use Rattle.words.specs.Bit.{wordOf}
 use Rattle.words.proofs.BitLaws.{wordOf-lt}
-use Rattle.record.specs.Record.{slotAt, gateFirst, gateSecond}
-use Rattle.record.specs.Form.{empty}
-use Rattle.gates.specs.Gates.{gateOf}
-use Rattle.gates.specs.Values.{gateFoundOf}
-use Rattle.gates.specs.declared.GateFound.{GateFound}
-use Rattle.gates.specs.declared.GateFound.the-variants as found-as
-use Rattle.gates.proofs.CodeLaws.{found-some, found-none}
-use Rattle.slots.specs.Slots.{top, slotA}
+use Rattle.plan_record.specs.Record.{slotAt, gateFirst, gateSecond}
+use Rattle.words.specs.Pins.{empty}
+use Rattle.plan_gates.specs.Gates.{gateOf}
+use Rattle.plan_gates.specs.Values.{gateFoundOf}
+use Rattle.plan_gates.specs.declared.GateFound.{GateFound}
+use Rattle.plan_gates.specs.declared.GateFound.the-variants as found-as
+use Rattle.plan_gates.proofs.CodeLaws.{found-some, found-none}
+use Rattle.plan_slots.specs.Slots.{top, slotA}
 use Rattle.script.specs.Script.{firstInversion, secondInversion, noSlot, orbBit, xoraBit, xorbBit}
 use Rattle.script.specs.Writers.{MaskBits}
 

@@ -12,13 +12,13 @@ use Rattle.words.specs.Bit.{wordOf}
 use Rattle.words.specs.Section.{listOf, sectionOf}
 use Rattle.reads.specs.Search.{longest}
 use Rattle.reads.specs.Words.{readSection}
-use Rattle.record.specs.Record.{stagesOf, stageLocations, locationsOf, locationAt, slotAt, tableAt, gateFirst, gateSecond}
-use Rattle.record.specs.Form.{empty}
-use Rattle.gates.specs.Gates.{gateOf}
-use Rattle.counts.specs.Counts.{srams, duplicates, writeOuts}
-use Rattle.slots.specs.Slots.{slotA, highest}
-use Rattle.positions.specs.Positions.{planned}
-use Rattle.partreads.specs.PartReads.{partLanes, localPosition}
+use Rattle.plan_record.specs.Record.{stagesOf, stageLocations, locationsOf, locationAt, slotAt, tableAt, gateFirst, gateSecond}
+use Rattle.words.specs.Pins.{empty}
+use Rattle.plan_gates.specs.Gates.{gateOf}
+use Rattle.plan_counts.specs.Counts.{srams, duplicates, writeOuts}
+use Rattle.plan_slots.specs.Slots.{slotA, highest}
+use Rattle.plan_positions.specs.Positions.{planned}
+use Rattle.plan_reads.specs.PartReads.{partLanes, localPosition}
 
 -- ---- "Words 0..7: boomerang stages; 0, or 1 on the last part of a block; write-out words; state start; SRAMs; SRAM start; rounds; duplicate words."
 

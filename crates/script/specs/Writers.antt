@@ -10,12 +10,12 @@ use lib.ListN.{length, getD, take, drop, replicate}
 use Rattle.words.specs.Section.{listOf}
 use Rattle.reads.specs.Search.{longest}
 use Rattle.reads.specs.Words.{readSection}
-use Rattle.record.specs.declared.bodies.Body.{Body}
-use Rattle.record.specs.Record.{stagesOf, locationsOf, locationAt, tableAt}
-use Rattle.record.specs.Body.{BodyOf}
-use Rattle.gates.specs.Gates.{badGate}
-use Rattle.counts.specs.Counts.{srams, duplicates, writeOuts}
-use Rattle.partreads.specs.PartReads.{partLanes}
+use Rattle.plan_record.specs.declared.bodies.Body.{Body}
+use Rattle.plan_record.specs.Record.{stagesOf, locationsOf, locationAt, tableAt}
+use Rattle.plan_record.specs.Body.{BodyOf}
+use Rattle.plan_gates.specs.Gates.{badGate}
+use Rattle.plan_counts.specs.Counts.{srams, duplicates, writeOuts}
+use Rattle.plan_reads.specs.PartReads.{partLanes}
 use Rattle.script.specs.declared.head.Numbers.{Numbers}
 use Rattle.script.specs.declared.masks.Masks.{Masks}
 use Rattle.script.specs.Script.{xoraBit, xorbBit, orbBit, laneWord, stageEntry, stageSection}

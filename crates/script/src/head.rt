@@ -4,9 +4,9 @@ ghost use Prim.Native.Nat.{_+_, _*_, _^_, _≤_, _<_};
 ghost use lib.ListN.{length};
 ghost use Rattle.script.specs.Script.{locationStage, locationHalf, locationWords};
 ghost use Rattle.script.specs.Writers.{Accepted, numberWords, endsBy};
-use record::bodies::Body;
-use record::bodies::location;
-use record::bodies::stage_locations;
+use plan_record::bodies::Body;
+use plan_record::bodies::location;
+use plan_record::bodies::stage_locations;
 use words::clear::clear;
 
 // Words 0..7, in this order.

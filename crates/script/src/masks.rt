@@ -2,13 +2,13 @@
 ghost use mathlib.Core.Path.{_≡_};
 ghost use Prim.Native.Nat.{_<_};
 ghost use Rattle.script.specs.Writers.{Accepted, MaskBits, LaneMasks, MaskLists, MasksRoom};
-use gates::GateFound;
-use gates::find_gate;
-use gates::gate_first;
-use gates::gate_second;
-use record::bodies::Body;
-use record::bodies::slot;
-use slots::tables::top_power;
+use plan_gates::GateFound;
+use plan_gates::find_gate;
+use plan_gates::gate_first;
+use plan_gates::gate_second;
+use plan_record::bodies::Body;
+use plan_record::bodies::slot;
+use plan_slots::tables::top_power;
 use words::units::EMPTY_PIN;
 use words::units::Pin;
 

@@ -11,18 +11,19 @@ use lib.ListN.{length, drop, replicate, length-replicate}
 use Rattle.words.proofs.ListLaws.{put-sets}
 use Rattle.words.proofs.SectionLaws.{length-listOf}
 use Rattle.pinmap.specs.PinMap.{look}
-use Rattle.record.specs.Record.{gatesOf, gatePin}
-use Rattle.record.specs.Form.{empty, roomWords, planForm}
-use Rattle.record.proofs.FormLaws.{formed}
-use Rattle.gates.specs.declared.GateList.{GateList}
-use Rattle.gates.specs.declared.GateList.the-variants.{Good, Bad}
-use Rattle.gates.specs.Gates.{badGate, value}
-use Rattle.gates.specs.Values.{gateListOf, gateWords, Given, ValuedBelow, Fillable}
-use Rattle.gates.proofs.ValueLaws.{value-ext}
-use Rattle.gates.proofs.CodeLaws.{words-valued, words-ext}
-use Rattle.slots.specs.Puts.{filled}
-use Rattle.slots.proofs.PutLaws.{filled-length}
-use Rattle.positions.specs.Input.{input}
+use Rattle.plan_record.specs.Record.{gatesOf, gatePin}
+use Rattle.words.specs.Pins.{empty}
+use Rattle.plan_record.specs.Form.{roomWords, planForm}
+use Rattle.plan_record.proofs.FormLaws.{formed}
+use Rattle.plan_gates.specs.declared.GateList.{GateList}
+use Rattle.plan_gates.specs.declared.GateList.the-variants.{Good, Bad}
+use Rattle.plan_gates.specs.Gates.{badGate, value}
+use Rattle.plan_gates.specs.Values.{gateListOf, gateWords, Given, ValuedBelow, Fillable}
+use Rattle.plan_gates.proofs.ValueLaws.{value-ext}
+use Rattle.plan_gates.proofs.CodeLaws.{words-valued, words-ext}
+use Rattle.plan_slots.specs.Puts.{filled}
+use Rattle.plan_slots.proofs.PutLaws.{filled-length}
+use Rattle.plan_positions.specs.Input.{input}
 use Rattle.values.specs.Known.{knownPuts, Asked}
 use Rattle.values.specs.Values.{Outcome, bit, refused, pinValue, bitWords, gateValues, lentBits, valued, outcome, bitsAfter, roomAfter}
 use Rattle.values.proofs.KnownLaws.{known-bit, known-look}

@@ -11,11 +11,11 @@ use lib.Dec.{eqb}
 use lib.ListN.{length, List·getD-eq-default}
 use Rattle.words.specs.Bit.{bit, bitAt}
 use Rattle.words.proofs.BitLaws.{bit-zero, at-lt}
-use Rattle.record.specs.Record.{wordAt, layoutOf, positionBase, positionPlace, positionStaged}
-use Rattle.positions.specs.Positions.{Planned}
-use Rattle.positions.specs.Winners.{plannedBy, positionNumber}
-use Rattle.positions.specs.Input.{plannedBit}
-use Rattle.positions.proofs.WinnerLaws.{by-layout, by-position}
+use Rattle.plan_record.specs.Record.{wordAt, layoutOf, positionBase, positionPlace, positionStaged}
+use Rattle.plan_positions.specs.Positions.{Planned}
+use Rattle.plan_positions.specs.Winners.{plannedBy, positionNumber}
+use Rattle.plan_positions.specs.Input.{plannedBit}
+use Rattle.plan_positions.proofs.WinnerLaws.{by-layout, by-position}
 
 -- ---- bits of a state
 

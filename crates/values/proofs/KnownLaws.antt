@@ -17,20 +17,20 @@ use Rattle.pinmap.specs.declared.Found.the-variants.{Value, Missing}
 use Rattle.pinmap.specs.PinMap.{Entry, entry, look, foundOf, putIn, lastPut, lastFrom, afterPuts}
 use Rattle.pinmap.proofs.PinMapLaws.{replaced-same, replaced-other}
 use Rattle.pinmap.proofs.HoldsLaws.{last-snoc, puts-look}
-use Rattle.record.specs.declared.bodies.Body.{Body}
-use Rattle.record.specs.Record.{partsOf, slotAt}
-use Rattle.record.specs.Form.{empty}
-use Rattle.record.specs.Body.{BodyOf}
-use Rattle.record.specs.Tests.{someBelow}
-use Rattle.slots.specs.Slots.{readsPin}
-use Rattle.slots.specs.Puts.{filled}
-use Rattle.slots.proofs.PutLaws.{puts-after, puts-length}
-use Rattle.positions.specs.Positions.{planned}
-use Rattle.positions.specs.Winners.{winner, plannedBy}
-use Rattle.positions.specs.Places.{plannedTable}
-use Rattle.positions.specs.Input.{plannedBit, input}
-use Rattle.positions.proofs.WinnerLaws.{by-none, planned-winner}
-use Rattle.positions.proofs.PlannedLaws.{slot-read, planned-look, planned-length}
+use Rattle.plan_record.specs.declared.bodies.Body.{Body}
+use Rattle.plan_record.specs.Record.{partsOf, slotAt}
+use Rattle.words.specs.Pins.{empty}
+use Rattle.plan_record.specs.Body.{BodyOf}
+use Rattle.words.specs.Tests.{someBelow}
+use Rattle.plan_slots.specs.Slots.{readsPin}
+use Rattle.plan_slots.specs.Puts.{filled}
+use Rattle.plan_slots.proofs.PutLaws.{puts-after, puts-length}
+use Rattle.plan_positions.specs.Positions.{planned}
+use Rattle.plan_positions.specs.Winners.{winner, plannedBy}
+use Rattle.plan_positions.specs.Places.{plannedTable}
+use Rattle.plan_positions.specs.Input.{plannedBit, input}
+use Rattle.plan_positions.proofs.WinnerLaws.{by-none, planned-winner}
+use Rattle.plan_positions.proofs.PlannedLaws.{slot-read, planned-look, planned-length}
 use Rattle.values.specs.Known.{heldBit, foundPut, foundBelow, bitPuts, knownPuts, Clear, Numbered}
 use Rattle.values.proofs.BitLaws.{bit-none, planned-lt}
 

@@ -8,14 +8,15 @@ use Prim.Native.Nat.{ℕ, zero, suc, _+_, _≤_, _<_}
 use lib.Dec.{ltb, eqb}
 use lib.ListN.{length, drop, replicate}
 use Rattle.pinmap.specs.PinMap.{Entry, entry}
-use Rattle.record.specs.declared.bodies.Body.{Body}
-use Rattle.record.specs.Record.{partsOf, slotAt}
-use Rattle.record.specs.Form.{empty, planForm}
-use Rattle.record.specs.Body.{BodyOf}
-use Rattle.gates.specs.Gates.{badGate}
-use Rattle.positions.specs.Positions.{planned}
-use Rattle.positions.specs.Places.{plannedTable}
-use Rattle.positions.specs.Input.{plannedBit}
+use Rattle.plan_record.specs.declared.bodies.Body.{Body}
+use Rattle.plan_record.specs.Record.{partsOf, slotAt}
+use Rattle.words.specs.Pins.{empty}
+use Rattle.plan_record.specs.Form.{planForm}
+use Rattle.plan_record.specs.Body.{BodyOf}
+use Rattle.plan_gates.specs.Gates.{badGate}
+use Rattle.plan_positions.specs.Positions.{planned}
+use Rattle.plan_positions.specs.Places.{plannedTable}
+use Rattle.plan_positions.specs.Input.{plannedBit}
 
 -- the state bit of the pin of a slot: of an empty slot none
 unfoldable pub heldBit : List ℕ → List ℕ → List ℕ → ℕ → Option ℕ

@@ -8,11 +8,12 @@ use Prim.Native.Nat.{ℕ, _+_, _/_}
 use lib.Dec.{leb, eqb}
 use lib.ListN.{length, replicate}
 use lib.Seq.{sets}
-use Rattle.record.specs.Record.{gatesOf}
-use Rattle.record.specs.Form.{empty, roomWords, planForm}
-use Rattle.gates.specs.Gates.{badGate, value}
-use Rattle.gates.specs.Values.{gateWords}
-use Rattle.positions.specs.Input.{input}
+use Rattle.plan_record.specs.Record.{gatesOf}
+use Rattle.words.specs.Pins.{empty}
+use Rattle.plan_record.specs.Form.{roomWords, planForm}
+use Rattle.plan_gates.specs.Gates.{badGate, value}
+use Rattle.plan_gates.specs.Values.{gateWords}
+use Rattle.plan_positions.specs.Input.{input}
 use Rattle.values.specs.declared.Answer.{Answer}
 use Rattle.values.specs.declared.Answer.the-variants.{Bit, Refused}
 

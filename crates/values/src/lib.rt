@@ -5,12 +5,12 @@ ghost use mathlib.Core.Path.{_≡_};
 ghost use lib.ListN.{length, replicate};
 ghost use Rattle.values.specs.Known.{Asked};
 ghost use Rattle.values.specs.Values.{bitWords, pinValue, gateValues, refused, lentBits, outcome, answerOf, bitsAfter, roomAfter};
-use gates::GateList;
-use gates::check_gates;
 use known::fill_known;
-use record::form::plan_form;
-use record::places::room_words;
-use record::places::word_at;
+use plan_gates::GateList;
+use plan_gates::check_gates;
+use plan_record::form::plan_form;
+use plan_record::places::room_words;
+use plan_record::places::word_at;
 use words::clear::clear;
 use words::refusals::GATE_ORDER;
 use words::refusals::PLAN_FORM;
@@ -49,10 +49,10 @@ fn fill_bits(
     ensures { λ _. ⌜ now (bits .exit) ≡ gateValues (now (plan .entry)) part (now (old .entry)) (now (new .entry)) ⌝ }
 {
     fill_known(plan, part, old, new, room);
-    gates::all_values(plan, &room[..32768], bits);
+    plan_gates::all_values(plan, &room[..32768], bits);
     let mut bit = 0;
     if pin.0 != EMPTY_PIN {
-        bit = gates::value(plan, &room[..32768], bits, word_at(plan, 2), pin);
+        bit = plan_gates::value(plan, &room[..32768], bits, word_at(plan, 2), pin);
     }
     clear(room);
     bit

@@ -4,3 +4,6 @@ pub mod PopLaws
 pub mod RoundLaws
 pub mod SectionLaws
 pub mod SumLaws
+pub mod CountLaws
+pub mod TestLaws
+pub mod FoundLaws

@@ -3,3 +3,7 @@ pub mod Bit
 pub mod Section
 pub mod Edition
 pub mod Round
+pub mod Pins
+pub mod Count
+pub mod Tests
+pub mod Found

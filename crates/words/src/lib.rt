@@ -2,6 +2,7 @@
 pub mod bits;
 pub mod clear;
 pub mod edition;
+pub mod found;
 pub mod halves;
 pub mod refusals;
 pub mod round;

@@ -1,7 +1,7 @@
 -- The two answers, by what they tell of the repair.
 -- Assumes nothing.
 use lib.ListN.{length}
-use Rattle.nodes.specs.Outcome.{placed}
+use Rattle.repair_nodes.specs.Outcome.{placed}
 use Rattle.answers.proofs.AnswerLaws.{repair-listed, repair-refused}
 use borrow.Author.Needs.{needs}
 use Rattle.capi.proofs.juolgesot_place_bit.Statement.{statement}

@@ -1,7 +1,7 @@
 -- The two answers, by what they tell of the repair.
 -- Assumes nothing.
 use lib.ListN.{length}
-use Rattle.nodes.specs.Outcome.{cleared}
+use Rattle.repair_nodes.specs.Outcome.{cleared}
 use Rattle.answers.proofs.AnswerLaws.{repair-listed, repair-refused}
 use borrow.Author.Needs.{needs}
 use Rattle.capi.proofs.juolgesot_purge_bit.Statement.{statement}

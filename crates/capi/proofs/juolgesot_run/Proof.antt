@@ -1,7 +1,7 @@
 -- The two answers, by what they tell of the outcome.
 -- Assumes nothing.
 use lib.ListN.{length}
-use Rattle.machine.specs.Run.{outcome}
+use Rattle.run_machine.specs.Run.{outcome}
 use Rattle.answers.proofs.AnswerLaws.{run-left, run-refused}
 use Rattle.capi.proofs.PromisedLaws.{promised, with-last}
 use borrow.Author.Needs.{needs}

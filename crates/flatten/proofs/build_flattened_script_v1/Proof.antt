@@ -3,9 +3,9 @@
 use mathlib.Core.Path.{sym, ap, _∙_}
 use Prim.Native.Nat.{_-_}
 use lib.ListN.{length}
-use Rattle.checks.specs.Refusals.{planVerdict}
+use Rattle.plan_checks.specs.Refusals.{planVerdict}
 use Rattle.flatten.specs.Answers.{flattenedOf}
-use Rattle.assembly.specs.Assembly.{scriptStarts, scriptWords}
+use Rattle.script_assembly.specs.Assembly.{scriptStarts, scriptWords}
 use Rattle.flatten.specs.Flatten.{Build, laid}
 use Rattle.flatten.proofs.AnswerLaws.{accepted-is, sound, refused-sized, refused-built, refused-kept, accepted-building, cleared-room}
 use borrow.Author.Needs.{needs}

@@ -3,7 +3,7 @@
 use mathlib.Core.Path.{sym, ap, _∙_}
 use Prim.Native.Nat.{_-_}
 use lib.ListN.{length}
-use Rattle.checks.specs.Refusals.{planVerdict}
+use Rattle.plan_checks.specs.Refusals.{planVerdict}
 use Rattle.flatten.specs.Answers.{flattenedOf}
 use Rattle.flatten.proofs.AnswerLaws.{accepted-is, sound, refused-sized, accepted-sizing, cleared-room}
 use borrow.Author.Needs.{needs}

@@ -4,7 +4,7 @@ use mathlib.Core.Path.{_≡_, sym, ap, _∙_}
 use Prim.Native.Nat.{_-_, _≤_}
 use native.Mathlib.Omega.{arith}
 use borrow.Author.Needs.{needs}
-use Rattle.record.specs.Tests.{firstFrom}
+use Rattle.words.specs.Tests.{firstFrom}
 use Rattle.gatelist.specs.GateList.{beforeOver}
 use Rattle.gatelist.specs.Words.{listPin, wholeGates, allGates, listRight, badList, formOf}
 use Rattle.gatelist.proofs.GateListLaws.{before-first, before-next}

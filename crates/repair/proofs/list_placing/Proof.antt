@@ -1,15 +1,15 @@
 -- `repair::list_placing` meets its contract: a judged node is at its level or above it.
 -- Assumes nothing.
 use native.Mathlib.Omega.{arith}
-use Rattle.nodes.proofs.JudgeLaws.{judged-known}
+use Rattle.repair_nodes.proofs.JudgeLaws.{judged-known}
 use borrow.Author.Needs.{needs}
 use Rattle.repair.proofs.list_placing.Statement.{statement}
 use Rattle.repair.proofs.list_placing.Tie as tie
 use Rattle.repair.proofs.list_placing.Reads as reads
 use Rattle.repair.proofs.list_placing.Lts as lts
-use Rattle.subtree.proofs.carry_down.Reads as carry-down-reads
-use Rattle.subtree.proofs.level_of.Reads as level-of-reads
-use Rattle.subtree.proofs.split_gate.Reads as split-gate-reads
+use Rattle.repair_subtree.proofs.carry_down.Reads as carry-down-reads
+use Rattle.repair_subtree.proofs.level_of.Reads as level-of-reads
+use Rattle.repair_subtree.proofs.split_gate.Reads as split-gate-reads
 
 level-of-requires : tie.Need-level-of-requires
 level-of-requires c κs =

@@ -1,7 +1,7 @@
 -- `repair::place_at` meets its contract: each way through has its outcome.
 -- Assumes nothing.
 use native.Mathlib.Omega.{arith}
-use Rattle.settle.proofs.EndLaws.{refused-end}
+use Rattle.repair_settle.proofs.EndLaws.{refused-end}
 use Rattle.repair.proofs.CodeLaws.{at-24, at-25, at-26, at-judged, at-placed}
 use borrow.Author.Needs.{needs}
 use Rattle.repair.proofs.place_at.Statement.{statement}
@@ -10,9 +10,9 @@ use Rattle.repair.proofs.place_at.Reads as reads
 use Rattle.repair.proofs.place_at.Lts as lts
 use Rattle.repair.proofs.place_node.Reads as place-node-reads
 use Rattle.repair.proofs.place_of.Reads as place-of-reads
-use Rattle.settle.proofs.refused.Reads as refused-reads
-use Rattle.subtree.proofs.judge.Reads as judge-reads
-use Rattle.subtree.proofs.subtree_empty.Reads as subtree-empty-reads
+use Rattle.repair_settle.proofs.refused.Reads as refused-reads
+use Rattle.repair_subtree.proofs.judge.Reads as judge-reads
+use Rattle.repair_subtree.proofs.subtree_empty.Reads as subtree-empty-reads
 
 place-of-requires : tie.Need-place-of-requires
 place-of-requires c κs = search needs

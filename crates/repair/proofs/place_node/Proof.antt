@@ -5,8 +5,8 @@ use Prim.Native.Nat.{ℕ, _*_}
 use native.Mathlib.Omega.{arith}
 use lib.ListN.{replicate, length-replicate}
 use lib.Seq.{length-take-le}
-use Rattle.nodes.specs.Placing.{placing}
-use Rattle.settle.proofs.SpotLaws.{placing-sound}
+use Rattle.repair_nodes.specs.Placing.{placing}
+use Rattle.repair_settle.proofs.SpotLaws.{placing-sound}
 use Rattle.repair.proofs.CodeLaws.{placing-few, list-size, list-spots, list-spotted}
 use borrow.Author.Needs.{needs}
 use Rattle.repair.proofs.place_node.Statement.{statement}
@@ -14,7 +14,7 @@ use Rattle.repair.proofs.place_node.Tie as tie
 use Rattle.repair.proofs.place_node.Reads as reads
 use Rattle.repair.proofs.place_node.Lts as lts
 use Rattle.repair.proofs.list_placing.Reads as list-placing-reads
-use Rattle.settle.proofs.place_spots.Reads as place-spots-reads
+use Rattle.repair_settle.proofs.place_spots.Reads as place-spots-reads
 
 slice-aggregate-list-placing : tie.Need-slice-aggregate-list-placing
 slice-aggregate-list-placing c = search needs

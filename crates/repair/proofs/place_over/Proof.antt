@@ -4,10 +4,10 @@ use mathlib.Core.Path.{sym, _∙_}
 use Prim.Native.Nat.{_^_, _≤_}
 use native.Mathlib.Omega.{arith}
 use lib.ListN.{length}
-use Rattle.nodes.specs.Counts.{countsRight}
-use Rattle.nodes.specs.Outcome.{placeRight}
-use Rattle.tally.proofs.StepLaws.{told-true, told-false}
-use Rattle.settle.proofs.EndLaws.{refused-end}
+use Rattle.repair_nodes.specs.Counts.{countsRight}
+use Rattle.repair_nodes.specs.Outcome.{placeRight}
+use Rattle.repair_tally.proofs.StepLaws.{told-true, told-false}
+use Rattle.repair_settle.proofs.EndLaws.{refused-end}
 use Rattle.repair.proofs.FormLaws.{entered-true, entered-false}
 use Rattle.repair.proofs.OutcomeLaws.{place-5, place-6, place-on}
 use Rattle.repair.proofs.WholeLaws.{place-parts, form-pin, form-place, form-counts, form-right, list-good, list-bad}
@@ -19,8 +19,8 @@ use Rattle.repair.proofs.place_over.Lts as lts
 use Rattle.gatelist.proofs.check_list.Reads as check-list-reads
 use Rattle.repair.proofs.place_at.Reads as place-at-reads
 use Rattle.repair.proofs.place_form.Reads as place-form-reads
-use Rattle.settle.proofs.refused.Reads as refused-reads
-use Rattle.tally.proofs.check_counts.Reads as check-counts-reads
+use Rattle.repair_settle.proofs.refused.Reads as refused-reads
+use Rattle.repair_tally.proofs.check_counts.Reads as check-counts-reads
 
 refused-requires : tie.Need-refused-requires
 refused-requires c κs = search needs

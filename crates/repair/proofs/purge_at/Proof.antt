@@ -6,8 +6,8 @@ use Prim.Native.Nat.{ℕ, _*_, _≤_}
 use native.Mathlib.Omega.{arith}
 use lib.ListN.{replicate, length-replicate}
 use lib.Seq.{length-take-le}
-use Rattle.nodes.specs.Clearing.{clearing}
-use Rattle.settle.proofs.SpotLaws.{clearing-sound}
+use Rattle.repair_nodes.specs.Clearing.{clearing}
+use Rattle.repair_settle.proofs.SpotLaws.{clearing-sound}
 use Rattle.repair.proofs.CodeLaws.{clearing-few, list-size, list-spots, list-spotted, small-default, at-cleared}
 use borrow.Author.Needs.{needs}
 use Rattle.repair.proofs.purge_at.Statement.{statement}
@@ -15,8 +15,8 @@ use Rattle.repair.proofs.purge_at.Tie as tie
 use Rattle.repair.proofs.purge_at.Reads as reads
 use Rattle.repair.proofs.purge_at.Lts as lts
 use Rattle.repair.proofs.place_of.Reads as place-of-reads
-use Rattle.settle.proofs.purge_spots.Reads as purge-spots-reads
-use Rattle.subtree.proofs.list_reached.Reads as list-reached-reads
+use Rattle.repair_settle.proofs.purge_spots.Reads as purge-spots-reads
+use Rattle.repair_subtree.proofs.list_reached.Reads as list-reached-reads
 
 slice-aggregate-list-reached : tie.Need-slice-aggregate-list-reached
 slice-aggregate-list-reached c = search needs

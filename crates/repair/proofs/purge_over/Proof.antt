@@ -2,10 +2,10 @@
 -- Assumes nothing.
 use mathlib.Core.Path.{sym, _∙_}
 use lib.ListN.{length}
-use Rattle.nodes.specs.Counts.{countsRight}
-use Rattle.nodes.specs.Outcome.{placeRight}
-use Rattle.tally.proofs.StepLaws.{told-true, told-false}
-use Rattle.settle.proofs.EndLaws.{refused-end}
+use Rattle.repair_nodes.specs.Counts.{countsRight}
+use Rattle.repair_nodes.specs.Outcome.{placeRight}
+use Rattle.repair_tally.proofs.StepLaws.{told-true, told-false}
+use Rattle.repair_settle.proofs.EndLaws.{refused-end}
 use Rattle.repair.proofs.FormLaws.{entered-true, entered-false}
 use Rattle.repair.proofs.OutcomeLaws.{clear-5, clear-on}
 use Rattle.repair.proofs.WholeLaws.{place-parts, both-place, both-counts, both-right}
@@ -16,8 +16,8 @@ use Rattle.repair.proofs.purge_over.Reads as reads
 use Rattle.repair.proofs.purge_over.Lts as lts
 use Rattle.repair.proofs.place_form.Reads as place-form-reads
 use Rattle.repair.proofs.purge_at.Reads as purge-at-reads
-use Rattle.settle.proofs.refused.Reads as refused-reads
-use Rattle.tally.proofs.check_counts.Reads as check-counts-reads
+use Rattle.repair_settle.proofs.refused.Reads as refused-reads
+use Rattle.repair_tally.proofs.check_counts.Reads as check-counts-reads
 
 place-form-requires : tie.Need-place-form-requires
 place-form-requires c κs = search needs

@@ -8,7 +8,7 @@ use lib.ListN.{length}
 use Rattle.reads.specs.ReadSet.{pairsOf, broken}
 use Rattle.reads.specs.Search.{longest}
 use Rattle.reads.proofs.OutcomeLaws.{placed-sound}
-use Rattle.readout.proofs.FormLaws.{form-bad, form-good}
+use Rattle.reads_section.proofs.FormLaws.{form-bad, form-good}
 use Rattle.rounds.specs.Rounds.{Searchable}
 use Rattle.rounds.proofs.OutcomeLaws.{is-many, is-bad, is-none, is-stuck, is-packed, is-short, is-placed, refused-post, placed-post, searchable, lost, Win, won, size-fits}
 use borrow.Author.Needs.{needs}

@@ -6,7 +6,7 @@ use Prim.Native.Nat.{_≤_, _<_}
 use native.Mathlib.Omega.{arith}
 use borrow.Author.Tests.{not-true, not-false}
 use lib.ListN.{length}
-use Rattle.record.specs.Form.{roomWords, planForm}
+use Rattle.plan_record.specs.Form.{roomWords, planForm}
 use Rattle.values.specs.Values.{Outcome, answerOf, bitsAfter}
 use Rattle.values.proofs.AnswerLaws.{list-good, list-bad, out-short, out-form, out-gate, out-lent, bits-kept, room-short, room-zeros, room-again, room-asked}
 use borrow.Author.Needs.{needs}

@@ -3,9 +3,9 @@
 use mathlib.Core.Path.{_≡_, ap, _∙_}
 use Prim.Native.Nat.{_*_, _-_, _≤_}
 use native.Mathlib.Omega.{arith}
-use Rattle.assembly.specs.Steps.{emptyBlocks}
+use Rattle.script_assembly.specs.Steps.{emptyBlocks}
 use Rattle.flatten.proofs.SizeLaws.{majors-few, empty-none, empty-more}
-use Rattle.record.specs.Record.{majorsOf}
+use Rattle.plan_record.specs.Record.{majorsOf}
 use borrow.Author.Needs.{needs}
 use Rattle.flatten.proofs.sizes.empty_blocks.Statement.{statement}
 use Rattle.flatten.proofs.sizes.empty_blocks.Tie as tie

@@ -4,10 +4,10 @@ use mathlib.Core.Path.{_≡_, ap, _∙_}
 use Prim.Native.Nat.{_+_, _*_, _-_, _≤_}
 use native.Mathlib.Omega.{arith}
 use Rattle.words.specs.Sum.{sumTo}
-use Rattle.assembly.specs.Steps.{lengthOf}
-use Rattle.layout.proofs.RowLaws.{parts-few}
+use Rattle.script_assembly.specs.Steps.{lengthOf}
+use Rattle.script_layout.proofs.RowLaws.{parts-few}
 use Rattle.flatten.proofs.SizeLaws.{majors-few, parts-none, parts-next}
-use Rattle.record.specs.Record.{partsOf}
+use Rattle.plan_record.specs.Record.{partsOf}
 use borrow.Author.Needs.{needs}
 use Rattle.flatten.proofs.sizes.parts_words.Statement.{statement}
 use Rattle.flatten.proofs.sizes.parts_words.Tie as tie

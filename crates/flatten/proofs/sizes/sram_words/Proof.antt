@@ -1,7 +1,7 @@
 -- `flatten::sizes::sram_words` meets its contract: a column of the part table, summed.
 -- Assumes nothing.
 use native.Mathlib.Omega.{arith}
-use Rattle.parttable.proofs.WholeLaws.{parts-few, rows-inside, sram-sum}
+use Rattle.plan_table.proofs.WholeLaws.{parts-few, rows-inside, sram-sum}
 use Rattle.flatten.proofs.SizeLaws.{majors-few, tallied}
 use borrow.Author.Needs.{needs}
 use Rattle.flatten.proofs.sizes.sram_words.Statement.{statement}

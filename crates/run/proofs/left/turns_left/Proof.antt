@@ -4,7 +4,7 @@ use mathlib.Core.Path.{_≡_, ap, _∙_}
 use Prim.Native.Nat.{ℕ, _+_, _-_, _≤_}
 use native.Mathlib.Nat.{zero-add, sub-zero}
 use native.Mathlib.Omega.{arith}
-use Rattle.machine.specs.Run.{allLeft}
+use Rattle.run_machine.specs.Run.{allLeft}
 use Rattle.run.specs.States.{blocksIn}
 use Rattle.run.proofs.StateLaws.{lent-room}
 use Rattle.run.proofs.TakingLaws.{room-good}

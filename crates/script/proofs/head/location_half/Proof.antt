@@ -3,7 +3,7 @@
 use mathlib.Core.Path.{ap₂, _∙_}
 use Prim.Native.Nat.{ℕ, _+_, _*_, _<_}
 use native.Mathlib.Omega.{arith}
-use Rattle.record.specs.Record.{locationsOf}
+use Rattle.plan_record.specs.Record.{locationsOf}
 use Rattle.script.proofs.HeadLaws.{half-within, half-past}
 use borrow.Author.Needs.{needs}
 use Rattle.script.proofs.head.location_half.Statement.{statement}

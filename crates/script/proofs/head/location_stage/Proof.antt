@@ -6,7 +6,7 @@ use native.Mathlib.Omega.{arith}
 use borrow.Author.Needs.{needs}
 use Rattle.words.specs.Sum.{sumTo}
 use Rattle.words.proofs.SumLaws.{sum-more}
-use Rattle.record.specs.Record.{stageLocations}
+use Rattle.plan_record.specs.Record.{stageLocations}
 use Rattle.script.proofs.HeadLaws.{endedBy, ended-more, stage-is}
 use Rattle.script.proofs.head.location_stage.Statement.{statement}
 use Rattle.script.proofs.head.location_stage.Tie as tie

@@ -1,0 +1,77 @@
+-- `aiger_read::lists::judge` meets its contract. The invariant: what the gates from here on are judged is what all are. Assumes nothing.
+use mathlib.Core.Path.{sym, _∙_, _≡_}
+use Prim.Native.Nat.{_+_, _^_, _≤_}
+use native.Mathlib.Omega.{arith}
+use borrow.Author.Needs.{needs}
+use Rattle.aiger.specs.Reading.{gatesFrom}
+use Rattle.aiger_read.specs.Told.{judgedOf}
+use Rattle.aiger_read.proofs.ListLaws.{judged-next, judged-bad, judged-end}
+use Rattle.aiger_read.proofs.lists.judge.Statement.{statement}
+use Rattle.aiger_read.proofs.lists.judge.Tie as tie
+
+abbrev Inv-loop : tie.InvT-loop
+Inv-loop bytes gates at left₀ pin₀ i₀ left pin i = (pin + left ≤ 2 ^ 30 + 1) × (judgedOf (gatesFrom bytes left pin i) ≡ judgedOf (gatesFrom bytes gates pin₀ at))
+
+abbrev μ-loop : tie.MeasureT-loop
+μ-loop bytes gates at left₀ pin₀ i₀ left pin i = left
+
+loop-holds : tie.Need-loop-holds Inv-loop μ-loop
+loop-holds c = search needs
+
+gate-at-requires : tie.Need-gate-at-requires Inv-loop μ-loop
+gate-at-requires c κs = search needs
+
+enum-known-next : tie.Need-enum-known-next Inv-loop μ-loop
+enum-known-next c = search needs
+
+add-pin : tie.Need-add-pin Inv-loop μ-loop
+add-pin c = search needs
+
+sub-left : tie.Need-sub-left Inv-loop μ-loop
+sub-left c = search needs
+
+loop-less : tie.Need-loop-less Inv-loop μ-loop
+loop-less c = search needs
+
+loop-again : tie.Need-loop-again Inv-loop μ-loop
+loop-again c =
+    let value = c .before in
+    let gate = value .before .before in
+    let loop = gate .before .before in
+    let start = loop .before .before in
+    let on = judged-next (start .args .bytes .now) (loop .loop .left) (loop .loop .pin) _ (gate .before .loop-test .taken) _ _ _ _ (gate .gate-at .ensures) (value .next .given .1) in
+    (omega (arith, loop .loop .inv .0), sym on ∙ loop .loop .inv .1)
+
+enum-known-n : tie.Need-enum-known-n Inv-loop μ-loop
+enum-known-n c = search needs
+
+returns : tie.Need-returns Inv-loop μ-loop
+returns c =
+    let value = c .before in
+    let gate = value .before .before in
+    let loop = gate .before .before in
+    let start = loop .before .before in
+    judged-bad (start .args .bytes .now) (loop .loop .left) (loop .loop .pin) _ (gate .before .loop-test .taken) _ _ (gate .gate-at .ensures) (value .n .given .1) ∙ loop .loop .inv .1
+
+returns-2 : tie.Need-returns-2 Inv-loop μ-loop
+returns-2 c =
+    let loop = c .before in
+    let start = loop .before .before in
+    judged-end (start .args .bytes .now) (loop .loop .left) (loop .loop .pin) _ (omega (arith, c .loop-test .left)) ∙ loop .loop .inv .1
+
+pub judge-spec : {M : Type 1} → statement M
+judge-spec =
+    tie.close
+    (tie.spec
+    Inv-loop
+    μ-loop
+    loop-holds
+    gate-at-requires
+    enum-known-next
+    add-pin
+    sub-left
+    loop-less
+    loop-again
+    enum-known-n
+    returns
+    returns-2)

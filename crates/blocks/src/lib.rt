@@ -1,3 +1,0 @@
-// Parts to blocks, and what their starts and the part table are; `parttable` writes the table. Document 01, "Blocks and offsets".
-pub mod costs;
-pub mod firsts;

@@ -1,5 +1,0 @@
-pub mod AnswerLaws
-pub mod CollectLaws
-pub mod CountLaws
-pub mod KeyLaws
-pub mod PartLaws

@@ -1,0 +1,61 @@
+-- The order of a plan's refusals: document 01, "Numbered refusals". n is the number of lanes.
+-- Assumes nothing.
+use mathlib.Core.Bool.{Bool, true, false}
+use mathlib.Core.Option.{Option, none, some}
+use mathlib.Core.List.{List}
+use Prim.Native.Nat.{ℕ}
+use lib.Dec.{leb}
+use Rattle.words.specs.Tests.{Place}
+use Rattle.plan_record.specs.Form.{planForm, roomWords}
+use Rattle.plan_gates.specs.Gates.{badGate}
+use Rattle.plan_counts.specs.Counts.{refusal7}
+use Rattle.plan_blocks.specs.Blocks.{totalsFit}
+use Rattle.plan_slots.specs.Slots.{refusal9, refusal10, refusal11}
+use Rattle.plan_positions.specs.Positions.{refusal12, refusal13}
+use Rattle.plan_reads.specs.PartReads.{refusedReads}
+
+-- ---- "A plan: 5 to 13, each over the whole plan before the next, then 3, 4, 14."
+
+-- a refusal: its number, and its place
+pub record Refused : Type 0 where
+  pub number : ℕ
+  pub part : ℕ
+  pub item : ℕ
+
+abbrev pub at : ℕ → Place → Refused
+at k q = record { number = k; part = q .part; item = q .item }
+
+abbrev pub nowhere : ℕ → Refused
+nowhere k = record { number = k; part = 0; item = 0 }
+
+-- a refusal if a test gives a place, else what comes after it
+abbrev pub orElse : ℕ → Option Place → Option Refused → Option Refused
+orElse k none r = r
+orElse k (some q) r = some (at k q)
+
+abbrev pub unless : ℕ → Bool → Option Refused → Option Refused
+unless k true r = r
+unless k false r = some (nowhere k)
+
+abbrev pub gatePlace : Option ℕ → Option Place
+gatePlace none = none
+gatePlace (some g) = some (record { part = 0; item = g })
+
+-- what a plan is refused with, but for room
+unfoldable pub planRefusal : ℕ → List ℕ → Option Refused
+planRefusal n d =
+    unless 5 (planForm d)
+    (orElse 6 (gatePlace (badGate d))
+    (orElse 7 (refusal7 d)
+    (unless 8 (totalsFit d)
+    (orElse 9 (refusal9 d)
+    (orElse 10 (refusal10 d)
+    (orElse 11 (refusal11 d)
+    (orElse 12 (refusal12 d)
+    (orElse 13 (refusal13 d)
+    (orElse 3 (refusedReads n 3 d)
+    (orElse 4 (refusedReads n 4 d) none))))))))))
+
+-- "working room too short; before all others": a room of r words
+unfoldable pub planVerdict : ℕ → List ℕ → ℕ → Option Refused
+planVerdict n d r = elim (leb (roomWords d) r) [ true ↦ planRefusal n d | false ↦ some (nowhere 32) ]

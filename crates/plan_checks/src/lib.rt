@@ -1,0 +1,75 @@
+// The refusals of a plan, in their order: document 01, "Numbered refusals".
+pub mod lists;
+pub mod pins;
+pub mod places;
+pub mod reading;
+pub mod tell;
+
+ghost use mathlib.Core.Path.{_≡_};
+ghost use mathlib.Core.Option.{none};
+ghost use lib.ListN.{length};
+ghost use Rattle.plan_checks.specs.Refusals.{planRefusal, planVerdict};
+ghost use Rattle.plan_checks.specs.Verdicts.{verdictOf};
+ghost use Rattle.plan_checks.specs.Ready.{Ready, Cleared, readyRoom, roomLeft};
+use lists::check_lists;
+use lists::check_totals;
+use pins::check_pins;
+use places::check_places;
+use plan_record::places::room_words;
+use reading::check_reading;
+use tell::is_refused;
+use words::clear::clear;
+use words::refusals::ROOM_SHORT;
+use words::refusals::Refusal;
+
+// A plan is accepted, or refused: with its first refusal.
+pub enum Verdict {
+    Accepted,
+    Refused(Refusal),
+}
+
+// All refusals but for room. What the room of a refused plan holds is left open.
+fn check_all(plan: &[u8], room: &mut [u32]) -> Verdict
+    requires { ⌜ Cleared (now plan) (now room) ⌝ }
+    ensures { λ r. ⌜ r ≡ verdictOf (planRefusal 256 (now (plan .entry))) ⌝ }
+    ensures { λ _. ⌜ (planRefusal 256 (now (plan .entry)) ≡ none → now (room .exit) ≡ readyRoom (now (plan .entry)) (length (now (room .entry)))) ⌝ }
+{
+    let lists = check_lists(plan);
+    if is_refused(lists) {
+        return lists;
+    }
+    let totals = check_totals(plan, room);
+    if is_refused(totals) {
+        return totals;
+    }
+    let pins = check_pins(plan, room);
+    if is_refused(pins) {
+        return pins;
+    }
+    let places = check_places(plan, room);
+    if is_refused(places) {
+        return places;
+    }
+    check_reading(plan, room)
+}
+
+// Checks a plan. Once it is accepted, the room has its part table; once it is refused, the room is clear, unless it was too short.
+pub fn check_plan(plan: &[u8], room: &mut [u32]) -> Verdict
+    ensures { λ r. ⌜ r ≡ verdictOf (planVerdict 256 (now (plan .entry)) (length (now (room .entry)))) ⌝ }
+    ensures { λ _. ⌜ now (room .exit) ≡ roomLeft (now (plan .entry)) (now (room .entry)) ⌝ }
+    ensures { λ _. ⌜ (planVerdict 256 (now (plan .entry)) (length (now (room .entry))) ≡ none → Ready (now (plan .entry)) (now (room .exit))) ⌝ }
+{
+    if room.len() < room_words(plan) {
+        return Verdict::Refused(Refusal {
+            number: ROOM_SHORT,
+            part: 0,
+            item: 0,
+        });
+    }
+    clear(room);
+    let verdict = check_all(plan, room);
+    if is_refused(verdict) {
+        clear(room);
+    }
+    verdict
+}

@@ -1,0 +1,41 @@
+// Refusals 5, 6 and 7, and 8 with the part table.
+ghost use mathlib.Core.Path.{_≡_};
+ghost use Rattle.plan_blocks.specs.Fill.{Fillable, allottedRoom};
+ghost use Rattle.plan_checks.specs.Steps.{listRefusal, totalRefusal};
+ghost use Rattle.plan_checks.specs.Verdicts.{verdictOf};
+use crate::Verdict;
+use crate::tell::is_refused;
+use crate::tell::of_gates;
+use crate::tell::of_lowest;
+use crate::tell::of_test;
+use plan_counts::check_counts;
+use plan_gates::check_gates;
+use plan_record::form::plan_form;
+use plan_table::table::allot;
+use words::refusals::PLAN_FORM;
+use words::refusals::TOTALS;
+use words::refusals::WRITE_OUTS;
+
+// Refusals 5, 6 and 7.
+pub fn check_lists(plan: &[u8]) -> Verdict
+    ensures { λ r. ⌜ r ≡ verdictOf (listRefusal (now (plan .entry))) ⌝ }
+{
+    let form = of_test(PLAN_FORM, plan_form(plan));
+    if is_refused(form) {
+        return form;
+    }
+    let gates = of_gates(check_gates(plan));
+    if is_refused(gates) {
+        return gates;
+    }
+    of_lowest(WRITE_OUTS, check_counts(plan))
+}
+
+// Refusal 8.
+pub fn check_totals(plan: &[u8], room: &mut [u32]) -> Verdict
+    requires { ⌜ Fillable (now plan) (now room) ⌝ }
+    ensures { λ r. ⌜ r ≡ verdictOf (totalRefusal (now (plan .entry))) ⌝ }
+    ensures { λ _. ⌜ now (room .exit) ≡ allottedRoom (now (plan .entry)) (now (room .entry)) ⌝ }
+{
+    of_test(TOTALS, allot(plan, room))
+}

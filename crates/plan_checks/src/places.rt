@@ -1,0 +1,25 @@
+// Refusals 12 and 13.
+ghost use mathlib.Core.Path.{_≡_};
+ghost use Rattle.plan_positions.specs.Places.{Judgeable};
+ghost use Rattle.plan_checks.specs.Steps.{placeRefusal};
+ghost use Rattle.plan_checks.specs.Verdicts.{verdictOf};
+use crate::Verdict;
+use crate::tell::is_refused;
+use crate::tell::of_lowest;
+use plan_positions::planned::refusal12;
+use plan_positions::tables::refusal13;
+use words::refusals::NO_POSITION;
+use words::refusals::TABLE_ENTRY;
+
+// Refusals 12 and 13. The room has the part table.
+pub fn check_places(plan: &[u8], room: &mut [u32]) -> Verdict
+    requires { ⌜ Judgeable (now plan) (now room) ⌝ }
+    ensures { λ r. ⌜ r ≡ verdictOf (placeRefusal (now (plan .entry))) ⌝ }
+    ensures { λ _. ⌜ now (room .exit) ≡ now (room .entry) ⌝ }
+{
+    let planned = of_lowest(NO_POSITION, refusal12(plan, room));
+    if is_refused(planned) {
+        return planned;
+    }
+    of_lowest(TABLE_ENTRY, refusal13(plan))
+}

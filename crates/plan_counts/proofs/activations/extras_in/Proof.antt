@@ -1,0 +1,78 @@
+-- What is found, and the extras from here on, are those of the list.
+-- Assumes nothing.
+use mathlib.Core.Path.{_≡_}
+use Prim.Native.Nat.{_+_, _-_, _≤_}
+use native.Mathlib.Omega.{arith}
+use lib.ListN.{length, drop}
+use Rattle.plan_counts.specs.Steps.{extras}
+use Rattle.plan_counts.proofs.KeyLaws.{extras-more, extras-end}
+use borrow.Author.Needs.{needs}
+use Rattle.plan_counts.proofs.activations.extras_in.Statement.{statement}
+use Rattle.plan_counts.proofs.activations.extras_in.Tie as tie
+
+abbrev Inv-loop : tie.InvT-loop
+Inv-loop keys found₀ i₀ found i = (i ≤ length keys) × (found ≤ i) × (found + extras (drop i keys) ≡ extras keys)
+
+abbrev μ-loop : tie.MeasureT-loop
+μ-loop keys found₀ i₀ found i = length keys - i
+
+loop-holds : tie.Need-loop-holds Inv-loop μ-loop
+loop-holds c = search needs
+
+add-loop : tie.Need-add-loop Inv-loop μ-loop
+add-loop c = search needs
+
+mul-extra-of : tie.Need-mul-extra-of Inv-loop μ-loop
+mul-extra-of c = search needs
+
+shared-slice-read-extra-of : tie.Need-shared-slice-read-extra-of Inv-loop μ-loop
+shared-slice-read-extra-of c = search needs
+
+add-extra-of : tie.Need-add-extra-of Inv-loop μ-loop
+add-extra-of c = search needs
+
+mul-extra-of-2 : tie.Need-mul-extra-of-2 Inv-loop μ-loop
+mul-extra-of-2 c = search needs
+
+shared-slice-read-extra-of-2 : tie.Need-shared-slice-read-extra-of-2 Inv-loop μ-loop
+shared-slice-read-extra-of-2 c = search needs
+
+extra-of-requires : tie.Need-extra-of-requires Inv-loop μ-loop
+extra-of-requires c κs = search needs
+
+add-found : tie.Need-add-found Inv-loop μ-loop
+add-found c = search needs
+
+add-i : tie.Need-add-i Inv-loop μ-loop
+add-i c = search needs
+
+loop-less : tie.Need-loop-less Inv-loop μ-loop
+loop-less c = search needs
+
+loop-again : tie.Need-loop-again Inv-loop μ-loop
+loop-again c =
+    let a = c .before .before .before in
+    (omega arith, omega arith, omega (arith, extras-more (a .before .before .before .args .keys .now) (a .before .loop .i) (a .loop-test .taken), c .extra-of .ensures .0))
+
+returns : tie.Need-returns Inv-loop μ-loop
+returns c = omega (arith, extras-end (c .before .before .before .args .keys .now) (c .before .loop .i) (c .loop-test .left))
+
+pub extras-in-spec : {M : Type 1} → statement M
+extras-in-spec =
+    tie.close
+    (tie.spec
+    Inv-loop
+    μ-loop
+    loop-holds
+    add-loop
+    mul-extra-of
+    shared-slice-read-extra-of
+    add-extra-of
+    mul-extra-of-2
+    shared-slice-read-extra-of-2
+    extra-of-requires
+    add-found
+    add-i
+    loop-less
+    loop-again
+    returns)

@@ -1,0 +1,76 @@
+-- `plan_gates::check_gates` meets its contract. The loop's invariant: the answer from gate g on is the answer, and `before` is the pin before it.
+-- Assumes nothing.
+use mathlib.Core.Path.{_≡_, sym, ap, _∙_}
+use Prim.Native.Nat.{_-_, _≤_}
+use native.Mathlib.Omega.{arith}
+use borrow.Author.Needs.{needs}
+use Rattle.plan_record.specs.Record.{gatesOf}
+use Rattle.words.specs.Tests.{firstFrom}
+use Rattle.words.proofs.TestLaws.{first-fault, first-next, first-end}
+use Rattle.plan_gates.specs.Gates.{pinBefore, gateRight, badGate}
+use Rattle.plan_gates.specs.Values.{gateListOf}
+use Rattle.plan_gates.proofs.GateLaws.{before-first, before-next, bad-from}
+use Rattle.plan_gates.proofs.check_gates.Statement.{statement}
+use Rattle.plan_gates.proofs.check_gates.Tie as tie
+
+abbrev Inv-loop : tie.InvT-loop
+Inv-loop d gates before₀ g₀ before g =
+    (g ≤ gatesOf d) × (before .0 ≡ pinBefore d g) × (firstFrom (gateRight d) (gatesOf d - g) g ≡ badGate d)
+
+abbrev μ-loop : tie.MeasureT-loop
+μ-loop d gates before₀ g₀ before g = gates - g
+
+word-at-requires : tie.Need-word-at-requires Inv-loop μ-loop
+word-at-requires c κs = search needs
+
+loop-holds : tie.Need-loop-holds Inv-loop μ-loop
+loop-holds c = (omega arith, sym (before-first _), bad-from _)
+
+gate-right-requires : tie.Need-gate-right-requires Inv-loop μ-loop
+gate-right-requires c κs = search needs
+
+gate-pin-requires : tie.Need-gate-pin-requires Inv-loop μ-loop
+gate-pin-requires c κs = search needs
+
+add-g : tie.Need-add-g Inv-loop μ-loop
+add-g c = search needs
+
+loop-less : tie.Need-loop-less Inv-loop μ-loop
+loop-less c = search needs
+
+loop-again : tie.Need-loop-again Inv-loop μ-loop
+loop-again c =
+    let t = c .before in
+    let l = t .before .before .before in
+    let d = l .before .before .before .args .d .now in
+    let e = sym (t .before .gate-right .ensures) ∙ t .if1 .taken in
+    (omega arith, c .gate-pin .ensures ∙ sym (before-next d (l .loop .g)), sym (first-next (gateRight d) _ (l .loop .g) (omega arith) e) ∙ l .loop .inv .2)
+
+returns : tie.Need-returns Inv-loop μ-loop
+returns c =
+    let l = c .before .before .before in
+    let d = l .before .before .before .args .d .now in
+    let e = sym (c .before .gate-right .ensures) ∙ c .if1 .left in
+    ap gateListOf (sym (first-fault (gateRight d) _ (l .loop .g) (omega arith) e) ∙ l .loop .inv .2)
+
+returns-2 : tie.Need-returns-2 Inv-loop μ-loop
+returns-2 c =
+    let l = c .before in
+    let d = l .before .before .before .args .d .now in
+    ap gateListOf (sym (first-end (gateRight d) (gatesOf d) (l .loop .g) (omega arith)) ∙ l .loop .inv .2)
+
+pub check-gates-spec : {M : Type 1} → statement M
+check-gates-spec =
+    tie.close
+    (tie.spec
+    Inv-loop
+    μ-loop
+    word-at-requires
+    loop-holds
+    gate-right-requires
+    gate-pin-requires
+    add-g
+    loop-less
+    loop-again
+    returns
+    returns-2)

@@ -1,0 +1,43 @@
+-- An empty slot; a pin whose entry the table has.
+-- Assumes nothing.
+use mathlib.Core.Path.{sym, _∙_}
+use native.Mathlib.Omega.{arith}
+use borrow.Author.Needs.{needs}
+use Rattle.plan_positions.proofs.PlannedLaws.{slot-empty, slot-there, slot-by}
+use Rattle.plan_positions.proofs.planned.slot_right.Statement.{statement}
+use Rattle.plan_positions.proofs.planned.slot_right.Tie as tie
+
+add-slot : tie.Need-add-slot
+add-slot c = search needs
+
+slot-requires : tie.Need-slot-requires
+slot-requires c κs = search needs
+
+returns : tie.Need-returns
+returns c =
+    let o = c .before .before .before .before .args in
+    slot-empty (o .d .now) (o .p) (o .j) (sym (c .before .slot .ensures) ∙ c .if1 .taken)
+
+pin-right-requires : tie.Need-pin-right-requires
+pin-right-requires c κs =
+    let a = c .before in
+    let s = a .before .before .before in
+    let o = s .args in
+    (s .pre .0 .searched, s .pre .0 .wide, slot-there (o .d .now) (o .p) (o .body) (o .room .now) (o .state) (o .n) (s .pre .0) (o .j) (a .slot .result) (s .pre .1) (a .slot .ensures) (c .if1 .left) (omega arith))
+
+returns-2 : tie.Need-returns-2
+returns-2 c =
+    let a = c .before .before in
+    let s = a .before .before .before in
+    let o = s .args in
+    slot-by (o .d .now) (o .p) (o .body) (o .room .now) (o .state) (o .n) (s .pre .0) (o .j) (a .slot .result) _ (a .slot .ensures) (c .before .if1 .left) (c .pin-right .ensures)
+
+pub slot-right-spec : {M : Type 1} → statement M
+slot-right-spec =
+    tie.close
+    (tie.spec
+    add-slot
+    slot-requires
+    returns
+    pin-right-requires
+    returns-2)

@@ -1,0 +1,104 @@
+-- What the search's answer and its table say of the outcome; and the table of pins, which has each read pin's winner.
+-- Assumes nothing.
+use mathlib.Core.Path.{_≡_, refl, sym, ap, _∙_}
+use mathlib.Core.Bool.{Bool, true, false}
+use mathlib.Core.Option.{Option, none, some}
+use mathlib.Core.List.{List}
+use Prim.Native.Nat.{ℕ, zero, suc, _+_, _*_, _/_, _^_, _≤_, _<_}
+use native.Mathlib.Omega.{arith}
+use borrow.Author.Tests.{eq-eqb, lt-ltb, le-ltb}
+use lib.Dec.{ltb, eqb}
+use lib.ListN.{length, getD}
+use Rattle.reads.specs.ReadSet.{pairsOf}
+use Rattle.reads.specs.Search.{Lane, lanesOf, longest}
+use Rattle.reads.specs.Outcome.{Outcome, placed, refused, packed}
+use Rattle.reads.proofs.SearchLaws.{win-none}
+use Rattle.reads.proofs.OutcomeLaws.{Sound, placed-sound}
+use Rattle.reads_try.proofs.PairLaws.{pairs-length}
+use Rattle.reads_try.specs.Decoded.{lanesAt}
+use Rattle.rounds.specs.Rounds.{Searchable, Solvable}
+use Rattle.rounds.proofs.OutcomeLaws.{searchable, is-packed, Win}
+use Rattle.pinmap.specs.PinMap.{look}
+use Rattle.plan_record.specs.Record.{slotAt}
+use Rattle.words.specs.Pins.{empty}
+use Rattle.words.specs.Tests.{someBelow}
+use Rattle.words.proofs.TestLaws.{some-at}
+use Rattle.plan_slots.specs.Slots.{readsPin}
+use Rattle.plan_slots.specs.Puts.{readPuts, filled, foundIf}
+use Rattle.plan_slots.proofs.PutLaws.{reads-hold, reads-look, filled-length}
+use Rattle.plan_positions.specs.Positions.{planned}
+use Rattle.plan_positions.specs.Winners.{winner, plannedBy, winnerPuts}
+use Rattle.plan_positions.specs.Places.{plannedTable}
+use Rattle.plan_positions.proofs.WinnerLaws.{winners-look, planned-winner, by-none, renewals-length}
+use Rattle.plan_reads.specs.declared.searched.Reads.the-variants.{Nothing, NoRoom, Rounds}
+use Rattle.plan_reads.specs.Ready.{AllPlanned, Won, AllWon, InForm}
+use Rattle.plan_reads.specs.Answers.{readsOf}
+
+-- ---- the outcome
+
+module _ {ws : List ℕ} {t K S L : ℕ} (f : InForm ws) (s : Solvable t K S L) (fits : (x : ℕ) → getD ws x 0 < 2 ^ 32) where
+  pub in-search : Searchable ws t K S L
+  in-search = searchable s (f .few) (f .form) fits
+
+  some-words : (lanes : List Lane) → lanesOf L (pairsOf ws) ≡ some lanes → length ws ≡ 0 → ⊥
+  some-words lanes e z =
+      let n : length (pairsOf ws) ≡ 0 = omega (arith, pairs-length 0 ws) in
+      let q : none ≡ some lanes = sym (win-none L (pairsOf ws) 14) ∙ (rw n at e) in
+      let x : _≡_ {A = ℕ} 0 1 = cc in
+      omega arith
+
+  pub won-sound : (lanes : List Lane) → lanesOf L (pairsOf ws) ≡ some lanes → Sound L (pairsOf ws) lanes
+  won-sound lanes e = placed-sound L ws lanes (s .some-lanes) fits (is-packed L ws 0 (f .few) (f .form) (some-words lanes e) lanes e)
+
+  pub won-packed : (lanes : List Lane) → lanesOf L (pairsOf ws) ≡ some lanes → packed L (pairsOf ws) ≡ placed lanes
+  unfolding packed
+  won-packed lanes e =
+      let n : 0 < length (pairsOf ws) = omega (arith, pairs-length 0 ws, some-words lanes e) in
+      rw (lt-ltb 0 (length (pairsOf ws)) n, e, packed)
+
+  module _ (table : List ℕ) (w : Win ws table L) (n : ℕ) (is : n ≡ longest (lanesAt ws table L)) where
+    rounds-are : n ≡ longest (w .lanes)
+    rounds-are = is ∙ ap longest (w .same)
+
+    pub won-few : n ≤ 32
+    won-few = omega (arith, rounds-are, won-sound (w .lanes) (w .found) .rounds .1)
+
+    pub won-reads : Rounds n ≡ readsOf (packed L (pairsOf ws))
+    won-reads = rw (won-packed (w .lanes) (w .found)) (ap Rounds rounds-are)
+
+pub none-reads : (L : ℕ) (ws : List ℕ) → length ws ≡ 0 → Nothing ≡ readsOf (packed L (pairsOf ws))
+unfolding packed
+none-reads L ws z = rw (le-ltb 0 (length (pairsOf ws)) (omega (arith, pairs-length 0 ws)), packed)
+
+pub stuck-reads : (L : ℕ) (ws : List ℕ) → (length ws ≡ 0 → ⊥) → lanesOf L (pairsOf ws) ≡ none → NoRoom ≡ readsOf (packed L (pairsOf ws))
+unfolding packed
+stuck-reads L ws z e = rw (lt-ltb 0 (length (pairsOf ws)) (omega (arith, pairs-length 0 ws, z)), e, packed)
+
+-- ---- the table of pins
+
+pub reads-slot : (d : List ℕ) (p j : ℕ) → j < 8192 → readsPin d p (slotAt d p 0 (8192 + j)) ≡ true
+unfolding readsPin
+reads-slot d p j h = some-at (λ i. eqb (slotAt d p 0 (8192 + i)) (slotAt d p 0 (8192 + j))) 8192 j h (eq-eqb (slotAt d p 0 (8192 + j)) _ refl)
+
+planned-winning : (d : List ℕ) (x : ℕ) → (planned d x ≡ none → ⊥) → 0 < winner d x
+planned-winning d x h = go (winner d x) refl
+  where
+    go : (w : ℕ) → winner d x ≡ w → 0 < w
+    go zero e = absurd (h (planned-winner d x ∙ (ap (plannedBy d) e ∙ by-none d)))
+    go (suc w) e = omega arith
+
+pub pins-won : (d : List ℕ) (p n : ℕ) → 16384 ≤ n → AllPlanned d p → AllWon d p (plannedTable d p n)
+pins-won d p n h all j l full =
+    let x = slotAt d p 0 (8192 + j) in
+    let there : look (filled n (readPuts d p)) x ≡ some 0 = reads-look d p x n h full ∙ ap (λ (b : Bool). foundIf b 0) (reads-slot d p j l) in
+    record {
+      found = winners-look d (filled n (readPuts d p)) (readPuts d p) x (reads-hold d p n h) there full;
+      some-entry = planned-winning d x (all j l full);
+    }
+
+pub pins-are : (d : List ℕ) (p : ℕ) (room pins : List ℕ) → pins ≡ plannedTable d p (length room) → length room ≡ 32768 → AllPlanned d p → AllWon d p pins
+pins-are d p room pins e n all = rw e (pins-won d p (length room) (omega arith) all)
+
+pub pins-length : (d : List ℕ) (p : ℕ) (room pins : List ℕ) → pins ≡ plannedTable d p (length room) → length pins ≡ length room
+pins-length d p room pins e =
+    ap length e ∙ (renewals-length (filled (length room) (readPuts d p)) (winnerPuts d) ∙ filled-length (length room) (readPuts d p))

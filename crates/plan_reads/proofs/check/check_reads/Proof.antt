@@ -1,0 +1,193 @@
+-- `plan_reads::check::check_reads` meets its contract. The loop's invariant: what the parts that are left say of 3 and 4 is what all say, and the
+-- rows of those before them have their rounds.
+-- Assumes nothing.
+use mathlib.Core.Path.{_≡_, refl, sym, _∙_}
+use Prim.Native.Nat.{_-_, _<_}
+use native.Mathlib.Omega.{arith}
+use borrow.Author.Needs.{needs}
+use lib.ListN.{length}
+use Rattle.plan_record.specs.Record.{partsOf}
+use Rattle.plan_record.proofs.FormLaws.{formed, body-ready}
+use Rattle.plan_positions.proofs.WinnerLaws.{listed}
+use Rattle.plan_blocks.proofs.FillLaws.{put-none}
+use Rattle.plan_reads.specs.Answers.{roundRows}
+use Rattle.plan_reads.proofs.EntryLaws.{all-planned}
+use Rattle.plan_reads.proofs.CheckLaws.{Passing, passing-start, passing-place, passing-fault, passing-on, none-early, passed-fine, passed-full, rows-long, rows-clear, row-inside, rows-more, rows-fault, rows-all}
+use Rattle.plan_reads.proofs.check.check_reads.Statement.{statement}
+use Rattle.plan_reads.proofs.check.check_reads.Tie as tie
+
+abbrev Inv-loop : tie.InvT-loop
+Inv-loop d room₀ keys₀ scratch₀ set₀ parts at₀ full₀ p₀ room keys scratch set at full p =
+    Passing d parts at full p × (room ≡ roundRows d room₀ p) × (length keys ≡ length keys₀) × (length scratch ≡ length scratch₀) × (length set ≡ length set₀)
+
+abbrev μ-loop : tie.MeasureT-loop
+μ-loop d room₀ keys₀ scratch₀ set₀ parts at₀ full₀ p₀ room keys scratch set at full p = parts - p
+
+parts-of-requires : tie.Need-parts-of-requires Inv-loop μ-loop
+parts-of-requires c κs = formed _ (c .before .before .before .before .before .pre .0 .form) .head .majors
+
+first-body-requires : tie.Need-first-body-requires Inv-loop μ-loop
+first-body-requires c κs = formed _ (c .before .before .before .before .before .before .pre .0 .form) .head .majors
+
+loop-holds : tie.Need-loop-holds Inv-loop μ-loop
+loop-holds c = (passing-start _ _ _ (c .first-body .ensures .0), sym (put-none _ 10 _ _), refl, refl, refl)
+
+body-at-requires : tie.Need-body-at-requires Inv-loop μ-loop
+body-at-requires c κs =
+    let s = c .before .before .before .before .before .before .before .before .before in
+    body-ready _ (formed _ (s .pre .0 .form) .sizes) _ _ (omega (arith, c .loop-test .taken, c .before .before .before .parts-of .ensures .0)) (c .before .loop .inv .0 .place)
+
+check-part-requires : tie.Need-check-part-requires Inv-loop μ-loop
+check-part-requires c κs =
+    let s = c .before .before .before .before .before .before .before .before .before .before .before .before .before .before in
+    let l = c .before .before .before .before .before .before .loop in
+    let b = c .before .before .before .before .body-at .ensures in
+    let among : l .p < partsOf (s .args .d .now) = omega (arith, c .before .before .before .before .before .loop-test .taken, c .before .before .before .before .before .before .before .before .parts-of .ensures .0) in (
+      b,
+      omega (arith, b .stages, formed _ (s .pre .0 .form) .part _ among .some-stages),
+      listed _ (s .pre .0 .form),
+      all-planned _ (s .pre .0 .planned) _ among,
+      record { keys-room = omega (arith, l .inv .2, s .pre .1 .keys-room); scratch-room = omega (arith, l .inv .3, s .pre .1 .scratch-room); set-room = omega (arith, l .inv .4, s .pre .1 .set-room) },
+      rows-clear (s .args .d .now) (s .args .room .now) _ (l .p) (l .inv .1) (s .pre .0 .cleared),
+    )
+
+is-nothing-requires : tie.Need-is-nothing-requires Inv-loop μ-loop
+is-nothing-requires c κs = search needs
+
+same-length : tie.Need-same-length Inv-loop μ-loop
+same-length c =
+    let s = c .before .before .before .before .before .before .before .before .before .before .before .before .before .before .before .before .before .before .before .before .before .before .before .before .before .args in
+    let l = c .before .before .before .before .before .before .before .before .before .before .before .before .before .before .before .before .before .loop in
+    c .before .before .before .before .before .before .before .before .before .before .check-part .kept .1 .1 .1 .0 ∙ rows-long (s .d .now) (s .room .now) _ (l .p) (l .inv .1)
+
+same-length-2 : tie.Need-same-length-2 Inv-loop μ-loop
+same-length-2 c = c .before .before .before .before .before .before .before .before .before .before .check-part .kept .1 .1 .1 .1 .0 ∙ c .before .before .before .before .before .before .before .before .before .before .before .before .before .before .before .before .before .loop .inv .2
+
+same-length-3 : tie.Need-same-length-3 Inv-loop μ-loop
+same-length-3 c = c .before .before .before .before .before .before .before .before .before .before .check-part .kept .1 .1 .1 .1 .1 .0 ∙ c .before .before .before .before .before .before .before .before .before .before .before .before .before .before .before .before .before .loop .inv .3
+
+same-length-4 : tie.Need-same-length-4 Inv-loop μ-loop
+same-length-4 c = c .before .before .before .before .before .before .before .before .before .before .check-part .kept .1 .1 .1 .1 .1 .1 .0 ∙ c .before .before .before .before .before .before .before .before .before .before .before .before .before .before .before .before .before .loop .inv .4
+
+returns : tie.Need-returns Inv-loop μ-loop
+returns c =
+    let s = c .before .before .before .before .before .before .before .before .before .before .before .before .before .before .before .before .before .before .before .before .before .before .before .before .before .args in
+    let l = c .before .before .before .before .before .before .before .before .before .before .before .before .before .before .before .before .before .loop in
+    let k = c .before .before .before .before .before .before .before .before .before .before .check-part in
+    let there = passing-place (s .d .now) _ (l .at) (l .full) (l .p) (c .before .before .before .before .before .before .before .before .before .before .before .before .before .before .before .before .before .before .before .parts-of .ensures .0) (c .before .before .before .before .before .before .before .before .before .before .before .before .before .before .before .before .loop-test .taken) (l .inv .0) _ (k .ensures .0) _ (c .before .is-nothing .ensures) (c .if1 .taken) in (
+      passing-fault (s .d .now) _ (l .at) (l .full) (l .p) (c .before .before .before .before .before .before .before .before .before .before .before .before .before .before .before .before .before .before .before .parts-of .ensures .0) (c .before .before .before .before .before .before .before .before .before .before .before .before .before .before .before .before .loop-test .taken) (l .inv .0) _ (k .ensures .0) _ (c .before .is-nothing .ensures) (c .if1 .taken),
+      rows-fault (s .d .now) (s .room .now) _ (l .p) (k .ensures .1 ∙ l .inv .1) there,
+    )
+
+full-after-requires : tie.Need-full-after-requires Inv-loop μ-loop
+full-after-requires c κs = search needs
+
+put-rounds-requires : tie.Need-put-rounds-requires Inv-loop μ-loop
+put-rounds-requires c κs =
+    let s = c .before .before .before .before .before .before .before .before .before .before .before .before .before .before .before .before .before .before .before .before .before .before .before .before .before .before .before in
+    let l = c .before .before .before .before .before .before .before .before .before .before .before .before .before .before .before .before .before .before .before .loop in
+    let k = c .before .before .before .before .before .before .before .before .before .before .before .before .check-part in
+    let among : l .p < partsOf (s .args .d .now) = omega (arith, c .before .before .before .before .before .before .before .before .before .before .before .before .before .before .before .before .before .before .loop-test .taken, c .before .before .before .before .before .before .before .before .before .before .before .before .before .before .before .before .before .before .before .before .before .parts-of .ensures .0) in (
+      omega (arith, among, formed _ (s .pre .0 .form) .sizes .headed .parts),
+      row-inside (s .args .d .now) (s .args .room .now) _ (l .p) (k .ensures .1 ∙ l .inv .1) (s .pre .0 .cleared) among,
+    )
+
+add-p : tie.Need-add-p Inv-loop μ-loop
+add-p c = search needs
+
+loop-less : tie.Need-loop-less Inv-loop μ-loop
+loop-less c = omega (arith, c .before .before .before .before .before .before .before .before .before .before .before .before .before .before .before .before .before .before .before .before .before .loop-test .taken)
+
+loop-again : tie.Need-loop-again Inv-loop μ-loop
+loop-again c =
+    let s = c .before .before .before .before .before .before .before .before .before .before .before .before .before .before .before .before .before .before .before .before .before .before .before .before .before .before .before .before .before .before .args in
+    let l = c .before .before .before .before .before .before .before .before .before .before .before .before .before .before .before .before .before .before .before .before .before .before .loop in
+    let q = c .before .before .before .before .before .before .before .before .before .before .before .before .before .before .before .check-part in
+    let k = q .kept in (
+      passing-on (s .d .now) _ (l .at) (l .full) (l .p) (c .before .before .before .before .before .before .before .before .before .before .before .before .before .before .before .before .before .before .before .before .before .before .before .before .parts-of .ensures .0) (c .before .before .before .before .before .before .before .before .before .before .before .before .before .before .before .before .before .before .before .before .before .loop-test .taken) (l .inv .0) _ (q .ensures .0) _ (c .before .before .before .before .before .before .is-nothing .ensures) (c .before .before .before .before .before .if1 .left) _ _ (c .before .before .before .before .full-after .ensures) (c .before .before .before .before .before .before .before .before .before .before .before .before .before .before .before .before .before .before .before .before .body-at .ensures .end),
+      c .before .before .put-rounds .ensures ∙ rows-more (s .d .now) (s .room .now) _ (l .p) (q .ensures .1 ∙ l .inv .1) _ (q .ensures .0) _ refl,
+      k .1 .1 .1 .1 .0 ∙ l .inv .2,
+      k .1 .1 .1 .1 .1 .0 ∙ l .inv .3,
+      k .1 .1 .1 .1 .1 .1 .0 ∙ l .inv .4,
+    )
+
+same-length-5 : tie.Need-same-length-5 Inv-loop μ-loop
+same-length-5 c =
+    let s = c .before .before .before .before .before .before .before .before .before .before .args in
+    let l = c .before .before .loop in
+    rows-long (s .d .now) (s .room .now) _ (l .p) (l .inv .1)
+
+same-length-6 : tie.Need-same-length-6 Inv-loop μ-loop
+same-length-6 c = c .before .before .loop .inv .2
+
+same-length-7 : tie.Need-same-length-7 Inv-loop μ-loop
+same-length-7 c = c .before .before .loop .inv .3
+
+same-length-8 : tie.Need-same-length-8 Inv-loop μ-loop
+same-length-8 c = c .before .before .loop .inv .4
+
+returns-2 : tie.Need-returns-2 Inv-loop μ-loop
+returns-2 c =
+    let s = c .before .before .before .before .before .before .before .before .before .before .args in
+    let l = c .before .before .loop in
+    let count = c .before .before .before .before .parts-of .ensures .0 in (
+      passed-fine (s .d .now) _ (l .at) (l .full) (l .p) count (omega arith) (l .inv .0) (c .if2 .taken),
+      rows-all (s .d .now) (s .room .now) _ (l .p) (l .inv .1) (omega (arith, count, l .inv .0 .so-far)) (none-early (s .d .now) _ (l .at) (l .full) (l .p) count (omega arith) (l .inv .0)),
+    )
+
+same-length-9 : tie.Need-same-length-9 Inv-loop μ-loop
+same-length-9 c =
+    let s = c .before .before .before .before .before .before .before .before .before .before .args in
+    let l = c .before .before .loop in
+    rows-long (s .d .now) (s .room .now) _ (l .p) (l .inv .1)
+
+same-length-10 : tie.Need-same-length-10 Inv-loop μ-loop
+same-length-10 c = c .before .before .loop .inv .2
+
+same-length-11 : tie.Need-same-length-11 Inv-loop μ-loop
+same-length-11 c = c .before .before .loop .inv .3
+
+same-length-12 : tie.Need-same-length-12 Inv-loop μ-loop
+same-length-12 c = c .before .before .loop .inv .4
+
+returns-3 : tie.Need-returns-3 Inv-loop μ-loop
+returns-3 c =
+    let s = c .before .before .before .before .before .before .before .before .before .before .args in
+    let l = c .before .before .loop in
+    let count = c .before .before .before .before .parts-of .ensures .0 in (
+      passed-full (s .d .now) _ (l .at) (l .full) (l .p) count (omega arith) (l .inv .0) (c .if2 .left),
+      rows-all (s .d .now) (s .room .now) _ (l .p) (l .inv .1) (omega (arith, count, l .inv .0 .so-far)) (none-early (s .d .now) _ (l .at) (l .full) (l .p) count (omega arith) (l .inv .0)),
+    )
+
+pub check-reads-spec : {M : Type 1} → statement M
+check-reads-spec =
+    tie.close
+    (tie.spec
+    Inv-loop
+    μ-loop
+    parts-of-requires
+    first-body-requires
+    loop-holds
+    body-at-requires
+    check-part-requires
+    is-nothing-requires
+    same-length
+    same-length-2
+    same-length-3
+    same-length-4
+    returns
+    full-after-requires
+    put-rounds-requires
+    add-p
+    loop-less
+    loop-again
+    same-length-5
+    same-length-6
+    same-length-7
+    same-length-8
+    returns-2
+    same-length-9
+    same-length-10
+    same-length-11
+    same-length-12
+    returns-3)

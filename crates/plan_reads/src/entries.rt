@@ -1,0 +1,54 @@
+// The entries of stage 0: of each slot of level 0 the local position of its pin's state bit.
+ghost use mathlib.Core.Path.{_≡_};
+ghost use Prim.Native.Nat.{ℕ, _<_};
+ghost use lib.ListN.{length};
+ghost use Rattle.words.specs.Section.{listOf};
+ghost use Rattle.plan_record.specs.Body.{BodyOf};
+ghost use Rattle.plan_reads.specs.Ready.{AllWon};
+ghost use Rattle.plan_reads.specs.Entries.{firstEntry, Numbered};
+use crate::asked::bit_of_pin;
+use crate::local::local_position;
+use plan_record::bodies::Body;
+use plan_record::bodies::slot;
+use words::units::EMPTY_PIN;
+
+// The entry of slot i: 0 where it is empty.
+fn first_entry(
+    d: &[u8],
+    p: usize,
+    body: Body,
+    pins: &[u32],
+    set: &[u32],
+    bases: &[u32],
+    i: usize,
+) -> u32
+    requires { ⌜ BodyOf (now d) p body × (0 < body .stages) × (i < 8192) × AllWon (now d) p (now pins) × Numbered 256 (now d) p (now set) (now bases) ⌝ }
+    ensures { λ r. ⌜ (r ≡ firstEntry 256 (now (d .entry)) p i) × (r < 8192) ⌝ }
+{
+    let pin = slot(d, p, body, 0, 8192 + i);
+    if pin == EMPTY_PIN {
+        return 0;
+    }
+    local_position(set, bases, bit_of_pin(d, pins, pin))
+}
+
+// The entries of all slots.
+pub fn first_entries(
+    d: &[u8],
+    p: usize,
+    body: Body,
+    pins: &[u32],
+    set: &[u32],
+    bases: &[u32],
+    entries: &mut [u32],
+)
+    requires { ⌜ BodyOf (now d) p body × (0 < body .stages) × AllWon (now d) p (now pins) × Numbered 256 (now d) p (now set) (now bases) × (length (now entries) ≡ 8192) ⌝ }
+    ensures { λ _. ⌜ now (entries .exit) ≡ listOf (firstEntry 256 (now (d .entry)) p) 8192 ⌝ }
+    ensures { λ _. ⌜ ((i : ℕ) → i < 8192 → firstEntry 256 (now (d .entry)) p i < 8192) ⌝ }
+{
+    let mut i = 0;
+    while i < 8192 {
+        entries[i] = first_entry(d, p, body, pins, set, bases, i);
+        i += 1;
+    }
+}

@@ -1,0 +1,37 @@
+// What the search makes of a part's read set.
+ghost use mathlib.Core.Path.{_≡_};
+ghost use lib.ListN.{length};
+ghost use Rattle.reads.specs.ReadSet.{pairsOf};
+ghost use Rattle.reads.specs.Search.{lanesOf};
+ghost use Rattle.reads.specs.Outcome.{packed};
+ghost use Rattle.rounds.specs.Rounds.{tableAfter, Solvable};
+ghost use Rattle.plan_reads.specs.Ready.{InForm};
+ghost use Rattle.plan_reads.specs.Answers.{readsOf};
+
+// Refusals 3 and 4, or the number of rounds.
+pub enum Reads {
+    Nothing,
+    NoRoom,
+    Rounds(u32),
+}
+
+// The search over a read set. The table then has the lanes, or zeros where there are none. What keys and scratch hold afterwards is left open.
+pub fn search_set(
+    set: &[u32],
+    table: &mut [u32],
+    keys: &mut [u64],
+    scratch: &mut [u64],
+    lanes: usize,
+) -> Reads
+    requires { ⌜ InForm (now set) × Solvable (length (now table)) (length (now keys)) (length (now scratch)) lanes ⌝ }
+    ensures { λ r. ⌜ r ≡ readsOf (packed lanes (pairsOf (now (set .entry)))) ⌝ }
+    ensures { λ _. ⌜ now (table .exit) ≡ tableAfter lanes (lanesOf lanes (pairsOf (now (set .entry)))) ⌝ }
+{
+    if rounds::search_sizes(set, table, keys, scratch, lanes) {
+        return Reads::Rounds(reads_section::longest_row(set, table, lanes) as u32);
+    }
+    if set.len() == 0 {
+        return Reads::Nothing;
+    }
+    Reads::NoRoom
+}

@@ -1,0 +1,63 @@
+-- The body of a part: where it may be asked for, and that the numbers which the code adds up are the definition's.
+-- Assumes nothing.
+use mathlib.Core.Path.{_≡_, refl, _∙_}
+use mathlib.Core.List.{List}
+use Prim.Native.Nat.{ℕ, _+_, _*_, _/_, _≤_}
+use native.Mathlib.Omega.{arith}
+use lib.ListN.{length}
+use Rattle.plan_record.specs.Record.{wordAt, headBase, stagesOf, endpointsOf, locationsIn, bodyAt, countBase, slotBase, locationBase, tableBase}
+use Rattle.plan_record.specs.Body.{BodyReady, BodyOf}
+use Rattle.plan_record.proofs.RecordLaws.{body-long, tables-end, stages-at, endpoints-at}
+
+module _ (d : List ℕ) (p at : ℕ) (ready : BodyReady d p at) where
+  pub body-inside : at ≤ length d / 4
+  body-inside = omega (arith, ready .place, ready .inside, body-long d p)
+
+  module _ (h n e : ℕ) (head : h ≡ headBase d) (stages : n ≡ wordAt d (h + 2 * p)) (endpoints : e ≡ wordAt d (h + 2 * p + 1)) where
+    stages-is : n ≡ stagesOf d p
+    stages-is = stages ∙ stages-at d h p head
+
+    endpoints-is : e ≡ endpointsOf d p
+    endpoints-is = endpoints ∙ endpoints-at d h p head
+
+    pub body-sizes : (at ≤ length d / 4) × (n ≤ 255) × (e ≤ 8192)
+    body-sizes = (body-inside, omega (arith, ready .stages, stages-is), omega (arith, ready .endpoints, endpoints-is))
+
+    pub body-made : (l : ℕ) → l ≡ locationsIn d at n e
+        → BodyOf d p
+        (record {
+          stages = n;
+          endpoints = e;
+          locations = l;
+          at = at;
+          counts = at + 3 * e;
+          slots = at + 3 * e + n;
+          places = at + 3 * e + n + 16383 * n;
+          tables = at + 3 * e + n + 16383 * n + l;
+          end = at + 3 * e + n + 16383 * n + l + 17664;
+        })
+    unfolding tableBase locationBase slotBase countBase
+    body-made l locations =
+        let ls : l ≡ locationsIn d (bodyAt d p) (stagesOf d p) (endpointsOf d p) = cc (stages-is, endpoints-is, ready .place) in
+        let end-is : at + 3 * e + n + 16383 * n + l + 17664 ≡ bodyAt d (p + 1) = omega (arith, ready .place, endpoints-is, stages-is, tables-end d p) in
+        record {
+          stages = stages-is;
+          endpoints = endpoints-is;
+          locations = ls;
+          place = ready .place;
+          counts = omega (arith, ready .place, endpoints-is);
+          slots = omega (arith, ready .place, endpoints-is, stages-is);
+          places = omega (arith, ready .place, endpoints-is, stages-is);
+          tables = omega (arith, ready .place, endpoints-is, stages-is);
+          end = end-is;
+          laid = record {
+            stages = body-sizes .1;
+            endpoints = body-sizes .2;
+            counts = refl;
+            slots = refl;
+            places = refl;
+            tables = refl;
+            end = refl;
+            inside = omega (arith, end-is, ready .inside);
+          };
+        }

@@ -1,0 +1,96 @@
+-- Laws of the record's words: a word is there or it is 0; the numbers of a plan stand in their order.
+-- Assumes nothing.
+use mathlib.Core.Path.{_≡_, refl, ap}
+use mathlib.Core.Logic.{⊎-elim}
+use mathlib.Core.List.{List}
+use Prim.Native.Nat.{ℕ, zero, suc, _+_, _*_, _^_, _≤_, _<_}
+use native.Mathlib.Omega.{arith}
+use native.Mathlib.Numerals.{add-one}
+use borrow.Author.Tests.{le-leb, lt-leb}
+use lib.ListN.{length, getD}
+use Rattle.words.specs.Sum.{sumTo}
+use Rattle.words.proofs.SumLaws.{sum-more}
+use Rattle.words.proofs.BitLaws.{lt-or-ge}
+use Rattle.plan_record.specs.Record.{wordAt, gatesOf, layoutOf, positionsOf, gateBase, layoutBase, positionBase, countAt, partsBefore, partsOf, headBase, stagesOf, endpointsOf, locationsIn, locationsOf, stageLocations, bodyWords, bodyAt, countBase, slotBase, locationBase, tableBase}
+
+pub word-there : (d : List ℕ) (i : ℕ) → 4 * i + 4 ≤ length d
+    → wordAt d i ≡ getD d (4 * i) 0 + 256 * getD d (4 * i + 1) 0 + 65536 * getD d (4 * i + 2) 0 + 16777216 * getD d (4 * i + 3) 0
+unfolding wordAt
+word-there d i h = rw (le-leb _ _ h, wordAt)
+
+pub word-missing : (d : List ℕ) (i : ℕ) → length d < 4 * i + 4 → wordAt d i ≡ 0
+unfolding wordAt
+word-missing d i h = rw (lt-leb _ _ h, wordAt)
+
+-- a word of bytes
+pub word-lt : (d : List ℕ) (i : ℕ) → ((k : ℕ) → getD d k 0 < 256) → wordAt d i < 2 ^ 32
+word-lt d i h =
+    ⊎-elim
+    (λ l. omega (arith, word-missing d i l))
+    (λ l. omega (arith, word-there d i l, h (4 * i), h (4 * i + 1), h (4 * i + 2), h (4 * i + 3)))
+    (lt-or-ge (length d) (4 * i + 4))
+
+-- ---- the lists before the part heads: their words are before those of the heads
+
+pub gate-before : (d : List ℕ) (g : ℕ) → g < gatesOf d → gateBase d + 3 * g + 2 < headBase d
+unfolding headBase positionBase layoutBase
+gate-before d g h = omega arith
+
+pub layout-before : (d : List ℕ) (i : ℕ) → i < layoutOf d → layoutBase d + i < headBase d
+unfolding headBase positionBase
+layout-before d i h = omega arith
+
+pub position-before : (d : List ℕ) (i : ℕ) → i < positionsOf d → positionBase d + 3 * i + 2 < headBase d
+unfolding headBase
+position-before d i h = omega arith
+
+-- ---- sums over the record's counts: one more
+
+pub parts-more : (d : List ℕ) (s : ℕ) → partsBefore d (s + 1) ≡ partsBefore d s + wordAt d (5 + s)
+unfolding partsBefore
+parts-more d s = sum-more (countAt d) s
+
+pub locations-more : (d : List ℕ) (b n e : ℕ) → locationsIn d b (n + 1) e ≡ locationsIn d b n e + wordAt d (b + 3 * e + n)
+unfolding locationsIn
+locations-more d b n e = sum-more (λ s. wordAt d (b + 3 * e + s)) n
+
+-- the locations of a part are those of its stages
+pub locations-sum : (d : List ℕ) (p : ℕ) → locationsOf d p ≡ sumTo (stageLocations d p) (stagesOf d p)
+unfolding locationsIn countBase
+locations-sum d p = refl
+
+-- ---- bodies: each begins where the one before ends
+
+pub body-first : (d : List ℕ) → bodyAt d 0 ≡ headBase d + 2 * partsOf d
+unfolding bodyAt
+body-first d = refl
+
+pub body-more : (d : List ℕ) (p : ℕ) → bodyAt d (p + 1) ≡ bodyAt d p + bodyWords d (bodyAt d p) (stagesOf d p) (endpointsOf d p)
+unfolding bodyAt
+body-more d p = rw add-one
+
+pub body-long : (d : List ℕ) (p : ℕ) → bodyAt d p + 17664 ≤ bodyAt d (p + 1)
+unfolding bodyWords
+body-long d p = omega (arith, body-more d p)
+
+pub body-mono : (d : List ℕ) (p q : ℕ) → p ≤ q → bodyAt d p ≤ bodyAt d q
+body-mono d p zero h = let e : p ≡ 0 = omega arith in rw e (omega arith)
+body-mono d p (suc q) h =
+    ⊎-elim (λ l. omega (arith, body-mono d p q (omega arith), rw add-one at (body-long d q)))
+    (λ l. let e : p ≡ suc q = omega arith in rw e (omega arith))
+    (lt-or-ge p (suc q))
+
+pub body-step : (d : List ℕ) (p at n e w : ℕ) → at ≡ bodyAt d p → n ≡ stagesOf d p → e ≡ endpointsOf d p → w ≡ bodyWords d at n e → at + w ≡ bodyAt d (p + 1)
+body-step d p at n e w a b g h = cc (body-more d p)
+
+-- the numbers of a part's head, read from where the heads begin
+pub stages-at : (d : List ℕ) (h p : ℕ) → h ≡ headBase d → wordAt d (h + 2 * p) ≡ stagesOf d p
+stages-at d h p e = ap (λ (x : ℕ). wordAt d (x + 2 * p)) e
+
+pub endpoints-at : (d : List ℕ) (h p : ℕ) → h ≡ headBase d → wordAt d (h + 2 * p + 1) ≡ endpointsOf d p
+endpoints-at d h p e = ap (λ (x : ℕ). wordAt d (x + 2 * p + 1)) e
+
+-- the lists of a body, one after the other
+pub tables-end : (d : List ℕ) (p : ℕ) → bodyAt d (p + 1) ≡ tableBase d p + 17664
+unfolding tableBase locationBase slotBase countBase bodyWords
+tables-end d p = omega (arith, body-more d p)

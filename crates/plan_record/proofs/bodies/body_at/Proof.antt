@@ -1,0 +1,90 @@
+-- The numbers are those of the part's head, and the places are sums of them.
+-- Assumes nothing.
+use Prim.Native.Nat.{_/_, _≤_}
+use native.Mathlib.Omega.{arith}
+use borrow.Author.Needs.{needs}
+use lib.ListN.{length}
+use Rattle.plan_record.proofs.BodyLaws.{body-sizes, body-made}
+use Rattle.plan_record.proofs.bodies.body_at.Statement.{statement}
+use Rattle.plan_record.proofs.bodies.body_at.Tie as tie
+
+head-base-requires : tie.Need-head-base-requires
+head-base-requires c κs = search needs
+
+mul-head : tie.Need-mul-head
+mul-head c = search needs
+
+add-head : tie.Need-add-head
+add-head c = search needs
+
+word-at-requires : tie.Need-word-at-requires
+word-at-requires c κs = search needs
+
+cast-stages : tie.Need-cast-stages
+cast-stages c = search needs
+
+add-word-at : tie.Need-add-word-at
+add-word-at c = search needs
+
+word-at-requires-2 : tie.Need-word-at-requires-2
+word-at-requires-2 c κs = search needs
+
+cast-endpoints : tie.Need-cast-endpoints
+cast-endpoints c = search needs
+
+sizes : (c : tie.After-word-at2) → (c .before .before .before .before .args .at ≤ length (c .before .before .before .before .args .d .now) / 4) × (c .before .word-at .result ≤ 255) × (c .word-at2 .result ≤ 8192)
+sizes c =
+    let o = c .before .before .before .before in
+    body-sizes (o .args .d .now) (o .args .p) (o .args .at) (o .pre) _ _ _ (c .before .before .head-base .ensures .0) (c .before .word-at .ensures) (c .word-at2 .ensures)
+
+locations-in-requires : tie.Need-locations-in-requires
+locations-in-requires c κs = let s = sizes c in (omega arith, s .1, s .2)
+
+mul-counts : tie.Need-mul-counts
+mul-counts c = search needs
+
+add-counts : tie.Need-add-counts
+add-counts c = omega (arith, sizes (c .before))
+
+add-slots : tie.Need-add-slots
+add-slots c = omega (arith, sizes (c .before))
+
+mul-places : tie.Need-mul-places
+mul-places c = search needs
+
+add-places : tie.Need-add-places
+add-places c = omega (arith, sizes (c .before))
+
+add-tables : tie.Need-add-tables
+add-tables c = omega (arith, sizes (c .before))
+
+add-t13 : tie.Need-add-t13
+add-t13 c = omega (arith, sizes (c .before))
+
+returns : tie.Need-returns
+returns c =
+    let a = c .before in
+    let o = a .before .before .before .before in
+    body-made (o .args .d .now) (o .args .p) (o .args .at) (o .pre) _ _ _ (a .before .before .head-base .ensures .0) (a .before .word-at .ensures) (a .word-at2 .ensures) _ (c .locations-in .ensures .0)
+
+pub body-at-spec : {M : Type 1} → statement M
+body-at-spec =
+    tie.close
+    (tie.spec
+    head-base-requires
+    mul-head
+    add-head
+    word-at-requires
+    cast-stages
+    add-word-at
+    word-at-requires-2
+    cast-endpoints
+    locations-in-requires
+    mul-counts
+    add-counts
+    add-slots
+    mul-places
+    add-places
+    add-tables
+    add-t13
+    returns)

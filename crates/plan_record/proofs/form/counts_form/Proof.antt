@@ -1,0 +1,78 @@
+-- Each count passed is right, and the first that is not ends the loop.
+-- Assumes nothing.
+use mathlib.Core.Path.{_≡_, refl, sym}
+use mathlib.Core.Bool.{true}
+use Prim.Native.Nat.{_-_, _≤_}
+use native.Mathlib.Omega.{arith}
+use borrow.Author.Tests.{le-leb, lt-leb}
+use borrow.Author.Needs.{needs}
+use lib.Dec.{leb}
+use Rattle.words.specs.Tests.{allBelow}
+use Rattle.plan_record.specs.Record.{countAt, majorsOf}
+use Rattle.plan_record.specs.Form.{countsForm}
+use Rattle.words.proofs.TestLaws.{all-on, all-less, all-fault}
+use Rattle.plan_record.proofs.form.counts_form.Statement.{statement}
+use Rattle.plan_record.proofs.form.counts_form.Tie as tie
+
+abbrev Inv-loop : tie.InvT-loop
+Inv-loop d majors s₀ s = (s ≤ majors) × (allBelow (λ i. leb (countAt d i) 4096) s ≡ true)
+
+abbrev μ-loop : tie.MeasureT-loop
+μ-loop d majors s₀ s = majors - s
+
+word-at-requires : tie.Need-word-at-requires Inv-loop μ-loop
+word-at-requires c κs = search needs
+
+cast-majors : tie.Need-cast-majors Inv-loop μ-loop
+cast-majors c = search needs
+
+loop-holds : tie.Need-loop-holds Inv-loop μ-loop
+unfolding allBelow
+loop-holds c = (omega arith, refl)
+
+add-word-at : tie.Need-add-word-at Inv-loop μ-loop
+add-word-at c = search needs
+
+word-at-requires-2 : tie.Need-word-at-requires-2 Inv-loop μ-loop
+word-at-requires-2 c κs = search needs
+
+returns : tie.Need-returns Inv-loop μ-loop
+unfolding countsForm
+returns c =
+    let d = c .before .before .before .before .before .before .args .d .now in
+    sym
+    (all-fault (λ i. leb (countAt d i) 4096) (majorsOf d) (c .before .before .before .loop .s) (omega arith) (lt-leb (countAt d (c .before .before .before .loop .s)) 4096 (omega arith)))
+
+add-s : tie.Need-add-s Inv-loop μ-loop
+add-s c = search needs
+
+loop-less : tie.Need-loop-less Inv-loop μ-loop
+loop-less c = search needs
+
+loop-again : tie.Need-loop-again Inv-loop μ-loop
+loop-again c =
+    let d = c .before .before .before .before .before .before .args .d .now in
+    (omega arith, all-on (λ i. leb (countAt d i) 4096) (c .before .before .before .loop .s) (c .before .before .before .loop .inv .1) (le-leb (countAt d (c .before .before .before .loop .s)) 4096 (omega arith)))
+
+returns-2 : tie.Need-returns-2 Inv-loop μ-loop
+unfolding countsForm
+returns-2 c =
+    let d = c .before .before .before .before .args .d .now in
+    sym (all-less (λ i. leb (countAt d i) 4096) (majorsOf d) (c .before .loop .s) (omega arith) (c .before .loop .inv .1))
+
+pub counts-form-spec : {M : Type 1} → statement M
+counts-form-spec =
+    tie.close
+    (tie.spec
+    Inv-loop
+    μ-loop
+    word-at-requires
+    cast-majors
+    loop-holds
+    add-word-at
+    word-at-requires-2
+    returns
+    add-s
+    loop-less
+    loop-again
+    returns-2)

@@ -1,0 +1,70 @@
+-- Each head passed is right, and the first that is not ends the loop.
+-- Assumes nothing.
+use mathlib.Core.Path.{_≡_, refl, sym, _∙_}
+use mathlib.Core.Bool.{true}
+use Prim.Native.Nat.{_-_, _≤_}
+use native.Mathlib.Omega.{arith}
+use borrow.Author.Tests.{not-true, not-false}
+use borrow.Author.Needs.{needs}
+use Rattle.words.specs.Tests.{allBelow}
+use Rattle.plan_record.specs.Record.{partsOf}
+use Rattle.plan_record.specs.Form.{partForm}
+use Rattle.words.proofs.TestLaws.{all-on, all-less, all-fault}
+use Rattle.plan_record.proofs.form.heads_form.Statement.{statement}
+use Rattle.plan_record.proofs.form.heads_form.Tie as tie
+
+abbrev Inv-loop : tie.InvT-loop
+Inv-loop d heads parts p₀ p = (p ≤ parts) × (allBelow (partForm d) p ≡ true)
+
+abbrev μ-loop : tie.MeasureT-loop
+μ-loop d heads parts p₀ p = parts - p
+
+head-base-requires : tie.Need-head-base-requires Inv-loop μ-loop
+head-base-requires c κs = search needs
+
+parts-of-requires : tie.Need-parts-of-requires Inv-loop μ-loop
+parts-of-requires c κs = search needs
+
+loop-holds : tie.Need-loop-holds Inv-loop μ-loop
+unfolding allBelow
+loop-holds c = (omega arith, refl)
+
+part-form-requires : tie.Need-part-form-requires Inv-loop μ-loop
+part-form-requires c κs = search needs
+
+returns : tie.Need-returns Inv-loop μ-loop
+returns c =
+    let d = c .before .before .before .before .before .before .before .args .d .now in
+    sym (all-fault (partForm d) (partsOf d) (c .before .before .before .loop .p) (omega arith) (sym (c .before .part-form .ensures) ∙ not-true _ (c .if1 .taken)))
+
+add-p : tie.Need-add-p Inv-loop μ-loop
+add-p c = search needs
+
+loop-less : tie.Need-loop-less Inv-loop μ-loop
+loop-less c = search needs
+
+loop-again : tie.Need-loop-again Inv-loop μ-loop
+loop-again c =
+    let d = c .before .before .before .before .before .before .before .args .d .now in
+    (omega arith, all-on (partForm d) (c .before .before .before .loop .p) (c .before .before .before .loop .inv .1) (sym (c .before .part-form .ensures) ∙ not-false _ (c .if1 .left)))
+
+returns-2 : tie.Need-returns-2 Inv-loop μ-loop
+returns-2 c =
+    let d = c .before .before .before .before .before .args .d .now in
+    sym (all-less (partForm d) (partsOf d) (c .before .loop .p) (omega arith) (c .before .loop .inv .1))
+
+pub heads-form-spec : {M : Type 1} → statement M
+heads-form-spec =
+    tie.close
+    (tie.spec
+    Inv-loop
+    μ-loop
+    head-base-requires
+    parts-of-requires
+    loop-holds
+    part-form-requires
+    returns
+    add-p
+    loop-less
+    loop-again
+    returns-2)

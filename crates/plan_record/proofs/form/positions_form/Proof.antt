@@ -1,0 +1,78 @@
+-- Each position passed is right, and the first that is not ends the loop.
+-- Assumes nothing.
+use mathlib.Core.Path.{_≡_, refl, sym, _∙_}
+use mathlib.Core.Bool.{true}
+use Prim.Native.Nat.{_-_, _≤_}
+use native.Mathlib.Omega.{arith}
+use borrow.Author.Tests.{not-true, not-false}
+use borrow.Author.Needs.{needs}
+use Rattle.words.specs.Tests.{allBelow}
+use Rattle.plan_record.specs.Record.{positionsOf}
+use Rattle.plan_record.specs.Form.{positionForm}
+use Rattle.plan_record.proofs.RecordLaws.{position-before}
+use Rattle.words.proofs.TestLaws.{all-on, all-less, all-fault}
+use Rattle.plan_record.proofs.form.positions_form.Statement.{statement}
+use Rattle.plan_record.proofs.form.positions_form.Tie as tie
+
+abbrev Inv-loop : tie.InvT-loop
+Inv-loop d base count i₀ i = (i ≤ count) × (allBelow (positionForm d) i ≡ true)
+
+abbrev μ-loop : tie.MeasureT-loop
+μ-loop d base count i₀ i = count - i
+
+position-base-requires : tie.Need-position-base-requires Inv-loop μ-loop
+position-base-requires c κs = search needs
+
+word-at-requires : tie.Need-word-at-requires Inv-loop μ-loop
+word-at-requires c κs = search needs
+
+cast-count : tie.Need-cast-count Inv-loop μ-loop
+cast-count c = search needs
+
+loop-holds : tie.Need-loop-holds Inv-loop μ-loop
+unfolding allBelow
+loop-holds c = (omega arith, refl)
+
+position-form-requires : tie.Need-position-form-requires Inv-loop μ-loop
+position-form-requires c κs =
+    let head = c .before in
+    let base = head .before .before in
+    (base .position-base .ensures .0, omega (arith, position-before (base .before .before .args .d .now) (head .loop .i) (omega arith)))
+
+returns : tie.Need-returns Inv-loop μ-loop
+returns c =
+    let d = c .before .before .before .before .before .before .before .args .d .now in
+    sym (all-fault (positionForm d) (positionsOf d) (c .before .before .before .loop .i) (omega arith) (sym (c .before .position-form .ensures) ∙ not-true _ (c .if1 .taken)))
+
+add-i : tie.Need-add-i Inv-loop μ-loop
+add-i c = search needs
+
+loop-less : tie.Need-loop-less Inv-loop μ-loop
+loop-less c = search needs
+
+loop-again : tie.Need-loop-again Inv-loop μ-loop
+loop-again c =
+    let d = c .before .before .before .before .before .before .before .args .d .now in
+    (omega arith, all-on (positionForm d) (c .before .before .before .loop .i) (c .before .before .before .loop .inv .1) (sym (c .before .position-form .ensures) ∙ not-false _ (c .if1 .left)))
+
+returns-2 : tie.Need-returns-2 Inv-loop μ-loop
+returns-2 c =
+    let d = c .before .before .before .before .before .args .d .now in
+    sym (all-less (positionForm d) (positionsOf d) (c .before .loop .i) (omega arith) (c .before .loop .inv .1))
+
+pub positions-form-spec : {M : Type 1} → statement M
+positions-form-spec =
+    tie.close
+    (tie.spec
+    Inv-loop
+    μ-loop
+    position-base-requires
+    word-at-requires
+    cast-count
+    loop-holds
+    position-form-requires
+    returns
+    add-i
+    loop-less
+    loop-again
+    returns-2)

@@ -1,0 +1,63 @@
+-- The lesser of the major stages and 64 is what the test finds.
+-- Assumes nothing.
+use mathlib.Core.Path.{_≡_, ap, _∙_}
+use Prim.Native.Nat.{ℕ, _+_, _*_, min}
+use native.Mathlib.Omega.{arith}
+use borrow.Author.Needs.{needs}
+use Rattle.plan_record.specs.Record.{majorsOf, partsBefore}
+use Rattle.plan_record.specs.Form.{roomWords}
+use Rattle.plan_record.proofs.places.room_words.Statement.{statement}
+use Rattle.plan_record.proofs.places.room_words.Tie as tie
+
+word-at-requires : tie.Need-word-at-requires
+word-at-requires c κs = search needs
+
+cast-majors : tie.Need-cast-majors
+cast-majors c = search needs
+
+parts-before-requires : tie.Need-parts-before-requires
+parts-before-requires c κs = search needs
+
+mul-result : tie.Need-mul-result
+mul-result c = search needs
+
+add-result : tie.Need-add-result
+add-result c = search needs
+
+parts-before-requires-2 : tie.Need-parts-before-requires-2
+parts-before-requires-2 c κs = search needs
+
+mul-result-2 : tie.Need-mul-result-2
+mul-result-2 c = search needs
+
+add-result-2 : tie.Need-add-result-2
+add-result-2 c = search needs
+
+returns : tie.Need-returns
+unfolding roomWords
+returns c =
+    let d = c .before .before .before .before .args .d .now in
+    let m : c .before .before .word-at .result ≡ min (majorsOf d) 64 = omega arith in
+    (ap (λ (s : ℕ). 65536 + 16 * s) (c .parts-before .ensures .0 ∙ ap (partsBefore d) m), omega arith)
+
+returns-2 : tie.Need-returns-2
+unfolding roomWords
+returns-2 c =
+    let d = c .before .before .before .before .args .d .now in
+    let m : 64 ≡ min (majorsOf d) 64 = omega arith in
+    (ap (λ (s : ℕ). 65536 + 16 * s) (c .parts-before2 .ensures .0 ∙ ap (partsBefore d) m), omega arith)
+
+pub room-words-spec : {M : Type 1} → statement M
+room-words-spec =
+    tie.close
+    (tie.spec
+    word-at-requires
+    cast-majors
+    parts-before-requires
+    mul-result
+    add-result
+    parts-before-requires-2
+    mul-result-2
+    add-result-2
+    returns
+    returns-2)

@@ -1,0 +1,63 @@
+-- Refusals 32 and 5 of a plan: document 01, "Plan ranges" and the table. Refusal 5: "a number outside 'Plan ranges', slots excepted; unknown
+-- kind; a list not as long as its count".
+-- Assumes nothing.
+use mathlib.Core.Bool.{Bool, true, false, _&&_, _||_}
+use mathlib.Core.List.{List}
+use Prim.Native.Nat.{ℕ, zero, suc, _+_, _*_, _/_, _%_, _^_, min}
+use lib.Dec.{leb, eqb}
+use lib.ListN.{length}
+use Rattle.words.specs.Pins.{isPin, isPinIv, empty}
+use Rattle.words.specs.Tests.{allBelow}
+use Rattle.plan_record.specs.Record.{wordAt, blocksOf, majorsOf, gatesOf, layoutOf, positionsOf, countAt, partsBefore, partsOf, gatePin, gateFirst, gateSecond, layoutPin, positionPin, positionStaged, stagesOf, endpointsOf, bodyAt, endpointKind, endpointX, endpointY}
+
+-- "65536 plus 16 a part (as its counts say) for a plan": the counts of 64 major stages at most are looked at
+unfoldable pub roomWords : List ℕ → ℕ
+roomWords d = 65536 + 16 * partsBefore d (min (majorsOf d) 64)
+
+-- "blocks 1..=1024, major stages 1..=64, .. input layout 0..=2^20 entries, position list 0..=2^20 entries"
+unfoldable pub headForm : List ℕ → Bool
+headForm d =
+    leb 1 (blocksOf d) && leb (blocksOf d) 1024 && (leb 1 (majorsOf d) && leb (majorsOf d) 64)
+    && (leb (layoutOf d) (2 ^ 20) && leb (positionsOf d) (2 ^ 20))
+
+-- "parts of a major stage 0..=4096"
+unfoldable pub countsForm : List ℕ → Bool
+countsForm d = allBelow (λ s. leb (countAt d s) 4096) (majorsOf d)
+
+-- "boomerang stages of a part 1..=255, endpoints of a part 0..=8192"
+unfoldable pub partForm : List ℕ → ℕ → Bool
+partForm d p = leb 1 (stagesOf d p) && leb (stagesOf d p) 255 && leb (endpointsOf d p) 8192
+
+-- the record is whole words, and has exactly those that its counts give
+unfoldable pub lengthForm : List ℕ → Bool
+lengthForm d = eqb (length d % 4) 0 && eqb (bodyAt d (partsOf d)) (length d / 4)
+
+unfoldable pub gateForm : List ℕ → ℕ → Bool
+gateForm d g = isPin (gatePin d g) && isPinIv (gateFirst d g) && isPinIv (gateSecond d g)
+
+unfoldable pub layoutForm : List ℕ → ℕ → Bool
+layoutForm d i = isPin (layoutPin d i) || eqb (layoutPin d i) empty
+
+unfoldable pub positionForm : List ℕ → ℕ → Bool
+positionForm d i = isPin (positionPin d i) && leb (positionStaged d i) 1
+
+-- kinds 0 output, 1 staged, 2 register, 3 SRAM; words that a kind has no use for are not looked at
+unfoldable pub endpointNumbers : ℕ → ℕ → ℕ → Bool
+endpointNumbers zero x y = isPinIv x
+endpointNumbers (suc zero) x y = isPin x
+endpointNumbers (suc (suc zero)) x y = isPinIv x && isPinIv y
+endpointNumbers (suc (suc (suc zero))) x y = true
+endpointNumbers (suc (suc (suc (suc k)))) x y = false
+
+unfoldable pub endpointForm : List ℕ → ℕ → ℕ → Bool
+endpointForm d p i = endpointNumbers (endpointKind d p i) (endpointX d p i) (endpointY d p i)
+
+-- what a list may hold
+unfoldable pub listsForm : List ℕ → Bool
+listsForm d =
+    allBelow (gateForm d) (gatesOf d) && allBelow (layoutForm d) (layoutOf d) && allBelow (positionForm d) (positionsOf d)
+    && allBelow (λ p. allBelow (endpointForm d p) (endpointsOf d p)) (partsOf d)
+
+-- refusal 5 is given exactly when this is false
+unfoldable pub planForm : List ℕ → Bool
+planForm d = headForm d && countsForm d && allBelow (partForm d) (partsOf d) && lengthForm d && listsForm d

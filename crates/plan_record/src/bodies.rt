@@ -1,0 +1,122 @@
+// The bodies of a record's parts: where each of a part's lists begins. A pass over all parts starts at `first_body`, asks `body_at` once a part
+// and goes on at the body's end.
+ghost use mathlib.Core.Path.{_≡_};
+ghost use Prim.Native.Nat.{_+_, _*_, _-_, _^_, _≤_, _<_};
+ghost use Rattle.plan_record.specs.Record.{majorsOf, partsOf, bodyAt, endpointKind, endpointX, endpointY, stageLocations, slotAt, locationAt, tableAt};
+ghost use Rattle.plan_record.specs.Body.{BodyReady, BodyOf};
+use crate::places::head_base;
+use crate::places::locations_in;
+use crate::places::parts_before;
+use crate::places::word_at;
+use crate::places::word_in;
+
+// One part's numbers, and the words where its lists begin: endpoints, locations of each stage, slots, locations, tables, and the next body.
+pub struct Body {
+    pub stages: usize,
+    pub endpoints: usize,
+    pub locations: usize,
+    pub at: usize,
+    pub counts: usize,
+    pub slots: usize,
+    pub places: usize,
+    pub tables: usize,
+    pub end: usize,
+}
+
+// How many parts a record has.
+pub fn parts_of(d: &[u8]) -> usize
+    requires { ⌜ majorsOf (now d) ≤ 64 ⌝ }
+    ensures { λ r. ⌜ (r ≡ partsOf (now (d .entry))) × (r < 2 ^ 39) ⌝ }
+{
+    parts_before(d, word_at(d, 1) as usize)
+}
+
+// Where the first body begins.
+pub fn first_body(d: &[u8]) -> usize
+    requires { ⌜ majorsOf (now d) ≤ 64 ⌝ }
+    ensures { λ r. ⌜ (r ≡ bodyAt (now (d .entry)) 0) × (r < 2 ^ 41) ⌝ }
+{
+    head_base(d) + 2 * parts_of(d)
+}
+
+// The body of part p, which begins at word `at`.
+pub fn body_at(d: &[u8], p: usize, at: usize) -> Body
+    requires { ⌜ BodyReady (now d) p at ⌝ }
+    ensures { λ r. ⌜ BodyOf (now (d .entry)) p r ⌝ }
+{
+    let head = head_base(d) + 2 * p;
+    let stages = word_at(d, head) as usize;
+    let endpoints = word_at(d, head + 1) as usize;
+    let locations = locations_in(d, at, stages, endpoints);
+    let counts = at + 3 * endpoints;
+    let slots = counts + stages;
+    let places = slots + 16383 * stages;
+    let tables = places + locations;
+    Body {
+        stages,
+        endpoints,
+        locations,
+        at,
+        counts,
+        slots,
+        places,
+        tables,
+        end: tables + 17664,
+    }
+}
+
+// Whether endpoint i is an output, a staged pin, a register or an SRAM.
+pub fn endpoint_kind(d: &[u8], p: usize, body: Body, i: usize) -> u32
+    requires { ⌜ BodyOf (now d) p body × (i < body .endpoints) ⌝ }
+    ensures { λ r. ⌜ r ≡ endpointKind (now (d .entry)) p i ⌝ }
+{
+    word_in(d, body.at + 3 * i)
+}
+
+// The first number of endpoint i.
+pub fn endpoint_x(d: &[u8], p: usize, body: Body, i: usize) -> u32
+    requires { ⌜ BodyOf (now d) p body × (i < body .endpoints) ⌝ }
+    ensures { λ r. ⌜ r ≡ endpointX (now (d .entry)) p i ⌝ }
+{
+    word_in(d, body.at + 3 * i + 1)
+}
+
+// The second number of endpoint i.
+pub fn endpoint_y(d: &[u8], p: usize, body: Body, i: usize) -> u32
+    requires { ⌜ BodyOf (now d) p body × (i < body .endpoints) ⌝ }
+    ensures { λ r. ⌜ r ≡ endpointY (now (d .entry)) p i ⌝ }
+{
+    word_in(d, body.at + 3 * i + 2)
+}
+
+// How many locations stage s has.
+pub fn stage_locations(d: &[u8], p: usize, body: Body, s: usize) -> u32
+    requires { ⌜ BodyOf (now d) p body × (s < body .stages) ⌝ }
+    ensures { λ r. ⌜ r ≡ stageLocations (now (d .entry)) p s ⌝ }
+{
+    word_in(d, body.counts + s)
+}
+
+// The pin at index q of stage s.
+pub fn slot(d: &[u8], p: usize, body: Body, s: usize, q: usize) -> u32
+    requires { ⌜ BodyOf (now d) p body × (s < body .stages) × (1 ≤ q) × (q ≤ 16383) ⌝ }
+    ensures { λ r. ⌜ r ≡ slotAt (now (d .entry)) p s q ⌝ }
+{
+    word_in(d, body.slots + 16383 * s + (q - 1))
+}
+
+// Location l, counted over the stages.
+pub fn location(d: &[u8], p: usize, body: Body, l: usize) -> u32
+    requires { ⌜ BodyOf (now d) p body × (l < body .locations) ⌝ }
+    ensures { λ r. ⌜ r ≡ locationAt (now (d .entry)) p l ⌝ }
+{
+    word_in(d, body.places + l)
+}
+
+// Word i of the two tables.
+pub fn table_word(d: &[u8], p: usize, body: Body, i: usize) -> u32
+    requires { ⌜ BodyOf (now d) p body × (i < 17664) ⌝ }
+    ensures { λ r. ⌜ r ≡ tableAt (now (d .entry)) p i ⌝ }
+{
+    word_in(d, body.tables + i)
+}

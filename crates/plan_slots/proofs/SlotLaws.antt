@@ -1,0 +1,145 @@
+-- What refusals 9, 10 and 11 exclude, slot by slot: a pin at a position is carried from slot a or is the gate of slots a and b; a later stage's pin
+-- stands in the stage before; a pin that is computed is not read.
+-- Assumes nothing.
+use mathlib.Core.Path.{_≡_, refl, sym, _∙_, subst}
+use mathlib.Core.Bool.{Bool, true, false, _&&_, _||_}
+use mathlib.Core.List.{List}
+use mathlib.Core.Logic.{_⊎_, inl, inr, ⊎-elim}
+use mathlib.Core.Option.{Option, none, some}
+use Prim.Native.Nat.{ℕ, _+_, _-_, _/_, _^_, _≤_, _<_}
+use native.Mathlib.Numerals.{add-one}
+use native.Mathlib.Omega.{arith}
+use borrow.Author.Tests.{leb-true, ne-eqb, eqb-true, eqb-false, ltb-true, not-true}
+use lib.Dec.{eqb}
+use Rattle.words.proofs.BitLaws.{lt-or-ge}
+use Rattle.plan_record.specs.Record.{partsOf, stagesOf, slotAt, gateFirst, gateSecond}
+use Rattle.words.specs.Pins.{isPin, empty}
+use Rattle.words.proofs.TestLaws.{not-both, and-true, or-cases}
+use Rattle.plan_gates.specs.Gates.{gateOf}
+use Rattle.plan_slots.specs.Slots.{slotA, slotB, feeds, pinRight, slotRight, nineRight, refusal9, standsIn, tenRight, refusal10, readsPin, elevenRight, refusal11, highest}
+use Rattle.plan_slots.proofs.ItemLaws.{item-right}
+use Rattle.plan_slots.proofs.PutLaws.{HighestAt, stands-highest, highest-is}
+
+-- ---- 9
+
+-- a pin that is empty or in range
+pub pin-range : (x : ℕ) → pinRight x ≡ true → (x ≡ empty) ⊎ (x ≤ 2 ^ 30)
+unfolding pinRight
+pin-range x h = ⊎-elim (λ e. inl (eqb-true _ _ e)) (λ e. inr (leb-true _ _ e)) (or-cases (eqb x empty) (isPin x) h)
+
+-- gate g has fan-in pins a and b
+pub record Feeds (d : List ℕ) (x a b : ℕ) : Type 0 where
+  pub gate : ℕ
+  pub found : gateOf d x ≡ some gate
+  pub first : gateFirst d gate / 2 ≡ a
+  pub second : gateSecond d gate / 2 ≡ b
+
+feeds-gate : (d : List ℕ) (x a b : ℕ) → feeds d (gateOf d x) a b ≡ true → Feeds d x a b
+unfolding feeds
+feeds-gate d x a b h = go (gateOf d x) refl h
+  where
+    go : (o : Option ℕ) → gateOf d x ≡ o → feeds d o a b ≡ true → Feeds d x a b
+    go none e k = absurd (not-both false k refl)
+    go (some g) e k =
+        let (u, v) = and-true (eqb (gateFirst d g / 2) a) (eqb (gateSecond d g / 2) b) k in
+        record { gate = g; found = e; first = eqb-true _ _ u; second = eqb-true _ _ v }
+
+-- what may stand at a position whose slots a and b hold these pins
+pub data Stands (d : List ℕ) (x a b : ℕ) : Type 0 where
+  vacant : x ≡ empty → Stands d x a b
+  carried : x ≤ 2 ^ 30 → x ≡ a → Stands d x a b
+  computed : x ≤ 2 ^ 30 → (x ≡ a → ⊥) → Feeds d x a b → Stands d x a b
+
+stands-of : (d : List ℕ) (x a b : ℕ) → (eqb x empty || (isPin x && (eqb x a || feeds d (gateOf d x) a b))) ≡ true → Stands d x a b
+stands-of d x a b h = ⊎-elim (λ e. vacant (eqb-true _ _ e)) pin (or-cases (eqb x empty) _ h)
+  where
+    go : x ≤ 2 ^ 30 → (t : Bool) → eqb x a ≡ t → (t || feeds d (gateOf d x) a b) ≡ true → Stands d x a b
+    go r true e v = carried r (eqb-true _ _ e)
+    go r false e v = computed r (eqb-false _ _ e) (feeds-gate d x a b v)
+
+    pin : (isPin x && (eqb x a || feeds d (gateOf d x) a b)) ≡ true → Stands d x a b
+    pin e = let (u, v) = and-true (isPin x) (eqb x a || feeds d (gateOf d x) a b) e in go (leb-true _ _ u) (eqb x a) refl v
+
+module _ (d : List ℕ) (clear : refusal9 d ≡ none) (p s : ℕ) (part : p < partsOf d) (stage : s < stagesOf d p) where
+  nine : (x : ℕ) → x < 8192 → nineRight d p s x ≡ true
+  unfolding refusal9
+  nine x l = item-right d (nineRight d) clear p s x part stage l
+
+  position-right : (q : ℕ) → 0 < q → q < 8192 → slotRight d p s q ≡ true
+  unfolding nineRight
+  position-right q h l =
+      let (a, b) = and-true (pinRight (slotAt d p s (8192 + q))) (eqb q 0 || slotRight d p s q) (nine q l) in
+      ⊎-elim (λ e. absurd (omega (arith, eqb-true q 0 e))) (λ e. e) (or-cases (eqb q 0) (slotRight d p s q) b)
+
+  -- a slot of level 0
+  pub slot-range : (j : ℕ) → j < 8192 → (slotAt d p s (8192 + j) ≡ empty) ⊎ (slotAt d p s (8192 + j) ≤ 2 ^ 30)
+  unfolding nineRight
+  slot-range j l =
+      pin-range _ (and-true (pinRight (slotAt d p s (8192 + j))) (eqb j 0 || slotRight d p s j) (nine j l) .0)
+
+  -- a position
+  pub position-stands : (q : ℕ) → 0 < q → q < 8192 → Stands d (slotAt d p s q) (slotA d p s q) (slotB d p s q)
+  unfolding slotRight
+  position-stands q h l = stands-of d _ _ _ (position-right q h l)
+
+  pub position-range : (q : ℕ) → 0 < q → q < 8192 → (slotAt d p s q ≡ empty) ⊎ (slotAt d p s q ≤ 2 ^ 30)
+  position-range q h l = go (position-stands q h l)
+    where
+      go : Stands d (slotAt d p s q) (slotA d p s q) (slotB d p s q) → (slotAt d p s q ≡ empty) ⊎ (slotAt d p s q ≤ 2 ^ 30)
+      go (vacant e) = inl e
+      go (carried r e) = inr r
+      go (computed r n f) = inr r
+
+  -- a slot of either kind, by its index
+  pub index-range : (q : ℕ) → 0 < q → q < 16384 → (slotAt d p s q ≡ empty) ⊎ (slotAt d p s q ≤ 2 ^ 30)
+  index-range q h l =
+      ⊎-elim (λ k. position-range q h k)
+      (λ k. let e : 8192 + (q - 8192) ≡ q = omega arith in subst (λ (i : ℕ). (slotAt d p s i ≡ empty) ⊎ (slotAt d p s i ≤ 2 ^ 30)) e (slot-range (q - 8192) (omega arith)))
+      (lt-or-ge q 8192)
+
+-- ---- 10
+
+pub ten-first : (d : List ℕ) (p j : ℕ) → tenRight d p 0 j ≡ true
+unfolding tenRight
+ten-first d p j = refl
+
+pub ten-later : (d : List ℕ) (p s j : ℕ)
+    → tenRight d p (s + 1) j ≡ (eqb (slotAt d p (s + 1) (8192 + j)) empty || standsIn d p s (slotAt d p (s + 1) (8192 + j)))
+unfolding tenRight
+ten-later d p s j = rw add-one
+
+module _ (d : List ℕ) (clear : refusal10 d ≡ none) (p s j : ℕ) (part : p < partsOf d) (stage : s + 1 < stagesOf d p) (slot : j < 8192) where
+  -- a later pin stands in the stage before
+  pub later-stands : (slotAt d p (s + 1) (8192 + j) ≡ empty → ⊥) → standsIn d p s (slotAt d p (s + 1) (8192 + j)) ≡ true
+  unfolding refusal10
+  later-stands k =
+      ⊎-elim (λ e. absurd (k (eqb-true _ _ e))) (λ e. e)
+      (or-cases (eqb (slotAt d p (s + 1) (8192 + j)) empty) _ (sym (ten-later d p s j) ∙ item-right d (tenRight d) clear p (s + 1) j part stage slot))
+
+  -- and its highest position there is one, and has it
+  pub later-highest : (slotAt d p (s + 1) (8192 + j) ≡ empty → ⊥)
+      → (0 < highest d p s (slotAt d p (s + 1) (8192 + j)))
+      × (highest d p s (slotAt d p (s + 1) (8192 + j)) < 8192)
+      × (slotAt d p s (highest d p s (slotAt d p (s + 1) (8192 + j))) ≡ slotAt d p (s + 1) (8192 + j))
+  later-highest k =
+      let x : ℕ = slotAt d p (s + 1) (8192 + j) in
+      let h : 0 < highest d p s x = ltb-true _ _ (sym (stands-highest d p s x) ∙ later-stands k) in
+      let r : HighestAt d p s x 8191 (highest d p s x) = highest-is d p s x in
+      (h, omega (arith, r .below), r .there h)
+
+-- ---- 11
+
+or-not : (a b : Bool) → a ≡ false → (a || b) ≡ true → b ≡ true
+or-not true b e h = absurd (not-both true refl e)
+or-not false b e h = h
+
+-- a pin that is computed is not read in stage 0
+pub computed-unread : (d : List ℕ) → refusal11 d ≡ none → (p s q : ℕ) → p < partsOf d → s < stagesOf d p → 0 < q → q < 8192
+    → (slotAt d p s q ≡ empty → ⊥) → (slotAt d p s q ≡ slotA d p s q → ⊥) → readsPin d p (slotAt d p s q) ≡ false
+unfolding refusal11 elevenRight
+computed-unread d clear p s q lp ls h l k n =
+    let z : eqb q 0 ≡ false = ne-eqb _ _ (λ (y : q ≡ 0). omega arith) in
+    let e : eqb (slotAt d p s q) empty ≡ false = ne-eqb _ _ k in
+    let c : eqb (slotAt d p s q) (slotA d p s q) ≡ false = ne-eqb _ _ n in
+    let zec : (eqb q 0 || eqb (slotAt d p s q) empty || eqb (slotAt d p s q) (slotA d p s q)) ≡ false = rw (z, e, c) in
+    not-true _ (or-not _ _ zec (item-right d (elevenRight d) clear p s q lp ls l))

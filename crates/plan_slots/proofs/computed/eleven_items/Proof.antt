@@ -1,0 +1,100 @@
+-- `plan_slots::computed::eleven_items` meets its contract. The loop's invariant: the answer from position q on is the stage's answer.
+-- Assumes nothing.
+use mathlib.Core.Path.{_≡_, sym, ap, _∙_}
+use Prim.Native.Nat.{_+_, _*_, _-_, _≤_}
+use native.Mathlib.Omega.{arith}
+use borrow.Author.Needs.{needs}
+use Rattle.words.specs.Tests.{firstFrom}
+use Rattle.plan_slots.specs.Slots.{elevenRight}
+use Rattle.words.specs.Found.{itemOf}
+use Rattle.plan_slots.specs.Items.{overItems}
+use Rattle.plan_slots.proofs.ItemLaws.{zero-right, stage-next, stage-eight, stage-fault, stage-end}
+use Rattle.plan_slots.proofs.RightLaws.{eleven-zero}
+use Rattle.plan_slots.proofs.RunLaws.{eleven-eight}
+use Rattle.plan_slots.proofs.computed.eleven_items.Statement.{statement}
+use Rattle.plan_slots.proofs.computed.eleven_items.Tie as tie
+
+abbrev Inv-loop : tie.InvT-loop
+Inv-loop d p body s table q₀ q =
+    (1 ≤ q) × (q ≤ 8192)
+    × (firstFrom (overItems (elevenRight d p)) (8192 - q) (8192 * s + q) ≡ firstFrom (overItems (elevenRight d p)) 8192 (8192 * s))
+
+abbrev μ-loop : tie.MeasureT-loop
+μ-loop d p body s table q₀ q = 8192 - q
+
+loop-holds : tie.Need-loop-holds Inv-loop μ-loop
+loop-holds c =
+    let o = c .before .before .args in
+    (omega arith, omega arith, zero-right (elevenRight (o .d .now) (o .p)) (o .s) (eleven-zero (o .d .now) (o .p) (o .s)))
+
+eighth-empty-requires : tie.Need-eighth-empty-requires Inv-loop μ-loop
+eighth-empty-requires c κs = search needs
+
+add-q : tie.Need-add-q Inv-loop μ-loop
+add-q c = search needs
+
+loop-less : tie.Need-loop-less Inv-loop μ-loop
+loop-less c = search needs
+
+loop-again : tie.Need-loop-again Inv-loop μ-loop
+loop-again c =
+    let l = c .before .before .before in
+    let o = l .before .before .before .args in
+    let eight = eleven-eight (o .d .now) (o .p) (o .s) (l .loop .q) (l .loop .inv .0) (sym (c .before .eighth-empty .ensures) ∙ c .if1 .taken) in
+    let (fits, on) = stage-eight (elevenRight (o .d .now) (o .p)) (o .s) (l .loop .q) _ (l .loop .inv .2) (c .before .before .loop-test .taken) eight in
+    (omega arith, fits, on)
+
+eleven-right-requires : tie.Need-eleven-right-requires Inv-loop μ-loop
+eleven-right-requires c κs = search needs
+
+add-q-2 : tie.Need-add-q-2 Inv-loop μ-loop
+add-q-2 c = search needs
+
+loop-less-2 : tie.Need-loop-less-2 Inv-loop μ-loop
+loop-less-2 c = search needs
+
+loop-again-2 : tie.Need-loop-again-2 Inv-loop μ-loop
+loop-again-2 c =
+    let t = c .before .before .before .before in
+    let l = t .before in
+    let o = l .before .before .before .args in
+    (omega arith, omega arith, stage-next (elevenRight (o .d .now) (o .p)) (o .s) (l .loop .q) _ (l .loop .inv .2) (t .loop-test .taken) (sym (c .before .eleven-right .ensures) ∙ c .if2 .taken))
+
+mul-t10 : tie.Need-mul-t10 Inv-loop μ-loop
+mul-t10 c = search needs
+
+add-t11 : tie.Need-add-t11 Inv-loop μ-loop
+add-t11 c = search needs
+
+returns : tie.Need-returns Inv-loop μ-loop
+returns c =
+    let t = c .before .before .before .before in
+    let l = t .before in
+    let o = l .before .before .before .args in
+    ap itemOf (stage-fault (elevenRight (o .d .now) (o .p)) (o .s) (l .loop .q) _ (l .loop .inv .2) (t .loop-test .taken) (sym (c .before .eleven-right .ensures) ∙ c .if2 .left))
+
+returns-2 : tie.Need-returns-2 Inv-loop μ-loop
+returns-2 c =
+    let l = c .before in
+    let o = l .before .before .before .args in
+    ap itemOf (stage-end (elevenRight (o .d .now) (o .p)) (o .s) (l .loop .q) _ (l .loop .inv .2) (omega arith))
+
+pub eleven-items-spec : {M : Type 1} → statement M
+eleven-items-spec =
+    tie.close
+    (tie.spec
+    Inv-loop
+    μ-loop
+    loop-holds
+    eighth-empty-requires
+    add-q
+    loop-less
+    loop-again
+    eleven-right-requires
+    add-q-2
+    loop-less-2
+    loop-again-2
+    mul-t10
+    add-t11
+    returns
+    returns-2)

@@ -1,0 +1,26 @@
+-- `plan_slots::computed::eleven_part` meets its contract. The table holds the pins that the part reads while the positions are asked for.
+-- Assumes nothing.
+use borrow.Author.Needs.{needs}
+use Rattle.plan_slots.specs.Puts.{readPuts}
+use Rattle.plan_slots.proofs.PutLaws.{filled-with}
+use Rattle.plan_slots.proofs.computed.eleven_part.Statement.{statement}
+use Rattle.plan_slots.proofs.computed.eleven_part.Tie as tie
+
+fill-reads-requires : tie.Need-fill-reads-requires
+fill-reads-requires c κs = search needs
+
+eleven-stages-requires : tie.Need-eleven-stages-requires
+eleven-stages-requires c κs =
+    let s = c .before .before .before .before .before .before .before in
+    let o = s .args in
+    (s .pre .0, filled-with (o .table .now) _ (readPuts (o .d .now) (o .p)) (s .pre .2) (c .before .before .before .fill-reads .ensures))
+
+same-length : tie.Need-same-length
+same-length c = search needs
+
+returns : tie.Need-returns
+returns c = search needs
+
+pub eleven-part-spec : {M : Type 1} → statement M
+eleven-part-spec =
+    tie.close (tie.spec fill-reads-requires eleven-stages-requires same-length returns)

@@ -1,0 +1,87 @@
+-- `plan_blocks::table::fill_counts` meets its contract. The loop's invariant: the first p parts are counted, and `at` is where the next body begins.
+-- Assumes nothing.
+use mathlib.Core.Path.{_≡_, ap, sym, _∙_}
+use Prim.Native.Nat.{ℕ, _-_, _≤_, _<_}
+use native.Mathlib.Omega.{arith}
+use lib.ListN.{length}
+use Rattle.plan_record.specs.Record.{partsOf, bodyAt}
+use Rattle.plan_record.proofs.FormLaws.{formed, body-ready}
+use mathlib.Core.List.{List}
+use Rattle.plan_blocks.specs.Fill.{countRow, countRows, countedRoom}
+use Rattle.plan_table.proofs.TableLaws.{count-long}
+use Rattle.plan_table.proofs.WholeLaws.{majors-few, row-ready, count-none, count-more}
+use borrow.Author.Needs.{needs}
+use Rattle.plan_table.proofs.table.fill_counts.Statement.{statement}
+use Rattle.plan_table.proofs.table.fill_counts.Tie as tie
+
+abbrev Inv-loop : tie.InvT-loop
+Inv-loop d room₀ parts at₀ p₀ room at p = (p ≤ parts) × (at ≡ bodyAt d p) × (room ≡ countRows d room₀ p)
+
+abbrev μ-loop : tie.MeasureT-loop
+μ-loop d room₀ parts at₀ p₀ room at p = parts - p
+
+parts-of-requires : tie.Need-parts-of-requires Inv-loop μ-loop
+parts-of-requires c κs = majors-few _ (c .before .before .pre .ready .form)
+
+first-body-requires : tie.Need-first-body-requires Inv-loop μ-loop
+first-body-requires c κs = majors-few _ (c .before .before .before .pre .ready .form)
+
+loop-holds : tie.Need-loop-holds Inv-loop μ-loop
+loop-holds c = (omega arith, c .first-body .ensures .0, sym (count-none _ _))
+
+body-at-requires : tie.Need-body-at-requires Inv-loop μ-loop
+body-at-requires c κs =
+    let a = c .before .before .before .before .before .before in
+    let l = c .before .loop in
+    let u : l .p < partsOf (a .args .d .now) = omega (arith, c .before .before .before .parts-of .ensures .0) in
+    body-ready _ (formed _ (a .pre .ready .form) .sizes) (l .p) (l .at) u (l .inv .1)
+
+fill-row-requires : tie.Need-fill-row-requires Inv-loop μ-loop
+fill-row-requires c κs =
+    let a = c .before .before .before .before .before .before .before .before in
+    let l = c .before .before .before .loop in
+    let u : l .p < partsOf (a .args .d .now) = omega (arith, c .before .before .before .before .before .parts-of .ensures .0) in
+    row-ready _ (a .args .room .now) (l .room) (l .p) _ (a .pre) (l .inv .2) u (c .before .body-at .ensures)
+
+add-p : tie.Need-add-p Inv-loop μ-loop
+add-p c = search needs
+
+loop-less : tie.Need-loop-less Inv-loop μ-loop
+loop-less c = search needs
+
+loop-again : tie.Need-loop-again Inv-loop μ-loop
+loop-again c =
+    let a = c .before .before .before .before .before .before .before .before .before .before .before .args in
+    let l = c .before .before .before .before .before .before .loop in (
+      omega arith,
+      c .before .before .before .before .body-at .ensures .end,
+      c .before .before .fill-row .ensures ∙ ap (λ (r : List ℕ). countRow (a .d .now) r (l .p)) (l .inv .2) ∙ sym (count-more (a .d .now) (a .room .now) (l .p)),
+    )
+
+same-length : tie.Need-same-length Inv-loop μ-loop
+same-length c = ap length (c .before .loop .inv .2) ∙ count-long _ _ _
+
+returns : tie.Need-returns Inv-loop μ-loop
+unfolding countedRoom
+returns c =
+    let a = c .before .before .before .before .before .before .args in
+    let l = c .before .loop in
+    let e : l .p ≡ partsOf (a .d .now) = omega (arith, c .before .before .before .parts-of .ensures .0) in
+    l .inv .2 ∙ ap (λ (n : ℕ). countRows (a .d .now) (a .room .now) n) e
+
+pub fill-counts-spec : {M : Type 1} → statement M
+fill-counts-spec =
+    tie.close
+    (tie.spec
+    Inv-loop
+    μ-loop
+    parts-of-requires
+    first-body-requires
+    loop-holds
+    body-at-requires
+    fill-row-requires
+    add-p
+    loop-less
+    loop-again
+    same-length
+    returns)

@@ -1,0 +1,73 @@
+-- What an accepted plan gives of each of its parts: refusals 5, 7, 8, 12 and 13 excluded, and its reads packed.
+-- Assumes nothing.
+use mathlib.Core.Path.{_≡_, sym, ap, subst, _∙_}
+use mathlib.Core.Bool.{true}
+use mathlib.Core.Option.{none}
+use mathlib.Core.List.{List}
+use Prim.Native.Nat.{ℕ, zero, suc, _+_, _*_, _≤_, _<_}
+use native.Mathlib.Decide.{ℕ-discrete}
+use native.Mathlib.Numerals.{add-one}
+use native.Mathlib.Omega.{arith}
+use borrow.Author.Tests.{eq-eqb, ne-eqb}
+use lib.ListN.{length}
+use Rattle.reads.specs.ReadSet.{pairsOf}
+use Rattle.reads.specs.Search.{Lane, lanesOf}
+use Rattle.reads.specs.Outcome.{placed}
+use Rattle.reads_try.specs.Table.{tableOf}
+use Rattle.reads_try.proofs.TableLaws.{table-length}
+use Rattle.rounds.specs.Rounds.{tableAfter}
+use Rattle.plan_record.specs.Record.{partsOf, stagesOf, slotAt}
+use Rattle.words.specs.Pins.{empty}
+use Rattle.plan_record.specs.Form.{planForm}
+use Rattle.plan_record.proofs.FormLaws.{formed}
+use Rattle.plan_counts.specs.Counts.{refusal7}
+use Rattle.plan_counts.proofs.PartLaws.{passed}
+use Rattle.plan_blocks.specs.Blocks.{totalsFit}
+use Rattle.plan_positions.specs.Positions.{planned, refusal12, refusal13}
+use Rattle.plan_positions.proofs.PositionLaws.{sram-entry, enable-entry}
+use Rattle.plan_reads.specs.PartReads.{readWords, partReads, partLanes, localPosition}
+use Rattle.plan_reads.proofs.EntryLaws.{part-found, part-numbered, all-planned}
+use Rattle.script.specs.Script.{pinEntry, stageEntry}
+use Rattle.script.proofs.EntryLaws.{entry-small}
+use Rattle.promise_decode.specs.Decodable.{Decodable}
+use Rattle.promise_decode.proofs.InsideLaws.{solvable, narrow, part-sound}
+
+module _ (d : List ℕ) (p : ℕ) (form : planForm d ≡ true) (seven : refusal7 d ≡ none) (fit : totalsFit d ≡ true) (twelve : refusal12 d ≡ none) (thirteen : refusal13 d ≡ none) (part : p < partsOf d) (found : partReads 256 d p ≡ placed (partLanes 256 d p)) where
+  abbrev lanes : List Lane
+  lanes = partLanes 256 d p
+
+  lanes-wide : length lanes ≡ 256
+  lanes-wide = part-sound d fit twelve p part found .packing .wide
+
+  -- the pin of a slot of stage 0 has its local position
+  numbered : (j : ℕ) → j < 8192 → (slotAt d p 0 (8192 + j) ≡ empty → ⊥) → localPosition lanes (planned d (slotAt d p 0 (8192 + j))) < 8192
+  numbered j h full =
+      let ws = readWords d p in
+      let few = narrow d fit twelve p part in
+      let is : tableOf lanes ≡ tableAfter 256 (lanesOf 256 (pairsOf ws)) = ap (tableAfter 256) (sym (part-found d p few solvable lanes found)) in
+      let at = part-numbered d p few solvable lanes found (tableOf lanes) ws is (table-length lanes ∙ ap (λ (n : ℕ). 32 * n) lanes-wide) (omega arith) (all-planned d twelve p part) j h full in
+      omega (arith, at .is, at .below)
+
+  first-small : (i : ℕ) → i < 8192 → stageEntry 256 d p 0 i ≤ 8191
+  unfolding stageEntry pinEntry
+  first-small i h = by (ℕ-discrete (slotAt d p 0 (8192 + i)) empty)
+    where
+      by : Dec (slotAt d p 0 (8192 + i) ≡ empty) → stageEntry 256 d p 0 i ≤ 8191
+      by (yes e) = rw (eq-eqb _ _ e, stageEntry) (omega arith)
+      by (no n) = rw (ne-eqb _ _ n, stageEntry, pinEntry) (omega (arith, numbered i h n))
+
+  stage-small : (k i : ℕ) → k < stagesOf d p → i < 8192 → stageEntry 256 d p k i ≤ 8191
+  stage-small zero i h l = first-small i l
+  stage-small (suc k) i h l = subst (λ (t : ℕ). stageEntry 256 d p t i ≤ 8191) (add-one k) (entry-small d p k i)
+
+  pub decodable : Decodable d p
+  decodable = record {
+    location = passed d seven p part .location;
+    locations = passed d seven p part .locations;
+    some-stages = formed d form .part p part .some-stages;
+    stages = formed d form .part p part .stages;
+    entry = λ k i h l. omega (arith, stage-small k i h l);
+    sram = λ i h. sram-entry d thirteen p i part h;
+    enable = λ i h. enable-entry d thirteen p i part h;
+    wide = lanes-wide;
+  }

@@ -1,0 +1,75 @@
+-- A build that is not refused leaves the assembled words and starts in front of what was there; a run of these keeps demand 3.
+-- Assumes nothing.
+use mathlib.Core.Path.{_≡_, refl, sym, ap, ap₂, _∙_}
+use mathlib.Core.Bool.{Bool, true, false, _&&_}
+use mathlib.Core.Option.{Option, none, some}
+use mathlib.Core.List.{List, _++_}
+use Prim.Native.Nat.{ℕ, _+_, _*_, _≤_, _<_}
+use native.Mathlib.Omega.{arith}
+use borrow.Author.Tests.{leb-true}
+use lib.Dec.{leb}
+use lib.ListN.{length, take, drop}
+use lib.Seq.{sets, sets-eq, take-at}
+use Rattle.plan_record.specs.Record.{blocksOf, majorsOf}
+use Rattle.plan_record.specs.Form.{roomWords}
+use Rattle.words.proofs.TestLaws.{and-true, not-both}
+use Rattle.plan_blocks.specs.Blocks.{stateWords}
+use Rattle.plan_checks.specs.Refusals.{Refused, nowhere, planRefusal, planVerdict}
+use Rattle.script_assembly.specs.Assembly.{scriptWords, scriptStarts}
+use Rattle.script_assembly.proofs.StartLaws.{starts-length}
+use Rattle.run_machine.specs.Run.{outcome}
+use Rattle.promise.specs.Promise.{assembled, startsOf, stageRun}
+use Rattle.promise.proofs.FinishLaws.{finished}
+use Rattle.flatten.specs.Flatten.{Sizes, Build, built, refusal, sizesOf, fits, ifFits, building, laid, startsAfter, wordsAfter}
+use Rattle.promise_joined.specs.Joined.{BuildLeaves, BuiltRun}
+
+-- ---- an answer that is a build
+
+record Built (verdict : Option Refused) (good : Bool) (y x : Sizes) : Type 0 where
+  pub accepted : verdict ≡ none
+  pub fit : good ≡ true
+  pub sizes : y ≡ x
+
+other : (q : Refused) (x : Sizes) → refusal q ≡ built x → ⊥
+other q x e = let z : _≡_ {A = ℕ} 0 1 = cc in omega arith
+
+built-so : (verdict : Option Refused) (good : Bool) (y x : Sizes) → elim verdict [ some q ↦ refusal q | none ↦ ifFits good y ] ≡ built x → Built verdict good y x
+built-so (some q) good y x e = absurd (other q x e)
+built-so none true y x e = record { accepted = refl; fit = refl; sizes = cc }
+built-so none false y x e = absurd (other (nowhere 14) x e)
+
+accepted-so : (room : Bool) (p : Option Refused) → _≡_ {A = Option Refused} (elim room [ true ↦ p | false ↦ some (nowhere 32) ]) none → p ≡ none
+accepted-so true p e = e
+accepted-so false p e = let z : _≡_ {A = ℕ} 0 1 = cc in absurd (omega arith)
+
+-- a list that is put in front of another, and cut to its length
+front : (before l : List ℕ) (k : ℕ) → length l ≤ length before → k ≡ length l → take k (sets before 0 l) ≡ l
+front before l k h e = ap (take k) (sets-eq l before 0 (omega arith)) ∙ take-at l (drop (0 + length l) before) k (sym e)
+
+pub build-leaves : BuildLeaves
+unfolding building laid sizesOf fits planVerdict
+build-leaves d r starts words x s e =
+    let B = built-so (planVerdict 256 d r) (fits (sizesOf 256 d) (length starts) (length words)) (sizesOf 256 d) x e in
+    let (a, b) = and-true (leb (blocksOf d * majorsOf d + 1) (length starts)) (leb (length (scriptWords 256 d)) (length words)) (B .fit) in
+    let ws : x .words ≡ length (scriptWords 256 d) = ap (λ (y : Sizes). y .words) (sym (B .sizes)) in
+    let ss : x .starts ≡ length (scriptStarts 256 d) = ap (λ (y : Sizes). y .starts) (sym (B .sizes)) ∙ sym (starts-length 256 d) in
+    record {
+      accepted = accepted-so (leb (roomWords d) r) (planRefusal 256 d) (B .accepted);
+      words-are = ap (λ (y : Build). take (x .words) (laid y (scriptWords 256 d) words)) e ∙ front words (scriptWords 256 d) (x .words) (leb-true _ _ b) ws;
+      starts-are =
+          ap (λ (l : List ℕ). take (blocksOf d + 1) (drop (blocksOf d * s) l))
+          (ap (λ (y : Build). take (x .starts) (laid y (scriptStarts 256 d) starts)) e
+          ∙ front starts (scriptStarts 256 d) (x .starts) (omega (arith, leb-true (blocksOf d * majorsOf d + 1) (length starts) a, starts-length 256 d)) ss);
+    }
+
+pub built-run : BuiltRun
+unfolding building sizesOf
+built-run d r starts words x s turns old new room e stage old-size new-size space named all =
+    let B = built-so (planVerdict 256 d r) (fits (sizesOf 256 d) (length starts) (length words)) (sizesOf 256 d) x e in
+    let size : x .state ≡ stateWords d = ap (λ (y : Sizes). y .state) (sym (B .sizes)) in
+    let L = build-leaves d r starts words x s e in
+    let F = finished d s turns old new room (L .accepted) stage (old-size ∙ size) (new-size ∙ size) space named all in (
+      stageRun d s turns old new .new,
+      ap₂ (λ (w t : List ℕ). outcome 256 13 w t turns old new room) (L .words-are) (L .starts-are) ∙ F .0,
+      F .1,
+    )

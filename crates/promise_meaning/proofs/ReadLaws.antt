@@ -1,0 +1,177 @@
+-- Stage 0: each of its entries is the local position of a bit that the part requests, so that the read turn left the pin's state bit there.
+-- Assumes nothing.
+use mathlib.Core.Path.{_≡_, refl, sym, ap, ap₂, _∙_}
+use mathlib.Core.Bool.{Bool, true, false}
+use mathlib.Core.Option.{none, some}
+use mathlib.Core.List.{List, [], _∷_}
+use mathlib.Core.Logic.{_⊎_, ⊎-elim}
+use Prim.Native.Nat.{ℕ, zero, suc, _+_, _-_, _/_, _%_, _^_, _≤_, _<_}
+use native.Mathlib.Omega.{arith}
+use borrow.Author.Tests.{lt-ltb, le-ltb, ne-eqb, eqb-false}
+use lib.Dec.{eqb}
+use lib.ListN.{getD}
+use Rattle.words.specs.Bit.{bit, bitAt}
+use Rattle.reads.specs.ReadSet.{pairsOf, broken}
+use Rattle.reads.specs.Packing.{times, Packing}
+use Rattle.reads.specs.Local.{localOf}
+use Rattle.reads.specs.ReadTurn.{laneWord}
+use Rattle.reads.proofs.PackingLaws.{lanes-packing}
+use Rattle.reads.proofs.SetLaws.{pairs-small}
+use Rattle.reads.proofs.LocalLaws.{Requested, own-positions}
+use Rattle.reads.proofs.SectionWordLaws.{section-word, section-mask}
+use Rattle.reads.proofs.ReadTurnLaws.{ReadBy, read-requested}
+use Rattle.reads_asked.proofs.RequestLaws.{set-requests}
+use Rattle.plan_record.specs.Record.{majorsOf, partsOf, stagesOf, slotAt}
+use Rattle.words.specs.Pins.{empty}
+use Rattle.plan_record.proofs.FormLaws.{formed}
+use Rattle.plan_gates.specs.Gates.{value}
+use Rattle.plan_gates.proofs.ValueLaws.{value-read}
+use Rattle.plan_counts.specs.Counts.{writeOuts}
+use Rattle.plan_counts.proofs.PartLaws.{passed}
+use Rattle.plan_blocks.specs.Blocks.{stateOf, stateWords}
+use Rattle.plan_blocks.proofs.TotalLaws.{sum-most}
+use Rattle.plan_blocks.proofs.StartLaws.{state-mono}
+use Rattle.plan_positions.specs.Positions.{Planned, planned, majorOf}
+use Rattle.plan_positions.specs.Input.{plannedBit, input}
+use Rattle.plan_positions.proofs.MajorLaws.{major-at}
+use Rattle.plan_positions.proofs.PositionLaws.{RightlyPlanned, read-planned, input-read, bit-unstaged, bit-staged}
+use Rattle.values.specs.Values.{pinValue}
+use Rattle.plan_reads.specs.PartReads.{bitNumber, orZero, askedBy, askedTo, readWords, partReads, partLanes, localPosition}
+use Rattle.plan_reads.specs.Ready.{Narrow, AllNarrow}
+use Rattle.plan_reads.proofs.AskedLaws.{slotAsks, narrow-append}
+use Rattle.plan_reads.proofs.SearchedLaws.{reads-slot}
+use Rattle.plan_reads.proofs.EntryLaws.{words-form, words-small, asked-in, packed-found}
+use Rattle.script.specs.Script.{stageEntry, pinEntry}
+use Rattle.run_machine.specs.Part.{readWordAt, readMaskAt, entryAt}
+use Rattle.run_machine.specs.Turn.{stateWord, readRow}
+use Rattle.run_machine.proofs.TurnLaws.{read-lane}
+use Rattle.promise_decode.specs.Decoded.{Decoded}
+use Rattle.promise_meaning.specs.Meaning.{Sound, Gathers}
+
+-- ---- the bit of a planned position is that of its word, the state chosen by bit 31
+
+module _ (old new : List ℕ) where
+  word-old : (w : ℕ) → w < 2 ^ 31 → stateWord old new w ≡ getD old w 0
+  unfolding stateWord
+  word-old w h = rw (lt-ltb w (2 ^ 31) h, stateWord)
+
+  word-new : (w v : ℕ) → w ≡ 2 ^ 31 + v → stateWord old new w ≡ getD new v 0
+  unfolding stateWord
+  word-new w v h =
+      let past : 2 ^ 31 ≤ w = omega arith in
+      let e : w - 2 ^ 31 ≡ v = omega arith in
+      rw (le-ltb w (2 ^ 31) past, stateWord, e)
+
+  word-bit : (y : Planned) → y .place < 2 ^ 32 → (y .staged ≡ 0) ⊎ (y .staged ≡ 1)
+      → plannedBit old new (some y) ≡ some (bit (stateWord old new (bitNumber y / 32)) (bitNumber y % 32))
+  unfolding bitAt
+  word-bit y small mark = ⊎-elim
+      (λ e.
+      let w : bitNumber y / 32 ≡ y .place / 32 = omega arith in
+      let k : bitNumber y % 32 ≡ y .place % 32 = omega arith in
+      bit-unstaged old new y e ∙ ap some (sym (ap₂ bit (ap (stateWord old new) w ∙ word-old (y .place / 32) (omega arith)) k)))
+      (λ e.
+      let w : bitNumber y / 32 ≡ 2 ^ 31 + y .place / 32 = omega arith in
+      let k : bitNumber y % 32 ≡ y .place % 32 = omega arith in
+      bit-staged old new y e ∙ ap some (sym (ap₂ bit (word-new (bitNumber y / 32) (y .place / 32) w) k)))
+      mark
+
+-- a pin's value is the gates' value
+pub pin-value : (d : List ℕ) (p : ℕ) (old new : List ℕ) (x : ℕ) → (x ≡ empty → ⊥) → pinValue d p old new x ≡ value d (input d p old new) x
+unfolding pinValue
+pin-value d p old new x h = rw (ne-eqb x empty h, pinValue)
+
+module _ (d : List ℕ) (p : ℕ) (s : Sound d p) where
+  -- ---- the bits that the part asks for have words of 27 bits
+
+  state-small : stateWords d < 2 ^ 27
+  unfolding stateOf
+  state-small =
+      let f = formed d (s .form) in
+      let most = sum-most 256 (writeOuts d) (partsOf d) (λ q l. passed d (s .seven) q l .words) in
+      omega (arith, f .head .layout, f .sizes .headed .parts, most)
+
+  slot-planned : (j : ℕ) → j < 8192 → (slotAt d p 0 (8192 + j) ≡ empty → ⊥) → RightlyPlanned d (majorOf d p) (slotAt d p 0 (8192 + j))
+  slot-planned j l full = read-planned d (s .twelve) p (slotAt d p 0 (8192 + j)) (s .part) (reads-slot d p j l) full
+
+  place-small : (x : ℕ) (r : RightlyPlanned d (majorOf d p) x) → r .position .place < 2 ^ 32
+  place-small x r = ⊎-elim
+      (λ e. omega (arith, r .unstaged e, state-small))
+      (λ e. omega (arith, r .before e, state-mono d (majorOf d p) (majorsOf d) (omega (arith, major-at d p (s .part) .within)), state-small))
+      (r .mark)
+
+  place-narrow : (x : ℕ) (r : RightlyPlanned d (majorOf d p) x) → Narrow (bitNumber (r .position))
+  place-narrow x r = ⊎-elim
+      (λ e. record { small = omega (arith, place-small x r); place = omega (arith, place-small x r) })
+      (λ e. record { small = omega (arith, place-small x r); place = omega (arith, place-small x r) })
+      (r .mark)
+
+  slot-narrow : (j : ℕ) → j < 8192 → AllNarrow (slotAsks d p j)
+  unfolding askedBy
+  slot-narrow j l = by (eqb (slotAt d p 0 (8192 + j)) empty) refl
+    where
+      one : (q : ℕ) → Narrow q → AllNarrow (q ∷ [])
+      one q n zero h = n
+      one q n (suc i) h = absurd (omega arith)
+
+      by : (b : Bool) → eqb (slotAt d p 0 (8192 + j)) empty ≡ b → AllNarrow (askedBy b (planned d (slotAt d p 0 (8192 + j))))
+      by true e = λ i h. absurd (omega arith)
+      by false e =
+          let r = slot-planned j l (eqb-false _ _ e) in
+          rw (r .is, askedBy) (one (bitNumber (r .position)) (place-narrow _ r))
+
+  asked-narrow : (n : ℕ) → n ≤ 8192 → AllNarrow (askedTo d p n)
+  unfolding askedTo
+  asked-narrow zero h = λ i l. absurd (omega arith)
+  asked-narrow (suc n) h = narrow-append (askedTo d p n) (slotAsks d p n) (asked-narrow n (omega arith)) (slot-narrow n (omega arith))
+
+  -- ---- so the part's lanes are a packing of its set
+
+  narrow : AllNarrow (askedTo d p 8192)
+  narrow = asked-narrow 8192 (omega arith)
+
+  packing : Packing 256 (pairsOf (readWords d p)) (partLanes 256 d p)
+  unfolding partReads
+  packing = lanes-packing 256 (pairsOf (readWords d p)) (partLanes 256 d p) (packed-found 256 (pairsOf (readWords d p)) (partLanes 256 d p) (s .reads)) (omega arith)
+
+  in-form : broken (pairsOf (readWords d p)) ≡ none
+  in-form = words-form d p narrow .form
+
+  masks-small : (w m : ℕ) → 0 < times w m (pairsOf (readWords d p)) → m < 2 ^ 32
+  masks-small w m h = pairs-small 0 (readWords d p) (2 ^ 32) (words-small d p narrow) w m h .1
+
+  slot-requested : (j : ℕ) (l : j < 8192) (full : slotAt d p 0 (8192 + j) ≡ empty → ⊥)
+      → Requested (pairsOf (readWords d p)) (bitNumber (slot-planned j l full .position) / 32) (bitNumber (slot-planned j l full .position) % 32)
+  unfolding readWords
+  slot-requested j l full =
+      let r = slot-planned j l full in
+      let (i, k, g) = asked-in d p 8192 j (r .position) l full (r .is) in
+      rw g at (set-requests (askedTo d p 8192) i k)
+
+  first-entry : (j : ℕ) → (slotAt d p 0 (8192 + j) ≡ empty → ⊥) → (y : Planned) → planned d (slotAt d p 0 (8192 + j)) ≡ some y
+      → stageEntry 256 d p 0 j ≡ orZero (localOf (partLanes 256 d p) (bitNumber y / 32) (bitNumber y % 32))
+  unfolding stageEntry pinEntry localPosition
+  first-entry j full y e = rw (ne-eqb _ _ full, stageEntry, pinEntry, e, localPosition)
+
+  -- ---- what the read turn leaves
+
+  module _ (last state sram : ℕ) (W : List ℕ) (o : ℕ) (w : Decoded 256 d p last state sram W o) (old new : List ℕ) where
+    read-turn : ReadBy 256 (partLanes 256 d p) (stateWord old new) (λ i r. stateWord old new (readWordAt 256 W o r i)) (λ i r. readMaskAt 256 W o r i) (readRow 256 W o old new)
+    read-turn = record {
+      words = λ i r h l. ap (stateWord old new) (w .read-word r i l h ∙ sym (section-word 256 (partLanes 256 d p) (packing .wide) r i h));
+      masks = λ i r h l. w .read-mask r i l h ∙ sym (section-mask 256 (partLanes 256 d p) (packing .wide) r i h);
+      left = λ i h. read-lane 256 W o old new i h ∙ ap (laneWord (λ r. stateWord old new (readWordAt 256 W o r i)) (λ r. readMaskAt 256 W o r i)) (w .rounds);
+    }
+
+    pub first-gathers : 0 < stagesOf d p → Gathers d p old new W o 0 (readRow 256 W o old new)
+    first-gathers some-stages j l full =
+        let x = slotAt d p 0 (8192 + j) in
+        let r = slot-planned j l full in
+        let y = r .position in
+        let asked = slot-requested j l full in
+        let (q, at, low) = own-positions 256 (pairsOf (readWords d p)) (partLanes 256 d p) packing in-form masks-small .below (bitNumber y / 32) (bitNumber y % 32) asked in
+        let here : entryAt 256 W o 0 j ≡ q = w .entry 0 j some-stages (omega arith) ∙ first-entry j full y (r .is) ∙ ap orZero at in
+        let left = read-requested 256 (pairsOf (readWords d p)) (partLanes 256 d p) packing in-form masks-small (stateWord old new) (λ i r. stateWord old new (readWordAt 256 W o r i)) (λ i r. readMaskAt 256 W o r i) (readRow 256 W o old new) read-turn (bitNumber y / 32) (bitNumber y % 32) q asked at in
+        let bits : input d p old new x ≡ some (bit (stateWord old new (bitNumber y / 32)) (bitNumber y % 32)) =
+        input-read d p old new x (s .part) (reads-slot d p j l) ∙ ap (plannedBit old new) (r .is) ∙ word-bit old new y (place-small x r) (r .mark) in
+        ap (bitAt (readRow 256 W o old new)) here ∙ left ∙ sym (pin-value d p old new x full ∙ value-read d (input d p old new) x _ bits)

@@ -1,0 +1,126 @@
+-- `write_round`: the lanes from i on are still to be stored, from word 2i of the round on.
+-- Assumes nothing.
+use mathlib.Core.Path.{_≡_, refl, sym, _∙_}
+use Prim.Native.Nat.{_+_, _*_, _-_, _≤_, _<_}
+use native.Mathlib.Nat.{add-zero}
+use native.Mathlib.Omega.{arith}
+use lib.ListN.{length, drop, length-set}
+use lib.Seq.{sets}
+use Rattle.reads.specs.Words.{roundWords}
+use Rattle.reads_try.specs.Decoded.{lanesAt}
+use Rattle.reads_try.proofs.TableLaws.{filled-named}
+use Rattle.reads_section.proofs.ReadoutLaws.{read-word, read-mask, round-step, round-end}
+use borrow.Author.Needs.{needs}
+use Rattle.reads_section.proofs.write_round.Statement.{statement}
+use Rattle.reads_section.proofs.write_round.Tie as tie
+
+abbrev Inv-loop : tie.InvT-loop
+Inv-loop set room lanes r out₀ at i₀ out i =
+    (i ≤ lanes)
+    × (length out ≡ length out₀)
+    × (sets out (at + 2 * i) (roundWords (drop i (lanesAt set room lanes)) r) ≡ sets out₀ at (roundWords (lanesAt set room lanes) r))
+
+abbrev μ-loop : tie.MeasureT-loop
+μ-loop set room lanes r out₀ at i₀ out i = lanes - i
+
+loop-holds : tie.Need-loop-holds Inv-loop μ-loop
+loop-holds c = (search needs, refl, rw add-zero)
+
+mul-e : tie.Need-mul-e Inv-loop μ-loop
+mul-e c = search needs
+
+add-e : tie.Need-add-e Inv-loop μ-loop
+add-e c = search needs
+
+mul-e-2 : tie.Need-mul-e-2 Inv-loop μ-loop
+mul-e-2 c = search needs
+
+shared-slice-read-e : tie.Need-shared-slice-read-e Inv-loop μ-loop
+shared-slice-read-e c = search needs
+
+entry-word-requires : tie.Need-entry-word-requires Inv-loop μ-loop
+entry-word-requires c κs = (filled-named (c .before .before .before .before .before .before .pre .0 .filled) _ (omega arith), omega arith)
+
+mul-out : tie.Need-mul-out Inv-loop μ-loop
+mul-out c = search needs
+
+add-out : tie.Need-add-out Inv-loop μ-loop
+add-out c = search needs
+
+mul-out-2 : tie.Need-mul-out-2 Inv-loop μ-loop
+mul-out-2 c = search needs
+
+slice-write-out : tie.Need-slice-write-out Inv-loop μ-loop
+slice-write-out c = search needs
+
+entry-word-requires-2 : tie.Need-entry-word-requires-2 Inv-loop μ-loop
+entry-word-requires-2 c κs = (filled-named (c .before .before .before .before .before .before .before .pre .0 .filled) _ (omega arith), omega arith)
+
+mul-out-3 : tie.Need-mul-out-3 Inv-loop μ-loop
+mul-out-3 c = search needs
+
+add-out-2 : tie.Need-add-out-2 Inv-loop μ-loop
+add-out-2 c = search needs
+
+add-out-3 : tie.Need-add-out-3 Inv-loop μ-loop
+add-out-3 c = search needs
+
+mul-out-4 : tie.Need-mul-out-4 Inv-loop μ-loop
+mul-out-4 c = search needs
+
+slice-write-out-2 : tie.Need-slice-write-out-2 Inv-loop μ-loop
+slice-write-out-2 c = simp length-set (omega arith)
+
+add-i : tie.Need-add-i Inv-loop μ-loop
+add-i c = search needs
+
+loop-less : tie.Need-loop-less Inv-loop μ-loop
+loop-less c = search needs
+
+loop-again : tie.Need-loop-again Inv-loop μ-loop
+loop-again c =
+    let l = c .before .before .before .before .loop in
+    let a = c .before .before .before .before .before .before .before .before in
+    let q : l .i < a .args .lanes = omega arith in
+    let w = c .before .entry-word .ensures ∙ read-word (a .pre .0) (l .i) (a .args .r) q (a .pre .1) in
+    let m = c .entry-word2 .ensures ∙ read-mask (a .pre .0) (l .i) (a .args .r) q (a .pre .1) in
+    let n : l .i < length (lanesAt (a .args .set .now) (a .args .room .now) (a .args .lanes)) = omega (arith, a .pre .0 .filled .kept .wide) in
+    (omega arith, simp length-set (l .inv .1), rw (w, m) (round-step _ (a .args .r) (l .out) (a .args .at) (l .i) n ∙ l .inv .2))
+
+same-length : tie.Need-same-length Inv-loop μ-loop
+same-length c = search needs
+
+returns : tie.Need-returns Inv-loop μ-loop
+returns c =
+    let l = c .before .loop in
+    let a = c .before .before .before .before .before in
+    let n : length (lanesAt (a .args .set .now) (a .args .room .now) (a .args .lanes)) ≤ l .i = omega (arith, a .pre .0 .filled .kept .wide) in
+    sym (round-end _ (a .args .r) (l .out) (a .args .at) (l .i) n) ∙ l .inv .2
+
+pub write-round-spec : {M : Type 1} → statement M
+write-round-spec =
+    tie.close
+    (tie.spec
+    Inv-loop
+    μ-loop
+    loop-holds
+    mul-e
+    add-e
+    mul-e-2
+    shared-slice-read-e
+    entry-word-requires
+    mul-out
+    add-out
+    mul-out-2
+    slice-write-out
+    entry-word-requires-2
+    mul-out-3
+    add-out-2
+    add-out-3
+    mul-out-4
+    slice-write-out-2
+    add-i
+    loop-less
+    loop-again
+    same-length
+    returns)

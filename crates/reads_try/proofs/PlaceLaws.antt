@@ -1,0 +1,73 @@
+-- What `place` asks of its calls and tells of them, over plain values: b is the count of the mask's bits, r what the search answered.
+-- Assumes nothing.
+use mathlib.Core.Path.{_≡_, refl, sym, ap, _∙_}
+use mathlib.Core.Option.{Option, none, some}
+use mathlib.Core.List.{List, _++_}
+use Prim.Native.Nat.{ℕ, _+_, _*_, _<_}
+use native.Mathlib.Omega.{arith}
+use lib.ListN.{getD, drop}
+use Rattle.words.specs.Bit.{pop}
+use Rattle.words.specs.Round.{next}
+use Rattle.reads.specs.Search.{firstRoom}
+use Rattle.reads_try.specs.declared.Search.{Search}
+use Rattle.reads_try.specs.declared.Search.the-variants.{Lane as LaneAt, Full}
+use Rattle.reads_try.specs.Table.{tableOf}
+use Rattle.reads_try.specs.Decoded.{pairAt, lanesAt, putIn}
+use Rattle.reads_try.specs.Tries.{foundOf, laneFor, nextOf, lanesAfter, Searched, Puttable, Placeable}
+use Rattle.reads.proofs.SearchLaws.{room-found}
+use Rattle.reads_try.proofs.PairLaws.{count-le}
+use Rattle.reads_try.proofs.TableLaws.{filled-in-room, filled-named, filled-row, filled-free, filled-put}
+
+-- ---- the answer as the code says it
+
+pub found-none : (o : Option ℕ) → foundOf o ≡ Full → o ≡ none
+found-none none e = refl
+found-none (some j) e =
+    let z : _≡_ {A = ℕ} 0 1 = cc in
+    absurd (omega arith)
+
+pub found-some : (o : Option ℕ) (j : ℕ) → foundOf o ≡ LaneAt j → o ≡ some j
+found-some none j e =
+    let z : _≡_ {A = ℕ} 0 1 = cc in
+    absurd (omega arith)
+found-some (some i) j e = cc
+
+-- ---- a pair is placed
+
+-- what `place` ensures
+abbrev pub Placed : (set room : List ℕ) (L cur p : ℕ) → Search → List ℕ → Type 0
+Placed set room L cur p r room′ =
+    (r ≡ foundOf (nextOf L (laneFor set room L cur p)))
+    × (room′ ≡ tableOf (lanesAfter (laneFor set room L cur p) (lanesAt set room L) (pairAt set p)) ++ drop (32 * L) room)
+
+module _ (set room : List ℕ) (L cur p : ℕ) (h : Placeable set room L cur p) (b : ℕ) (eb : b ≡ pop (getD set (2 * p + 1) 0)) where
+  pub place-search : Searched set room L cur b
+  place-search = record {
+    in-room = filled-in-room (h .filled);
+    named = filled-named (h .filled);
+    lane = h .lane;
+    mask = count-le b _ eb;
+  }
+
+  module _ (r : Search) (er : r ≡ foundOf (firstRoom L L (lanesAt set room L) b cur)) where
+    pub place-full : r ≡ Full → Placed set room L cur p Full room
+    place-full f =
+        let e : laneFor set room L cur p ≡ none = found-none _ (sym (rw eb at er) ∙ f) in
+        rw e (refl, h .filled .table)
+
+    module _ (j : ℕ) (f : r ≡ LaneAt j) where
+      found : laneFor set room L cur p ≡ some j
+      found = found-some _ j (sym (rw eb at er) ∙ f)
+
+      pub place-lt : j < L
+      place-lt = room-found L L (lanesAt set room L) _ cur j (h .lane) found .0
+
+      pub place-put : Puttable set room j p
+      place-put = record {
+        lane = filled-row (h .filled) j place-lt;
+        free = filled-free (h .filled) j _ place-lt (h .some-bits) (room-found L L (lanesAt set room L) _ cur j (h .lane) found .1);
+        pair = omega arith;
+      }
+
+      pub place-lane : (n : ℕ) (room′ : List ℕ) → n ≡ next L j → room′ ≡ putIn set room j p → Placed set room L cur p (LaneAt n) room′
+      place-lane n room′ en e = rw found (ap LaneAt en, e ∙ filled-put (h .filled) j p place-lt (place-put .free))

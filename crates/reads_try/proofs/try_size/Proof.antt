@@ -1,0 +1,167 @@
+-- `try_size`: what is still to be placed, from the lanes as they stand, ends as the try does. In a piece: as it did at the piece's begin.
+-- Assumes nothing.
+use mathlib.Core.Path.{_≡_, refl, _∙_}
+use mathlib.Core.Bool.{true}
+use mathlib.Core.List.{List, _∷_, _++_}
+use Prim.Native.Nat.{ℕ, _+_, _*_, _-_, _/_, _%_, _≤_, _<_}
+use native.Mathlib.Omega.{arith}
+use lib.ListN.{length, getD, drop, length-drop}
+use lib.Seq.{slice}
+use borrow.Author.Needs.{needs}
+use Rattle.reads.specs.ReadSet.{Pair, pairsOf}
+use Rattle.reads_try.specs.Table.{runOf}
+use Rattle.reads_try.specs.Decoded.{pairAt}
+use Rattle.reads_try.specs.Tries.{triedOf}
+use Rattle.reads_try.proofs.PairLaws.{span-step}
+use Rattle.reads_try.proofs.TryLaws.{Held, Piece, held-start, held-length, held-stop, held-placeable, run-step, run-next, run-ended, piece-step, piece-small}
+use Rattle.reads_try.proofs.try_size.Statement.{statement}
+use Rattle.reads_try.proofs.try_size.Tie as tie
+
+abbrev Inv-pairs : tie.InvT-pairs
+Inv-pairs set keys room₀ lanes k n fits₀ cur₀ t i p₀ end room fits cur p = (fits ≡ true) × Piece set lanes p₀ end room₀ cur₀ p room cur
+
+abbrev μ-pairs : tie.MeasureT-pairs
+μ-pairs set keys room₀ lanes k n fits₀ cur₀ t i p₀ end room fits cur p = end - p
+
+abbrev Inv-pieces : tie.InvT-pieces
+Inv-pieces set keys room₀ lanes k n fits₀ cur₀ t₀ room fits cur t =
+    (t ≤ length keys) × (fits ≡ true)
+    × Held set lanes (drop (32 * lanes) room₀) (triedOf lanes k set keys) (runOf k (pairsOf set) (drop t keys)) room cur
+
+abbrev μ-pieces : tie.MeasureT-pieces
+μ-pieces set keys room₀ lanes k n fits₀ cur₀ t₀ room fits cur t = length keys - t
+
+-- where a piece begins: what the function was called with, and the outer loop
+abbrev called : tie.After-least Inv-pairs μ-pairs Inv-pieces μ-pieces → tie.Start Inv-pairs μ-pairs Inv-pieces μ-pieces
+called c = c .before .before .before .before .before .before .before
+
+abbrev outer : tie.After-least Inv-pairs μ-pairs Inv-pieces μ-pieces → tie.At-pieces Inv-pairs μ-pairs Inv-pieces μ-pieces
+outer c = c .before .before .before
+
+abbrev begin : tie.After-least Inv-pairs μ-pairs Inv-pieces μ-pieces → ℕ
+begin c = getD (called c .args .keys .now) (outer c .pieces .t) 0 % 8192 * called c .args .k
+
+-- what holds, over what the function was called with
+abbrev HeldIn : tie.Start Inv-pairs μ-pairs Inv-pieces μ-pieces → List Pair → List ℕ → ℕ → Type 0
+HeldIn s run room cur =
+    Held (s .args .set .now) (s .args .lanes) (drop (32 * s .args .lanes) (s .args .room .now))
+    (triedOf (s .args .lanes) (s .args .k) (s .args .set .now) (s .args .keys .now)) run room cur
+
+-- pairs p to the piece's end, and the pieces after it
+abbrev Left : tie.After-least Inv-pairs μ-pairs Inv-pieces μ-pieces → ℕ → List Pair
+Left c p =
+    slice p (c .least .result) (pairsOf (called c .args .set .now))
+    ++ runOf (called c .args .k) (pairsOf (called c .args .set .now)) (drop (outer c .pieces .t + 1) (called c .args .keys .now))
+
+same-room : (s : tie.Start Inv-pairs μ-pairs Inv-pieces μ-pieces) {run : List Pair} {room : List ℕ} {cur : ℕ} → HeldIn s run room cur → length room ≡ length (s .args .room .now)
+same-room s h = omega (arith, held-length h, length-drop (32 * s .args .lanes) (s .args .room .now), s .pre .in-room)
+
+piece-in : (c : tie.After-least Inv-pairs μ-pairs Inv-pieces μ-pieces) → HeldIn (called c) (Left c (begin c)) (outer c .pieces .room) (outer c .pieces .cur)
+piece-in c =
+    run-step (called c .pre) (called c .args .keys .now) (outer c .pieces .t) (c .before .before .pieces-test .taken) (outer c .pieces .inv .2) _ (c .least .result) refl (c .least .ensures)
+
+end-in : (c : tie.After-least Inv-pairs μ-pairs Inv-pieces μ-pieces) → c .least .result ≤ length (called c .args .set .now) / 2
+end-in c = omega (arith, c .least .ensures)
+
+-- at a pair
+below : (c : tie.In-pairs Inv-pairs μ-pairs Inv-pieces μ-pieces) → c .before .pairs .p < length (called (c .before .before) .args .set .now) / 2
+below c = omega (arith, c .pairs-test .taken, end-in (c .before .before))
+
+pair-in : (c : tie.In-pairs Inv-pairs μ-pairs Inv-pieces μ-pieces)
+    → HeldIn (called (c .before .before)) (pairAt (called (c .before .before) .args .set .now) (c .before .pairs .p) ∷ Left (c .before .before) (c .before .pairs .p + 1)) (c .before .pairs .room) (c .before .pairs .cur)
+pair-in c =
+    rw (span-step (called (c .before .before) .args .set .now) (c .before .pairs .p) (c .before .before .least .result) (c .pairs-test .taken) (end-in (c .before .before)))
+    at (c .before .pairs .inv .1 _ _ _ (piece-in (c .before .before)))
+
+pieces-holds : tie.Need-pieces-holds Inv-pairs μ-pairs Inv-pieces μ-pieces
+pieces-holds c = (search needs, refl, held-start (c .before .before .before .pre) (c .before .before .before .args .keys .now))
+
+mul-i : tie.Need-mul-i Inv-pairs μ-pairs Inv-pieces μ-pieces
+mul-i c = search needs
+
+shared-slice-read-i : tie.Need-shared-slice-read-i Inv-pairs μ-pairs Inv-pieces μ-pieces
+shared-slice-read-i c = search needs
+
+mul-p : tie.Need-mul-p Inv-pairs μ-pairs Inv-pieces μ-pieces
+mul-p c = omega (arith, piece-small (getD (c .before .before .before .before .before .before .args .keys .now) (c .before .before .pieces .t) 0) (c .before .before .before .before .before .before .args .k) (c .before .before .before .before .before .before .pre .size))
+
+add-least : tie.Need-add-least Inv-pairs μ-pairs Inv-pieces μ-pieces
+add-least c = omega (arith, piece-small (getD (c .before .before .before .before .before .before .args .keys .now) (c .before .before .pieces .t) 0) (c .before .before .before .before .before .before .args .k) (c .before .before .before .before .before .before .pre .size), c .before .before .before .before .before .before .pre .size)
+
+least-requires : tie.Need-least-requires Inv-pairs μ-pairs Inv-pieces μ-pieces
+least-requires c κs = search needs
+
+pairs-holds : tie.Need-pairs-holds Inv-pairs μ-pairs Inv-pieces μ-pieces
+pairs-holds c = search needs
+
+place-requires : tie.Need-place-requires Inv-pairs μ-pairs Inv-pieces μ-pieces
+place-requires c κs = held-placeable (called (c .before .before .before) .pre) (pair-in (c .before)) _ (below (c .before))
+
+enum-told : tie.Need-enum-told Inv-pairs μ-pairs Inv-pieces μ-pieces
+enum-told c = search needs
+
+enum-known-j : tie.Need-enum-known-j Inv-pairs μ-pairs Inv-pieces μ-pieces
+enum-known-j c = search needs
+
+add-p : tie.Need-add-p Inv-pairs μ-pairs Inv-pieces μ-pieces
+add-p c = search needs
+
+pairs-less : tie.Need-pairs-less Inv-pairs μ-pairs Inv-pieces μ-pieces
+pairs-less c = search needs
+
+pairs-again : tie.Need-pairs-again Inv-pairs μ-pairs Inv-pieces μ-pieces
+pairs-again c =
+    let l = c .before .before .before .before .before .before .before .before .pairs in (
+      l .inv .0,
+      piece-step (called (c .before .before .before .before .before .before .before .before .before) .pre) (begin (c .before .before .before .before .before .before .before .before .before)) _ _ _ (l .p) (l .room) (l .cur) (l .inv .1) (c .before .before .before .before .before .before .before .pairs-test .taken) (end-in (c .before .before .before .before .before .before .before .before .before)) _ _ (c .before .before .before .before .before .place .ensures) _ (c .before .j .given .1),
+    )
+
+add-t : tie.Need-add-t Inv-pairs μ-pairs Inv-pieces μ-pieces
+add-t c = search needs
+
+pieces-less : tie.Need-pieces-less Inv-pairs μ-pairs Inv-pieces μ-pieces
+pieces-less c = search needs
+
+pieces-again : tie.Need-pieces-again Inv-pairs μ-pairs Inv-pieces μ-pieces
+pieces-again c = (omega arith, c .before .pairs .inv .0, run-next _ _ _ (c .pairs-test .left) (c .before .pairs .inv .1 _ _ _ (piece-in (c .before .before))))
+
+same-length : tie.Need-same-length Inv-pairs μ-pairs Inv-pieces μ-pieces
+same-length c = same-room (c .before .before .before .before .before) (c .before .pieces .inv .2)
+
+returns : tie.Need-returns Inv-pairs μ-pairs Inv-pieces μ-pieces
+returns c = rw (c .before .pieces .inv .1) (run-ended _ _ _ (c .pieces-test .left) (c .before .pieces .inv .2))
+
+same-length-2 : tie.Need-same-length-2 Inv-pairs μ-pairs Inv-pieces μ-pieces
+same-length-2 c = c .before .before .before .before .place .kept .1 .0 ∙ same-room (called (c .before .before .before .before .before .before .before .before)) (pair-in (c .before .before .before .before .before .before))
+
+returns-2 : tie.Need-returns-2 Inv-pairs μ-pairs Inv-pieces μ-pieces
+returns-2 c = held-stop (pair-in (c .before .before .before .before .before .before)) _ _ (c .before .before .before .before .place .ensures) (c .enum-told .given .1)
+
+pub try-size-spec : {M : Type 1} → statement M
+try-size-spec =
+    tie.close
+    (tie.spec
+    Inv-pairs
+    μ-pairs
+    Inv-pieces
+    μ-pieces
+    pieces-holds
+    mul-i
+    shared-slice-read-i
+    mul-p
+    add-least
+    least-requires
+    pairs-holds
+    place-requires
+    enum-told
+    enum-known-j
+    add-p
+    pairs-less
+    pairs-again
+    add-t
+    pieces-less
+    pieces-again
+    same-length
+    returns
+    same-length-2
+    returns-2)

@@ -1,0 +1,89 @@
+-- What the functions answer, and what they ask. L is the number of lanes.
+-- Assumes nothing.
+use mathlib.Core.Path.{_≡_}
+use mathlib.Core.Bool.{Bool, true, false}
+use mathlib.Core.Option.{Option, none, some}
+use mathlib.Core.List.{List, []}
+use Prim.Native.Nat.{ℕ, _+_, _*_, _/_, _%_, _≤_, _<_}
+use lib.ListN.{length, getD, take, replicate}
+use Rattle.words.specs.Bit.{pop}
+use Rattle.reads.specs.ReadSet.{Pair, bits, pairsOf}
+use Rattle.words.specs.Round.{next}
+use Rattle.reads.specs.Search.{Lane, firstRoom, push, Tried, all, stuck, tryFrom}
+use Rattle.reads_try.specs.declared.Search.{Search}
+use Rattle.reads_try.specs.declared.Search.the-variants.{Lane as LaneAt, Full}
+use Rattle.reads_try.specs.Table.{runOf}
+use Rattle.reads_try.specs.Decoded.{pairAt, laneOf, rowAt, lanesAt, Filled}
+
+-- a lane that is found, or none, as the code says it
+abbrev pub foundOf : Option ℕ → Search
+foundOf none = Full
+foundOf (some j) = LaneAt j
+
+-- the lane for pair p, over the lanes that the room says
+abbrev pub laneFor : List ℕ → List ℕ → ℕ → ℕ → ℕ → Option ℕ
+laneFor set room L cur p = firstRoom L L (lanesAt set room L) (bits (pairAt set p)) cur
+
+-- the lane after the one that took the pair
+abbrev pub nextOf : ℕ → Option ℕ → Option ℕ
+nextOf L none = none
+nextOf L (some i) = some (next L i)
+
+-- the lanes after it took the pair
+abbrev pub lanesAfter : Option ℕ → List Lane → Pair → List Lane
+lanesAfter none lanes p = lanes
+lanesAfter (some i) lanes p = push lanes i p
+
+-- how a try ended, and the lanes as they then stand
+abbrev pub isAll : Tried → Bool
+isAll (all lanes) = true
+isAll (stuck lanes) = false
+
+abbrev pub lanesIn : Tried → List Lane
+lanesIn (all lanes) = lanes
+lanesIn (stuck lanes) = lanes
+
+-- the try of a set at piece size k, the pieces in the order of the keys, from empty lanes
+abbrev pub triedOf : ℕ → ℕ → List ℕ → List ℕ → Tried
+triedOf L k set keys = tryFrom L (runOf k (pairsOf set) keys) (replicate L []) 0
+
+-- what a row's sum asks: its words name pairs of the set
+pub record Named (set row : List ℕ) : Type 0 where
+  pub short : length row ≤ 32
+  pub named : (i : ℕ) → i < length row → getD row i 0 ≤ length set / 2
+
+-- the same of lane j in the room
+pub record RowIn (set room : List ℕ) (j : ℕ) : Type 0 where
+  pub in-room : 32 * j + 32 ≤ length room
+  pub row : Named set (rowAt room j)
+
+-- what the search asks: so do those of each row
+pub record Searched (set room : List ℕ) (L from b : ℕ) : Type 0 where
+  pub in-room : 32 * L ≤ length room
+  pub named : (i : ℕ) → i < 32 * L → getD room i 0 ≤ length set / 2
+  pub lane : from < L
+  pub mask : b ≤ 32
+
+-- what a put of pair p into lane j asks: a free word in the row
+pub record Puttable (set room : List ℕ) (j p : ℕ) : Type 0 where
+  pub lane : RowIn set room j
+  pub free : length (laneOf set (rowAt room j)) < 32
+  pub pair : p < 8192
+
+-- what a placing of pair p asks, from the current lane on
+pub record Placeable (set room : List ℕ) (L cur p : ℕ) : Type 0 where
+  pub lane : cur < L
+  pub pairs : length set ≤ 16384
+  pub pair : p < length set / 2
+  pub some-bits : 0 < pop (getD set (2 * p + 1) 0)
+  pub filled : Filled set room L
+
+-- what a try asks: whole pairs, no mask that is 0, empty lanes
+pub record Ready (set room : List ℕ) (L k : ℕ) : Type 0 where
+  pub whole : length set % 2 ≡ 0
+  pub pairs : length set ≤ 16384
+  pub masks : (p : ℕ) → p < length set / 2 → 0 < pop (getD set (2 * p + 1) 0)
+  pub in-room : 32 * L ≤ length room
+  pub empty : take (32 * L) room ≡ replicate (32 * L) 0
+  pub some-lanes : 0 < L
+  pub size : k ≤ 8192

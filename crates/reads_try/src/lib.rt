@@ -1,0 +1,132 @@
+// The lanes: the search for room, and one try.
+ghost use mathlib.Core.Path.{_≡_};
+ghost use mathlib.Core.List.{_++_};
+ghost use Prim.Native.Nat.{_*_, _<_, min};
+ghost use lib.ListN.{length, drop};
+ghost use Rattle.reads.specs.ReadSet.{total};
+ghost use Rattle.reads.specs.Search.{firstRoom};
+ghost use Rattle.reads_try.specs.Table.{tableOf};
+ghost use Rattle.reads_try.specs.Decoded.{pairAt, laneOf, rowAt, lanesAt, putIn};
+ghost use Rattle.reads_try.specs.Tries.{foundOf, laneFor, nextOf, lanesAfter, isAll, lanesIn, triedOf, Named, RowIn, Searched, Puttable, Placeable, Ready};
+use words::round::next_of;
+
+// What a lane search finds.
+pub enum Search {
+    Lane(usize),
+    Full,
+}
+
+// What a lane holds: bits, and pairs.
+pub struct Load {
+    pub bits: u32,
+    pub pairs: usize,
+}
+
+// The load of a lane, summed over its row: a word is a pair's number and one, and a 0 ends the lane. The mask of pair e - 1 is word 2e - 1.
+fn row_load(set: &[u32], row: &[u32]) -> Load
+    requires { ⌜ Named (now set) (now row) ⌝ }
+    ensures { λ r. ⌜ (r .bits ≡ total (laneOf (now (set .entry)) (now (row .entry)))) × (r .pairs ≡ length (laneOf (now (set .entry)) (now (row .entry)))) ⌝ }
+{
+    let mut bits = 0;
+    let mut pairs = 0;
+    while pairs < row.len() {
+        let e = row[pairs] as usize;
+        if e == 0 {
+            return Load { bits, pairs };
+        }
+        bits += words::bits::count(set[2 * e - 1]);
+        pairs += 1;
+    }
+    Load { bits, pairs }
+}
+
+// The load of lane j.
+pub fn lane_load(set: &[u32], room: &[u32], j: usize) -> Load
+    requires { ⌜ RowIn (now set) (now room) j ⌝ }
+    ensures { λ r. ⌜ (r .bits ≡ total (laneOf (now (set .entry)) (rowAt (now (room .entry)) j))) × (r .pairs ≡ length (laneOf (now (set .entry)) (rowAt (now (room .entry)) j))) ⌝ }
+{
+    let at = 32 * j;
+    let end = at + 32;
+    row_load(set, &room[at..end])
+}
+
+// The first lane with room for b more bits, going round from lane `from`.
+fn find_lane(set: &[u32], room: &[u32], lanes: usize, from: usize, b: u32) -> Search
+    requires { ⌜ Searched (now set) (now room) lanes from b ⌝ }
+    ensures { λ r. ⌜ r ≡ foundOf (firstRoom lanes lanes (lanesAt (now (set .entry)) (now (room .entry)) lanes) b from) ⌝ }
+{
+    let mut j = from;
+    let mut left = lanes;
+    while 0 < left {
+        let held = lane_load(set, room, j);
+        if held.bits + b <= 32 {
+            return Search::Lane(j);
+        }
+        j = next_of(j, lanes);
+        left -= 1;
+    }
+    Search::Full
+}
+
+// Puts pair p behind those of lane j.
+fn put(set: &[u32], room: &mut [u32], j: usize, p: usize)
+    requires { ⌜ Puttable (now set) (now room) j p ⌝ }
+    ensures { λ _. ⌜ now (room .exit) ≡ putIn (now (set .entry)) (now (room .entry)) j p ⌝ }
+{
+    let held = lane_load(set, room, j);
+    let at = 32 * j + held.pairs;
+    room[at] = p as u32 + 1;
+}
+
+// Puts pair p into the first lane with room, going round from lane `cur`. The answer is the lane after that one, or Full.
+fn place(set: &[u32], room: &mut [u32], lanes: usize, cur: usize, p: usize) -> Search
+    requires { ⌜ Placeable (now set) (now room) lanes cur p ⌝ }
+    ensures { λ r. ⌜ r ≡ foundOf (nextOf lanes (laneFor (now (set .entry)) (now (room .entry)) lanes cur p)) ⌝ }
+    ensures { λ r. ⌜ now (room .exit) ≡ tableOf (lanesAfter (laneFor (now (set .entry)) (now (room .entry)) lanes cur p) (lanesAt (now (set .entry)) (now (room .entry)) lanes) (pairAt (now (set .entry)) p)) ++ drop (32 * lanes) (now (room .entry)) ⌝ }
+{
+    let b = words::bits::count(set[2 * p + 1]);
+    match find_lane(set, room, lanes, cur, b) {
+        Search::Full => Search::Full,
+        Search::Lane(j) => {
+            put(set, room, j, p);
+            Search::Lane(next_of(j, lanes))
+        }
+    }
+}
+
+pub fn least(a: usize, b: usize) -> usize
+    ensures { λ r. ⌜ r ≡ min a b ⌝ }
+{
+    if a < b { a } else { b }
+}
+
+// One try at piece size k, the pieces in the order of the keys: a key's rest by 8192 is its piece's number. No lane with room for a pair ends it.
+pub fn try_size(set: &[u32], keys: &[u64], room: &mut [u32], lanes: usize, k: usize) -> bool
+    requires { ⌜ Ready (now set) (now room) lanes k ⌝ }
+    ensures { λ r. ⌜ r ≡ isAll (triedOf lanes k (now (set .entry)) (now (keys .entry))) ⌝ }
+    ensures { λ r. ⌜ now (room .exit) ≡ tableOf (lanesIn (triedOf lanes k (now (set .entry)) (now (keys .entry)))) ++ drop (32 * lanes) (now (room .entry)) ⌝ }
+{
+    let n = set.len() / 2;
+    let mut fits = true;
+    let mut cur = 0;
+    let mut t = 0;
+    'pieces: while t < keys.len() {
+        let i = (keys[t] % 8192) as usize;
+        let mut p = i * k;
+        let end = least(p + k, n);
+        'pairs: while p < end {
+            match place(set, room, lanes, cur, p) {
+                Search::Full => {
+                    fits = false;
+                    break 'pieces;
+                }
+                Search::Lane(j) => {
+                    cur = j;
+                }
+            }
+            p += 1;
+        }
+        t += 1;
+    }
+    fits
+}

@@ -1,4 +1,0 @@
-pub mod RecordLaws
-pub mod TestLaws
-pub mod BodyLaws
-pub mod FormLaws

@@ -1,4 +1,0 @@
-pub mod Record
-pub mod Tests
-pub mod Form
-pub mod Body

@@ -1,0 +1,37 @@
+-- `repair_list::number_of` meets its contract: by what the map has.
+-- Assumes nothing.
+use mathlib.Core.Path.{sym, ap}
+use Rattle.pinmap.specs.PinMap.{look}
+use Rattle.repair_tally.proofs.StepLaws.{found-value, found-missing}
+use Rattle.repair_list.specs.Relist.{numberOf}
+use borrow.Author.Needs.{needs}
+use Rattle.repair_list.proofs.number_of.Statement.{statement}
+use Rattle.repair_list.proofs.number_of.Tie as tie
+use Rattle.repair_list.proofs.number_of.Reads as reads
+use Rattle.repair_list.proofs.number_of.Lts as lts
+use Rattle.pinmap.proofs.look_up.Reads as look-up-reads
+
+look-up-requires : tie.Need-look-up-requires
+look-up-requires c κs = search needs
+
+enum-known-v : tie.Need-enum-known-v
+enum-known-v c = search needs
+
+enum-told : tie.Need-enum-told
+enum-told c = search needs
+
+returns : tie.Need-returns
+returns c =
+    let v = c .before in
+    let l = v .before .before in
+    let s = l .before .before in
+    sym (ap numberOf (found-value (look (s .args .map .now) (s .args .node .0)) _ _ (l .look-up .ensures) (v .v .given .1)))
+
+returns-2 : tie.Need-returns-2
+returns-2 c =
+    let l = c .before .before in
+    let s = l .before .before in
+    sym (ap numberOf (found-missing (look (s .args .map .now) (s .args .node .0)) _ (l .look-up .ensures) (c .enum-told .given .1)))
+
+pub number-of-spec : {M : Type 1} → statement M
+number-of-spec = tie.close (tie.spec look-up-requires enum-known-v enum-told returns returns-2)

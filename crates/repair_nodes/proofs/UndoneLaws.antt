@@ -1,0 +1,136 @@
+-- "If the subtree was empty, placing and then clearing gives back the same slots and counts": a placing that is not refused, cleared at the same place, is not
+-- refused by 34, and gives back the slots and the count list, entry by entry.
+-- Assumes nothing.
+use mathlib.Core.Path.{_≡_, refl, sym, ap, ap₂, _∙_}
+use mathlib.Core.Bool.{Bool, true, false, not, _&&_}
+use mathlib.Core.Option.{Option, none, some}
+use mathlib.Core.List.{List, [], _∷_, _++_, map}
+use Prim.Native.Nat.{ℕ, suc, _+_, _*_, _-_, _%_, _^_, _≤_, _<_}
+use native.Mathlib.Omega.{arith}
+use borrow.Author.Tests.{leb-true, ltb-true, le-leb, lt-ltb, eq-eqb}
+use lib.Dec.{eqb, ltb, leb}
+use lib.ListN.{length}
+use Rattle.words.specs.Pins.{isPin}
+use Rattle.words.proofs.TestLaws.{not-both, and-true}
+use Rattle.gatelist.specs.Words.{badList}
+use Rattle.repair_nodes.specs.Stage.{Spot, spot, width, indexOf, stored, emptied, emptyBelow, Rooted}
+use Rattle.repair_nodes.specs.Placing.{placing, badLevel, noGate}
+use Rattle.repair_nodes.specs.Clearing.{clearing}
+use Rattle.repair_nodes.specs.Counts.{Count, counted, countsOf, countWords, countsRight, countedNodes, countsMore, countsLess, allCounts, short}
+use Rattle.repair_nodes.specs.Outcome.{Outcome, repaired, refused, roomWords, placeRight, fitted, placedAt, placed}
+use Rattle.repair_nodes.proofs.PairLaws.{pairs-words}
+use Rattle.repair_nodes.proofs.PlaceLaws.{rooted-place}
+use Rattle.repair_nodes.proofs.ReachLaws.{reached, placing-vacant, placed-back}
+use Rattle.repair_nodes.proofs.CountLaws.{Formed, counts-back, back-not-short}
+
+-- ---- what a placing that is not refused has passed
+
+pub record Passed (H : ℕ) (gates levels counts s : List ℕ) (h j x : ℕ) (es : List Spot) (cs : List Count) : Type 0 where
+  pub level : h ≤ H
+  pub slot : j < width H h
+  pub pin : x ≤ 1073741824
+  pub formed : Formed (countsOf counts)
+  pub gates-right : badList gates ≡ none
+  pub free : emptyBelow s h (width H h) (indexOf H h j) ≡ true
+  pub whole : 2 ^ (H + 1) - 1 ≤ length s
+  pub spots : es ≡ placing gates levels h (width H h) (indexOf H h j) x
+  pub list : cs ≡ countsMore (countsOf counts) (countedNodes H es)
+
+-- a refusal is no repair
+refused-not : (n i : ℕ) (es : List Spot) (cs : List Count) → refused n i ≡ repaired es cs → ⊥
+refused-not n i es cs e = let z : _≡_ {A = ℕ} 0 1 = cc in omega arith
+
+fitted-passed : (H : ℕ) (s : List ℕ) (a : ℕ) (es fs : List Spot) (cs ds : List Count) → fitted H s a es cs ≡ repaired fs ds
+    → (2 ^ (H + 1) - 1 ≤ length s) × ((fs ≡ es) × (ds ≡ cs))
+unfolding fitted
+fitted-passed H s a es fs cs ds = go (leb (2 ^ (H + 1) - 1) (length s) && leb (2 * length cs) a && allCounts cs) refl
+  where
+    go : (b : Bool) → (leb (2 ^ (H + 1) - 1) (length s) && leb (2 * length cs) a && allCounts cs) ≡ b
+        → (elim b [ false ↦ refused 14 0 | true ↦ repaired es cs ]) ≡ repaired fs ds → (2 ^ (H + 1) - 1 ≤ length s) × ((fs ≡ es) × (ds ≡ cs))
+    go false e f = absurd (refused-not 14 0 fs ds f)
+    go true e f =
+        let (ab, c) = and-true (leb (2 ^ (H + 1) - 1) (length s) && leb (2 * length cs) a) (allCounts cs) e in
+        let (p, q) = and-true (leb (2 ^ (H + 1) - 1) (length s)) (leb (2 * length cs) a) ab in
+        (leb-true _ _ p, ((cc), (cc)))
+
+counts-formed : (ws : List ℕ) → countsRight ws ≡ true → Formed (countsOf ws)
+unfolding countsRight
+counts-formed ws e = and-true (eqb (length ws % 2) 0) _ e .1
+
+place-parts : (H h j : ℕ) → placeRight H h j ≡ true → (h ≤ H) × (j < width H h)
+unfolding placeRight
+place-parts H h j e = let (a, b) = and-true (leb h H) (ltb j (width H h)) e in (leb-true _ _ a, ltb-true _ _ b)
+
+module _ (H : ℕ) (gates levels counts s : List ℕ) (a h j x : ℕ) (es : List Spot) (cs : List Count) where
+  at-passed : placedAt H gates levels counts s a h j x ≡ repaired es cs
+      → (emptyBelow s h (width H h) (indexOf H h j) ≡ true) × ((2 ^ (H + 1) - 1 ≤ length s)
+      × ((es ≡ placing gates levels h (width H h) (indexOf H h j) x) × (cs ≡ countsMore (countsOf counts) (countedNodes H (placing gates levels h (width H h) (indexOf H h j) x)))))
+  unfolding placedAt
+  at-passed = go (emptyBelow s h (width H h) (indexOf H h j)) refl (badLevel gates levels h x) (noGate gates levels h x)
+    where
+      P : List Spot
+      P = placing gates levels h (width H h) (indexOf H h j) x
+
+      M : List Count
+      M = countsMore (countsOf counts) (countedNodes H P)
+
+      go : (b : Bool) → emptyBelow s h (width H h) (indexOf H h j) ≡ b → (c d : Bool)
+          → (elim b [ false ↦ refused 24 0 | true ↦ elim c [ true ↦ refused 25 0 | false ↦ elim d [ true ↦ refused 26 0 | false ↦ fitted H s a P M ] ] ]) ≡ repaired es cs
+          → (emptyBelow s h (width H h) (indexOf H h j) ≡ true) × ((2 ^ (H + 1) - 1 ≤ length s) × ((es ≡ P) × (cs ≡ M)))
+      go false e c d f = absurd (refused-not 24 0 es cs f)
+      go true e true d f = absurd (refused-not 25 0 es cs f)
+      go true e false true f = absurd (refused-not 26 0 es cs f)
+      go true e false false f = (e, fitted-passed H s a P es M cs f)
+
+  pub passed : (r : ℕ) → placed H gates levels counts s a r h j x ≡ repaired es cs → Passed H gates levels counts s h j x es cs
+  unfolding placed
+  passed r = go (leb (roomWords counts) r) (placeRight H h j && isPin x && countsRight counts) refl (badList gates) refl
+    where
+      go : (b c : Bool) → (placeRight H h j && isPin x && countsRight counts) ≡ c → (o : Option ℕ) → badList gates ≡ o
+          → (elim b [ false ↦ refused 32 0 | true ↦ elim c [ false ↦ refused 5 0 | true ↦ elim o [ some g ↦ refused 6 g | none ↦ placedAt H gates levels counts s a h j x ] ] ]) ≡ repaired es cs
+          → Passed H gates levels counts s h j x es cs
+      go false c e o k f = absurd (refused-not 32 0 es cs f)
+      go true false e o k f = absurd (refused-not 5 0 es cs f)
+      go true true e (some g) k f = absurd (refused-not 6 g es cs f)
+      go true true e none k f =
+          let (pq, t) = and-true (placeRight H h j && isPin x) (countsRight counts) e in
+          let (p, q) = and-true (placeRight H h j) (isPin x) pq in
+          let (l, m) = place-parts H h j p in
+          let (u, (v, (w, z))) = at-passed f in
+          record {
+            level = l;
+            slot = m;
+            pin = leb-true _ _ q;
+            formed = counts-formed counts t;
+            gates-right = k;
+            free = u;
+            whole = v;
+            spots = w;
+            list = z ∙ ap (λ (l : List Spot). countsMore (countsOf counts) (countedNodes H l)) (sym w);
+          }
+
+-- ---- cleared again
+
+pub record Undone (H : ℕ) (counts s : List ℕ) (h j : ℕ) (es : List Spot) (cs : List Count) : Type 0 where
+  -- reached is placed
+  pub same-spots : clearing (stored s es) h (width H h) (indexOf H h j) ≡ es
+  -- not 34
+  pub not-short : short cs (countedNodes H es) ≡ false
+  -- the same slots, and the same list
+  pub slots-back : stored (stored s es) (emptied es) ≡ s
+  pub list-back : countsLess cs (countedNodes H es) ≡ countsOf counts
+
+pub undone : (H : ℕ) (gates levels counts s : List ℕ) (a r h j x : ℕ) (es : List Spot) (cs : List Count)
+    → placed H gates levels counts s a r h j x ≡ repaired es cs → Undone H counts s h j es cs
+undone H gates levels counts s a r h j x es cs e =
+    let p = passed H gates levels counts s a h j x es cs r e in
+    let P = placing gates levels h (width H h) (indexOf H h j) x in
+    let root : Rooted (length s) h (width H h) (indexOf H h j) = rooted-place (length s) H h j (p .level) (p .slot) (p .whole) in
+    let reach : clearing (stored s P) h (width H h) (indexOf H h j) ≡ P = reached gates levels (p .gates-right) s h (width H h) (indexOf H h j) x (p .pin) root (p .free) in
+    let back : stored (stored s P) (emptied P) ≡ s = placed-back s P (placing-vacant gates levels s h (width H h) (indexOf H h j) x root (p .free)) in
+    record {
+      same-spots = rw (p .spots) reach;
+      not-short = rw (p .list) (back-not-short (countsOf counts) (countedNodes H es));
+      slots-back = rw (p .spots) back;
+      list-back = rw (p .list) (counts-back (countsOf counts) (countedNodes H es) (p .formed));
+    }

@@ -1,0 +1,92 @@
+-- What a placing and a clearing get: the slots that change and the new count list, or a numbered refusal. Document 02, 7/13: "5 place, node or count list out of
+-- form, 6, 24 subtree not empty, 25 no level, level above the place or fan-in level not below its gate's, 26 node at its level, 1 or up, isn't a gate; for
+-- clearing, 34 ..; in that order, then 14 (also a count past 2^32−1), before any slot changes". 32 comes before all.
+-- Assumes nothing.
+use mathlib.Core.Bool.{Bool, true, false, _&&_}
+use mathlib.Core.Option.{none, some}
+use mathlib.Core.List.{List}
+use Prim.Native.Nat.{ℕ, _+_, _*_, _-_, _/_, _^_}
+use lib.Dec.{leb, ltb}
+use lib.ListN.{length, replicate}
+use lib.Seq.{sets}
+use Rattle.words.specs.Pins.{isPin}
+use Rattle.gatelist.specs.Words.{badList}
+use Rattle.repair_nodes.specs.Stage.{Spot, width, indexOf, stored, emptied, emptyBelow}
+use Rattle.repair_nodes.specs.Placing.{placing, badLevel, noGate}
+use Rattle.repair_nodes.specs.Clearing.{clearing}
+use Rattle.repair_nodes.specs.Counts.{Count, countsOf, countsRight, countWords, countedNodes, countsMore, countsLess, allCounts, short}
+
+-- the slots that change, each with what it then holds, and the new count list; or a refusal's number and item
+pub data Outcome : Type 0 where
+  repaired : List Spot → List Count → Outcome
+  refused : ℕ → ℕ → Outcome
+
+-- "Working room": 65536 words, and 4 for each whole or half entry of the count list
+unfoldable pub roomWords : List ℕ → ℕ
+roomWords counts = 65536 + 4 * ((length counts + 1) / 2)
+
+-- a place: level h at most H, slot j of the 2^(H−h)
+unfoldable pub placeRight : ℕ → ℕ → ℕ → Bool
+placeRight H h j = leb h H && ltb j (width H h)
+
+-- 14: the lent slots and the lent list have room, and every count is a word
+unfoldable pub fitted : ℕ → List ℕ → ℕ → List Spot → List Count → Outcome
+fitted H s a es cs = elim (leb (2 ^ (H + 1) - 1) (length s) && leb (2 * length cs) a && allCounts cs) [ false ↦ refused 14 0 | true ↦ repaired es cs ]
+
+-- placing node x at slot j of level h: 24, 25, 26, then 14
+unfoldable pub placedAt : ℕ → List ℕ → List ℕ → List ℕ → List ℕ → ℕ → ℕ → ℕ → ℕ → Outcome
+placedAt H gates levels counts s a h j x =
+    elim (emptyBelow s h (width H h) (indexOf H h j)) [
+      | false ↦ refused 24 0
+      | true ↦ elim (badLevel gates levels h x) [
+        | true ↦ refused 25 0
+        | false ↦ elim (noGate gates levels h x) [
+          | true ↦ refused 26 0
+          | false ↦
+              fitted H s a
+              (placing gates levels h (width H h) (indexOf H h j) x)
+              (countsMore (countsOf counts) (countedNodes H (placing gates levels h (width H h) (indexOf H h j) x)))
+        ]
+      ]
+    ]
+
+-- 32, 5 and 6 come before: the lent list has a words, the lent room r
+unfoldable pub placed : ℕ → List ℕ → List ℕ → List ℕ → List ℕ → ℕ → ℕ → ℕ → ℕ → ℕ → Outcome
+placed H gates levels counts s a r h j x =
+    elim (leb (roomWords counts) r) [
+      | false ↦ refused 32 0
+      | true ↦ elim (placeRight H h j && isPin x && countsRight counts) [
+        | false ↦ refused 5 0
+        | true ↦ elim (badList gates) [ some g ↦ refused 6 g | none ↦ placedAt H gates levels counts s a h j x ]
+      ]
+    ]
+
+-- clearing slot j of level h: 34, then 14
+unfoldable pub clearedAt : ℕ → List ℕ → List ℕ → ℕ → ℕ → ℕ → Outcome
+clearedAt H counts s a h j =
+    elim (short (countsOf counts) (countedNodes H (clearing s h (width H h) (indexOf H h j)))) [
+      | true ↦ refused 34 0
+      | false ↦
+          fitted H s a
+          (emptied (clearing s h (width H h) (indexOf H h j)))
+          (countsLess (countsOf counts) (countedNodes H (clearing s h (width H h) (indexOf H h j))))
+    ]
+
+unfoldable pub cleared : ℕ → List ℕ → List ℕ → ℕ → ℕ → ℕ → ℕ → Outcome
+cleared H counts s a r h j =
+    elim (leb (roomWords counts) r) [
+      | false ↦ refused 32 0
+      | true ↦ elim (placeRight H h j && countsRight counts) [ false ↦ refused 5 0 | true ↦ clearedAt H counts s a h j ]
+    ]
+
+-- what the lent slots, the lent list and the lent room then hold: a refusal changes neither of the first two, and a room that is too short stays
+unfoldable pub slotsAfter : Outcome → List ℕ → List ℕ
+slotsAfter (repaired es cs) s = stored s es
+slotsAfter (refused n i) s = s
+
+unfoldable pub listAfter : Outcome → List ℕ → List ℕ
+listAfter (repaired es cs) out = sets out 0 (countWords cs)
+listAfter (refused n i) out = out
+
+unfoldable pub roomAfter : List ℕ → List ℕ → List ℕ
+roomAfter counts room = elim (leb (roomWords counts) (length room)) [ false ↦ room | true ↦ replicate (length room) 0 ]

@@ -1,0 +1,51 @@
+-- The paper's numbers of the answer, and what the functions over a list of slots ask.
+-- Assumes nothing.
+use mathlib.Core.Path.{_≡_}
+use mathlib.Core.Bool.{true, false}
+use mathlib.Core.List.{List, []}
+use Prim.Native.Nat.{ℕ, _+_, _%_, _^_, _≤_, _<_}
+use lib.ListN.{length}
+use Rattle.pinmap.specs.PinMap.{capacity}
+use Rattle.repair_nodes.specs.Stage.{Spot, emptied}
+use Rattle.repair_nodes.specs.Counts.{countsOf, nodesOf, countIn, entriesRight, countedNodes, countsMore, countsLess, short}
+use Rattle.repair_nodes.specs.Outcome.{Outcome, repaired, refused, fitted, slotsAfter, listAfter}
+use Rattle.repair_tally.specs.Tally.{Held, Askable}
+use Rattle.repair_list.specs.Relist.{AllInside}
+use Rattle.repair_settle.specs.declared.Repaired.{Repaired}
+use Rattle.repair_settle.specs.declared.Repaired.the-variants.{Listed, Refused}
+
+-- the entries of the new count list, or the refusal's number and item: the part is 0
+abbrev pub repairedOf : Outcome → Repaired
+repairedOf (repaired es cs) = Listed (length cs)
+repairedOf (refused n i) = Refused (record { number = n; part = 0; item = i })
+
+-- an answer, with what the lent slots and the lent list then hold
+pub record Ended (o : Outcome) (r : Repaired) (s s₁ out out₁ : List ℕ) : Type 0 where
+  pub answer : r ≡ repairedOf o
+  pub slots : s₁ ≡ slotsAfter o s
+  pub list : out₁ ≡ listAfter o out
+
+-- the outcome of spots that are placed, and of spots that are cleared: 14; 34, then 14
+abbrev pub placedSpots : List ℕ → List ℕ → ℕ → List Spot → Outcome
+placedSpots counts s a es = fitted 13 s a es (countsMore (countsOf counts) (countedNodes 13 es))
+
+unfoldable pub clearedSpots : List ℕ → List ℕ → ℕ → List Spot → Outcome
+clearedSpots counts s a es =
+    elim (short (countsOf counts) (countedNodes 13 es)) [
+      | true ↦ refused 34 0
+      | false ↦ fitted 13 s a (emptied es) (countsLess (countsOf counts) (countedNodes 13 es))
+    ]
+
+-- a count list in form, entered into a map that has room for the nodes of a stage
+pub record Entered (counts map : List ℕ) : Type 0 where
+  pub even : length counts % 2 ≡ 0
+  pub formed : entriesRight [] (countsOf counts) ≡ true
+  pub words : (y : ℕ) → countIn (countsOf counts) y < 2 ^ 32
+  pub held : Held map (nodesOf (countsOf counts)) (countIn (countsOf counts)) (length (countsOf counts))
+  pub room : length (countsOf counts) + 16384 ≤ capacity map
+
+-- a list of spots that can be counted, and stored where the stage is whole
+pub record Spotted (spots slots : List ℕ) : Type 0 where
+  pub few : length spots ≤ 32768
+  pub askable : Askable spots
+  pub inside : 16383 ≤ length slots → AllInside spots slots

@@ -1,0 +1,71 @@
+-- `repair_tally::enter` meets its contract: by the tests, in the definition's order.
+-- Assumes nothing.
+use mathlib.Core.Path.{sym, ap, _∙_}
+use mathlib.Core.Option.{some}
+use native.Mathlib.Omega.{arith}
+use Rattle.repair_tally.proofs.StepLaws.{found-value, found-missing, enter-no-pin, enter-zero, enter-twice, enter-new}
+use borrow.Author.Needs.{needs}
+use Rattle.repair_tally.proofs.enter.Statement.{statement}
+use Rattle.repair_tally.proofs.enter.Tie as tie
+use Rattle.repair_tally.proofs.enter.Reads as reads
+use Rattle.repair_tally.proofs.enter.Lts as lts
+use Rattle.pinmap.proofs.look_up.Reads as look-up-reads
+use Rattle.pinmap.proofs.put.Reads as put-reads
+
+returns : tie.Need-returns
+returns c =
+    let s = c .before .before .before in
+    enter-no-pin (s .args .map .now) (s .args .node .0) (s .args .count) (omega arith)
+
+returns-2 : tie.Need-returns-2
+returns-2 c =
+    let s = c .before .before .before .before in
+    enter-zero (s .args .map .now) (s .args .node .0) (s .args .count) (omega arith)
+
+look-up-requires : tie.Need-look-up-requires
+look-up-requires c κs = search needs
+
+enum-told : tie.Need-enum-told
+enum-told c = search needs
+
+enum-told-2 : tie.Need-enum-told-2
+enum-told-2 c = search needs
+
+put-requires : tie.Need-put-requires
+put-requires c κs = search needs
+
+same-length : tie.Need-same-length
+same-length c = search needs
+
+returns-3 : tie.Need-returns-3
+returns-3 c =
+    let l = c .before .before in
+    let s = l .before .before .before .before .before .before in
+    enter-twice (s .args .map .now) (s .args .node .0) (s .args .count) _ (omega arith) (omega arith) (found-value _ _ _ (l .look-up .ensures) (c .enum-told .given .1))
+
+same-length-2 : tie.Need-same-length-2
+same-length-2 c = search needs
+
+returns-4 : tie.Need-returns-4
+returns-4 c =
+    let p = c .before .before in
+    let t = p .before .before in
+    let l = t .before .before in
+    let s = l .before .before .before .before .before .before in
+    enter-new (s .args .map .now) (s .args .node .0) (s .args .count) (omega arith) (omega arith) (found-missing _ _ (l .look-up .ensures) (t .enum-told2 .given .1))
+    ∙ ap some (sym (p .put .ensures .1))
+
+pub enter-spec : {M : Type 1} → statement M
+enter-spec =
+    tie.close
+    (tie.spec
+    returns
+    returns-2
+    look-up-requires
+    enum-told
+    enum-told-2
+    put-requires
+    same-length
+    returns-3
+    same-length-2
+    returns-4)

@@ -1,0 +1,71 @@
+-- `run_form::form::reads_form` meets its contract. The invariant: the rounds passed are in form.
+-- Assumes nothing.
+use mathlib.Core.Path.{_≡_, refl, sym, _∙_}
+use mathlib.Core.Bool.{true}
+use Prim.Native.Nat.{_-_, _≤_, _<_}
+use native.Mathlib.Omega.{arith}
+use Rattle.words.specs.Tests.{allBelow}
+use Rattle.words.proofs.TestLaws.{all-on, all-fault}
+use borrow.Author.Tests.{not-true, not-false}
+use Rattle.run_machine.specs.Part.{roundsAt, readWordAt, readMaskAt}
+use Rattle.run_machine.specs.Run.{readsForm}
+use Rattle.run_form.specs.Form.{readForm}
+use borrow.Author.Needs.{needs}
+use Rattle.run_form.proofs.form.reads_form.Statement.{statement}
+use Rattle.run_form.proofs.form.reads_form.Tie as tie
+
+abbrev Inv-loop : tie.InvT-loop
+Inv-loop words at s t rounds r₀ r =
+    (r ≤ rounds) × (rounds ≡ roundsAt words at) × (allBelow (λ q. allBelow (λ i. readForm (readWordAt 256 words at q i) (readMaskAt 256 words at q i) s t) 256) r ≡ true)
+
+abbrev μ-loop : tie.MeasureT-loop
+μ-loop words at s t rounds r₀ r = rounds - r
+
+rounds-requires : tie.Need-rounds-requires Inv-loop μ-loop
+rounds-requires c κs = search needs
+
+loop-holds : tie.Need-loop-holds Inv-loop μ-loop
+unfolding allBelow
+loop-holds c = (omega arith, c .rounds .ensures, refl)
+
+round-form-requires : tie.Need-round-form-requires Inv-loop μ-loop
+round-form-requires c κs = search needs
+
+returns : tie.Need-returns Inv-loop μ-loop
+unfolding readsForm
+returns c =
+    let within : c .before .before .before .loop .r < roundsAt (c .before .before .before .before .before .before .args .words .now) (c .before .before .before .before .before .before .args .at) = omega arith in
+    sym (all-fault _ _ _ within (sym (c .before .round-form .ensures) ∙ not-true _ (c .if1 .taken)))
+
+add-r : tie.Need-add-r Inv-loop μ-loop
+add-r c = search needs
+
+loop-less : tie.Need-loop-less Inv-loop μ-loop
+loop-less c = search needs
+
+loop-again : tie.Need-loop-again Inv-loop μ-loop
+loop-again c =
+    let l = c .before .before .before .loop in
+    (omega arith, l .inv .1, all-on _ _ (l .inv .2) (sym (c .before .round-form .ensures) ∙ not-false _ (c .if1 .left)))
+
+returns-2 : tie.Need-returns-2 Inv-loop μ-loop
+unfolding readsForm
+returns-2 c =
+    let start = c .before .before .before .before in
+    let e : c .before .loop .r ≡ roundsAt (start .args .words .now) (start .args .at) = omega arith in
+    sym (rw e at (c .before .loop .inv .2))
+
+pub reads-form-spec : {M : Type 1} → statement M
+reads-form-spec =
+    tie.close
+    (tie.spec
+    Inv-loop
+    μ-loop
+    rounds-requires
+    loop-holds
+    round-form-requires
+    returns
+    add-r
+    loop-less
+    loop-again
+    returns-2)

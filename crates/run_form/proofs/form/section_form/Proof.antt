@@ -1,0 +1,77 @@
+-- `run_form::form::section_form` meets its contract. The invariant: both halves of the words passed are positions.
+-- Assumes nothing.
+use mathlib.Core.Path.{_≡_}
+use mathlib.Core.Bool.{true, _&&_}
+use Prim.Native.Nat.{ℕ, _+_, _-_, _/_, _%_, _^_, _≤_, _<_}
+use native.Mathlib.Omega.{arith}
+use borrow.Author.Count.{below-more}
+use lib.Dec.{ltb}
+use lib.ListN.{getD}
+use Rattle.run_machine.specs.Part.{sectionAt}
+use Rattle.run_form.proofs.EntryLaws.{entries-good, entries-bad}
+use mathlib.Core.Path.{sym, _∙_}
+use borrow.Author.Tests.{not-true, not-false}
+use borrow.Author.Needs.{needs}
+use Rattle.run_form.proofs.form.section_form.Statement.{statement}
+use Rattle.run_form.proofs.form.section_form.Tie as tie
+
+abbrev Inv-loop : tie.InvT-loop
+Inv-loop words at k from w₀ w =
+    (w ≤ 4096) × (from ≡ sectionAt 256 words at k)
+    × ((v : ℕ) → v < w → (ltb (getD words (from + v) 0 % 2 ^ 16) 8192 && ltb (getD words (from + v) 0 / 2 ^ 16) 8192) ≡ true)
+
+abbrev μ-loop : tie.MeasureT-loop
+μ-loop words at k from w₀ w = 4096 - w
+
+section-requires : tie.Need-section-requires Inv-loop μ-loop
+section-requires c κs = search needs
+
+loop-holds : tie.Need-loop-holds Inv-loop μ-loop
+loop-holds c = (omega arith, c .section .ensures .0, λ v h. absurd (omega arith))
+
+add-halves-form : tie.Need-add-halves-form Inv-loop μ-loop
+add-halves-form c = search needs
+
+mul-halves-form : tie.Need-mul-halves-form Inv-loop μ-loop
+mul-halves-form c = search needs
+
+shared-slice-read-halves-form : tie.Need-shared-slice-read-halves-form Inv-loop μ-loop
+shared-slice-read-halves-form c = search needs
+
+halves-form-requires : tie.Need-halves-form-requires Inv-loop μ-loop
+halves-form-requires c κs = search needs
+
+returns : tie.Need-returns Inv-loop μ-loop
+returns c = sym (entries-bad 256 _ _ _ _ (c .before .before .before .before .loop .inv .1) _ (c .before .before .before .loop-test .taken) (sym (c .before .halves-form .ensures) ∙ not-true _ (c .if1 .taken)))
+
+add-w : tie.Need-add-w Inv-loop μ-loop
+add-w c = search needs
+
+loop-less : tie.Need-loop-less Inv-loop μ-loop
+loop-less c = search needs
+
+loop-again : tie.Need-loop-again Inv-loop μ-loop
+loop-again c =
+    let l = c .before .before .before .before .loop in
+    (omega arith, l .inv .1, below-more _ _ (l .inv .2) (sym (c .before .halves-form .ensures) ∙ not-false _ (c .if1 .left)))
+
+returns-2 : tie.Need-returns-2 Inv-loop μ-loop
+returns-2 c = sym (entries-good 256 _ _ _ _ (c .before .loop .inv .1) (λ w h. c .before .loop .inv .2 w (omega arith)))
+
+pub section-form-spec : {M : Type 1} → statement M
+section-form-spec =
+    tie.close
+    (tie.spec
+    Inv-loop
+    μ-loop
+    section-requires
+    loop-holds
+    add-halves-form
+    mul-halves-form
+    shared-slice-read-halves-form
+    halves-form-requires
+    returns
+    add-w
+    loop-less
+    loop-again
+    returns-2)

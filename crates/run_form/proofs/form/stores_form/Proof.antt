@@ -1,0 +1,113 @@
+-- `run_form::form::stores_form` meets its contract: one law for each way through.
+-- Assumes nothing.
+use native.Mathlib.Omega.{arith}
+use mathlib.Core.Path.{refl, _∙_}
+use Rattle.run_form.proofs.TestCodeLaws.{stores-as, stores-short, stores-many, stores-none, stores-old, stores-new}
+use Prim.Native.Nat.{_+_}
+use borrow.Author.Needs.{needs}
+use Rattle.run_form.proofs.form.stores_form.Statement.{statement}
+use Rattle.run_form.proofs.form.stores_form.Tie as tie
+
+add-wide : tie.Need-add-wide
+add-wide c = search needs
+
+mul-wide : tie.Need-mul-wide
+mul-wide c = search needs
+
+shared-slice-read-wide : tie.Need-shared-slice-read-wide
+shared-slice-read-wide c = search needs
+
+wide-requires : tie.Need-wide-requires
+wide-requires c κs = search needs
+
+add-wide-2 : tie.Need-add-wide-2
+add-wide-2 c = search needs
+
+mul-wide-2 : tie.Need-mul-wide-2
+mul-wide-2 c = search needs
+
+shared-slice-read-wide-2 : tie.Need-shared-slice-read-wide-2
+shared-slice-read-wide-2 c = search needs
+
+wide-requires-2 : tie.Need-wide-requires-2
+wide-requires-2 c κs = search needs
+
+add-wide-3 : tie.Need-add-wide-3
+add-wide-3 c = search needs
+
+mul-wide-3 : tie.Need-mul-wide-3
+mul-wide-3 c = search needs
+
+shared-slice-read-wide-3 : tie.Need-shared-slice-read-wide-3
+shared-slice-read-wide-3 c = search needs
+
+wide-requires-3 : tie.Need-wide-requires-3
+wide-requires-3 c κs = search needs
+
+add-other : tie.Need-add-other
+add-other c =
+    let at = c .before .before .before .before .before .before .before .args .at in
+    omega (arith, c .before .shared-slice-known4 .given (at + 4), c .before .shared-slice-known4 .given (at + 7))
+
+returns : tie.Need-returns
+returns c =
+    let start = c .before .before .before .before .before .before .before .before in
+    let same = stores-as 256 (start .args .s) (start .args .t) (start .args .words .now) (start .args .at) _ _ _ _ (c .before .before .before .before .before .wide .ensures) (c .before .before .before .wide2 .ensures) (c .before .wide3 .ensures) refl in
+    stores-short _ _ _ _ _ _ (c .if1 .taken) ∙ same
+
+start-requires : tie.Need-start-requires
+start-requires c κs = search needs
+
+add-end : tie.Need-add-end
+add-end c =
+    let at = c .before .before .before .before .before .before .before .before .before .args .at in
+    omega (arith, c .before .before .before .shared-slice-known4 .given (at + 2), c .before .before .before .shared-slice-known4 .given (at + 3))
+
+returns-2 : tie.Need-returns-2
+returns-2 c =
+    let start = c .before .before .before .before .before .before .before .before .before .before .before in
+    let same = stores-as 256 (start .args .s) (start .args .t) (start .args .words .now) (start .args .at) _ _ _ _ (c .before .before .before .before .before .before .before .before .wide .ensures) (c .before .before .before .before .before .before .wide2 .ensures) (c .before .before .before .before .wide3 .ensures) (c .before .before .start .ensures) in
+    stores-none _ _ _ _ _ _ (c .before .before .before .if1 .left) (c .before .if2 .taken) (c .if3 .taken) ∙ same
+
+returns-3 : tie.Need-returns-3
+returns-3 c =
+    let start = c .before .before .before .before .before .before .before .before .before .before .before .before in
+    let same = stores-as 256 (start .args .s) (start .args .t) (start .args .words .now) (start .args .at) _ _ _ _ (c .before .before .before .before .before .before .before .before .before .wide .ensures) (c .before .before .before .before .before .before .before .wide2 .ensures) (c .before .before .before .before .before .wide3 .ensures) (c .before .before .before .start .ensures) in
+    stores-new _ _ _ _ _ _ (c .before .before .before .before .if1 .left) (c .before .before .if2 .taken) (c .before .if3 .left) (c .if4 .taken) ∙ same
+
+returns-4 : tie.Need-returns-4
+returns-4 c =
+    let start = c .before .before .before .before .before .before .before .before .before .before .before .before in
+    let same = stores-as 256 (start .args .s) (start .args .t) (start .args .words .now) (start .args .at) _ _ _ _ (c .before .before .before .before .before .before .before .before .before .wide .ensures) (c .before .before .before .before .before .before .before .wide2 .ensures) (c .before .before .before .before .before .wide3 .ensures) (c .before .before .before .start .ensures) in
+    stores-old _ _ _ _ _ _ (c .before .before .before .before .if1 .left) (c .before .before .if2 .taken) (c .before .if3 .left) (c .if4 .left) ∙ same
+
+returns-5 : tie.Need-returns-5
+returns-5 c =
+    let start = c .before .before .before .before .before .before .before .before .before .before in
+    let same = stores-as 256 (start .args .s) (start .args .t) (start .args .words .now) (start .args .at) _ _ _ _ (c .before .before .before .before .before .before .before .wide .ensures) (c .before .before .before .before .before .wide2 .ensures) (c .before .before .before .wide3 .ensures) (c .before .start .ensures) in
+    stores-many _ _ _ _ _ _ (c .before .before .if1 .left) (c .if2 .left) ∙ same
+
+pub stores-form-spec : {M : Type 1} → statement M
+stores-form-spec =
+    tie.close
+    (tie.spec
+    add-wide
+    mul-wide
+    shared-slice-read-wide
+    wide-requires
+    add-wide-2
+    mul-wide-2
+    shared-slice-read-wide-2
+    wide-requires-2
+    add-wide-3
+    mul-wide-3
+    shared-slice-read-wide-3
+    wide-requires-3
+    add-other
+    returns
+    start-requires
+    add-end
+    returns-2
+    returns-3
+    returns-4
+    returns-5)

@@ -1,0 +1,67 @@
+-- `run_stage::section_word` meets its contract: the section's permutation is cut out of the words.
+-- Assumes nothing.
+use mathlib.Core.Path.{refl, ap, _∙_}
+use Prim.Native.Nat.{_+_, _*_}
+use borrow.Author.Needs.{needs}
+use native.Mathlib.Omega.{arith}
+use Rattle.words.specs.Bit.{bitAt}
+use Rattle.run_stage.proofs.StageEndLaws.{cut, entry-cut, entries-cut}
+use Rattle.run_stage.proofs.section_word.Statement.{statement}
+use Rattle.run_stage.proofs.section_word.Tie as tie
+
+-- src/lib.rt:52:9
+section-requires : tie.Need-section-requires
+section-requires c κs = search needs
+
+-- src/lib.rt:53:14
+add-to : tie.Need-add-to
+add-to c = search needs
+
+-- src/lib.rt:54:20
+mul-gather-word : tie.Need-mul-gather-word
+mul-gather-word c = search needs
+
+-- src/lib.rt:54:20
+sub-gather-word : tie.Need-sub-gather-word
+sub-gather-word c = search needs
+
+-- src/lib.rt:54:20
+part-gather-word-start : tie.Need-part-gather-word-start
+part-gather-word-start c = search needs
+
+-- src/lib.rt:54:20
+part-gather-word-end : tie.Need-part-gather-word-end
+part-gather-word-end c = search needs
+
+-- src/lib.rt:54:5
+gather-word-requires : tie.Need-gather-word-requires
+gather-word-requires c κs =
+    let known = c .before in
+    let start = known .before .before .before in
+    let W = start .args .words .now in
+    let from = known .section .result in
+    let p = cut W from (from + 4096) _ 4096 (known .section .ensures .0) refl (omega arith) in
+    (omega arith, omega arith, omega (arith, p .long), omega arith, entries-cut 256 W _ _ _ p (start .pre .1) (start .pre .2))
+
+-- src/lib.rt:48:1
+returns : tie.Need-returns
+returns c = λ b h.
+    let known = c .before .before in
+    let start = known .before .before .before in
+    let W = start .args .words .now in
+    let from = known .section .result in
+    let p = cut W from (from + 4096) _ 4096 (known .section .ensures .0) refl (omega arith) in
+    c .gather-word .ensures .each b (omega arith) ∙ ap (bitAt (start .args .l .now)) (entry-cut 256 W _ _ _ p (32 * start .args .w + b) (omega arith))
+
+pub section-word-spec : {M : Type 1} → statement M
+section-word-spec =
+    tie.close
+    (tie.spec
+    section-requires
+    add-to
+    mul-gather-word
+    sub-gather-word
+    part-gather-word-start
+    part-gather-word-end
+    gather-word-requires
+    returns)

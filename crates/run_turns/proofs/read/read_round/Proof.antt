@@ -1,0 +1,64 @@
+-- `run_turns::read::read_round` meets its contract: an empty mask reads nothing, and the window's word is the state word.
+-- Assumes nothing.
+use mathlib.Core.Path.{_≡_, sym, ap, _∙_}
+use mathlib.Core.List.{List}
+use Prim.Native.Nat.{ℕ, _+_}
+use borrow.Author.Needs.{needs}
+use native.Mathlib.Omega.{arith}
+use lib.ListN.{getD}
+use Rattle.reads.specs.ReadTurn.{appended}
+use Rattle.reads.proofs.ReadTurnLaws.{appended-none}
+use Rattle.run_turns.proofs.AppendLaws.{window-word}
+use Rattle.run_turns.proofs.read.read_round.Statement.{statement}
+use Rattle.run_turns.proofs.read.read_round.Tie as tie
+
+add-mask : tie.Need-add-mask
+add-mask c = search needs
+
+mul-mask : tie.Need-mul-mask
+mul-mask c = search needs
+
+shared-slice-read-mask : tie.Need-shared-slice-read-mask
+shared-slice-read-mask c = search needs
+
+mul-window : tie.Need-mul-window
+mul-window c = search needs
+
+shared-slice-read-window : tie.Need-shared-slice-read-window
+shared-slice-read-window c = search needs
+
+window-requires : tie.Need-window-requires
+window-requires c κs = c .before .before .before .before .before .before .pre .1 (c .before .if1 .taken)
+
+shared-slice-read-append : tie.Need-shared-slice-read-append
+shared-slice-read-append c = search needs
+
+append-requires : tie.Need-append-requires
+append-requires c κs = search needs
+
+returns : tie.Need-returns
+returns c =
+    let start = c .before .before .before .before .before .before .before .before .before in
+    let word = ap (λ (l : List ℕ). getD l 0 0) (c .before .before .window .ensures .0) ∙ window-word _ _ _ in
+    c .append .ensures ∙ ap (λ (x : ℕ). appended 32 x (getD (start .args .words .now) (start .args .pair + 1) 0) (start .args .acc)) word
+
+returns-2 : tie.Need-returns-2
+returns-2 c =
+    let start = c .before .before .before .before .before in
+    let z : getD (start .args .words .now) (start .args .pair + 1) 0 ≡ 0 = omega arith in
+    rw z (sym (appended-none 32 _ _))
+
+pub read-round-spec : {M : Type 1} → statement M
+read-round-spec =
+    tie.close
+    (tie.spec
+    add-mask
+    mul-mask
+    shared-slice-read-mask
+    mul-window
+    shared-slice-read-window
+    window-requires
+    shared-slice-read-append
+    append-requires
+    returns
+    returns-2)

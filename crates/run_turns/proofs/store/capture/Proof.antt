@@ -1,0 +1,80 @@
+-- `run_turns::store::capture` meets its contract. The invariant: l words are captured.
+-- Assumes nothing.
+use mathlib.Core.Path.{_≡_, refl, ap, _∙_}
+use Prim.Native.Nat.{_-_, _≤_}
+use borrow.Author.Needs.{needs}
+use native.Mathlib.Omega.{arith}
+use lib.ListN.{length, drop, length-set}
+use lib.Seq.{sets}
+use Rattle.words.specs.Section.{listOf}
+use Rattle.run_machine.specs.Part.{normalAt}
+use Rattle.run_turns.specs.Capture.{capturedWord}
+use Rattle.run_turns.proofs.CaptureLaws.{capture-more, capture-end}
+use Rattle.run_turns.proofs.store.capture.Statement.{statement}
+use Rattle.run_turns.proofs.store.capture.Tie as tie
+
+abbrev Inv-loop : tie.InvT-loop
+Inv-loop words at k room₀ l₀ l-end room l =
+    (l ≤ l-end) × (l-end ≡ normalAt words at) × (length room ≡ 1024) × (room ≡ sets room₀ 512 (listOf (capturedWord 256 words at k room₀ (drop 512 room₀)) l))
+
+abbrev μ-loop : tie.MeasureT-loop
+μ-loop words at k room₀ l₀ l-end room l = l-end - l
+
+normal-requires : tie.Need-normal-requires Inv-loop μ-loop
+normal-requires c κs = search needs
+
+loop-holds : tie.Need-loop-holds Inv-loop μ-loop
+unfolding listOf
+loop-holds c = (omega arith, c .normal .ensures, search needs, refl)
+
+capture-word-requires : tie.Need-capture-word-requires Inv-loop μ-loop
+capture-word-requires c κs = search needs
+
+add-room : tie.Need-add-room Inv-loop μ-loop
+add-room c = search needs
+
+mul-room : tie.Need-mul-room Inv-loop μ-loop
+mul-room c = search needs
+
+slice-write-room : tie.Need-slice-write-room Inv-loop μ-loop
+slice-write-room c = search needs
+
+add-l : tie.Need-add-l Inv-loop μ-loop
+add-l c = search needs
+
+loop-less : tie.Need-loop-less Inv-loop μ-loop
+loop-less c = search needs
+
+loop-again : tie.Need-loop-again Inv-loop μ-loop
+loop-again c =
+    let l = c .before .before .before .loop in
+    let start = c .before .before .before .before .before .before .before in
+    (omega arith, l .inv .1, simp length-set (l .inv .2), capture-more 256 _ _ _ (start .args .room .now) _ _ _ (l .inv .3) (omega arith) (c .capture-word .ensures))
+
+same-length : tie.Need-same-length Inv-loop μ-loop
+same-length c = search needs
+
+returns : tie.Need-returns Inv-loop μ-loop
+returns c =
+    let l = c .before .loop in
+    let start = c .before .before .before .before .before in
+    let e : l .l ≡ normalAt (start .args .words .now) (start .args .at) = omega arith in
+    l .inv .3 ∙ ap (sets (start .args .room .now) 512) (capture-end 256 _ _ _ _ _ _ e)
+
+pub capture-spec : {M : Type 1} → statement M
+capture-spec =
+    tie.close
+    (tie.spec
+    Inv-loop
+    μ-loop
+    normal-requires
+    loop-holds
+    capture-word-requires
+    add-room
+    mul-room
+    slice-write-room
+    add-l
+    loop-less
+    loop-again
+    same-length
+    returns)

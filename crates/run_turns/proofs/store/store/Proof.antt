@@ -1,0 +1,65 @@
+-- `run_turns::store::store` meets its contract: the words are stored from the captured ones with zeros behind them.
+-- Assumes nothing.
+use mathlib.Core.Path.{_≡_, ap, _∙_}
+use mathlib.Core.List.{List}
+use Prim.Native.Nat.{ℕ, _≤_}
+use borrow.Author.Needs.{needs}
+use native.Mathlib.Omega.{arith}
+use lib.ListN.{length, getD, replicate}
+use lib.Seq.{sets}
+use Rattle.words.specs.Section.{listOf}
+use Rattle.run_machine.specs.Part.{startAt, normalAt}
+use Rattle.run_turns.proofs.StoreLaws.{padded-length, stored-padded}
+use Rattle.run_turns.proofs.store.store.Statement.{statement}
+use Rattle.run_turns.proofs.store.store.Tie as tie
+
+slice-aggregate-copy-front : tie.Need-slice-aggregate-copy-front
+slice-aggregate-copy-front c = search needs
+
+normal-requires : tie.Need-normal-requires
+normal-requires c κs = search needs
+
+copy-front-requires : tie.Need-copy-front-requires
+copy-front-requires c κs = search needs
+
+slice-aggregate-store-words : tie.Need-slice-aggregate-store-words
+slice-aggregate-store-words c = search needs
+
+store-words-requires : tie.Need-store-words-requires
+store-words-requires c κs =
+    let start = c .before .before .before .before .before .before .before .before .before .before in (
+      record {
+        part = start .pre .0;
+        captures = start .pre .1;
+        entries = start .pre .2;
+        room = padded-length _ (listOf (λ i. getD (start .args .caps .now) i 0) (c .before .before .before .before .normal .result)) (c .before .before .before .copy-front .ensures);
+        held = λ any. start .pre .4 any .0;
+      },
+      λ any. start .pre .4 any .1,
+    )
+
+same-length : tie.Need-same-length
+same-length c = search needs
+
+returns : tie.Need-returns
+returns c =
+    let start = c .before .before .before .before .before .before .before .before .before .before .before .before .before in
+    let W = start .args .words .now in
+    let o = start .args .at in
+    let caps = start .args .caps .now in
+    let few : normalAt W o ≤ 256 = start .pre .1 .few in
+    let copied = c .before .before .before .before .before .before .copy-front .ensures ∙ ap (λ (x : ℕ). sets (replicate 256 0) 0 (listOf (λ i. getD caps i 0) x)) (c .before .before .before .before .before .before .before .normal .ensures) in
+    c .before .before .store-words .ensures
+    ∙ ap (λ (x : List ℕ). sets (start .args .new .now) (startAt W o) x) (stored-padded W o (start .args .old .now) caps _ (normalAt W o) few (omega arith) copied)
+
+pub store-spec : {M : Type 1} → statement M
+store-spec =
+    tie.close
+    (tie.spec
+    slice-aggregate-copy-front
+    normal-requires
+    copy-front-requires
+    slice-aggregate-store-words
+    store-words-requires
+    same-length
+    returns)

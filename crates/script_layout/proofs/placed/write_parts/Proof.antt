@@ -1,0 +1,125 @@
+-- The loop's invariant: the words of the parts before rank k stand from word `at` on.
+-- Assumes nothing.
+use mathlib.Core.Path.{_≡_, refl, ap, _∙_}
+use Prim.Native.Nat.{ℕ, _+_, _*_, _-_, _≤_, _<_}
+use native.Mathlib.Omega.{arith}
+use lib.ListN.{length}
+use lib.Seq.{sets}
+use Rattle.script_assembly.specs.Steps.{lastMark, partsWords, partsIn, firstRank}
+use Rattle.script_layout.proofs.RowLaws.{row-in, parts-few}
+use Rattle.script_layout.proofs.StoreLaws.{stored-length}
+use Rattle.script_layout.proofs.PlacedLaws.{end-in, to-in, turn-room, turn-next, turn-stored, none-stored, none-long, all-words}
+use mathlib.Core.List.{List}
+use Rattle.plan_record.specs.Record.{partsOf}
+use borrow.Author.Needs.{needs}
+use Rattle.script_layout.proofs.placed.write_parts.Statement.{statement}
+use Rattle.script_layout.proofs.placed.write_parts.Tie as tie
+
+abbrev Inv-loop : tie.InvT-loop
+Inv-loop d room₀ s b from to at words₀ k₀ next₀ room words k next =
+    (from ≤ k)
+    × (k ≤ to)
+    × (room ≡ room₀)
+    × (next ≡ at + length (partsWords 256 d s (partsIn d s b) (k - from)))
+    × (words ≡ sets words₀ at (partsWords 256 d s (partsIn d s b) (k - from)))
+
+abbrev μ-loop : tie.MeasureT-loop
+μ-loop d room₀ s b from to at words₀ k₀ next₀ room words k next = to - k
+
+-- rank k is one of the block's
+before-to : (c : tie.In-loop Inv-loop μ-loop) → c .before .loop .k < firstRank (c .before .before .before .before .before .args .d .now) (c .before .before .before .before .before .args .s) (c .before .before .before .before .before .args .b + 1)
+before-to c = omega (arith, c .before .before .before .before .before .pre .2)
+
+-- and its row is in the room
+rank-few : (c : tie.In-loop Inv-loop μ-loop) → (c .before .loop .k < 262144) × (65536 + 16 * c .before .loop .k + 16 ≤ length (c .before .before .before .before .before .args .room .now))
+rank-few c =
+    let a = c .before .before .before .before .before in
+    let h = a .pre .0 .place in
+    let l : c .before .loop .k < partsOf (a .args .d .now) = omega (arith, before-to c, to-in _ _ _ _ _ h, end-in _ _ _ _ _ h) in
+    (omega (arith, parts-few _ _ (h .sound)), row-in _ _ (h .sound) _ l)
+
+loop-holds : tie.Need-loop-holds Inv-loop μ-loop
+loop-holds c = let a = c .before .before .before in (omega arith, omega arith, refl, none-long (a .args .d .now) (a .args .room .now) _ _ _ (a .pre .0 .place) _, none-stored (a .args .d .now) (a .args .room .now) _ _ _ (a .pre .0 .place) _ _)
+
+mul-p : tie.Need-mul-p Inv-loop μ-loop
+mul-p c = omega (arith, rank-few c)
+
+add-p : tie.Need-add-p Inv-loop μ-loop
+add-p c = omega (arith, rank-few c)
+
+add-p-2 : tie.Need-add-p-2 Inv-loop μ-loop
+add-p-2 c = omega (arith, rank-few c)
+
+mul-p-2 : tie.Need-mul-p-2 Inv-loop μ-loop
+mul-p-2 c = omega (arith, rank-few c)
+
+slice-read-p : tie.Need-slice-read-p Inv-loop μ-loop
+slice-read-p c = omega (arith, rank-few (c .before), ap length (c .before .before .loop .inv .2))
+
+cast-p : tie.Need-cast-p Inv-loop μ-loop
+cast-p c = omega (arith, c .slice-known3 .given (65536 + 16 * c .before .before .loop .k + 9))
+
+last-mark-requires : tie.Need-last-mark-requires Inv-loop μ-loop
+last-mark-requires c κs = search needs
+
+write-part-requires : tie.Need-write-part-requires Inv-loop μ-loop
+write-part-requires c κs =
+    let a = c .before .before .before .before .before .before .before .before .before in
+    let l = c .before .before .before .before .before .loop in
+    turn-room (a .args .d .now) (a .args .room .now) _ _ _ (a .pre .0 .place) (l .k) (l .inv .0) (before-to (c .before .before .before .before)) (a .args .at) (l .next) (l .inv .3) (l .room) (l .inv .2) (a .args .words .now) (l .words) (l .inv .4) (a .pre .0 .fits)
+
+add-k : tie.Need-add-k Inv-loop μ-loop
+add-k c = search needs
+
+loop-less : tie.Need-loop-less Inv-loop μ-loop
+loop-less c = search needs
+
+loop-again : tie.Need-loop-again Inv-loop μ-loop
+loop-again c =
+    let a = c .before .before .before .before .before .before .before .before .before .before .before .before .before .before in
+    let l = c .before .before .before .before .before .before .before .before .before .before .loop in
+    let w = c .before .before .before .before .write-part in (
+      omega arith,
+      omega arith,
+      w .ensures .1 .0 ∙ l .inv .2,
+      turn-next (a .args .d .now) (a .args .room .now) _ _ _ (a .pre .0 .place) (l .k) (l .inv .0) (before-to (c .before .before .before .before .before .before .before .before .before)) (a .args .at) (l .next) (l .inv .3) (l .room) (l .inv .2) (a .args .words .now) (l .words) (l .inv .4) _ (w .ensures .0),
+      turn-stored (a .args .d .now) (a .args .room .now) _ _ _ (a .pre .0 .place) (l .k) (l .inv .0) (before-to (c .before .before .before .before .before .before .before .before .before)) (a .args .at) (l .next) (l .inv .3) (l .room) (l .inv .2) (a .args .words .now) (l .words) (l .inv .4) _ _ (c .before .before .before .before .before .before .last-mark .ensures ∙ ap (λ (x : ℕ). lastMark x (l .k)) (a .pre .2)) (w .ensures .1 .1),
+    )
+
+same-length : tie.Need-same-length Inv-loop μ-loop
+same-length c = search needs
+
+same-length-2 : tie.Need-same-length-2 Inv-loop μ-loop
+same-length-2 c =
+    let a = c .before .before .before .before .before .args in
+    let l = c .before .loop in
+    stored-length (a .words .now) (l .words) (a .at) (partsWords 256 (a .d .now) (a .s) (partsIn (a .d .now) (a .s) (a .b)) (l .k - a .from)) (l .inv .4)
+
+returns : tie.Need-returns Inv-loop μ-loop
+returns c =
+    let a = c .before .before .before .before .before in
+    let l = c .before .loop in
+    let e = all-words (a .args .d .now) (a .args .room .now) _ _ _ (a .pre .0 .place) (l .k) (omega (arith, a .pre .2)) (omega (arith, a .pre .2)) in
+    (l .inv .3 ∙ ap (λ (x : List ℕ). a .args .at + length x) e, (l .inv .2, l .inv .4 ∙ ap (sets (a .args .words .now) (a .args .at)) e))
+
+pub write-parts-spec : {M : Type 1} → statement M
+write-parts-spec =
+    tie.close
+    (tie.spec
+    Inv-loop
+    μ-loop
+    loop-holds
+    mul-p
+    add-p
+    add-p-2
+    mul-p-2
+    slice-read-p
+    cast-p
+    last-mark-requires
+    write-part-requires
+    add-k
+    loop-less
+    loop-again
+    same-length
+    same-length-2
+    returns)

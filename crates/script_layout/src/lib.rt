@@ -1,0 +1,74 @@
+// The assembled script of an accepted plan, whose part table stands in the room: document 01, "Blocks and offsets", second half.
+pub mod parts;
+pub mod placed;
+
+ghost use mathlib.Core.Path.{_≡_};
+ghost use Prim.Native.Nat.{_+_};
+ghost use lib.ListN.{length};
+ghost use lib.Seq.{sets};
+ghost use Rattle.plan_record.specs.Record.{blocksOf, majorsOf};
+ghost use Rattle.script_assembly.specs.Assembly.{stageWords, majorWords, scriptWords, stageStarts, majorStarts, scriptStarts};
+ghost use Rattle.script_layout.specs.Layout.{NextOf, StageRoom, PlanRoom};
+use placed::Next;
+use placed::write_block;
+use plan_record::places::word_at;
+use words::clear::clear;
+
+// Writes major stage s, and where its blocks begin, from start number `first` on. What comes next.
+fn write_stage(
+    d: &[u8],
+    room: &mut [u32],
+    s: usize,
+    first: usize,
+    at: Next,
+    starts: &mut [u64],
+    words: &mut [u32],
+) -> Next
+    requires { ⌜ StageRoom (now d) (now room) s first at (length (now starts)) (length (now words)) ⌝ }
+    ensures { λ r. ⌜ NextOf (now (d .entry)) (s + 1) r ⌝ }
+    ensures { λ _. ⌜ now (room .exit) ≡ now (room .entry) ⌝ }
+    ensures { λ _. ⌜ now (starts .exit) ≡ sets (now (starts .entry)) first (stageStarts 256 (now (d .entry)) s (blocksOf (now (d .entry)))) ⌝ }
+    ensures { λ _. ⌜ now (words .exit) ≡ sets (now (words .entry)) (at .at) (stageWords 256 (now (d .entry)) s (blocksOf (now (d .entry)))) ⌝ }
+{
+    let blocks = word_at(d, 0) as usize;
+    let mut next = at;
+    let mut b = 0;
+    while b < blocks {
+        starts[first + b] = next.at as u64;
+        next = write_block(d, room, s, b, next.rank, next.at, words);
+        b += 1;
+    }
+    next
+}
+
+// Writes all major stages. Where their words end.
+fn write_stages(d: &[u8], room: &mut [u32], starts: &mut [u64], words: &mut [u32]) -> usize
+    requires { ⌜ PlanRoom (now d) (now room) (length (now starts)) (length (now words)) ⌝ }
+    ensures { λ r. ⌜ r ≡ length (majorWords 256 (now (d .entry)) (majorsOf (now (d .entry)))) ⌝ }
+    ensures { λ _. ⌜ now (room .exit) ≡ now (room .entry) ⌝ }
+    ensures { λ _. ⌜ now (starts .exit) ≡ sets (now (starts .entry)) 0 (majorStarts 256 (now (d .entry)) (majorsOf (now (d .entry)))) ⌝ }
+    ensures { λ _. ⌜ now (words .exit) ≡ sets (now (words .entry)) 0 (majorWords 256 (now (d .entry)) (majorsOf (now (d .entry)))) ⌝ }
+{
+    let blocks = word_at(d, 0) as usize;
+    let majors = word_at(d, 1) as usize;
+    let mut next = Next { rank: 0, at: 0 };
+    let mut s = 0;
+    while s < majors {
+        next = write_stage(d, room, s, blocks * s, next, starts, words);
+        s += 1;
+    }
+    next.at
+}
+
+// Writes the whole: the major stages, the final start, and 2048 zero words.
+pub fn write_plan(d: &[u8], room: &mut [u32], starts: &mut [u64], words: &mut [u32])
+    requires { ⌜ PlanRoom (now d) (now room) (length (now starts)) (length (now words)) ⌝ }
+    ensures { λ _. ⌜ now (room .exit) ≡ now (room .entry) ⌝ }
+    ensures { λ _. ⌜ now (starts .exit) ≡ sets (now (starts .entry)) 0 (scriptStarts 256 (now (d .entry))) ⌝ }
+    ensures { λ _. ⌜ now (words .exit) ≡ sets (now (words .entry)) 0 (scriptWords 256 (now (d .entry))) ⌝ }
+{
+    let end = write_stages(d, room, starts, words);
+    let last = word_at(d, 0) as usize * (word_at(d, 1) as usize);
+    starts[last] = end as u64;
+    clear(&mut words[end..end + 2048]);
+}

@@ -1,0 +1,66 @@
+// One part's script, in its place among the words.
+ghost use mathlib.Core.Path.{_≡_};
+ghost use Prim.Native.Nat.{_+_, _<_};
+ghost use lib.ListN.{length, getD};
+ghost use lib.Seq.{sets};
+ghost use Rattle.plan_record.specs.Record.{partsOf};
+ghost use Rattle.plan_record.specs.Body.{BodyOf};
+ghost use Rattle.plan_blocks.specs.Table.{cell};
+ghost use Rattle.script.specs.Writers.{NumbersOf};
+ghost use Rattle.script_assembly.specs.Steps.{lengthOf};
+ghost use Rattle.script_layout.specs.Layout.{Sound, PartRoom, rowScript};
+use plan_record::bodies::Body;
+use plan_record::bodies::body_at;
+use script::head::Numbers;
+use script_part::build_script;
+use words::edition::Edition;
+
+// The body of part p, whose row says where it begins.
+fn body_of(d: &[u8], room: &[u32], p: usize) -> Body
+    requires { ⌜ Sound (now d) (now room) × (p < partsOf (now d)) ⌝ }
+    ensures { λ r. ⌜ BodyOf (now (d .entry)) p r ⌝ }
+{
+    let low = room[65536 + 16 * p] as usize;
+    let high = room[65536 + 16 * p + 1] as usize;
+    body_at(d, p, low + 4294967296 * high)
+}
+
+// The numbers of part p, from its row.
+fn numbers_of(d: &[u8], room: &[u32], p: usize, body: Body, last: u32) -> Numbers
+    requires { ⌜ Sound (now d) (now room) × (p < partsOf (now d)) × BodyOf (now d) p body ⌝ }
+    ensures { λ r. ⌜ NumbersOf (now (d .entry)) p r ⌝ }
+    ensures { λ r. ⌜ (r .last ≡ last) × (r .state ≡ getD (now (room .entry)) (cell p 7) 0) × (r .sram ≡ getD (now (room .entry)) (cell p 8) 0) ⌝ }
+{
+    let row = 65536 + 16 * p;
+    Numbers {
+        stages: body.stages as u32,
+        last,
+        writeouts: room[row + 5],
+        state: room[row + 7],
+        srams: room[row + 3],
+        sram: room[row + 8],
+        rounds: room[row + 10],
+        duplicates: room[row + 4],
+    }
+}
+
+// Writes the script of part p from word `at` on. Where the next words begin.
+pub fn write_part(
+    d: &[u8],
+    room: &mut [u32],
+    p: usize,
+    last: u32,
+    at: usize,
+    words: &mut [u32],
+) -> usize
+    requires { ⌜ PartRoom (now d) (now room) p at (length (now words)) ⌝ }
+    ensures { λ r. ⌜ r ≡ at + lengthOf 256 (now (d .entry)) p ⌝ }
+    ensures { λ _. ⌜ now (room .exit) ≡ now (room .entry) ⌝ }
+    ensures { λ _. ⌜ now (words .exit) ≡ sets (now (words .entry)) at (rowScript (now (d .entry)) (now (room .entry)) p last) ⌝ }
+{
+    let body = body_of(d, room, p);
+    let x = numbers_of(d, room, p, body, last);
+    let next = at + Edition::part_words(x.rounds, x.stages) as usize;
+    build_script(d, p, body, x, room, &mut words[at..next]);
+    next
+}

@@ -1,0 +1,56 @@
+-- What the script of a part is built from: a plan that was accepted, and the room for its steps.
+-- Assumes nothing.
+use mathlib.Core.Path.{_≡_}
+use mathlib.Core.Bool.{true}
+use mathlib.Core.Option.{none}
+use mathlib.Core.List.{List}
+use Prim.Native.Nat.{ℕ, _+_, _*_, _/_, _≤_, _<_}
+use lib.ListN.{length, take, drop}
+use Rattle.reads.specs.ReadSet.{pairsOf}
+use Rattle.reads.specs.Search.{lanesOf, longest}
+use Rattle.reads.specs.Outcome.{placed}
+use Rattle.reads_try.specs.Decoded.{lanesAt}
+use Rattle.reads_section.specs.Readout.{Readable}
+use Rattle.rounds.specs.Rounds.{tableAfter}
+use Rattle.plan_record.specs.declared.bodies.Body.{Body}
+use Rattle.plan_record.specs.Record.{partsOf}
+use Rattle.plan_record.specs.Form.{planForm}
+use Rattle.plan_record.specs.Body.{BodyOf}
+use Rattle.plan_gates.specs.Gates.{badGate}
+use Rattle.plan_counts.specs.Counts.{refusal7}
+use Rattle.plan_positions.specs.Positions.{refusal12, refusal13}
+use Rattle.plan_positions.specs.Places.{plannedTable}
+use Rattle.plan_reads.specs.PartReads.{readWords, partReads, partLanes}
+use Rattle.plan_reads.specs.Ready.{SetRoom}
+
+-- b is the body of part p; the plan passed refusals 5, 6, 7, 12 and 13, and the part 3 and 4
+pub record Buildable (d : List ℕ) (p : ℕ) (b : Body) : Type 0 where
+  pub form : planForm d ≡ true
+  pub part : p < partsOf d
+  pub body : BodyOf d p b
+  pub gates : badGate d ≡ none
+  pub locations : refusal7 d ≡ none
+  pub positions : refusal12 d ≡ none
+  pub tables : refusal13 d ≡ none
+  pub reads : partReads 256 d p ≡ placed (partLanes 256 d p)
+
+-- the room when a part's reads are found: the winners of its pins, and behind them its lanes
+pub record FoundRoom (d : List ℕ) (p : ℕ) (room : List ℕ) : Type 0 where
+  pub pins : take 32768 room ≡ plannedTable d p 32768
+  pub lanes : drop 32768 room ≡ tableAfter 256 (lanesOf 256 (pairsOf (readWords d p)))
+
+-- the lanes of a set in a table, the number of their rounds, and room for their words and for where each pair's bits begin
+pub record ReadsRoom (set table : List ℕ) (rounds : ℕ) (bases out : List ℕ) : Type 0 where
+  pub lanes : Readable set table 256
+  pub rounds-are : rounds ≡ longest (lanesAt set table 256)
+  pub few : rounds ≤ 32
+  pub pairs : length set / 2 ≤ length bases
+  pub room : length out ≡ 512 * rounds
+
+-- the lengths of the lists that the first sections are made with, and of these sections
+pub record FrontRoom (rounds room keys scratch set bases entries out : ℕ) : Type 0 where
+  pub found : room ≡ 40960
+  pub reads : SetRoom keys scratch set
+  pub pairs : 8192 ≤ bases
+  pub slots : entries ≡ 8192
+  pub sections : out ≡ 512 * rounds + 5120

@@ -1,0 +1,158 @@
+// The script of one part of an accepted plan: document 01, "The script of a part". The Rust is `build_script`.
+ghost use mathlib.Core.Path.{_≡_};
+ghost use mathlib.Core.List.{_++_};
+ghost use Prim.Native.Nat.{_+_, _*_, _≤_};
+ghost use lib.ListN.{length, drop, replicate};
+ghost use lib.Seq.{sets};
+ghost use Rattle.words.specs.Edition.{partWords};
+ghost use Rattle.reads.specs.Search.{longest};
+ghost use Rattle.reads.specs.Words.{readSection};
+ghost use Rattle.reads_try.specs.Decoded.{lanesAt};
+ghost use Rattle.plan_reads.specs.PartReads.{askedTo, readWords, partLanes};
+ghost use Rattle.plan_reads.specs.Ready.{AllNarrow, AllWon, SetRoom};
+ghost use Rattle.plan_reads.specs.Bases.{storeLanes};
+ghost use Rattle.plan_reads.specs.Entries.{Numbered};
+ghost use Rattle.script.specs.Script.{stageSection, partScript};
+ghost use Rattle.script.specs.Writers.{NumbersOf};
+ghost use Rattle.script_part.specs.Build.{Buildable, FoundRoom, ReadsRoom, FrontRoom};
+use plan_reads::asked::part_set;
+use plan_reads::entries::first_entries;
+use plan_reads::local::fill_bases;
+use plan_reads::searched::search_set;
+use plan_record::bodies::Body;
+use reads_section::write_rounds;
+use script::head::Numbers;
+use script_sections::parts::write_script;
+use script_sections::stages::write_stage;
+use words::clear::clear;
+use words::edition::Edition;
+
+// The part's read set, from the start of `set`, and how many words it has. The room then has the winners of the part's pins, and behind them its
+// lanes. What keys and scratch hold afterwards is left open.
+fn find_reads(
+    d: &[u8],
+    p: usize,
+    body: Body,
+    room: &mut [u32],
+    keys: &mut [u64],
+    scratch: &mut [u64],
+    set: &mut [u32],
+) -> usize
+    requires { ⌜ Buildable (now d) p body × SetRoom (length (now keys)) (length (now scratch)) (length (now set)) × (length (now room) ≡ 40960) ⌝ }
+    ensures { λ r. ⌜ (r ≡ length (readWords (now (d .entry)) p)) × (r ≤ 16384) ⌝ }
+    ensures { λ _. ⌜ FoundRoom (now (d .entry)) p (now (room .exit)) ⌝ }
+    ensures { λ _. ⌜ now (set .exit) ≡ sets (now (set .entry)) 0 (readWords (now (d .entry)) p) ⌝ }
+    ensures { λ _. ⌜ AllNarrow (askedTo (now (d .entry)) p 8192) ⌝ }
+{
+    let n = part_set(d, p, body, &mut room[..32768], keys, scratch, set);
+    search_set(&set[..n], &mut room[32768..], keys, scratch, Edition::LANES);
+    n
+}
+
+// Writes the read section, and keeps where each pair's bits begin.
+fn write_reads(set: &[u32], table: &[u32], rounds: usize, bases: &mut [u32], out: &mut [u32])
+    requires { ⌜ ReadsRoom (now set) (now table) rounds (now bases) (now out) ⌝ }
+    ensures { λ _. ⌜ now (bases .exit) ≡ storeLanes 0 (lanesAt (now (set .entry)) (now (table .entry)) 256) (now (bases .entry)) ⌝ }
+    ensures { λ _. ⌜ now (out .exit) ≡ readSection (lanesAt (now (set .entry)) (now (table .entry)) 256) ⌝ }
+{
+    fill_bases(set, table, Edition::LANES, bases);
+    write_rounds(set, table, Edition::LANES, rounds, out);
+}
+
+// Writes the section of the first stage. What the entries hold afterwards is left open.
+fn write_first(
+    d: &[u8],
+    p: usize,
+    body: Body,
+    pins: &[u32],
+    set: &[u32],
+    bases: &[u32],
+    entries: &mut [u32],
+    out: &mut [u32],
+)
+    requires { ⌜ Buildable (now d) p body × AllWon (now d) p (now pins) × Numbered 256 (now d) p (now set) (now bases) × (length (now entries) ≡ 8192) × (length (now out) ≡ 5120) ⌝ }
+    ensures { λ _. ⌜ now (out .exit) ≡ stageSection 256 (now (d .entry)) p 0 ⌝ }
+{
+    first_entries(d, p, body, pins, set, bases, entries);
+    write_stage(d, p, body, 0, entries, out);
+}
+
+// Writes the read section and the section of the first stage. What the other lent slices hold afterwards is left open.
+fn write_front(
+    d: &[u8],
+    p: usize,
+    body: Body,
+    rounds: usize,
+    room: &mut [u32],
+    keys: &mut [u64],
+    scratch: &mut [u64],
+    set: &mut [u32],
+    bases: &mut [u32],
+    entries: &mut [u32],
+    out: &mut [u32],
+)
+    requires { ⌜ Buildable (now d) p body × (rounds ≡ longest (partLanes 256 (now d) p)) × FrontRoom rounds (length (now room)) (length (now keys)) (length (now scratch)) (length (now set)) (length (now bases)) (length (now entries)) (length (now out)) ⌝ }
+    ensures { λ _. ⌜ now (out .exit) ≡ readSection (partLanes 256 (now (d .entry)) p) ++ stageSection 256 (now (d .entry)) p 0 ⌝ }
+    ensures { λ _. ⌜ rounds ≤ 32 ⌝ }
+{
+    let n = find_reads(d, p, body, room, keys, scratch, set);
+    let reads = 512 * rounds;
+    write_reads(&set[..n], &room[32768..], rounds, bases, &mut out[..reads]);
+    write_first(
+        d,
+        p,
+        body,
+        &room[..32768],
+        &set[..n],
+        bases,
+        entries,
+        &mut out[reads..],
+    );
+}
+
+// The same, with lists of its own: 256 KiB of them.
+fn build_front(d: &[u8], p: usize, body: Body, rounds: usize, room: &mut [u32], out: &mut [u32])
+    requires { ⌜ Buildable (now d) p body × (rounds ≡ longest (partLanes 256 (now d) p)) × (length (now room) ≡ 40960) × (length (now out) ≡ 512 * rounds + 5120) ⌝ }
+    ensures { λ _. ⌜ now (out .exit) ≡ readSection (partLanes 256 (now (d .entry)) p) ++ stageSection 256 (now (d .entry)) p 0 ⌝ }
+    ensures { λ _. ⌜ rounds ≤ 32 ⌝ }
+{
+    let mut keys = [0u64; 8192];
+    let mut scratch = [0u64; 8192];
+    let mut set = [0u32; 16384];
+    let mut bases = [0u32; 8192];
+    let mut entries = [0u32; 8192];
+    write_front(
+        d,
+        p,
+        body,
+        rounds,
+        room,
+        &mut keys,
+        &mut scratch,
+        &mut set,
+        &mut bases,
+        &mut entries,
+        out,
+    );
+}
+
+// Writes the script of part p. What the room holds afterwards is left open.
+fn write_words(d: &[u8], p: usize, body: Body, x: Numbers, room: &mut [u32], out: &mut [u32])
+    requires { ⌜ Buildable (now d) p body × NumbersOf (now d) p x × (length (now room) ≡ 40960) × (length (now out) ≡ partWords 256 (x .rounds) (x .stages)) ⌝ }
+    ensures { λ _. ⌜ now (out .exit) ≡ partScript 256 (now (d .entry)) p (x .last) (x .state) (x .sram) ⌝ }
+{
+    let rounds = x.rounds as usize;
+    let to = 256 + 512 * rounds + 5120;
+    build_front(d, p, body, rounds, room, &mut out[256..to]);
+    write_script(d, p, body, x, &mut room[..32768], out);
+}
+
+// Writes the script of part p. The first 65536 words of the room are zero afterwards, the others as they were.
+pub fn build_script(d: &[u8], p: usize, body: Body, x: Numbers, room: &mut [u32], out: &mut [u32])
+    requires { ⌜ Buildable (now d) p body × NumbersOf (now d) p x × (65536 ≤ length (now room)) × (length (now out) ≡ partWords 256 (x .rounds) (x .stages)) ⌝ }
+    ensures { λ _. ⌜ now (out .exit) ≡ partScript 256 (now (d .entry)) p (x .last) (x .state) (x .sram) ⌝ }
+    ensures { λ _. ⌜ now (room .exit) ≡ replicate 65536 0 ++ drop 65536 (now (room .entry)) ⌝ }
+{
+    write_words(d, p, body, x, &mut room[..40960], out);
+    clear(&mut room[..65536]);
+}

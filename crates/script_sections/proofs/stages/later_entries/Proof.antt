@@ -1,0 +1,66 @@
+-- After i turns the first i entries are the stage's.
+-- Assumes nothing.
+use mathlib.Core.Path.{_≡_}
+use Prim.Native.Nat.{_+_, _-_, _≤_}
+use native.Mathlib.Omega.{arith}
+use lib.ListN.{length, take, length-set}
+use Rattle.words.specs.Section.{listOf}
+use Rattle.script.specs.Script.{stageEntry}
+use Rattle.script.proofs.FillLaws.{fill-none, fill-more, fill-end}
+use borrow.Author.Needs.{needs}
+use Rattle.script_sections.proofs.stages.later_entries.Statement.{statement}
+use Rattle.script_sections.proofs.stages.later_entries.Tie as tie
+
+abbrev Inv-loop : tie.InvT-loop
+Inv-loop d p body s table entries₀ i₀ entries i = (i ≤ length entries₀) × (length entries ≡ length entries₀) × (take i entries ≡ listOf (stageEntry 256 d p (s + 1)) i)
+
+abbrev μ-loop : tie.MeasureT-loop
+μ-loop d p body s table entries₀ i₀ entries i = length entries₀ - i
+
+loop-holds : tie.Need-loop-holds Inv-loop μ-loop
+loop-holds c = (omega arith, search needs, fill-none _)
+
+later-entry-requires : tie.Need-later-entry-requires Inv-loop μ-loop
+later-entry-requires c κs = search needs
+
+mul-entries : tie.Need-mul-entries Inv-loop μ-loop
+mul-entries c = search needs
+
+slice-write-entries : tie.Need-slice-write-entries Inv-loop μ-loop
+slice-write-entries c = search needs
+
+add-i : tie.Need-add-i Inv-loop μ-loop
+add-i c = search needs
+
+loop-less : tie.Need-loop-less Inv-loop μ-loop
+loop-less c = search needs
+
+loop-again : tie.Need-loop-again Inv-loop μ-loop
+loop-again c =
+    let l = c .before .before .loop in
+    let o = c .before .before .before .before .before .before .args in
+    (omega arith, simp length-set (l .inv .1), fill-more (stageEntry 256 (o .d .now) (o .p) (o .s + 1)) (l .entries) (l .i) _ (omega arith) (c .later-entry .ensures) (l .inv .2))
+
+same-length : tie.Need-same-length Inv-loop μ-loop
+same-length c = search needs
+
+returns : tie.Need-returns Inv-loop μ-loop
+returns c =
+    let l = c .before .loop in
+    fill-end _ (l .entries) (l .i) 8192 (omega arith) (omega arith) (omega arith) (l .inv .2)
+
+pub later-entries-spec : {M : Type 1} → statement M
+later-entries-spec =
+    tie.close
+    (tie.spec
+    Inv-loop
+    μ-loop
+    loop-holds
+    later-entry-requires
+    mul-entries
+    slice-write-entries
+    add-i
+    loop-less
+    loop-again
+    same-length
+    returns)

@@ -1,0 +1,64 @@
+// Sections joined: the head, the stages, the two tables, and a part's script.
+ghost use mathlib.Core.Path.{_≡_};
+ghost use mathlib.Core.List.{_++_};
+ghost use Prim.Native.Nat.{_+_};
+ghost use lib.ListN.{length, replicate};
+ghost use Rattle.plan_record.specs.Record.{stagesOf};
+ghost use Rattle.script.specs.Script.{locationWords, stageSections, sramSection, enableSection, partScript};
+ghost use Rattle.script.specs.Writers.{Accepted, numberWords, StagesRoom, ScriptRoom};
+use crate::sections::write_enables;
+use crate::sections::write_sram;
+use crate::stages::write_later;
+use plan_record::bodies::Body;
+use script::head::Numbers;
+use script::head::write_locations;
+use script::head::write_numbers;
+use words::clear::clear;
+
+// Writes the numbers and the locations.
+pub fn write_head(d: &[u8], p: usize, body: Body, x: Numbers, out: &mut [u32])
+    requires { ⌜ Accepted (now d) p body × (length (now out) ≡ 256) ⌝ }
+    ensures { λ _. ⌜ now (out .exit) ≡ numberWords x ++ locationWords 256 (now (d .entry)) p ⌝ }
+{
+    write_numbers(x, &mut out[..128]);
+    write_locations(d, p, body, &mut out[128..]);
+}
+
+// Writes the sections of the two tables.
+pub fn write_tables(d: &[u8], p: usize, body: Body, out: &mut [u32])
+    requires { ⌜ Accepted (now d) p body × (length (now out) ≡ 10240) ⌝ }
+    ensures { λ _. ⌜ now (out .exit) ≡ sramSection 256 (now (d .entry)) p ++ enableSection 256 (now (d .entry)) p ⌝ }
+{
+    write_sram(d, p, body, &mut out[..5120]);
+    write_enables(d, p, body, &mut out[5120..]);
+}
+
+// Writes the sections of the stages behind that of the first.
+pub fn write_stages(d: &[u8], p: usize, body: Body, table: &mut [u32], out: &mut [u32])
+    requires { ⌜ Accepted (now d) p body × StagesRoom (now d) p body (now table) (now out) ⌝ }
+    ensures { λ _. ⌜ now (table .exit) ≡ replicate (length (now (table .entry))) 0 ⌝ }
+    ensures { λ _. ⌜ now (out .exit) ≡ stageSections 256 (now (d .entry)) p (stagesOf (now (d .entry)) p) ⌝ }
+{
+    let stages = body.stages;
+    let mut s = 0;
+    while s + 1 < stages {
+        let from = 5120 * (s + 1);
+        let to = from + 5120;
+        write_later(d, p, body, s, table, &mut out[from..to]);
+        s += 1;
+    }
+    clear(table);
+}
+
+// Writes a part's script around its read section and the section of its first stage.
+pub fn write_script(d: &[u8], p: usize, body: Body, x: Numbers, table: &mut [u32], out: &mut [u32])
+    requires { ⌜ Accepted (now d) p body × ScriptRoom (now d) p body x (now table) (now out) ⌝ }
+    ensures { λ _. ⌜ now (table .exit) ≡ replicate (length (now (table .entry))) 0 ⌝ }
+    ensures { λ _. ⌜ now (out .exit) ≡ partScript 256 (now (d .entry)) p (x .last) (x .state) (x .sram) ⌝ }
+{
+    let from = 256 + 512 * x.rounds as usize;
+    let to = from + 5120 * body.stages;
+    write_head(d, p, body, x, &mut out[..256]);
+    write_stages(d, p, body, table, &mut out[from..to]);
+    write_tables(d, p, body, &mut out[to..]);
+}

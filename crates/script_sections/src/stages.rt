@@ -1,0 +1,68 @@
+// The sections of the stages, and the entries of every stage but the first.
+ghost use mathlib.Core.Path.{_≡_};
+ghost use Prim.Native.Nat.{_+_, _≤_, _<_};
+ghost use lib.ListN.{length};
+ghost use Rattle.words.specs.Section.{listOf};
+ghost use Rattle.plan_slots.specs.Puts.{positionPuts, filled, FilledWith};
+ghost use Rattle.script.specs.Script.{stageEntry, stageSection};
+ghost use Rattle.script.specs.Writers.{Accepted, EntriesOf};
+use crate::sections::write_section;
+use pinmap::Found;
+use plan_record::bodies::Body;
+use plan_record::bodies::slot;
+use plan_slots::tables::fill_positions;
+use script::masks::fill_masks;
+use words::units::EMPTY_PIN;
+use words::units::Pin;
+
+// Entry i of stage s + 1: its pin's highest position in stage s, whose positions the table holds.
+fn later_entry(d: &[u8], p: usize, body: Body, s: usize, table: &[u32], i: usize) -> u32
+    requires { ⌜ Accepted (now d) p body × (s + 1 < body .stages) × FilledWith (positionPuts (now d) p s) (now table) × (i < 8192) ⌝ }
+    ensures { λ r. ⌜ r ≡ stageEntry 256 (now (d .entry)) p (s + 1) i ⌝ }
+{
+    let pin = slot(d, p, body, s + 1, 8192 + i);
+    if pin == EMPTY_PIN {
+        return 0;
+    }
+    match pinmap::look_up(table, Pin(pin)) {
+        Found::Value(q) => q,
+        Found::Missing => 0,
+    }
+}
+
+// The entries of stage s + 1.
+fn later_entries(d: &[u8], p: usize, body: Body, s: usize, table: &[u32], entries: &mut [u32])
+    requires { ⌜ Accepted (now d) p body × (s + 1 < body .stages) × FilledWith (positionPuts (now d) p s) (now table) × (length (now entries) ≡ 8192) ⌝ }
+    ensures { λ _. ⌜ now (entries .exit) ≡ listOf (stageEntry 256 (now (d .entry)) p (s + 1)) 8192 ⌝ }
+{
+    let mut i = 0;
+    while i < entries.len() {
+        entries[i] = later_entry(d, p, body, s, table, i);
+        i += 1;
+    }
+}
+
+// Writes the section of stage s from its entries.
+pub fn write_stage(d: &[u8], p: usize, body: Body, s: usize, entries: &[u32], out: &mut [u32])
+    requires { ⌜ Accepted (now d) p body × (s < body .stages) × EntriesOf (now d) p s (now entries) × (length (now out) ≡ 5120) ⌝ }
+    ensures { λ _. ⌜ now (out .exit) ≡ stageSection 256 (now (d .entry)) p s ⌝ }
+{
+    let mut xora = [0u32; 256];
+    let mut xorb = [0u32; 256];
+    let mut orb = [0u32; 256];
+    fill_masks(d, p, body, s, &mut xora, &mut xorb, &mut orb);
+    write_section(entries, &xora, &xorb, &orb, out);
+}
+
+// Writes the section of stage s + 1. The table then holds the positions of stage s.
+pub fn write_later(d: &[u8], p: usize, body: Body, s: usize, table: &mut [u32], out: &mut [u32])
+    requires { ⌜ Accepted (now d) p body × (s + 1 < body .stages) × (32768 ≤ length (now table)) × (length (now out) ≡ 5120) ⌝ }
+    ensures { λ _. ⌜ now (table .exit) ≡ filled (length (now (table .entry))) (positionPuts (now (d .entry)) p s) ⌝ }
+    ensures { λ _. ⌜ now (out .exit) ≡ stageSection 256 (now (d .entry)) p (s + 1) ⌝ }
+{
+    let next = s + 1;
+    let mut entries = [0u32; 8192];
+    fill_positions(d, p, body, s, table);
+    later_entries(d, p, body, s, table, &mut entries);
+    write_stage(d, p, body, next, &entries, out);
+}
