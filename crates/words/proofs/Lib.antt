@@ -7,3 +7,4 @@ pub mod SumLaws
 pub mod CountLaws
 pub mod TestLaws
 pub mod FoundLaws
+pub mod AnswerLaws

@@ -7,3 +7,4 @@ pub mod Pins
 pub mod Count
 pub mod Tests
 pub mod Found
+pub mod Answer

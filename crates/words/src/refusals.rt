@@ -1,4 +1,4 @@
-// The numbers of the refusals: document 01, "Numbered refusals".
+// The numbers of the refusals: document 01, "Numbered refusals", and those that 1/13 and 7/13 of document 02 add.
 pub const MANY_PAIRS: u32 = 1;
 
 pub const PAIR_FORM: u32 = 2;
@@ -33,7 +33,23 @@ pub const TURN: u32 = 16;
 
 pub const RECORD: u32 = 17;
 
+pub const BEFORE_GATES: u32 = 18;
+
+pub const DIFFERENCE: u32 = 19;
+
+pub const CUT_GATES: u32 = 20;
+
+pub const NOT_EMPTY: u32 = 24;
+
+pub const LEVEL: u32 = 25;
+
+pub const NO_GATE: u32 = 26;
+
 pub const ROOM_SHORT: u32 = 32;
+
+pub const NOT_WRITABLE: u32 = 33;
+
+pub const COUNT_SHORT: u32 = 34;
 
 // A refusal: its number, and the place it is told at.
 pub struct Refusal {
