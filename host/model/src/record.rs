@@ -84,79 +84,175 @@ pub fn room_words(words: &[u32]) -> u64 {
 
 /// Takes lists off the front of the record's words.
 struct Cursor<'a> {
-    rest: &'a [u32],
+    words: &'a [u32],
+    at: usize,
 }
 
 impl<'a> Cursor<'a> {
-    fn take(&mut self, count: u64) -> Option<&'a [u32]> {
-        if count > self.rest.len() as u64 {
-            return None;
+    /// The next words, which are called so.
+    fn take(&mut self, count: u64, name: &str) -> Result<&'a [u32], String> {
+        let (rest, from) = (&self.words[self.at..], self.at as u64);
+        if count > rest.len() as u64 {
+            let last = from + count - 1;
+            let words = self.words.len();
+            return Err(format!("{} would be words {} to {}, and there are {}", name, from, last, words));
         }
-        let (list, rest) = self.rest.split_at(count as usize);
-        self.rest = rest;
-        Some(list)
+        self.at += count as usize;
+        Ok(&rest[..count as usize])
+    }
+
+    /// What is wrong with the word that is so many behind the next one.
+    fn fault(&self, behind: usize, name: &str, range: &str) -> String {
+        let at = self.at + behind;
+        format!("word {}, {}, is {}, not {}", at, name, range, self.words[at])
     }
 }
 
 /// The plan, where it is not refused by 5.
 pub fn plan(record_bytes: usize, words: &[u32]) -> Option<Plan<'_>> {
-    let mut cursor = Cursor { rest: words };
-    let head = cursor.take(5)?;
-    let (blocks, majors, gates, layout, positions) = (head[0], head[1], head[2], head[3], head[4]);
-    let in_range = (1..=1024).contains(&blocks)
-        && (1..=64).contains(&majors)
-        && layout <= 1 << 20
-        && positions <= 1 << 20
-        && record_bytes % 4 == 0;
-    if !in_range {
-        return None;
+    read(record_bytes, words).ok()
+}
+
+const PIN: &str = "a pin, 0 to 2^30";
+const INVERTED_PIN: &str = "twice a pin or 1 more, 0 to 2^31 + 1";
+
+/// The plan, or what it is refused for by 5.
+pub fn read(record_bytes: usize, words: &[u32]) -> Result<Plan<'_>, String> {
+    if record_bytes % 4 != 0 {
+        return Err(format!("its {} bytes are no whole words", record_bytes));
     }
-    let counts = cursor.take(majors.into())?;
-    if counts.iter().any(|&count| count > 4096) {
-        return None;
+    let mut cursor = Cursor { words, at: 0 };
+    if words.len() < 5 {
+        return Err(format!("its first five numbers would be words 0 to 4, and there are {}", words.len()));
     }
-    let gates = cursor.take(3 * gates as u64)?;
-    let layout = cursor.take(layout.into())?;
-    let positions = cursor.take(3 * positions as u64)?;
-    let in_range =
-        gates.chunks(3).all(|gate| is_pin(gate[0]) && is_inverted(gate[1]) && is_inverted(gate[2]))
-            && layout.iter().all(|&pin| is_pin(pin) || pin == EMPTY)
-            && positions.chunks(3).all(|entry| is_pin(entry[0]) && entry[2] <= 1);
-    if !in_range {
-        return None;
+    for (index, name, low, high) in [
+        (0, "the number of blocks", 1, 1024),
+        (1, "the number of major stages", 1, 64),
+        (3, "the length of the input layout", 0, 1 << 20),
+        (4, "the number of positions", 0, 1 << 20),
+    ] {
+        if !(low..=high).contains(&words[index]) {
+            return Err(cursor.fault(index, name, &format!("{} to {}", low, high)));
+        }
     }
-    let parts: u64 = counts.iter().map(|&count| count as u64).sum();
-    let heads = cursor.take(2 * parts)?;
+    let head = cursor.take(5, "the head")?;
+    let counts = part_counts(&mut cursor, head[1])?;
+    let gates = gates(&mut cursor, head[2])?;
+    let layout = layout(&mut cursor, head[3])?;
+    let positions = positions(&mut cursor, head[4])?;
+    let all: u64 = counts.iter().map(|&count| count as u64).sum();
+    let heads_at = cursor.at;
+    let heads = cursor.take(2 * all, "the heads of the parts")?;
     let majors_of_parts =
         counts.iter().enumerate().flat_map(|(major, &count)| (0..count).map(move |_| major));
     let mut parts = Vec::new();
-    for (head, major) in heads.chunks(2).zip(majors_of_parts) {
-        parts.push(part(&mut cursor, head[0], head[1], major)?);
+    for (part, (head, major)) in heads.chunks(2).zip(majors_of_parts).enumerate() {
+        let head_at = Cursor { words, at: heads_at + 2 * part };
+        if !(1..=255).contains(&head[0]) {
+            return Err(head_at.fault(0, &format!("the boomerang stages of part {}", part), "1 to 255"));
+        }
+        if head[1] > 8192 {
+            return Err(head_at.fault(1, &format!("the endpoints of part {}", part), "0 to 8192"));
+        }
+        parts.push(self::part(&mut cursor, part, head[0], head[1], major)?);
     }
-    if !cursor.rest.is_empty() {
-        return None;
+    if cursor.at < words.len() {
+        return Err(format!("its lists are {} words, and there are {}", cursor.at, words.len()));
     }
     let major_parts = counts.iter().map(|&count| count as usize).collect();
-    Some(Plan { blocks: blocks as usize, major_parts, gates, layout, positions, parts })
+    Ok(Plan { blocks: head[0] as usize, major_parts, gates, layout, positions, parts })
 }
 
-fn part<'a>(cursor: &mut Cursor<'a>, stages: u32, endpoints: u32, major: usize) -> Option<Part<'a>> {
-    if !(1..=255).contains(&stages) || endpoints > 8192 {
-        return None;
+fn part_counts<'a>(cursor: &mut Cursor<'a>, majors: u32) -> Result<&'a [u32], String> {
+    let before = cursor.at;
+    let counts = cursor.take(majors.into(), "the parts of the major stages")?;
+    match counts.iter().position(|&count| count > 4096) {
+        None => Ok(counts),
+        Some(major) => Err(Cursor { at: before, ..*cursor }.fault(
+            major,
+            &format!("the parts of major stage {}", major),
+            "0 to 4096",
+        )),
     }
-    let endpoints = cursor.take(3 * endpoints as u64)?;
-    if !endpoints.chunks(3).all(|endpoint| is_endpoint(endpoint[0], endpoint[1], endpoint[2])) {
-        return None;
+}
+
+fn gates<'a>(cursor: &mut Cursor<'a>, count: u32) -> Result<&'a [u32], String> {
+    let before = cursor.at;
+    let gates = cursor.take(3 * count as u64, &format!("the list of {} gates", count))?;
+    let is_good = |(index, &number): (usize, &u32)| match index % 3 {
+        0 => is_pin(number),
+        _ => is_inverted(number),
+    };
+    match gates.iter().enumerate().position(|word| !is_good(word)) {
+        None => Ok(gates),
+        Some(at) => {
+            let name = ["pin", "first fan-in", "second fan-in"][at % 3];
+            let range = if at % 3 == 0 { PIN } else { INVERTED_PIN };
+            Err(Cursor { at: before, ..*cursor }.fault(
+                at,
+                &format!("the {} of gate {}", name, at / 3),
+                range,
+            ))
+        }
     }
-    let counts = cursor.take(stages.into())?;
-    let slots = cursor.take(stages as u64 * STAGE_SLOTS as u64)?;
+}
+
+fn layout<'a>(cursor: &mut Cursor<'a>, count: u32) -> Result<&'a [u32], String> {
+    let before = cursor.at;
+    let layout = cursor.take(count.into(), &format!("the input layout of {} pins", count))?;
+    match layout.iter().position(|&pin| !is_pin(pin) && pin != EMPTY) {
+        None => Ok(layout),
+        Some(at) => {
+            let name = format!("entry {} of the input layout", at);
+            Err(Cursor { at: before, ..*cursor }.fault(at, &name, "a pin, 0 to 2^30, or 2^32 - 1"))
+        }
+    }
+}
+
+fn positions<'a>(cursor: &mut Cursor<'a>, count: u32) -> Result<&'a [u32], String> {
+    let before = cursor.at;
+    let positions = cursor.take(3 * count as u64, &format!("the list of {} positions", count))?;
+    let is_good = |(index, &number): (usize, &u32)| match index % 3 {
+        0 => is_pin(number),
+        1 => true,
+        _ => number <= 1,
+    };
+    match positions.iter().enumerate().position(|word| !is_good(word)) {
+        None => Ok(positions),
+        Some(at) => {
+            let (name, range) = if at % 3 == 0 { ("pin", PIN) } else { ("mark", "0 or 1") };
+            let name = format!("the {} of position {}", name, at / 3);
+            Err(Cursor { at: before, ..*cursor }.fault(at, &name, range))
+        }
+    }
+}
+
+fn part<'a>(
+    cursor: &mut Cursor<'a>,
+    part: usize,
+    stages: u32,
+    endpoints: u32,
+    major: usize,
+) -> Result<Part<'a>, String> {
+    let of_part = |what: &str| format!("the {} of part {}", what, part);
+    let before = cursor.at;
+    let endpoints = cursor.take(3 * endpoints as u64, &of_part("endpoints"))?;
+    for (index, endpoint) in endpoints.chunks(3).enumerate() {
+        if let Some((word, name, range)) = endpoint_fault(endpoint[0], endpoint[1], endpoint[2]) {
+            let name = format!("the {} of endpoint {} of part {}", name, index, part);
+            return Err(Cursor { at: before, ..*cursor }.fault(3 * index + word, &name, range));
+        }
+    }
+    let counts = cursor.take(stages.into(), &of_part("numbers of locations"))?;
+    let slots = cursor.take(stages as u64 * STAGE_SLOTS as u64, &of_part("slots"))?;
     let mut stages = Vec::new();
-    for (slots, &count) in slots.chunks(STAGE_SLOTS).zip(counts) {
-        stages.push(Stage { slots, locations: cursor.take(count.into())? });
+    for (stage, (slots, &count)) in slots.chunks(STAGE_SLOTS).zip(counts).enumerate() {
+        let locations = cursor.take(count.into(), &of_part(&format!("locations of stage {}", stage)))?;
+        stages.push(Stage { slots, locations });
     }
-    let sram_table = cursor.take((SLOTS + 2 * LANES) as u64)?;
-    let enable_table = cursor.take((SLOTS + 3 * LANES) as u64)?;
-    Some(Part { major, endpoints, stages, sram_table, enable_table })
+    let sram_table = cursor.take((SLOTS + 2 * LANES) as u64, &of_part("SRAM table"))?;
+    let enable_table = cursor.take((SLOTS + 3 * LANES) as u64, &of_part("enable table"))?;
+    Ok(Part { major, endpoints, stages, sram_table, enable_table })
 }
 
 pub fn is_pin(number: u32) -> bool {
@@ -167,12 +263,14 @@ fn is_inverted(number: u32) -> bool {
     number <= MOST_INVERTED_PIN
 }
 
-fn is_endpoint(kind: u32, x: u32, y: u32) -> bool {
+/// Which of an endpoint's three words is at fault, what it is called and what it is.
+fn endpoint_fault(kind: u32, x: u32, y: u32) -> Option<(usize, &'static str, &'static str)> {
     match kind {
-        0 => is_inverted(x),
-        1 => is_pin(x),
-        2 => is_inverted(x) && is_inverted(y),
-        3 => true,
-        _ => false,
+        0 if !is_inverted(x) => Some((1, "output", INVERTED_PIN)),
+        1 if !is_pin(x) => Some((1, "staged pin", PIN)),
+        2 if !is_inverted(x) => Some((1, "data", INVERTED_PIN)),
+        2 if !is_inverted(y) => Some((2, "enable", INVERTED_PIN)),
+        0..=3 => None,
+        _ => Some((0, "kind", "0 to 3")),
     }
 }

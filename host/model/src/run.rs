@@ -29,20 +29,32 @@ fn entry(section: &[u32], index: usize) -> usize {
 }
 
 impl<'a> Part<'a> {
-    /// The part that begins the words of a block, if it is in form.
-    fn first_of(block: &'a [u32], states: (usize, usize)) -> Option<Self> {
+    /// The part that begins the words of a block, or why it is not in form.
+    fn first_of(block: &'a [u32], states: (usize, usize)) -> Result<Self, String> {
         if block.len() < HEAD_WORDS {
-            return None;
+            return Err(format!("{} words are too few for a head", block.len()));
         }
         let word = |index: usize| block[index] as u64;
+        if !(1..=255).contains(&word(0)) {
+            return Err(format!("its stages are 1 to 255, not {}", word(0)));
+        }
         let length = part_words(word(6), word(0));
-        if !(1..=255).contains(&word(0)) || length > block.len() as u64 {
-            return None;
+        if length > block.len() as u64 {
+            return Err(format!(
+                "by its stages and rounds it has {} words, and {} are left",
+                length,
+                block.len()
+            ));
         }
         if word(1) != (length == block.len() as u64) as u64 {
-            return None;
+            return Err(format!("its mark of the last part is {}", word(1)));
         }
-        let normal = word(2).checked_sub(word(4) + word(7))?;
+        let normal = word(2).checked_sub(word(4) + word(7)).ok_or_else(|| {
+            format!("of {} write-out words {} are SRAM's and {} duplicate", word(2), word(4), word(7))
+        })?;
+        if normal > 256 {
+            return Err(format!("it has {} normal words, and 256 are the most", normal));
+        }
         let part = Part {
             words: &block[..length as usize],
             stages: word(0) as usize,
@@ -50,31 +62,54 @@ impl<'a> Part<'a> {
             normal: normal as usize,
             state_start: word(3) as usize,
         };
-        let good = normal <= 256
-            && part.locations().all(|(stage, _)| stage < part.stages)
-            && part.lanes_in_form(states)
-            && (0..part.stages + 2).all(|section| {
-                let section = part.section(section);
-                (0..SLOTS).all(|index| half(section, index) < SLOTS)
-            })
-            && (normal == 0 || word(3) + normal <= states.0.min(states.1) as u64);
-        if good {
-            Some(part)
-        } else {
-            None
+        if let Some((stage, _)) = part.locations().find(|&(stage, _)| stage >= part.stages) {
+            return Err(format!("it has a location in stage {}, and {} stages", stage, part.stages));
+        }
+        part.lanes_in_form(states)?;
+        for section in 0..part.stages + 2 {
+            let words = part.section(section);
+            if let Some(index) = (0..SLOTS).find(|&index| half(words, index) >= SLOTS) {
+                let name = part.section_name(section);
+                return Err(format!("{}: half {} of the permutation is above 8191", name, index));
+            }
+        }
+        let (first, end) = (word(3), word(3) + normal);
+        if normal > 0 && end > states.0.min(states.1) as u64 {
+            let last = end - 1;
+            return Err(format!("it stores state words {} to {}: {}", first, last, of_states(states)));
+        }
+        Ok(part)
+    }
+
+    fn section_name(&self, section: usize) -> String {
+        match section.checked_sub(self.stages) {
+            None => format!("stage {}", section),
+            Some(0) => "SRAM and duplicates".to_string(),
+            Some(_) => "clock enables".to_string(),
         }
     }
 
     /// Lane bits are at most 32, and words read are inside both states.
-    fn lanes_in_form(&self, states: (usize, usize)) -> bool {
-        (0..LANES).all(|lane| {
+    fn lanes_in_form(&self, states: (usize, usize)) -> Result<(), String> {
+        for lane in 0..LANES {
             let mut bits = 0;
-            let inside = (0..self.rounds).map(|round| self.read(round, lane)).all(|(word, mask)| {
+            for round in 0..self.rounds {
+                let (word, mask) = self.read(round, lane);
+                let word = (word & 0x7FFF_FFFF) as usize;
+                if mask != 0 && word >= states.0.min(states.1) {
+                    let states = of_states(states);
+                    return Err(format!(
+                        "lane {}, round {} reads state word {}: {}",
+                        lane, round, word, states
+                    ));
+                }
                 bits += mask.count_ones() as u64;
-                mask == 0 || ((word & 0x7FFF_FFFF) as usize) < states.0.min(states.1)
-            });
-            inside && bits <= 32
-        })
+            }
+            if bits > 32 {
+                return Err(format!("lane {} reads {} bits, and 32 are the most", lane, bits));
+            }
+        }
+        Ok(())
     }
 
     /// Word and mask of a lane in a round.
@@ -101,22 +136,35 @@ impl<'a> Part<'a> {
     }
 }
 
-/// The parts of a block, if its words are in form: none for the empty block.
-fn parts(words: &[u32], start: u64, end: u64, states: (usize, usize)) -> Option<Vec<Part<'_>>> {
+fn of_states(states: (usize, usize)) -> String {
+    format!("the old state has {}, the new one {}", states.0, states.1)
+}
+
+/// The parts of a block, none for the empty block, or why its words are not in form.
+fn parts(words: &[u32], start: u64, end: u64, states: (usize, usize)) -> Result<Vec<Part<'_>>, String> {
     if start >= end || end > words.len() as u64 {
-        return None;
+        return Err(format!("it begins at word {} and ends at {} of {} words", start, end, words.len()));
     }
     let mut rest = &words[start as usize..end as usize];
     if rest.len() == HEAD_WORDS && rest.iter().enumerate().all(|(index, &word)| word == (index == 1) as u32) {
-        return Some(Vec::new());
+        return Ok(Vec::new());
     }
     let mut parts = Vec::new();
     while !rest.is_empty() {
-        let part = Part::first_of(rest, states)?;
+        let part =
+            Part::first_of(rest, states).map_err(|what| format!("its part {}: {}", parts.len(), what))?;
         rest = &rest[part.words.len()..];
         parts.push(part);
     }
-    Some(parts)
+    Ok(parts)
+}
+
+/// The first block of a major stage that is refused by 15, and by what of it.
+pub fn fault(words: &[u32], starts: &[u64], states: (usize, usize)) -> Option<(usize, String)> {
+    let of_block = |(index, range): (usize, &[u64])| {
+        parts(words, range[0], range[1], states).err().map(|what| (index, what))
+    };
+    starts.windows(2).enumerate().find_map(of_block)
 }
 
 /// What a block is about to do.
@@ -267,7 +315,7 @@ pub struct Caught {
 
 /// Of the first part of a block, if its words are in form: what its store turn finds.
 pub fn caught(block: &[u32], old: &[u32], new: &[u32]) -> Option<Caught> {
-    let part = Part::first_of(block, (old.len(), new.len()))?;
+    let part = Part::first_of(block, (old.len(), new.len())).ok()?;
     let mut alone = Block::new(vec![part]);
     for _ in 1..part.turns() {
         alone.turn(old, &mut new.to_vec());
@@ -299,7 +347,7 @@ pub fn answer(
     let states = (old.len(), new.len());
     let mut blocks = Vec::new();
     for (index, range) in starts.windows(2).enumerate() {
-        let parts = parts(words, range[0], range[1], states).ok_or(Refused::at(15, 0, index))?;
+        let parts = parts(words, range[0], range[1], states).map_err(|_| Refused::at(15, 0, index))?;
         blocks.push(Block::new(parts));
     }
     if let Some(turn) = turns.iter().position(|&block| block as usize >= count) {

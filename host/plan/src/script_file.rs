@@ -20,26 +20,46 @@ pub fn bytes(blocks: u64, script: &Script) -> Vec<u8> {
     bytes
 }
 
-/// Blocks and script of a file; none where it has not the form. There is a block or more, and the starts are those of
-/// whole major stages and the end.
-pub fn read(bytes: &[u8]) -> Option<(u64, Script)> {
-    let numbers: Vec<u64> = bytes.get(8..HEAD)?.chunks(8).map(number).collect();
-    let (blocks, lists) = (numbers[0], &bytes[HEAD..]);
-    let (starts, words) = (numbers[1].checked_mul(8)?, numbers[2].checked_mul(4)?);
-    if &bytes[..8] != MARK || starts.checked_add(words)? != lists.len() as u64 {
-        return None;
+/// "Plan ranges": blocks and major stages of a plan, and words of a state.
+const MOST_BLOCKS: u64 = 1024;
+const MOST_STAGES: u64 = 64;
+const MOST_STATE_WORDS: u64 = 1 << 27;
+
+/// Blocks and script of a file, or what is wrong with it. There is a block or more, and the starts are those of whole major
+/// stages and the end.
+pub fn read(bytes: &[u8]) -> Result<(u64, Script), String> {
+    if !bytes.starts_with(MARK) {
+        return Err("it does not begin with JUOLGES1".to_string());
     }
-    if blocks == 0 || numbers[1] == 0 || (numbers[1] - 1) % blocks != 0 {
-        return None;
+    let head = bytes.get(8..HEAD).ok_or("it ends within its numbers")?;
+    let numbers: Vec<u64> = head.chunks(8).map(number).collect();
+    let (blocks, starts, words) = (numbers[0], numbers[1], numbers[2]);
+    let lists = &bytes[HEAD..];
+    let length =
+        starts.checked_mul(8).zip(words.checked_mul(4)).and_then(|(one, other)| one.checked_add(other));
+    if length != Some(lists.len() as u64) {
+        return Err(format!("{} starts and {} words are not {} bytes", starts, words, lists.len()));
     }
-    let (starts, words) = lists.split_at(starts as usize);
+    if !(1..=MOST_BLOCKS).contains(&blocks) {
+        return Err(format!("its blocks are 1 to {}, not {}", MOST_BLOCKS, blocks));
+    }
+    if starts <= blocks || (starts - 1) % blocks != 0 || (starts - 1) / blocks > MOST_STAGES {
+        return Err(format!(
+            "{} starts are none of 1 to {} major stages of {} blocks",
+            starts, MOST_STAGES, blocks
+        ));
+    }
+    if numbers[3] > MOST_STATE_WORDS {
+        return Err(format!("its state words are 0 to {}, not {}", MOST_STATE_WORDS, numbers[3]));
+    }
+    let (starts, words) = lists.split_at(8 * starts as usize);
     let script = Script {
         starts: starts.chunks(8).map(number).collect(),
         words: words_of(words),
         state_words: numbers[3],
         sram_words: numbers[4],
     };
-    Some((blocks, script))
+    Ok((blocks, script))
 }
 
 fn number(bytes: &[u8]) -> u64 {

@@ -36,34 +36,59 @@ fn push_list(bytes: &mut Vec<u8>, list: &[u8]) {
     bytes.extend(list);
 }
 
-/// Reads a file of cases; panics where it has not the form (our own program wrote it).
-pub fn read(mut bytes: &[u8]) -> Vec<Case> {
-    let cases = (0..number(&mut bytes)).map(|_| case(&mut bytes)).collect();
-    assert!(bytes.is_empty(), "bytes after the last case");
-    cases
+/// The cases of a file, or what is wrong with it.
+pub fn read(file: &[u8]) -> Result<Vec<Case>, String> {
+    let mut bytes = file;
+    let count = number(&mut bytes).ok_or("it ends within its number of plans")?;
+    let mut cases = Vec::new();
+    for index in 0..count {
+        cases.push(case(&mut bytes).map_err(|what| format!("plan {} of {}: {}", index, count, what))?);
+    }
+    match bytes.len() {
+        0 => Ok(cases),
+        more => Err(format!("its plans are {} bytes, and it has {}", file.len() - more, file.len())),
+    }
 }
 
-fn case(bytes: &mut &[u8]) -> Case {
-    let name = String::from_utf8(list(bytes).to_vec()).expect("a name");
-    let staged_duplicate = number(bytes) == 1;
-    let record = list(bytes).to_vec();
-    let (state_words, sram_words) = (number(bytes), number(bytes));
+fn case(bytes: &mut &[u8]) -> Result<Case, String> {
+    let ends = |what: &'static str| move || format!("it ends within {}", what);
+    let name = list(bytes).ok_or_else(ends("its name"))?;
+    let name = String::from_utf8(name.to_vec()).map_err(|_| "its name is no text")?;
+    let staged_duplicate = match number(bytes).ok_or_else(ends("its mark"))? {
+        mark @ 0..=1 => mark == 1,
+        mark => return Err(format!("its mark is 0 or 1, not {}", mark)),
+    };
+    let record = list(bytes).ok_or_else(ends("its record"))?.to_vec();
+    let state_words = number(bytes).ok_or_else(ends("its state words"))?;
+    let sram_words = number(bytes).ok_or_else(ends("its SRAM words"))?;
+    let starts = whole(list(bytes).ok_or_else(ends("its starts"))?, 8, "starts")?;
+    let words = whole(list(bytes).ok_or_else(ends("its words"))?, 4, "words")?;
     let start = |bytes: &[u8]| u64::from_le_bytes(bytes.try_into().expect("eight bytes"));
-    let word = |bytes: &[u8]| u32::from_le_bytes(bytes.try_into().expect("four bytes"));
-    let starts = list(bytes).chunks(8).map(start).collect();
-    let words = list(bytes).chunks(4).map(word).collect();
-    Case { name, staged_duplicate, record, script: Script { starts, words, state_words, sram_words } }
+    let script = Script {
+        starts: starts.chunks(8).map(start).collect(),
+        words: crate::script_file::words_of(words),
+        state_words,
+        sram_words,
+    };
+    Ok(Case { name, staged_duplicate, record, script })
 }
 
-fn number(bytes: &mut &[u8]) -> u64 {
-    let (number, rest) = bytes.split_at(8);
-    *bytes = rest;
-    u64::from_le_bytes(number.try_into().expect("eight bytes"))
+fn whole<'a>(list: &'a [u8], size: usize, what: &str) -> Result<&'a [u8], String> {
+    match list.len() % size {
+        0 => Ok(list),
+        _ => Err(format!("{} bytes are no {}", list.len(), what)),
+    }
 }
 
-fn list<'a>(bytes: &mut &'a [u8]) -> &'a [u8] {
-    let length = number(bytes) as usize;
-    let (list, rest) = bytes.split_at(length);
-    *bytes = rest;
-    list
+fn number(bytes: &mut &[u8]) -> Option<u64> {
+    let number = bytes.get(..8)?;
+    *bytes = &bytes[8..];
+    Some(u64::from_le_bytes(number.try_into().expect("eight bytes")))
+}
+
+fn list<'a>(bytes: &mut &'a [u8]) -> Option<&'a [u8]> {
+    let length = usize::try_from(number(bytes)?).ok()?;
+    let list = bytes.get(..length)?;
+    *bytes = &bytes[length..];
+    Some(list)
 }

@@ -2,8 +2,8 @@
 
 use crate::files;
 use crate::progress::while_working;
+use crate::say::{many, say};
 use crate::{Failure, Outcome};
-use plan::script_file::words_of;
 
 pub const HELP: &str = "
 usage: juolgesot aiger read FILE OUT
@@ -28,20 +28,22 @@ fn read(file: &str, out: &str) -> Outcome {
     let bytes = files::read(file)?;
     let read = while_working("reading", || juolgesot::read_aiger(&bytes))?;
     let header = read.header;
-    println!(
-        "{}: {} gates, {} inputs, {} latches, {} outputs",
-        file, header.gates, header.inputs, header.latches, header.outputs
+    files::write(out, &plan::bytes(&read.list))?;
+    say!(
+        "{}: {}, {}, {}, {}",
+        file,
+        many(header.gates, "gate"),
+        many(header.inputs, "input"),
+        many(header.latches, "latch"),
+        many(header.outputs, "output")
     );
-    files::write(out, &plan::bytes(&read.list))
+    Ok(())
 }
 
 fn write(gates: &str, out: &str) -> Outcome {
-    let bytes = files::read(gates)?;
-    if bytes.len() % 4 != 0 {
-        return Err(Failure::Failed(format!("{} is no list of words: it has {} bytes", gates, bytes.len())));
-    }
-    let list = words_of(&bytes);
+    let list = files::words(gates)?;
     let file = while_working("writing", || juolgesot::write_aiger(&list))?;
-    println!("{}: {} gates, {} bytes", out, list.len() / 3, file.len());
-    files::write(out, &file)
+    files::write(out, &file)?;
+    say!("{}: {}, {}", out, many(list.len() as u64 / 3, "gate"), many(file.len() as u64, "byte"));
+    Ok(())
 }

@@ -7,6 +7,8 @@ mod repair;
 mod rounds;
 mod run;
 
+use crate::files::Writing;
+use crate::say::say;
 use crate::{chart, Failure, Outcome};
 use random::Random;
 use std::time::{Duration, Instant};
@@ -25,7 +27,7 @@ repair       beside GEM's own functions, on a full stage; and what a count list 
 AIGER        beside host/model's plain reader and writer, on a million gates
 
 Where GEM's sources were missing, host/model stands in for GEM's Rust, and there are no netlists.
---seconds: for each row (default 1). --svg: writes the ratios as a chart.
+--seconds: for each row, 0 to 3600 (default 1). --svg: writes the ratios as a chart.
 ";
 
 const SEED: u64 = 20_240_617;
@@ -52,14 +54,12 @@ impl Times {
 }
 
 pub fn call(words: &[String]) -> Outcome {
-    let words = crate::Words::read(words, &["--seconds", "--svg"])?;
-    if !words.plain.is_empty() {
-        return Err(Failure::Usage(format!("what is '{}'?", words.plain[0])));
-    }
-    let time = Duration::from_secs(words.number("--seconds")?.unwrap_or(1));
+    let words = crate::Words::read_options(words, &["--seconds", "--svg"])?;
+    let time = Duration::from_secs(words.number("--seconds", 0..=3600)?.unwrap_or(1));
+    let svg = words.option("--svg").map(Writing::begin).transpose()?;
     ::compare::silence_expected_panics();
-    println!("Ratio is our time / their time, on the same inputs, turn about in one process.");
-    println!("Below 1: ours is faster. Above 1: ours is slower.");
+    say!("Ratio is our time / their time, on the same inputs, turn about in one process.");
+    say!("Below 1: ours is faster. Above 1: ours is slower.");
     let mut random = Random::new(SEED);
     let mut table = Table { rows: Vec::new() };
     rounds::rows(&mut table, &mut random, time)?;
@@ -68,8 +68,9 @@ pub fn call(words: &[String]) -> Outcome {
     run::rows(&mut table, &inputs, &mut random, time)?;
     aiger::rows(&mut table, &mut random, time)?;
     repair::rows(&mut table, time)?;
-    if let Some(path) = words.option("--svg") {
-        crate::files::write(path, chart::ratios(&table.rows).as_bytes())?;
+    if let Some(mut svg) = svg {
+        svg.write(chart::ratios(&table.rows).as_bytes())?;
+        svg.finish()?;
     }
     Ok(())
 }
@@ -82,13 +83,13 @@ pub struct Table {
 impl Table {
     /// Begins a table of these columns.
     fn begin(&self, columns: &[&str]) {
-        println!("\n| {} |", columns.join(" | "));
-        println!("|{}", "---|".repeat(columns.len()));
+        say!("\n| {} |", columns.join(" | "));
+        say!("|{}", "---|".repeat(columns.len()));
     }
 
     /// Prints a row, its cells behind its name, and keeps it.
     fn add(&mut self, row: Row, cells: &[String]) {
-        println!("| {} | {} |", row.name, cells.join(" | "));
+        say!("| {} | {} |", row.name, cells.join(" | "));
         self.rows.push(row);
     }
 }

@@ -2,7 +2,8 @@
 
 use crate::files;
 use crate::progress::while_working;
-use crate::{Failure, Outcome};
+use crate::say::{many, say};
+use crate::{why, Failure, Outcome};
 
 pub const HELP: &str = "
 usage: juolgesot build PLAN OUT
@@ -18,16 +19,18 @@ pub fn call(words: &[String]) -> Outcome {
         _ => return Err(Failure::Usage("a plan and an output file are needed".to_string())),
     };
     let record = files::read(plan)?;
-    let script = while_working("building", || juolgesot::build(&record))?;
+    let script = while_working("building", || juolgesot::build(&record))
+        .map_err(|refusal| why::plan(&record, refusal))?;
     let blocks = u32::from_le_bytes([record[0], record[1], record[2], record[3]]);
-    println!(
-        "{}: {} blocks, {} starts, {} words, {} state words, {} SRAM words",
+    files::write(out, &plan::script_file::bytes(blocks.into(), &script))?;
+    say!(
+        "{}: {}, {}, {}, {}, {}",
         out,
-        blocks,
-        script.starts.len(),
-        script.words.len(),
-        script.state_words,
-        script.sram_words
+        many(blocks, "block"),
+        many(script.starts.len() as u64, "start"),
+        many(script.words.len() as u64, "word"),
+        many(script.state_words, "state word"),
+        many(script.sram_words, "SRAM word")
     );
-    files::write(out, &plan::script_file::bytes(blocks.into(), &script))
+    Ok(())
 }

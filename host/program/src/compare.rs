@@ -1,5 +1,6 @@
 //! `juolgesot compare`.
 
+use crate::say::say;
 use crate::{Failure, Outcome};
 
 pub const HELP: &str = "
@@ -19,7 +20,10 @@ pub fn call(words: &[String]) -> Outcome {
     let mut table = Table::new();
     match (words.option("--made"), &words.plain[..]) {
         (Some(path), []) => {
-            for case in plan::stored::read(&crate::files::read(path)?) {
+            let cases = plan::stored::read(&crate::files::read(path)?);
+            for case in
+                cases.map_err(|what| Failure::Failed(format!("{} is no file of plans: {}", path, what)))?
+            {
                 let line = ::compare::builders::design(&mut table.checker, &case);
                 table.add(&case.name, line);
             }
@@ -77,7 +81,7 @@ struct Table {
 impl Table {
     fn new() -> Self {
         let progress = crate::progress::Progress::of("plans");
-        println!("builders: juolgesot and {}", reference::NAME);
+        say!("builders: juolgesot and {}", reference::NAME);
         Table {
             checker: ::compare::plan_checker::PlanChecker::new(),
             progress,
@@ -103,11 +107,11 @@ impl Table {
                 format!("DIFFERS: {}", what)
             }
         };
-        println!("  {:32} {}: {}", name, line.shape, verdict);
+        say!("  {:32} {}: {}", name, line.shape, verdict);
     }
 
     fn finish(self) -> Outcome {
-        println!(
+        say!(
             "{} plans: {} scripts equal in every word, start and size; {} refused; {} different; {:.1} s",
             self.equal + self.refused + self.different,
             self.equal,

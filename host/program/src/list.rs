@@ -1,7 +1,7 @@
 //! `juolgesot list`.
 
 use crate::{Failure, Outcome};
-use std::io::{Read, Write};
+use std::io::Read;
 
 pub const HELP: &str = "
 usage: juolgesot list [FILE]
@@ -25,9 +25,10 @@ pub fn call(words: &[String]) -> Outcome {
         _ => return Err(Failure::Usage("one file at most".to_string())),
     };
     let text = crate::progress::while_working("listing", || juolgesot::list(&records))?;
-    std::io::stdout().write_all(&text).map_err(|error| Failure::Failed(error.to_string()))?;
+    crate::say::text(&text);
     if text.starts_with(b"refused") {
-        return Err(Failure::Failed("the records were refused".to_string()));
+        let said = String::from_utf8_lossy(&text);
+        return Err(Failure::Failed(format!("the records were {}", said.trim_end())));
     }
     Ok(())
 }

@@ -11,7 +11,11 @@ mod progress;
 mod repair;
 mod replay;
 mod run;
+mod say;
+mod why;
 
+use say::{say, tell};
+use std::ops::RangeInclusive;
 use std::process::ExitCode;
 
 /// Why a verb did not end well.
@@ -68,38 +72,46 @@ const VERBS: [Verb; 8] = [
 ];
 
 fn main() -> ExitCode {
-    let words: Vec<String> = std::env::args().skip(1).collect();
+    let mut words = Vec::new();
+    for word in std::env::args_os().skip(1) {
+        match word.into_string() {
+            Ok(word) => words.push(word),
+            Err(word) => {
+                tell!("juolgesot: the word {:?} is no text", word);
+                return ExitCode::from(2);
+            }
+        }
+    }
     let (name, rest) = match words.split_first() {
         Some((name, rest)) => (name.as_str(), rest),
         None => {
-            eprint!("{}", overview());
+            tell!("juolgesot: a verb is needed\n\n{}", overview());
             return ExitCode::from(2);
         }
     };
     if matches!(name, "--help" | "-h" | "help") {
-        print!("{}", overview());
+        say!("{}", overview());
         return ExitCode::SUCCESS;
     }
     let verb = match VERBS.iter().find(|verb| verb.name == name) {
         Some(verb) => verb,
         None => {
-            eprintln!("juolgesot: no verb '{}'", name);
-            eprint!("{}", overview());
+            tell!("juolgesot: no verb '{}'\n\n{}", name, overview());
             return ExitCode::from(2);
         }
     };
     if rest.iter().any(|word| word == "--help" || word == "-h") {
-        println!("{}", verb.help.trim());
+        say!("{}", verb.help.trim());
         return ExitCode::SUCCESS;
     }
     match (verb.call)(rest) {
         Ok(()) => ExitCode::SUCCESS,
         Err(Failure::Usage(what)) => {
-            eprintln!("juolgesot {}: {}\n\n{}", name, what, verb.help.trim());
+            tell!("juolgesot {}: {}\n\n{}", name, what, verb.help.trim());
             ExitCode::from(2)
         }
         Err(Failure::Failed(what)) => {
-            eprintln!("juolgesot {}: {}", name, what);
+            tell!("juolgesot {}: {}", name, what);
             ExitCode::from(1)
         }
     }
@@ -110,7 +122,7 @@ fn overview() -> String {
     for verb in &VERBS {
         text += &format!("  {:8} {}\n", verb.name, verb.summary);
     }
-    text + "\nExit status: 0 all is well; 1 it is not; 2 not asked rightly.\n"
+    text + "\nExit status: 0 all is well; 1 it is not; 2 not asked rightly."
 }
 
 /// The words of a call: those that stand by themselves, and the values of options (`--name VALUE`).
@@ -124,12 +136,15 @@ impl Words {
         let mut read = Words { plain: Vec::new(), options: Vec::new() };
         let mut words = words.iter();
         while let Some(word) = words.next() {
-            if !word.starts_with("--") {
+            if !is_option(word) {
                 read.plain.push(word.clone());
                 continue;
             }
             if !names.contains(&word.as_str()) {
                 return Err(Failure::Usage(format!("no option {}", word)));
+            }
+            if read.option(word).is_some() {
+                return Err(Failure::Usage(format!("{} is given twice", word)));
             }
             let value = words.next().ok_or_else(|| Failure::Usage(format!("{} needs a value", word)))?;
             read.options.push((word.clone(), value.clone()));
@@ -137,18 +152,38 @@ impl Words {
         Ok(read)
     }
 
-    pub fn option(&self, name: &str) -> Option<&str> {
-        self.options.iter().rev().find(|(option, _)| option == name).map(|(_, value)| value.as_str())
+    /// The words of a verb that takes options alone.
+    pub fn read_options(words: &[String], names: &[&str]) -> Result<Self, Failure> {
+        let read = Words::read(words, names)?;
+        match read.plain.first() {
+            None => Ok(read),
+            Some(word) => Err(Failure::Usage(format!("what is '{}'?", word))),
+        }
     }
 
-    pub fn number(&self, name: &str) -> Result<Option<u64>, Failure> {
-        match self.option(name) {
-            None => Ok(None),
-            Some(word) => match word.parse() {
-                Ok(number) => Ok(Some(number)),
-                Err(_) => Err(Failure::Usage(format!("{} {} is no number", name, word))),
-            },
-        }
+    pub fn option(&self, name: &str) -> Option<&str> {
+        self.options.iter().find(|(option, _)| option == name).map(|(_, value)| value.as_str())
+    }
+
+    pub fn number(&self, name: &str, range: RangeInclusive<u64>) -> Result<Option<u64>, Failure> {
+        self.option(name).map(|word| number(name, word, range)).transpose()
+    }
+}
+
+/// A word that begins with `-` and a letter, or `--`.
+fn is_option(word: &str) -> bool {
+    word.strip_prefix('-')
+        .map_or(false, |rest| !rest.is_empty() && !rest.starts_with(|c: char| c.is_ascii_digit()))
+}
+
+/// The number that a word is, where it is one of these.
+pub fn number(name: &str, word: &str, range: RangeInclusive<u64>) -> Result<u64, Failure> {
+    match word.parse() {
+        Ok(number) if range.contains(&number) => Ok(number),
+        _ => Err(Failure::Usage(match range.into_inner() {
+            (low, high) if low == high => format!("{} can only be {}, not {}", name, low, word),
+            (low, high) => format!("{} is a number from {} to {}, not {}", name, low, high, word),
+        })),
     }
 }
 

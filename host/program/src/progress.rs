@@ -1,5 +1,6 @@
 //! A line on standard error for what takes more than two seconds.
 
+use crate::say::tell;
 use std::sync::mpsc::{channel, RecvTimeoutError};
 use std::time::{Duration, Instant};
 
@@ -21,7 +22,7 @@ impl Progress {
     pub fn tell(&mut self, done: u64, all: u64) {
         if self.told.elapsed() >= EVERY {
             self.told = Instant::now();
-            eprintln!("  {}: {} of {}, {:.0} s", self.what, done, all, self.start.elapsed().as_secs_f64());
+            tell!("  {}: {} of {}, {:.0} s", self.what, done, all, self.start.elapsed().as_secs_f64());
         }
     }
 
@@ -36,7 +37,7 @@ pub fn while_working<T>(what: &'static str, work: impl FnOnce() -> T) -> T {
     let (done, is_done) = channel::<()>();
     let teller = std::thread::spawn(move || {
         while is_done.recv_timeout(EVERY) == Err(RecvTimeoutError::Timeout) {
-            eprintln!("  {}, {:.0} s", what, start.elapsed().as_secs_f64());
+            tell!("  {}, {:.0} s", what, start.elapsed().as_secs_f64());
         }
     });
     let result = work();

@@ -1,7 +1,8 @@
 //! `juolgesot repair`.
 
 use crate::files;
-use crate::{Failure, Outcome};
+use crate::say::{many, say};
+use crate::{number, why, Failure, Outcome};
 use juolgesot::{levels, place_bit, plan_sizes, purge_bit, stage_counts, Netlist, Pin, Place};
 use model::record::{self, Plan, EMPTY};
 use std::ops::Range;
@@ -22,7 +23,7 @@ pub fn call(words: &[String]) -> Outcome {
     let words = crate::Words::read(words, &[])?;
     match &words.plain.iter().map(String::as_str).collect::<Vec<_>>()[..] {
         ["place", plan, part, stage, level, slot, node, out] => {
-            let node = Pin(number(node)?);
+            let node = Pin(number("NODE", node, 0..=MOST_PIN)? as u32);
             repair(plan, [part, stage, level, slot], out, |stage, place| {
                 let levels = levels(stage.gates, &stage.inputs, node);
                 let netlist = Netlist { gates: stage.gates, levels: &levels };
@@ -40,9 +41,8 @@ pub fn call(words: &[String]) -> Outcome {
     }
 }
 
-fn number(word: &str) -> Result<u32, Failure> {
-    word.parse().map_err(|_| Failure::Usage(format!("{} is no number", word)))
-}
+const MOST_PIN: u64 = 1 << 30;
+const LEVELS: u64 = 13;
 
 /// A stage that is repaired.
 struct Stage<'a> {
@@ -59,57 +59,62 @@ fn repair(
     out: &str,
     work: impl FnOnce(Stage<'_>, Place) -> Result<Vec<u32>, juolgesot::Refusal>,
 ) -> Outcome {
-    let (part, stage) = (number(place[0])? as usize, number(place[1])? as usize);
-    let place = Place { level: number(place[2])?, slot: number(place[3])? };
+    let level = number("LEVEL", place[2], 0..=LEVELS)?;
+    let last = (1 << (LEVELS - level)) - 1;
+    let slot = number(&format!("SLOT of level {}", level), place[3], 0..=last)?;
     let bytes = files::read(plan_path)?;
     let words = record::words(&bytes);
     let plan = match record::plan(bytes.len(), &words) {
         Some(plan) => plan,
         None => return Err(Failure::Failed(order_of(&bytes))),
     };
-    let (range, inputs) = find_stage(&plan, &words, part, stage)?;
+    let part = index("PART", place[0], plan.parts.len(), "the plan has no parts")?;
+    let stage = index("STAGE", place[1], plan.parts[part].stages.len(), "the part has no stages")?;
+    let place = Place { level: level as u32, slot: slot as u32 };
+    let (range, inputs) = find_stage(&plan, &words, part, stage);
     let mut slots = words[range.clone()].to_vec();
     let counts = stage_counts(&slots);
     let entries = counts.len() / 2;
     let after = work(Stage { gates: plan.gates, inputs, counts, slots: &mut slots }, place)?;
     let changed = slots.iter().zip(&words[range.clone()]).filter(|(new, old)| new != old).count();
-    println!("{}: {} slots changed; {} nodes were counted, now {}", out, changed, entries, after.len() / 2);
     let mut repaired = words.clone();
     repaired[range].copy_from_slice(&slots);
     let repaired = plan::bytes(&repaired);
-    println!("before: {}", order_of(&bytes));
-    println!("after: {}", order_of(&repaired));
-    files::write(out, &repaired)
+    files::write(out, &repaired)?;
+    let changed = many(changed as u64, "slot");
+    say!("{}: {} changed; nodes counted: {} before, {} now", out, changed, entries, after.len() / 2);
+    say!("before: {}", order_of(&bytes));
+    say!("after: {}", order_of(&repaired));
+    Ok(())
+}
+
+/// A place in a list of so many.
+fn index(name: &str, word: &str, count: usize, none: &str) -> Result<usize, Failure> {
+    match count.checked_sub(1) {
+        Some(last) => number(name, word, 0..=last as u64).map(|index| index as usize),
+        None => Err(Failure::Failed(none.to_string())),
+    }
 }
 
 /// Where the slots of a stage stand in the record, and the pins that it can take from below.
-fn find_stage(
-    plan: &Plan<'_>,
-    words: &[u32],
-    part: usize,
-    stage: usize,
-) -> Result<(Range<usize>, Vec<Pin>), Failure> {
-    let stages = match plan.parts.get(part) {
-        Some(part) => &part.stages,
-        None => return Err(Failure::Usage(format!("there are {} parts, no {}", plan.parts.len(), part))),
-    };
-    let slots = match stages.get(stage) {
-        Some(stage) => stage.slots(),
-        None => return Err(Failure::Usage(format!("the part has {} stages, no {}", stages.len(), stage))),
-    };
+fn find_stage(plan: &Plan<'_>, words: &[u32], part: usize, stage: usize) -> (Range<usize>, Vec<Pin>) {
+    let stages = &plan.parts[part].stages;
+    let slots = stages[stage].slots();
     let from = (slots.as_ptr() as usize - words.as_ptr() as usize) / std::mem::size_of::<u32>();
     let inputs: Vec<u32> = match stage {
         0 => plan.layout.iter().chain(plan.positions.iter().step_by(3)).copied().collect(),
         stage => stages[stage - 1].positions().map(|(_, pin)| pin).collect(),
     };
     let inputs = inputs.into_iter().filter(|&pin| pin != EMPTY).map(Pin).collect();
-    Ok((from..from + slots.len(), inputs))
+    (from..from + slots.len(), inputs)
 }
 
 /// By what a plan is refused, or that it is not.
 fn order_of(record: &[u8]) -> String {
     match plan_sizes(record) {
-        Ok(sizes) => format!("the plan is in order, its script has {} words", sizes.words),
-        Err(refusal) => format!("the plan is {}", refusal),
+        Ok(sizes) => {
+            format!("the plan is in order, its script has {}", many(sizes.words as u64, "word"))
+        }
+        Err(refusal) => format!("the plan is {}", why::plan_sentence(record, refusal)),
     }
 }

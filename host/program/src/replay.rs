@@ -2,7 +2,8 @@
 
 use crate::files;
 use crate::progress::{while_working, Progress};
-use crate::{Failure, Outcome};
+use crate::say::{many, say};
+use crate::{why, Failure, Outcome};
 use ::replay::{traffic, Counts, Netlist, Replay, TRAFFIC};
 use filter::{Cycle, Holding};
 use juolgesot::Script;
@@ -31,10 +32,7 @@ clear emptied the filter.
 
 pub fn call(words: &[String]) -> Outcome {
     let options = ["--filter", "--traffic", "--plan", "--ports", "--script", "--lookups"];
-    let words = crate::Words::read(words, &options)?;
-    if !words.plain.is_empty() {
-        return Err(Failure::Usage(format!("what is '{}'?", words.plain[0])));
-    }
+    let words = crate::Words::read_options(words, &options)?;
     let netlists = netlists(&words)?;
     let cycles = cycles(&words)?;
     for (name, netlist) in &netlists {
@@ -44,7 +42,8 @@ pub fn call(words: &[String]) -> Outcome {
 }
 
 fn replay(name: &str, netlist: &Netlist, script: Script, cycles: &[Cycle]) -> Outcome {
-    println!("{}: a script of {} words, {} state words", name, script.words.len(), script.state_words);
+    let (words, state_words) = (script.words.len() as u64, script.state_words);
+    say!("{}: a script of {}, {}", name, many(words, "word"), many(state_words, "state word"));
     let mut replay = Replay::new(netlist, script).map_err(Failure::Failed)?;
     let mut progress = Progress::of("cycles");
     for (number, cycle) in cycles.iter().enumerate() {
@@ -53,12 +52,8 @@ fn replay(name: &str, netlist: &Netlist, script: Script, cycles: &[Cycle]) -> Ou
     }
     print(&replay.counts);
     replay.finish().map_err(|what| Failure::Failed(format!("{}: {}", name, what)))?;
-    println!("no difference from the software model in any answer or register, {:.1} s", progress.seconds());
+    say!("no difference from the software model in any answer or register, {:.1} s", progress.seconds());
     Ok(())
-}
-
-fn text(path: &str) -> Result<String, Failure> {
-    files::read(path).map(|bytes| String::from_utf8_lossy(&bytes).into_owned())
 }
 
 /// The filters that are asked for, with what they are called.
@@ -75,7 +70,7 @@ fn netlists(words: &crate::Words) -> Result<Vec<(String, Netlist)>, Failure> {
             None => Err(Failure::Usage(format!("--filter is logic or enable, not {}", name))),
         },
         (None, Some(plan), Some(ports)) => {
-            let netlist = Netlist { record: files::read(plan)?, ports: text(ports)? };
+            let netlist = Netlist { record: files::read(plan)?, ports: files::text(ports)? };
             Ok(vec![(format!("filter of {}", plan), netlist)])
         }
         (Some(_), ..) => Err(Failure::Usage("--filter, or --plan and --ports, not both".to_string())),
@@ -86,11 +81,15 @@ fn netlists(words: &crate::Words) -> Result<Vec<(String, Netlist)>, Failure> {
 /// The script of a netlist's plan: built, or read from a file that is of that plan by its numbers.
 fn script(words: &crate::Words, netlist: &Netlist) -> Result<Script, Failure> {
     let path = match words.option("--script") {
-        None => return Ok(while_working("building", || juolgesot::build(&netlist.record))?),
+        None => {
+            return while_working("building", || juolgesot::build(&netlist.record))
+                .map_err(|refusal| why::plan(&netlist.record, refusal))
+        }
         Some(path) => path,
     };
     let (blocks, script) = files::script(path)?;
-    let sizes = juolgesot::plan_sizes(&netlist.record)?;
+    let sizes =
+        juolgesot::plan_sizes(&netlist.record).map_err(|refusal| why::plan(&netlist.record, refusal))?;
     let of_plan = [netlist.blocks() as u64, sizes.starts as u64, sizes.words as u64, sizes.state_words];
     let of_script = [blocks, script.starts.len() as u64, script.words.len() as u64, script.state_words];
     if of_plan != of_script {
@@ -105,11 +104,11 @@ fn script(words: &crate::Words, netlist: &Netlist) -> Result<Script, Failure> {
 /// The cycles of the traffic, up to the last look-up that is asked for.
 fn cycles(words: &crate::Words) -> Result<Vec<Cycle>, Failure> {
     let events = match words.option("--traffic") {
-        Some(path) => traffic::read(&text(path)?),
+        Some(path) => traffic::read(&files::text(path)?),
         None => traffic::read(TRAFFIC),
     };
     let mut cycles = traffic::cycles(&events.map_err(Failure::Failed)?);
-    if let Some(most) = words.number("--lookups")? {
+    if let Some(most) = words.number("--lookups", 1..=1_000_000_000)? {
         let mut so_far = 0;
         let end = cycles.iter().position(|cycle| {
             so_far += cycle.ports.iter().filter(|(_, looks_up)| *looks_up).count() as u64;
@@ -121,24 +120,19 @@ fn cycles(words: &crate::Words) -> Result<Vec<Cycle>, Failure> {
 }
 
 fn print(counts: &Counts) {
-    println!(
-        "cycles       {:8}   {} of them without an edge of the clock",
-        counts.cycles, counts.without_edge
-    );
-    println!("inserted     {:8}", counts.inserts);
-    println!("looked up    {:8}", counts.looked_up);
-    println!("no           {:8}   none of them is in flash", counts.no);
-    println!(
-        "maybe        {:8}   each of them went on to flash ({} reads)",
-        counts.maybe, counts.flash_reads
-    );
-    println!(
+    say!("cycles       {:8}   {} of them without an edge of the clock", counts.cycles, counts.without_edge);
+    say!("inserted     {:8}", counts.inserts);
+    say!("looked up    {:8}", counts.looked_up);
+    say!("no           {:8}   none of them is in flash", counts.no);
+    say!("maybe        {:8}   each of them went on to flash ({} reads)", counts.maybe, counts.flash_reads);
+    say!(
         "false maybe  {:8}   flash did not hold the key ({} found)",
-        counts.false_maybe, counts.found_in_flash
+        counts.false_maybe,
+        counts.found_in_flash
     );
-    println!(
+    say!(
         "held         {:8}   bits of registers that were not enabled, while their data differed",
         counts.held
     );
-    println!("inverted     {:8}   bits of registers that were stored inverted", counts.inverted);
+    say!("inverted     {:8}   bits of registers that were stored inverted", counts.inverted);
 }

@@ -2,8 +2,8 @@
 
 use crate::files;
 use crate::progress::while_working;
-use crate::{Failure, Outcome};
-use plan::script_file::words_of;
+use crate::say::{many, say};
+use crate::{why, Failure, Outcome};
 use std::ops::Range;
 
 pub const HELP: &str = "
@@ -23,17 +23,20 @@ pub fn call(words: &[String]) -> Outcome {
     };
     let (blocks, built) = files::script(script_path)?;
     let blocks = blocks as usize;
-    let old = words_of(&files::read(old_path)?);
+    let old = files::words(old_path)?;
     let mut new = match words.option("--new") {
-        Some(path) => words_of(&files::read(path)?),
+        Some(path) => files::words(path)?,
         None => vec![0; (built.state_words as usize).max(old.len())],
     };
     let stages = stages(&words, (built.starts.len() - 1) / blocks)?;
     let given = match words.option("--turns") {
-        Some(_) if stages.len() != 1 => return Err(Failure::Usage("--turns needs --stage".to_string())),
-        Some(path) => Some(turns_of(&files::read(path)?)?),
+        Some(_) if words.option("--stage").is_none() => {
+            return Err(Failure::Usage("--turns needs --stage".to_string()))
+        }
+        Some(path) => Some(turns_of(path)?),
         None => None,
     };
+    let mut lines = Vec::new();
     let mut left_over = 0;
     for stage in stages {
         let starts = &built.starts[stage * blocks..(stage + 1) * blocks + 1];
@@ -41,28 +44,32 @@ pub fn call(words: &[String]) -> Outcome {
             Some(turns) => turns.clone(),
             None => juolgesot::finishing_turns(&built.words, starts),
         };
-        let left = while_working("running", || juolgesot::run(&built.words, starts, &turns, &old, &mut new))?;
-        println!("major stage {}: {} turns given, {} left", stage, turns.len(), left);
+        let left = while_working("running", || juolgesot::run(&built.words, starts, &turns, &old, &mut new))
+            .map_err(|refusal| why::run(&built.words, starts, (old.len(), new.len()), refusal))?;
+        let given = many(turns.len() as u64, "turn");
+        lines.push(format!("major stage {}: {} given, {} left", stage, given, left));
         left_over += left;
     }
-    files::write(out, &new.iter().flat_map(|word| word.to_le_bytes()).collect::<Vec<u8>>())?;
+    files::write(out, &plan::bytes(&new))?;
+    lines.iter().for_each(|line| say!("{}", line));
     if left_over > 0 {
-        return Err(Failure::Failed(format!("{} turns are left", left_over)));
+        let left = many(left_over, "turn");
+        return Err(Failure::Failed(format!("{} left: {} is the state so far", left, out)));
     }
     Ok(())
 }
 
 /// The major stages to run, of so many.
 fn stages(words: &crate::Words, all: usize) -> Result<Range<usize>, Failure> {
-    match words.number("--stage")? {
-        Some(stage) if (stage as usize) < all => Ok(stage as usize..stage as usize + 1),
-        Some(stage) => Err(Failure::Usage(format!("there are {} major stages, no {}", all, stage))),
+    match words.number("--stage", 0..=all as u64 - 1)? {
+        Some(stage) => Ok(stage as usize..stage as usize + 1),
         None => Ok(0..all),
     }
 }
 
-fn turns_of(text: &[u8]) -> Result<Vec<u32>, Failure> {
-    let text = String::from_utf8_lossy(text);
-    let word = |word: &str| word.parse().map_err(|_| Failure::Failed(format!("'{}' is no block", word)));
-    text.split_whitespace().map(word).collect()
+fn turns_of(path: &str) -> Result<Vec<u32>, Failure> {
+    let word = |word: &str| {
+        word.parse().map_err(|_| Failure::Failed(format!("{}: '{}' is no block's number", path, word)))
+    };
+    files::text(path)?.split_whitespace().map(word).collect()
 }

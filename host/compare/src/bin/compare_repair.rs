@@ -222,7 +222,7 @@ const ROOTS: usize = 2;
 /// be trees of other roots. Clearing takes those that it reaches; as it stops at an empty slot, others may be left, and then
 /// there is no placing it again.
 fn netlists(checker: &mut RepairChecker, random: &mut Random, path: &str, all: bool) {
-    let cases = stored::read(&std::fs::read(path).expect("the plans can be read"));
+    let cases = stored::read(&std::fs::read(path).expect("the plans can be read")).expect("a file of plans");
     let (mut stages, mut roots, mut same, mut changed, mut left) = (0, 0, 0, 0, 0);
     for stored in &cases {
         let words = record::words(&stored.record);

@@ -38,7 +38,7 @@ fn main() {
 
 /// The scripts that GEM made.
 fn netlists(checker: &mut RunChecker, random: &mut Random, path: &str) {
-    let cases = stored::read(&std::fs::read(path).expect("the plans can be read"));
+    let cases = stored::read(&std::fs::read(path).expect("the plans can be read")).expect("a file of plans");
     let mut seen = StoredBits::default();
     for case in cases.iter().filter(|case| !case.staged_duplicate) {
         let held = record::words(&case.record);

@@ -168,7 +168,7 @@ fn around_words(checker: &mut ValueChecker, random: &mut Random) {
 
 /// The netlists that GEM placed: some pins of each, and of the multipliers every output's and register's in its part.
 fn netlists(checker: &mut ValueChecker, random: &mut Random, path: &str) {
-    let cases = stored::read(&std::fs::read(path).expect("the plans can be read"));
+    let cases = stored::read(&std::fs::read(path).expect("the plans can be read")).expect("a file of plans");
     let mut outputs = 0;
     for case in &cases {
         let words = model::record::words(&case.record);
