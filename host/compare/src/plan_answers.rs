@@ -20,7 +20,7 @@ use plan::{Plan, Script, Tables, EMPTY, ENTRIES, LANES, LEVEL_0};
 use random::Random;
 use reference::Flattened;
 
-/// What the program `rebuilt` has place for.
+/// What the program `stored_plans` has place for.
 const MOST_PLAN: usize = 120_000;
 const MOST_WORDS: usize = 65_536;
 const MOST_STARTS: usize = 64;
