@@ -7,11 +7,11 @@ use mathlib.Core.Option.{none, some}
 use Prim.Native.Nat.{ℕ, _+_, _*_, _-_, _/_, _%_, _≤_, _<_}
 use native.Mathlib.Omega.{arith}
 use borrow.Author.Tests.{le-leb, lt-leb}
-use lib.Dec.{leb, ltb, eqb}
+use lib.Dec.{ltb, eqb}
 use lib.ListN.{length}
 use Rattle.sort.specs.Search.{Monotone, least}
 use Rattle.words.specs.Tests.{firstFrom}
-use Rattle.words.proofs.TestLaws.{and-true, not-none, none-not, first-fault, first-next, first-end}
+use Rattle.words.proofs.TestLaws.{not-none, none-not, first-fault, first-next, first-end}
 use Rattle.gatelist.specs.GateList.{rightOver, badOver}
 use Rattle.gatelist.specs.Words.{listPin, listFirst, listSecond, wholeGates, allGates, listRight, badList, gateIn}
 use Rattle.gatelist.proofs.GateListLaws.{gate-at, first-falls, second-falls, pins-monotone, has-gate, least-gate}

@@ -8,13 +8,13 @@ use mathlib.Core.List.{List, [], _∷_, _++_, append-nil}
 use Prim.Native.Nat.{ℕ, zero, suc, _+_, _*_, _/_, _≤_, _<_}
 use native.Mathlib.Omega.{arith}
 use lib.Dec.{eqb}
-use lib.ListN.{length, getD, replicate, length-append, length-replicate}
+use lib.ListN.{length, replicate, length-append, length-replicate}
 use lib.Seq.{append-snoc}
 use Rattle.words.proofs.ListLaws.{zeros-at}
 use Rattle.pinmap.specs.declared.PutAnswer.the-variants.{Stored}
 use Rattle.pinmap.specs.PinMap.{capacity, look, putIn, putAnswer, putThere, usedTo, used, Good, Entry, entry, replaced, lastFrom, lastPut, renewed, afterPuts, afterRenewals, Holds, Renewed}
 use Rattle.pinmap.proofs.ProbeLaws.{slot-taken}
-use Rattle.pinmap.proofs.PinMapLaws.{look-none, map-law, replaced-same, replaced-other, there-law, put-length, used-new, used-there, used-renewed, used-free-step, room-stored}
+use Rattle.pinmap.proofs.PinMapLaws.{look-none, map-law, there-law, put-length, used-new, used-there, used-renewed, used-free-step, room-stored}
 
 -- ---- the empty map
 
@@ -58,23 +58,6 @@ renewed-snoc (some w) es e q =
     let (x, is) = last-some w es q in
     last-snoc (some w) es e q ∙ rw is
 
--- A pin that no entry has keeps what it had.
-pub last-never : (o : Option ℕ) (es : List Entry) (q : ℕ) (d : Entry) → ((i : ℕ) → i < length es → getD es i d .pin ≡ q → ⊥) → lastFrom o es q ≡ o
-unfolding lastFrom
-last-never o [] q d n = refl
-last-never o (e ∷ es) q d n =
-    ap (λ (x : Option ℕ). lastFrom x es q) (replaced-other e q o (λ s. n 0 (omega arith) (sym s))) ∙ last-never o es q d (λ i h. n (suc i) (omega arith))
-
--- A pin's value is that of its last entry.
-pub last-at : (o : Option ℕ) (es : List Entry) (q : ℕ) (d : Entry) (i : ℕ) → i < length es → getD es i d .pin ≡ q
-    → ((j : ℕ) → i < j → j < length es → getD es j d .pin ≡ q → ⊥) → lastFrom o es q ≡ some (getD es i d .value)
-unfolding lastFrom
-last-at o [] q d i h e n = absurd (omega arith)
-last-at o (x ∷ es) q d zero h e n =
-    ap (λ (y : Option ℕ). lastFrom y es q) (replaced-same x q o (sym e))
-    ∙ last-never (some (x .value)) es q d (λ j l. n (suc j) (omega arith) (omega arith))
-last-at o (x ∷ es) q d (suc i) h e n = last-at (replaced x q o) es q d i (omega arith) e (λ j a b. n (suc j) (omega arith) (omega arith))
-
 -- ---- one put at a time
 
 pub holds-none : (n : ℕ) → Holds (replicate n 0) []
@@ -100,10 +83,6 @@ holds-put t puts p v h a =
       finds = λ q. finds q ∙ (ap (replaced (entry p v) q) (h .finds q) ∙ sym (last-snoc none puts (entry p v) q));
       few = rw length-append (omega (arith, used-most t p v a, h .few));
     }
-
--- the same for a loop that counts its puts
-pub holds-more : (t : List ℕ) (puts : List Entry) (p v : ℕ) → Holds t puts → length puts < capacity t → Holds (putIn t p v) (puts ++ (entry p v ∷ []))
-holds-more t puts p v h l = holds-put t puts p v h (holds-room t puts p h l)
 
 pub holds-puts : (t : List ℕ) (puts es : List Entry) → Holds t puts → length puts + length es ≤ capacity t → Holds (afterPuts t es) (puts ++ es)
 unfolding afterPuts

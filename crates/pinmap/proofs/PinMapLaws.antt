@@ -14,8 +14,8 @@ use lib.Seq.{getD-set-same, getD-set-other}
 use borrow.Author.Tests.{eqb-true, eqb-false, eq-eqb, ne-eqb}
 use Rattle.pinmap.specs.declared.Slot.{Slot}
 use Rattle.pinmap.specs.declared.Slot.the-variants.{Free, Taken, Nowhere}
-use Rattle.pinmap.specs.declared.PutAnswer.the-variants.{Stored, Full}
-use Rattle.pinmap.specs.PinMap.{capacity, keyAt, valueAt, slotOf, lookAt, look, putAt, putIn, answerAt, putAnswer, putThereAt, putThere, usedTo, used, HasOther, Good, Entry, entry, replaced, lastFrom, renewed}
+use Rattle.pinmap.specs.declared.PutAnswer.the-variants.{Stored}
+use Rattle.pinmap.specs.PinMap.{capacity, keyAt, valueAt, slotOf, lookAt, look, putAt, putIn, answerAt, putAnswer, putThereAt, putThere, usedTo, used, Good, Entry, entry, replaced, lastFrom, renewed}
 use Rattle.pinmap.proofs.ProbeLaws.{slot-free, slot-taken, slot-nowhere, slot-kept, slot-given}
 
 -- ---- a table whose slot i has pin p and value v now, where the slot was free or p's
@@ -161,16 +161,6 @@ pub map-law : (t : List ℕ) (p v : ℕ) → Good t → putAnswer t p ≡ Stored
 map-law t p v good h =
     let (i, c, found) = stored t p v h in
     (changed-good t (putIn t p v) p i v good c found, changed-look t (putIn t p v) p i v good c found)
-
--- A put that is not stored changes nothing.
-pub put-full : (t : List ℕ) (p v : ℕ) → putAnswer t p ≡ Full → putIn t p v ≡ t
-unfolding putAt answerAt
-put-full t p v h = go (slotOf t p) h
-  where
-    go : (s : Slot) → answerAt s ≡ Full → putAt t p v s ≡ t
-    go (Free i) a = let z : _≡_ {A = ℕ} 0 1 = cc in absurd (omega arith)
-    go (Taken i) a = let z : _≡_ {A = ℕ} 0 1 = cc in absurd (omega arith)
-    go Nowhere a = refl
 
 pub put-length : (t : List ℕ) (p v : ℕ) → length (putIn t p v) ≡ length t
 unfolding putAt
@@ -326,24 +316,6 @@ used-renewed t p v = go (slotOf t p)
     go Nowhere = refl
 
 -- ---- a put is refused exactly where every slot is taken by other pins
-
-pub full-taken : (t : List ℕ) (p : ℕ) → putAnswer t p ≡ Full → (i : ℕ) → i < capacity t → HasOther t p i
-unfolding answerAt
-full-taken t p h = go (slotOf t p) refl h
-  where
-    go : (s : Slot) → slotOf t p ≡ s → answerAt s ≡ Full → (i : ℕ) → i < capacity t → HasOther t p i
-    go (Free i) e a = let z : _≡_ {A = ℕ} 0 1 = cc in absurd (omega arith)
-    go (Taken i) e a = let z : _≡_ {A = ℕ} 0 1 = cc in absurd (omega arith)
-    go Nowhere e a = slot-nowhere t p e
-
-pub taken-full : (t : List ℕ) (p : ℕ) → ((i : ℕ) → i < capacity t → HasOther t p i) → putAnswer t p ≡ Full
-unfolding answerAt
-taken-full t p h = go (slotOf t p) refl
-  where
-    go : (s : Slot) → slotOf t p ≡ s → answerAt s ≡ Full
-    go (Free i) e = let at : (i < capacity t) × (keyAt t i ≡ 0) = slot-free t p i e in absurd (h i (at .0) .0 (at .1))
-    go (Taken i) e = let at : (i < capacity t) × (keyAt t i ≡ p + 1) = slot-taken t p i e in absurd (h i (at .0) .1 (at .1))
-    go Nowhere e = refl
 
 -- so a put is stored where not all slots are taken
 pub room-stored : (t : List ℕ) (p : ℕ) → used t < capacity t → putAnswer t p ≡ Stored

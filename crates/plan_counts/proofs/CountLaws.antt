@@ -197,9 +197,6 @@ pub different-split : (l : List ℕ) → different l ≡ different (map (λ a. a
 different-split l =
     activations-steps l ∙ steps-split (sortOf l) ∙ ap (λ (n : ℕ). n + extras (sortOf l)) (sym (pins-steps l))
 
-pub pins-le : (l : List ℕ) → different (map (λ a. a / 2 ^ 33) l) ≤ different l
-pins-le l = omega (arith, different-split l)
-
 -- DUPLICATE WORDS: the extras of the sorted activations, over 32, rounded up
 pub duplicates-sorted : (l : List ℕ) → duplicatesIn l ≡ (extras (sortOf l) + 31) / 32
 unfolding duplicatesIn

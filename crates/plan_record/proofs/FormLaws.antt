@@ -12,12 +12,12 @@ use lib.ListN.{length}
 use Rattle.words.specs.Sum.{sumTo}
 use Rattle.words.proofs.SumLaws.{sum-le}
 use Rattle.words.specs.Tests.{allBelow}
-use Rattle.plan_record.specs.Record.{blocksOf, majorsOf, gatesOf, layoutOf, positionsOf, countAt, partsBefore, partsOf, gatePin, gateFirst, gateSecond, layoutPin, positionPin, positionStaged, headBase, stagesOf, endpointsOf, locationsOf, bodyWords, bodyAt, endpointKind, endpointX, endpointY}
+use Rattle.plan_record.specs.Record.{blocksOf, majorsOf, gatesOf, layoutOf, positionsOf, countAt, partsBefore, partsOf, gatePin, gateFirst, gateSecond, layoutPin, positionPin, positionStaged, headBase, stagesOf, endpointsOf, bodyAt, endpointKind, endpointX, endpointY}
 use Rattle.words.specs.Pins.{empty}
 use Rattle.plan_record.specs.Form.{headForm, countsForm, partForm, lengthForm, gateForm, layoutForm, positionForm, endpointNumbers, endpointForm, listsForm, planForm}
 use Rattle.plan_record.specs.Body.{Headed, Measured, BodyReady}
 use Rattle.words.proofs.TestLaws.{and-true, all-at, not-both}
-use Rattle.plan_record.proofs.RecordLaws.{body-first, body-more, body-mono}
+use Rattle.plan_record.proofs.RecordLaws.{body-first, body-mono}
 
 -- ---- the head
 
@@ -113,15 +113,6 @@ module _ (d : List ℕ) (sizes : Measured d) where
         stages = r .stages;
         endpoints = r .endpoints;
       }
-
-  pub body-next : (p : ℕ) → p < partsOf d
-      → (bodyAt d (p + 1) ≡ bodyAt d p + bodyWords d (bodyAt d p) (stagesOf d p) (endpointsOf d p))
-      × (bodyAt d p + bodyWords d (bodyAt d p) (stagesOf d p) (endpointsOf d p) ≤ length d / 4)
-  body-next p l = (body-more d p, omega (arith, body-more d p, body-in (p + 1) (omega arith)))
-
-  pub locations-in-words : (p : ℕ) → p < partsOf d → locationsOf d p ≤ length d / 4
-  unfolding bodyWords
-  locations-in-words p l = omega (arith, body-next p l .1)
 
 -- ---- what the lists hold
 

@@ -3,15 +3,14 @@
 use mathlib.Core.Path.{_≡_, refl, ap}
 use mathlib.Core.Logic.{⊎-elim}
 use mathlib.Core.List.{List}
-use Prim.Native.Nat.{ℕ, zero, suc, _+_, _*_, _^_, _≤_, _<_}
+use Prim.Native.Nat.{ℕ, zero, suc, _+_, _*_, _≤_, _<_}
 use native.Mathlib.Omega.{arith}
 use native.Mathlib.Numerals.{add-one}
 use borrow.Author.Tests.{le-leb, lt-leb}
 use lib.ListN.{length, getD}
-use Rattle.words.specs.Sum.{sumTo}
 use Rattle.words.proofs.SumLaws.{sum-more}
 use Rattle.words.proofs.BitLaws.{lt-or-ge}
-use Rattle.plan_record.specs.Record.{wordAt, gatesOf, layoutOf, positionsOf, gateBase, layoutBase, positionBase, countAt, partsBefore, partsOf, headBase, stagesOf, endpointsOf, locationsIn, locationsOf, stageLocations, bodyWords, bodyAt, countBase, slotBase, locationBase, tableBase}
+use Rattle.plan_record.specs.Record.{wordAt, gatesOf, layoutOf, positionsOf, gateBase, layoutBase, positionBase, countAt, partsBefore, partsOf, headBase, stagesOf, endpointsOf, locationsIn, bodyWords, bodyAt, countBase, slotBase, locationBase, tableBase}
 
 pub word-there : (d : List ℕ) (i : ℕ) → 4 * i + 4 ≤ length d
     → wordAt d i ≡ getD d (4 * i) 0 + 256 * getD d (4 * i + 1) 0 + 65536 * getD d (4 * i + 2) 0 + 16777216 * getD d (4 * i + 3) 0
@@ -21,14 +20,6 @@ word-there d i h = rw (le-leb _ _ h, wordAt)
 pub word-missing : (d : List ℕ) (i : ℕ) → length d < 4 * i + 4 → wordAt d i ≡ 0
 unfolding wordAt
 word-missing d i h = rw (lt-leb _ _ h, wordAt)
-
--- a word of bytes
-pub word-lt : (d : List ℕ) (i : ℕ) → ((k : ℕ) → getD d k 0 < 256) → wordAt d i < 2 ^ 32
-word-lt d i h =
-    ⊎-elim
-    (λ l. omega (arith, word-missing d i l))
-    (λ l. omega (arith, word-there d i l, h (4 * i), h (4 * i + 1), h (4 * i + 2), h (4 * i + 3)))
-    (lt-or-ge (length d) (4 * i + 4))
 
 -- ---- the lists before the part heads: their words are before those of the heads
 
@@ -53,11 +44,6 @@ parts-more d s = sum-more (countAt d) s
 pub locations-more : (d : List ℕ) (b n e : ℕ) → locationsIn d b (n + 1) e ≡ locationsIn d b n e + wordAt d (b + 3 * e + n)
 unfolding locationsIn
 locations-more d b n e = sum-more (λ s. wordAt d (b + 3 * e + s)) n
-
--- the locations of a part are those of its stages
-pub locations-sum : (d : List ℕ) (p : ℕ) → locationsOf d p ≡ sumTo (stageLocations d p) (stagesOf d p)
-unfolding locationsIn countBase
-locations-sum d p = refl
 
 -- ---- bodies: each begins where the one before ends
 

@@ -8,7 +8,7 @@ use lib.Dec.{leb, eqb}
 use lib.ListN.{length}
 use Rattle.words.specs.Pins.{isPin, isPinIv, empty}
 use Rattle.words.specs.Tests.{allBelow}
-use Rattle.plan_record.specs.Record.{wordAt, blocksOf, majorsOf, gatesOf, layoutOf, positionsOf, countAt, partsBefore, partsOf, gatePin, gateFirst, gateSecond, layoutPin, positionPin, positionStaged, stagesOf, endpointsOf, bodyAt, endpointKind, endpointX, endpointY}
+use Rattle.plan_record.specs.Record.{blocksOf, majorsOf, gatesOf, layoutOf, positionsOf, countAt, partsBefore, partsOf, gatePin, gateFirst, gateSecond, layoutPin, positionPin, positionStaged, stagesOf, endpointsOf, bodyAt, endpointKind, endpointX, endpointY}
 
 -- "65536 plus 16 a part (as its counts say) for a plan": the counts of 64 major stages at most are looked at
 unfoldable pub roomWords : List ℕ → ℕ

@@ -1,7 +1,7 @@
 // The bodies of a record's parts: where each of a part's lists begins. A pass over all parts starts at `first_body`, asks `body_at` once a part
 // and goes on at the body's end.
 ghost use mathlib.Core.Path.{_≡_};
-ghost use Prim.Native.Nat.{_+_, _*_, _-_, _^_, _≤_, _<_};
+ghost use Prim.Native.Nat.{_^_, _≤_, _<_};
 ghost use Rattle.plan_record.specs.Record.{majorsOf, partsOf, bodyAt, endpointKind, endpointX, endpointY, stageLocations, slotAt, locationAt, tableAt};
 ghost use Rattle.plan_record.specs.Body.{BodyReady, BodyOf};
 use crate::places::head_base;

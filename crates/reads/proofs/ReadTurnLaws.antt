@@ -199,11 +199,6 @@ module _ (L : ℕ) (lanes : List Lane) (wide : length lanes ≡ L) (state : ℕ 
       rw (lane, place, turn .left i (a .lane-there))
       (read-bit (W i) (M i) (longest lanes) l (lane-masks i (a .lane-there)) long r k (a .round-there) (a .small) (a .set) ∙ ap (λ (x : ℕ). bit x k) value)
 
-  -- and above its pairs' bits a lane is 0
-  pub read-zero : (i x : ℕ) → i < L → total (getD lanes i []) ≤ x → bit (getD row i 0) x ≡ 0
-  read-zero i x h l =
-      rw (turn .left i h) (read-unused (W i) (M i) (longest lanes) (getD lanes i []) (lane-masks i h) (longest-ge lanes i) x l)
-
 -- The read turn of a packed set puts each requested bit at its local position.
 pub read-requested : (L : ℕ) (ps : List Pair) (lanes : List Lane) → Packing L ps lanes → broken ps ≡ none → ((w m : ℕ) → 0 < times w m ps → m < 2 ^ 32)
     → (state : ℕ → ℕ) (W M : ℕ → ℕ → ℕ) (row : List ℕ) → ReadBy L lanes state W M row

@@ -113,9 +113,6 @@ module _ (ps : List Pair) (form : broken ps ≡ none) where
   pub mask-some : (w m : ℕ) → 0 < times w m ps → 0 < m
   mask-some w m h = stands 0 ps form w m h .mask
 
-  pub word-range : (w m : ℕ) → 0 < times w m ps → w % 2 ^ 31 < 2 ^ 27
-  word-range w m h = stands 0 ps form w m h .word
-
   -- a word has one mask
   pub mask-one : (w m n : ℕ) → 0 < times w m ps → 0 < times w n ps → m ≡ n
   mask-one w m n h l = same-mask 0 ps form w m n h l

@@ -7,7 +7,7 @@ use Prim.Native.Nat.{ℕ, zero, suc, _+_, _*_, _/_, _^_}
 use lib.Dec.{eqb}
 use lib.ListN.{getD}
 use Rattle.words.specs.Bit.{pop}
-use Rattle.reads.specs.ReadSet.{Pair, total}
+use Rattle.reads.specs.ReadSet.{total}
 use Rattle.reads.specs.Search.{Lane}
 
 -- "The round of a pair is its place in its lane": the word and the mask that a lane has in round r, 0 where none, and the pairs of later rounds

@@ -2,7 +2,6 @@
 -- Assumes nothing.
 use mathlib.Core.List.{List, [], _∷_, _++_}
 use Prim.Native.Nat.{ℕ, zero, suc, _+_}
-use Rattle.reads.specs.ReadSet.{Pair}
 use Rattle.reads.specs.Search.{Lane, longest}
 
 -- word and mask of a lane in round r

@@ -67,11 +67,6 @@ pub ask-new : (q : ℕ) → ask q [] ≡ (q / 32) ∷ (2 ^ (q % 32)) ∷ []
 unfolding ask
 ask-new q = refl
 
--- a last half pair stays
-pub ask-half : (q w : ℕ) → ask q (w ∷ []) ≡ w ∷ []
-unfolding ask
-ask-half q w = refl
-
 module _ (q w m : ℕ) (ws : List ℕ) where
   -- by the two tests: the word is below the first, or it is the first
   abbrev tested : Bool → Bool → List ℕ

@@ -74,15 +74,6 @@ set-length-le (q ∷ qs) =
 pub set-even : (qs : List ℕ) → length (readSetOf qs) % 2 ≡ 0
 set-even qs = rising-even 0 (readSetOf qs) (set-rising qs)
 
-pub set-none : readSetOf [] ≡ []
-unfolding readSetOf
-set-none = refl
-
-pub set-some : (qs : List ℕ) → 0 < length qs → 0 < length (readSetOf qs)
-unfolding readSetOf
-set-some [] h = absurd (not-suc-le-zero h)
-set-some (q ∷ qs) h = ⊎-elim (λ e. omega arith) (λ e. omega (arith, e .0, e .1)) (ask-length 0 q (readSetOf qs) (set-rising qs))
-
 -- ---- what holds of each pair
 
 unfoldable pub EachPair : (ℕ → ℕ → Type 0) → List ℕ → Type 0

@@ -6,7 +6,7 @@ use Prim.Native.Nat.{ℕ, zero, suc, _+_, _*_, _-_, _/_, _≤_, _<_, zero-le}
 use native.Mathlib.Nat.{zero-add, suc-add, not-suc-le-zero, le-of-suc-le-suc}
 use native.Mathlib.Numerals.{add-one, sub-one}
 use native.Mathlib.Omega.{arith}
-use lib.ListN.{length, getD, set, take, drop, replicate, length-append, length-set, length-drop, length-take, length-replicate, drop-of-length-le, replicate-append-replicate, List·getD-append}
+use lib.ListN.{length, getD, set, take, drop, replicate, length-append, length-set, length-take, length-replicate, drop-of-length-le, replicate-append-replicate, List·getD-append}
 use lib.Seq.{drop-cons, set-append-left, take-at, drop-at, drop-drop, getD-take, getD-drop}
 use Rattle.words.specs.Bit.{pop}
 use Rattle.reads.specs.ReadSet.{Pair, bits, total}
@@ -55,9 +55,6 @@ row-short ws (zero ∷ es) = zero-le
 row-short ws (suc p ∷ es) = omega (arith, row-short ws es)
 
 -- ---- the rows of the room
-
-pub row-at-length : (t : List ℕ) (j : ℕ) → 32 * j + 32 ≤ length t → length (rowAt t j) ≡ 32
-row-at-length t j h = simp (length-take, length-drop) (omega arith)
 
 pub row-at-word : (t : List ℕ) (j i : ℕ) → i < 32 → getD (rowAt t j) i 0 ≡ getD t (32 * j + i) 0
 row-at-word t j i h = rw (getD-take, getD-drop)

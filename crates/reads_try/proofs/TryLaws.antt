@@ -4,7 +4,7 @@ use mathlib.Core.Path.{_≡_, refl, sym, ap, _∙_}
 use mathlib.Core.Bool.{Bool, true, false}
 use mathlib.Core.Option.{Option, none, some}
 use mathlib.Core.List.{List, [], _∷_, _++_}
-use Prim.Native.Nat.{ℕ, suc, _+_, _*_, _/_, _%_, min, _≤_, _<_}
+use Prim.Native.Nat.{ℕ, _+_, _*_, _/_, _%_, min, _≤_, _<_}
 use native.Mathlib.Nat.{le-trans, mul-le-mul-left}
 use native.Mathlib.Numerals.{add-one}
 use native.Mathlib.Omega.{arith}
@@ -22,7 +22,7 @@ use Rattle.reads_try.specs.Table.{tableOf, pieceOf, runOf}
 use Rattle.reads_try.specs.Decoded.{pairAt, lanesAt, Each, Drawn, Kept, Filled}
 use Rattle.reads_try.specs.Tries.{laneFor, isAll, lanesIn, triedOf, Placeable, Ready}
 use Rattle.reads_try.proofs.PairLaws.{pairs-length, pairs-at, slice-none, span-step, piece-slice}
-use Rattle.reads_try.proofs.TableLaws.{each-append, each-of, each-take, each-drop, drawn-thin, kept-sound, kept-push, kept-empty, table-length, table-empty, filled-lanes, filled-rest, filled-of}
+use Rattle.reads_try.proofs.TableLaws.{each-append, each-of, each-take, each-drop, kept-push, kept-empty, table-length, table-empty, filled-lanes, filled-rest, filled-of}
 use Rattle.reads_try.proofs.PlaceLaws.{Placed}
 
 -- ---- what any try keeps of the lanes
@@ -64,17 +64,6 @@ module _ (ws : List ℕ) (whole : length ws % 2 ≡ 0) (masks : (p : ℕ) → p 
 
   -- the words that a try of it leaves say its lanes
   module _ (L k : ℕ) (keys : List ℕ) (some-lanes : 0 < L) {t : List ℕ} (rest : List ℕ) (e : t ≡ tableOf (lanesIn (triedOf L k ws keys)) ++ rest) where
-    pub tried-filled : Filled ws t L
-    tried-filled = filled-of (tried-kept L k keys some-lanes) rest e
-
-    pub tried-lanes : lanesAt ws t L ≡ lanesIn (triedOf L k ws keys)
-    tried-lanes = filled-lanes (tried-kept L k keys some-lanes) rest e
-
--- kept lanes have at most 32 pairs
-pub kept-thin : {ws : List ℕ} {L : ℕ} {lanes : List Lane} → Kept ws L lanes → (j : ℕ) → j < L → length (getD lanes j []) ≤ 32
-kept-thin {ws} {L} {lanes} k j h =
-    let s = kept-sound k j h in
-    omega (arith, drawn-thin ws (getD lanes j []) (s .drawn), s .light)
 
 -- ---- what holds while a try runs
 

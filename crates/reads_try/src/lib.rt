@@ -1,7 +1,7 @@
 // The lanes: the search for room, and one try.
 ghost use mathlib.Core.Path.{_≡_};
 ghost use mathlib.Core.List.{_++_};
-ghost use Prim.Native.Nat.{_*_, _<_, min};
+ghost use Prim.Native.Nat.{_*_, min};
 ghost use lib.ListN.{length, drop};
 ghost use Rattle.reads.specs.ReadSet.{total};
 ghost use Rattle.reads.specs.Search.{firstRoom};

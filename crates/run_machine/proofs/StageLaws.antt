@@ -44,9 +44,6 @@ bit-words f n small q h =
     ap (λ (x : ℕ). bit x (q % 32)) (getD-listOf (λ w. wordOf (λ b. f (32 * w + b)) 32) n (q / 32) (omega arith))
     ∙ bit-wordOf (λ b. f (32 * (q / 32) + b)) 32 (λ b k. small (32 * (q / 32) + b) (omega arith)) (q % 32) (omega arith) ∙ ap f e
 
-pub words-lt : (f : ℕ → ℕ) (n : ℕ) → ((q : ℕ) → q < 32 * n → f q < 2) → (w : ℕ) → w < n → getD (listOf (λ w. wordOf (λ b. f (32 * w + b)) 32) n) w 0 < 2 ^ 32
-words-lt f n small w h = rw (getD-listOf (λ w. wordOf (λ b. f (32 * w + b)) 32) n w h) (wordOf-lt _ 32 (λ b k. small (32 * w + b) (omega arith)))
-
 -- ---- levels
 
 -- a position but 0 is in the level of 2^s slots, for some s
@@ -130,10 +127,6 @@ module _ (n : ℕ) (W : List ℕ) (o k : ℕ) (row : List ℕ) where
     pub stage-length : length (stageRow n L W o k row) ≡ n
     unfolding stageRow
     stage-length = length-listOf _ n
-
-    pub stage-word-lt : (w : ℕ) → w < n → getD (stageRow n L W o k row) w 0 < 2 ^ 32
-    unfolding stageRow
-    stage-word-lt w h = words-lt (positionBit n L W o k row L) n (λ q _. position-bit-lt L L q) w h
 
     pub stage-bit : (q : ℕ) → q < 32 * n → bitAt (stageRow n L W o k row) q ≡ positionBit n L W o k row L q
     unfolding stageRow

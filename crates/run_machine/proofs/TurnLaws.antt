@@ -1,6 +1,6 @@
 -- The lists of a turn, word by word, and what is stored, bit by bit.
 -- Assumes nothing.
-use mathlib.Core.Path.{_≡_, refl, ap, ap₂, _∙_}
+use mathlib.Core.Path.{_≡_, ap, _∙_}
 use mathlib.Core.Bool.{Bool, true, false}
 use mathlib.Core.List.{List}
 use Prim.Native.Nat.{ℕ, _+_, _*_, _-_, _/_, _%_, _^_, _<_, min}
@@ -55,10 +55,6 @@ chosen-lt e v held h l = go (eqb e 1)
     go false = l
 
 module _ (n : ℕ) (W : List ℕ) (o : ℕ) where
-  pub gathered-lt : (k : ℕ) (caps : List ℕ) (q : ℕ) → gatheredBit n W o k caps q < 2
-  unfolding gatheredBit
-  gathered-lt k caps q = taken-lt _ _ _ (at-lt caps _) (bit-lt _ _)
-
   pub stored-bit-lt : (old caps : List ℕ) (v q : ℕ) → v < 2 → storedBit n W o old caps v q < 2
   unfolding storedBit
   stored-bit-lt old caps v q h = chosen-lt (enableBit n W o caps q) (differ v (dataInv n W o q)) (bitAt old (32 * startAt W o + q)) (differ-lt v (dataInv n W o q) h (bit-lt _ _)) (at-lt old _)

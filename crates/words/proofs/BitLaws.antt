@@ -16,7 +16,7 @@ use lib.Dec.{eqb}
 use lib.ListN.{length, getD, set, length-set}
 use lib.Pow.{pow-pos, pow-lt, pow-mono, shr-shr, high, low, field, mod-mod-pow}
 use lib.Seq.{getD-set-same, getD-set-other}
-use Rattle.words.specs.Bit.{bit, isSet, bitAt, wordOf, withBit, setBit}
+use Rattle.words.specs.Bit.{bit, bitAt, wordOf, withBit, setBit}
 
 -- an order, decided
 pub lt-or-ge : (a b : ℕ) → (a < b) ⊎ (b ≤ a)
@@ -216,21 +216,3 @@ at-set-bit l p q h = by (ℕ-discrete (q / 32) (p / 32))
     by (no d) =
         rw (ne-eqb q p (λ s. d (ap (λ (y : ℕ). y / 32) s)))
         (ap (λ (y : ℕ). bit y (q % 32)) (getD-set-other l (p / 32) (q / 32) x 0 d))
-
--- ---- the same as a truth, by halving
-
-pub isSet-first : (w : ℕ) → isSet w 0 ≡ eqb (w % 2) 1
-unfolding isSet
-isSet-first w = ap (λ (x : ℕ). eqb x 1) (bit-first w)
-
-pub isSet-suc : (w k : ℕ) → isSet w (suc k) ≡ isSet (w / 2) k
-unfolding isSet
-isSet-suc w k = ap (λ (x : ℕ). eqb x 1) (bit-suc w k)
-
-pub isSet-with : (w k q : ℕ) → isSet (withBit w k) q ≡ elim (eqb q k) [ true ↦ true | false ↦ isSet w q ]
-unfolding isSet
-isSet-with w k q = ap (λ (x : ℕ). eqb x 1) (bit-with w k q) ∙ by (eqb q k)
-  where
-    by : (t : Bool) → eqb (elim t [ true ↦ 1 | false ↦ bit w q ]) 1 ≡ elim t [ true ↦ true | false ↦ eqb (bit w q) 1 ]
-    by true = refl
-    by false = refl

@@ -1,6 +1,6 @@
 -- A look over a part's items, and a pass over all parts, in the code's terms: at i (or part p) below n the answer from here on is the answer.
 -- Assumes nothing.
-use mathlib.Core.Path.{_≡_, refl, sym, ap, ap₂, _∙_}
+use mathlib.Core.Path.{_≡_, refl, sym, ap, _∙_}
 use mathlib.Core.Bool.{Bool, true, false}
 use mathlib.Core.Option.{Option, none, some}
 use Prim.Native.Nat.{ℕ, _+_, _-_, _≤_, _<_}
@@ -22,17 +22,6 @@ item-some (some j) i h = let e : j ≡ i = cc in ap some e
 pub item-none : (o : Option ℕ) → itemOf o ≡ item.Fine → o ≡ none
 item-none none h = refl
 item-none (some j) h = let z : _≡_ {A = ℕ} 0 1 = cc in absurd (omega arith)
-
-pub lowest-of-at : (o : Option Place) (p i : ℕ) → lowestOf o ≡ low.At p i → o ≡ some (record { part = p; item = i })
-lowest-of-at none p i h = let z : _≡_ {A = ℕ} 0 1 = cc in absurd (omega arith)
-lowest-of-at (some x) p i h =
-    let a : x .part ≡ p = cc in
-    let b : x .item ≡ i = cc in
-    ap some (ap₂ (λ (u v : ℕ). record { part = u; item = v }) a b)
-
-pub lowest-of-fine : (o : Option Place) → lowestOf o ≡ low.Fine → o ≡ none
-lowest-of-fine none h = refl
-lowest-of-fine (some x) h = let z : _≡_ {A = ℕ} 0 1 = cc in absurd (omega arith)
 
 -- ---- the first item that a test refuses
 

@@ -1,21 +1,18 @@
 -- A section of n lanes: entries and places are the same numbers in other digits, so each entry has a half of its own, and the entries fix the words.
 -- Everything is argued once, over n. Assumes nothing.
 use mathlib.Core.Path.{_≡_, refl, sym, ap, ap₂, _∙_, subst}
-use mathlib.Core.Bool.{Bool, true, false}
 use mathlib.Core.List.{List, [], _∷_}
 use mathlib.Core.Logic.{_≢_, ⊎-elim}
 use Prim.Native.Nat.{ℕ, zero, suc, _+_, _*_, _/_, _%_, _^_, _≤_, _<_}
-use native.Mathlib.Nat.{add-zero, mod-lt, mod-eq-of-lt, div-lt-iff-lt-mul, div-add-mod', not-suc-le-zero, eq-or-lt-of-le, le-of-suc-le-suc}
+use native.Mathlib.Nat.{add-zero, mod-lt, div-lt-iff-lt-mul, div-add-mod', not-suc-le-zero, eq-or-lt-of-le, le-of-suc-le-suc}
 use native.Mathlib.Decide.{ℕ-discrete}
 use native.Mathlib.Omega.{arith}
-use borrow.Author.Tests.{eq-eqb, ne-eqb}
 use lib.Arith.{digits-div, digits-mod, digits-lt}
-use lib.Bits.{bitAnd, bitOr, and-mask, or-shifted, or-shifted-r}
-use lib.Dec.{eqb}
-use lib.ListN.{length, getD, set, length-set, length-append, List·getD-append}
-use lib.Pow.{pow-pos, shl-exact}
+use lib.Bits.{bitOr, or-shifted-r}
+use lib.ListN.{length, getD, set, length-append, List·getD-append}
+use lib.Pow.{shl-exact}
 use lib.Seq.{sets, length-sets, getD-set-same, getD-set-other, getD-at, ext-getD}
-use Rattle.words.specs.Section.{placeOf, entryOf, halfOf, withHalf, halfAt, putHalf, listOf, sectionOf}
+use Rattle.words.specs.Section.{placeOf, entryOf, halfOf, halfAt, listOf, sectionOf}
 use Rattle.words.proofs.ListLaws.{sets-append}
 
 -- ---- lists from a function of the index
@@ -108,54 +105,6 @@ half-join x = omega arith
 pub halves-join : (low high : ℕ) → low < 2 ^ 16 → high < 2 ^ 16 → bitOr low ((high * 2 ^ 16) % 2 ^ 32) ≡ high * 2 ^ 16 + low
 halves-join low high a b = rw (shl-exact 16 16 32 b (omega arith)) (or-shifted-r high 16 low a)
 
-pub half-lt : (x e : ℕ) → x < 2 ^ 32 → halfOf x e < 2 ^ 16
-unfolding halfOf
-half-lt x zero h = omega arith
-half-lt x (suc e) h = omega arith
-
-pub with-half-lt : (x e v : ℕ) → x < 2 ^ 32 → v < 2 ^ 16 → withHalf x e v < 2 ^ 32
-unfolding withHalf
-with-half-lt x zero v h l = omega arith
-with-half-lt x (suc e) v h l = omega arith
-
-pub half-with : (x e f v : ℕ) → v < 2 ^ 16 → e < 2 → f < 2 → halfOf (withHalf x e v) f ≡ elim (eqb f e) [ true ↦ v | false ↦ halfOf x f ]
-unfolding halfOf withHalf
-half-with x zero zero v h _ _ = digits-mod (x / 2 ^ 16) h
-half-with x zero (suc f) v h _ _ = rw (ne-eqb (suc f) 0 (λ e. omega arith)) (digits-div (x / 2 ^ 16) h)
-half-with x (suc e) zero v h _ _ = rw (ne-eqb 0 (suc e) (λ e. omega arith)) (digits-mod v (mod-lt x (omega arith)))
-half-with x (suc e) (suc f) v h a b = rw (eq-eqb (suc f) (suc e) (omega arith)) (digits-div v (mod-lt x (omega arith)))
-
--- ---- the section law
-
-pub put-half-length : (n : ℕ) (s : List ℕ) (i v : ℕ) → length (putHalf n s i v) ≡ length s
-unfolding putHalf
-put-half-length n s i v = length-set s (placeOf n i) _
-
-pub half-put : (n : ℕ) (s : List ℕ) (i j v : ℕ) → i < 32 * n → j < 32 * n → 16 * n ≤ length s → v < 2 ^ 16
-    → halfAt n (putHalf n s i v) j ≡ elim (eqb j i) [ true ↦ v | false ↦ halfAt n s j ]
-unfolding halfAt putHalf
-half-put n s i j v hi hj room l = by (ℕ-discrete (placeOf n j) (placeOf n i))
-  where
-    x : ℕ
-    x = withHalf (getD s (placeOf n i) 0) (i % 2) v
-
-    pick : Bool → ℕ → ℕ
-    pick t w = elim t [ true ↦ v | false ↦ halfOf (getD s w 0) (j % 2) ]
-
-    here : placeOf n j ≡ placeOf n i → Dec (j ≡ i) → eqb (j % 2) (i % 2) ≡ eqb j i
-    here e (yes q) = eq-eqb (j % 2) (i % 2) (ap (λ (y : ℕ). y % 2) q) ∙ sym (eq-eqb j i q)
-    here e (no d) = ne-eqb (j % 2) (i % 2) (λ q. d (place-apart n i j hi hj e q)) ∙ sym (ne-eqb j i d)
-
-    by : Dec (placeOf n j ≡ placeOf n i) → halfOf (getD (set s (placeOf n i) x) (placeOf n j) 0) (j % 2) ≡ pick (eqb j i) (placeOf n j)
-    by (yes e) =
-        ap (λ (w : ℕ). halfOf (getD (set s (placeOf n i) x) w 0) (j % 2)) e
-        ∙ ap (λ (y : ℕ). halfOf y (j % 2)) (getD-set-same s (placeOf n i) x 0 (omega (arith, place-lt n i hi)))
-        ∙ half-with (getD s (placeOf n i) 0) (i % 2) (j % 2) v l (omega arith) (omega arith)
-        ∙ ap₂ pick (here e (ℕ-discrete j i)) (sym e)
-    by (no d) =
-        rw (ne-eqb j i (λ q. d (ap (placeOf n) q)))
-        (ap (λ (y : ℕ). halfOf y (j % 2)) (getD-set-other s (placeOf n i) (placeOf n j) x 0 d))
-
 -- ---- a whole section
 
 pub section-length : (n : ℕ) (f : ℕ → ℕ) → length (sectionOf n f) ≡ 16 * n
@@ -174,12 +123,6 @@ half-section n f small i h =
     ap (λ (x : ℕ). halfOf x (i % 2)) (section-word n f w (place-lt n i h))
     ∙ half-two (λ e. f (entryOf n w e)) (i % 2) (mod-lt i (omega arith)) (small (entryOf n w 0) fits)
     ∙ ap f (entry-place n i h)
-
-pub section-word-lt : (n : ℕ) (f : ℕ → ℕ) → ((j : ℕ) → j < 32 * n → f j < 2 ^ 16) → (w : ℕ) → w < 16 * n → getD (sectionOf n f) w 0 < 2 ^ 32
-section-word-lt n f small w h =
-    let lo = small (entryOf n w 0) (place-entry n w 0 h (omega arith) .0) in
-    let hi = small (entryOf n w 1) (place-entry n w 1 h (omega arith) .0) in
-    omega (arith, section-word n f w h)
 
 -- the entries fix the words
 pub section-is : (n : ℕ) (f : ℕ → ℕ) (s : List ℕ) → length s ≡ 16 * n → ((i : ℕ) → i < 32 * n → halfAt n s i ≡ f i) → s ≡ sectionOf n f
@@ -318,27 +261,3 @@ four-sets f s w p a b c e ha hb hc he =
     let w₂ : w + 2 ≡ suc (suc w) = omega arith in
     let w₃ : w + 3 ≡ suc (suc (suc w)) = omega arith in
     rw (ha, hb, hc, he, w₁, w₂, w₃, add-zero p)
-
--- ---- as the code reads and writes a half
-
-pub read-low : (n : ℕ) (s : List ℕ) (i w : ℕ) → w ≡ placeOf n i → i % 2 ≡ 0 → bitAnd (getD s w 0) 0xffff ≡ halfAt n s i
-unfolding halfAt halfOf
-read-low n s i w e h = rw (h, e) (and-mask (getD s (placeOf n i) 0) 16)
-
-pub read-high : (n : ℕ) (s : List ℕ) (i w : ℕ) → w ≡ placeOf n i → i % 2 ≡ 1 → getD s w 0 / 2 ^ 16 ≡ halfAt n s i
-unfolding halfAt halfOf
-read-high n s i w e h = rw (h, e)
-
-pub write-low : (n : ℕ) (s : List ℕ) (i w v : ℕ) → w ≡ placeOf n i → i % 2 ≡ 0 → getD s w 0 < 2 ^ 32 → v < 2 ^ 16
-    → set s w (bitOr ((getD s w 0 / 2 ^ 16 * 2 ^ 16) % 2 ^ 32) v) ≡ putHalf n s i v
-unfolding putHalf withHalf
-write-low n s i w v e h hx hv =
-    let x = getD s w 0 in
-    let m : (x / 2 ^ 16 * 2 ^ 16) % 2 ^ 32 ≡ x / 2 ^ 16 * 2 ^ 16 = mod-eq-of-lt (omega arith) in
-    rw (m, or-shifted (x / 2 ^ 16) 16 v hv, h, e)
-
-pub write-high : (n : ℕ) (s : List ℕ) (i w v : ℕ) → w ≡ placeOf n i → i % 2 ≡ 1 → v < 2 ^ 16
-    → set s w (bitOr ((v * 2 ^ 16) % 2 ^ 32) (bitAnd (getD s w 0) 0xffff)) ≡ putHalf n s i v
-unfolding putHalf withHalf
-write-high n s i w v e h hv =
-    rw (and-mask (getD s w 0) 16, shl-exact 16 16 32 hv (omega arith), or-shifted v 16 (getD s w 0 % 2 ^ 16) (mod-lt (getD s w 0) (pow-pos 16)), h, e)

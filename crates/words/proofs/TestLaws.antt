@@ -77,11 +77,6 @@ all-fault f n i l h = go (allBelow f n) refl
     go true e = absurd (not-both (f i) (all-at f n i e l) h)
     go false e = refl
 
-pub all-ext : (f g : ℕ → Bool) (n : ℕ) → ((i : ℕ) → i < n → f i ≡ g i) → allBelow f n ≡ allBelow g n
-unfolding allBelow
-all-ext f g zero h = refl
-all-ext f g (suc n) h = ap₂ _&&_ (all-ext f g n (λ i l. h i (omega arith))) (h n (omega arith))
-
 -- ---- some below
 
 pub some-more : (f : ℕ → Bool) (n : ℕ) → someBelow f (n + 1) ≡ (someBelow f n || f n)
@@ -116,11 +111,6 @@ some-none f n i h l = go (f i) refl
     go : (b : Bool) → f i ≡ b → b ≡ false
     go true e = absurd (not-both (someBelow f n) (some-at f n i l e) h)
     go false e = refl
-
-pub some-ext : (f g : ℕ → Bool) (n : ℕ) → ((i : ℕ) → i < n → f i ≡ g i) → someBelow f n ≡ someBelow g n
-unfolding someBelow
-some-ext f g zero h = refl
-some-ext f g (suc n) h = ap₂ _||_ (some-ext f g n (λ i l. h i (omega arith))) (h n (omega arith))
 
 -- ---- the first that a test refuses: a loop at i below n asks for `firstFrom f (n - i) i`
 
@@ -201,15 +191,6 @@ first-all f (suc m) i h j l u = go (f i) refl (first-all f m (i + 1))
         (at-or-after i j l)
     go false e r = absurd (some-not-none (sym (first-here f (suc m) i (omega arith) e) ∙ h))
 
-pub first-ext : (f g : ℕ → Bool) (m i : ℕ) → ((j : ℕ) → i ≤ j → j < i + m → f j ≡ g j) → firstFrom f m i ≡ firstFrom g m i
-unfolding firstFrom
-first-ext f g zero i h = refl
-first-ext f g (suc m) i h = go (f i) refl (first-ext f g m (i + 1) (λ j l u. h j (omega arith) (omega arith)))
-  where
-    go : (b : Bool) → f i ≡ b → firstFrom f m (i + 1) ≡ firstFrom g m (i + 1) → firstFrom f (suc m) i ≡ firstFrom g (suc m) i
-    go true e r = let k : g i ≡ true = sym (h i (omega arith) (omega arith)) ∙ e in rw (e, k, firstFrom) r
-    go false e r = let k : g i ≡ false = sym (h i (omega arith) (omega arith)) ∙ e in rw (e, k, firstFrom)
-
 -- ---- the same from 0 on
 
 pub not-at : (f : ℕ → Bool) (n k : ℕ) → firstNot f n ≡ some k → (k < n) × (f k ≡ false) × ((j : ℕ) → j < k → f j ≡ true)
@@ -236,12 +217,6 @@ not-is f n k l h p = go (firstNot f n) refl
         (⊎-elim (λ g. absurd (not-both (f i) (p i g) r))
         (λ g. ⊎-elim (λ z. sym z) (λ z. absurd (not-both (f k) (q k (omega arith)) h)) (at-or-after k i g))
         (lt-or-ge i k))
-
-pub all-not-none : (f : ℕ → Bool) (n : ℕ) → allBelow f n ≡ true → firstNot f n ≡ none
-all-not-none f n h = none-not f n (λ j l. all-at f n j h l)
-
-pub not-none-all : (f : ℕ → Bool) (n : ℕ) → firstNot f n ≡ none → allBelow f n ≡ true
-not-none-all f n h = all-true f n (not-none f n h)
 
 -- ---- the lowest place: a loop at part p below n asks for `lowestFrom bad (n - p) p`
 
@@ -309,26 +284,6 @@ lowest-all bad (suc m) p h q l u = go (bad p) refl (lowest-all bad m (p + 1))
         ⊎-elim (λ z. ap bad (sym z) ∙ e) (λ z. r (sym (lowest-on bad m p e) ∙ h) q z (omega arith)) (at-or-after p q l)
     go (some i) e r = absurd (some-not-none (sym (lowest-here bad m p i e) ∙ h))
 
-pub lowest-ext : (f g : ℕ → Option ℕ) (m p : ℕ) → ((q : ℕ) → p ≤ q → q < p + m → f q ≡ g q) → lowestFrom f m p ≡ lowestFrom g m p
-unfolding lowestFrom
-lowest-ext f g zero p h = refl
-lowest-ext f g (suc m) p h = go (f p) refl (lowest-ext f g m (p + 1) (λ q l u. h q (omega arith) (omega arith)))
-  where
-    go : (o : Option ℕ) → f p ≡ o → lowestFrom f m (p + 1) ≡ lowestFrom g m (p + 1) → lowestFrom f (suc m) p ≡ lowestFrom g (suc m) p
-    go none e r = let k : g p ≡ none = sym (h p (omega arith) (omega arith)) ∙ e in lowest-on f m p e ∙ r ∙ sym (lowest-on g m p k)
-    go (some i) e r =
-        let k : g p ≡ some i = sym (h p (omega arith) (omega arith)) ∙ e in
-        lowest-here f m p i e ∙ sym (lowest-here g m p i k)
-
 -- no part has a refused item exactly when there is no lowest place
 pub lowest-none : (bad : ℕ → Option ℕ) (n : ℕ) → lowest bad n ≡ none → (p : ℕ) → p < n → bad p ≡ none
 lowest-none bad n h p l = lowest-all bad n 0 h p (omega arith) (omega arith)
-
-pub none-lowest : (bad : ℕ → Option ℕ) (n : ℕ) → ((p : ℕ) → p < n → bad p ≡ none) → lowest bad n ≡ none
-none-lowest bad n h = go (lowest bad n) refl
-  where
-    go : (o : Option Place) → lowest bad n ≡ o → o ≡ none
-    go none e = refl
-    go (some x) e =
-        let a : LowestAt bad n 0 x = lowest-at bad n 0 x e in
-        absurd (some-not-none (sym (a .refused) ∙ h (x .part) (omega arith)))

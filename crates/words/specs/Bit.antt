@@ -1,19 +1,13 @@
 -- Bits of words, and of lists of 32-bit words: position p is bit p % 32 of word p / 32.
 -- Assumes nothing.
-use mathlib.Core.Bool.{Bool}
 use mathlib.Core.List.{List}
 use Prim.Native.Nat.{ℕ, zero, suc, _+_, _*_, _/_, _%_, _^_}
 use lib.Bits.{bitOr}
-use lib.Dec.{eqb}
 use lib.ListN.{getD, set}
 
 -- bit k of w: 0 or 1
 unfoldable pub bit : ℕ → ℕ → ℕ
 bit w k = w / 2 ^ k % 2
-
--- the same as a truth
-unfoldable pub isSet : ℕ → ℕ → Bool
-isSet w k = eqb (bit w k) 1
 
 -- the bit at position p of a list of words
 unfoldable pub bitAt : List ℕ → ℕ → ℕ

@@ -3,7 +3,7 @@
 -- Assumes nothing.
 use mathlib.Core.List.{List, [], _∷_, _++_}
 use Prim.Native.Nat.{ℕ, zero, suc, _+_, _*_, _/_, _%_, _^_}
-use lib.ListN.{getD, set}
+use lib.ListN.{getD}
 
 -- the word of entry i: t is i / 32, k is i / 8 % 4, h is i % 8 / 2; its half is e, which is i % 2
 unfoldable pub placeOf : ℕ → ℕ → ℕ
@@ -13,21 +13,14 @@ placeOf n i = i / 8 % 4 * (4 * n) + (i / 32 * 4 + i % 8 / 2)
 unfoldable pub entryOf : ℕ → ℕ → ℕ → ℕ
 entryOf n w e = w % (4 * n) / 4 * 32 + w / (4 * n) * 8 + w % (4 * n) % 4 * 2 + e
 
--- a half of a word, and the word with that half replaced: 0 is the low half
+-- a half of a word: 0 is the low half
 unfoldable pub halfOf : ℕ → ℕ → ℕ
 halfOf x zero = x % 2 ^ 16
 halfOf x (suc e) = x / 2 ^ 16
 
-unfoldable pub withHalf : ℕ → ℕ → ℕ → ℕ
-withHalf x zero v = x / 2 ^ 16 * 2 ^ 16 + v
-withHalf x (suc e) v = v * 2 ^ 16 + x % 2 ^ 16
-
--- entry i of a section, and the section with that entry replaced
+-- entry i of a section
 unfoldable pub halfAt : ℕ → List ℕ → ℕ → ℕ
 halfAt n s i = halfOf (getD s (placeOf n i) 0) (i % 2)
-
-unfoldable pub putHalf : ℕ → List ℕ → ℕ → ℕ → List ℕ
-putHalf n s i v = set s (placeOf n i) (withHalf (getD s (placeOf n i) 0) (i % 2) v)
 
 -- the list f 0, f 1, .. of m numbers
 unfoldable pub listOf : (ℕ → ℕ) → ℕ → List ℕ

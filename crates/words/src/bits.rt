@@ -2,15 +2,7 @@
 ghost use mathlib.Core.Path.{_≡_};
 ghost use Prim.Native.Nat.{_+_, _/_, _^_, _<_};
 ghost use lib.ListN.{length};
-ghost use Rattle.words.specs.Bit.{bit, bitAt, setBit, pop};
-
-// Bit k of a word.
-pub fn bit_of(w: u32, k: u32) -> u32
-    requires { ⌜ k < 32 ⌝ }
-    ensures { λ r. ⌜ r ≡ bit w k ⌝ }
-{
-    (w >> k) & 1
-}
+ghost use Rattle.words.specs.Bit.{bitAt, setBit, pop};
 
 // The bit at a position of a list of words.
 pub fn bit_at(s: &[u32], p: usize) -> u32

@@ -3,38 +3,7 @@ ghost use mathlib.Core.Path.{_≡_};
 ghost use Prim.Native.Nat.{ℕ, _+_, _*_, _^_, _≤_, _<_};
 ghost use lib.ListN.{length, getD};
 ghost use lib.Seq.{sets};
-ghost use Rattle.words.specs.Section.{placeOf, halfAt, putHalf, listOf, sectionOf};
-
-// The word of an entry.
-fn place_of(n: usize, entry: usize) -> usize
-    requires { ⌜ (n ≤ 65536) × (entry < 32 * n) ⌝ }
-    ensures { λ r. ⌜ (r ≡ placeOf n entry) × (r < 16 * n) ⌝ }
-{
-    entry / 8 % 4 * (4 * n) + (entry / 32 * 4 + entry % 8 / 2)
-}
-
-// An entry of a section.
-pub fn half_at(s: &[u32], n: usize, entry: usize) -> u32
-    requires { ⌜ (n ≤ 65536) × (entry < 32 * n) × (16 * n ≤ length (now s)) ⌝ }
-    ensures { λ r. ⌜ r ≡ halfAt n (now (s .entry)) entry ⌝ }
-{
-    let x = s[place_of(n, entry)];
-    if entry % 2 == 0 { x & 0xffff } else { x >> 16 }
-}
-
-// Replaces an entry of a section.
-pub fn put_half(s: &mut [u32], n: usize, entry: usize, v: u32)
-    requires { ⌜ (n ≤ 65536) × (entry < 32 * n) × (16 * n ≤ length (now s)) × (v < 2 ^ 16) ⌝ }
-    ensures { λ _. ⌜ now (s .exit) ≡ putHalf n (now (s .entry)) entry v ⌝ }
-{
-    let w = place_of(n, entry);
-    let x = s[w];
-    if entry % 2 == 0 {
-        s[w] = ((x >> 16) << 16) | v;
-    } else {
-        s[w] = (v << 16) | (x & 0xffff);
-    }
-}
+ghost use Rattle.words.specs.Section.{listOf, sectionOf};
 
 // Entries 2p and 2p + 1 as one word.
 fn pair_at(entries: &[u32], p: usize) -> u32

@@ -1,6 +1,6 @@
 // The four units of document 01 ("Numbers"), each a number of its own kind, converted only here.
 ghost use mathlib.Core.Path.{_≡_};
-ghost use Prim.Native.Nat.{_+_, _*_, _/_, _%_, _^_, _≤_, _<_};
+ghost use Prim.Native.Nat.{_+_, _*_, _/_, _%_, _^_, _<_};
 
 // A pin of the netlist.
 pub struct Pin(pub u32);
