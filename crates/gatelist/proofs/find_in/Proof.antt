@@ -7,22 +7,10 @@ use Rattle.gatelist.proofs.WordLaws.{found-gate, found-none}
 use Rattle.gatelist.proofs.find_in.Statement.{statement}
 use Rattle.gatelist.proofs.find_in.Tie as tie
 
-guess-requires : tie.Need-guess-requires
-guess-requires c κs = search needs
-
-has-pin-requires : tie.Need-has-pin-requires
-has-pin-requires c κs = search needs
-
 returns : tie.Need-returns
 returns c =
     let s = c .before .before .before .before in
     ap listedOf (sym (found-gate (s .args .l .now) (s .pre) (s .args .pin .0) _ (sym (c .before .has-pin .ensures) ∙ c .if1 .taken)))
-
-first-not-below-requires : tie.Need-first-not-below-requires
-first-not-below-requires c κs = search needs
-
-has-pin-requires-2 : tie.Need-has-pin-requires-2
-has-pin-requires-2 c κs = search needs
 
 returns-2 : tie.Need-returns-2
 returns-2 c =
@@ -40,11 +28,4 @@ returns-3 c =
 pub find-in-spec : {M : Type 1} → statement M
 find-in-spec =
     tie.close
-    (tie.spec
-    guess-requires
-    has-pin-requires
-    returns
-    first-not-below-requires
-    has-pin-requires-2
-    returns-2
-    returns-3)
+    (tie.spec (λ c κs. search needs) (λ c κs. search needs) returns (λ c κs. search needs) (λ c κs. search needs) returns-2 returns-3)

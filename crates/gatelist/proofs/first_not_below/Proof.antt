@@ -17,33 +17,12 @@ Inv-loop l pin low₀ high₀ low high = Between (listPin l) (wholeGates l) (pin
 abbrev μ-loop : tie.MeasureT-loop
 μ-loop l pin low₀ high₀ low high = high - low
 
-loop-holds : tie.Need-loop-holds Inv-loop μ-loop
-loop-holds c = search needs
-
-sub-middle : tie.Need-sub-middle Inv-loop μ-loop
-sub-middle c = search needs
-
-add-middle : tie.Need-add-middle Inv-loop μ-loop
-add-middle c = search needs
-
-pin-of-requires : tie.Need-pin-of-requires Inv-loop μ-loop
-pin-of-requires c κs = search needs
-
-add-low : tie.Need-add-low Inv-loop μ-loop
-add-low c = search needs
-
-loop-less : tie.Need-loop-less Inv-loop μ-loop
-loop-less c = search needs
-
 loop-again : tie.Need-loop-again Inv-loop μ-loop
 loop-again c =
     let a = c .before .before .before .before .before in
     let s = a .before .before in
     let l = s .args .l .now in
     search-right (listPin l) _ _ _ _ _ (ascending l (s .pre)) (a .loop .inv) (omega arith) (omega arith)
-
-loop-less-2 : tie.Need-loop-less-2 Inv-loop μ-loop
-loop-less-2 c = search needs
 
 loop-again-2 : tie.Need-loop-again-2 Inv-loop μ-loop
 loop-again-2 c =
@@ -62,16 +41,5 @@ returns c =
 pub first-not-below-spec : {M : Type 1} → statement M
 first-not-below-spec =
     tie.close
-    (tie.spec
-    Inv-loop
-    μ-loop
-    loop-holds
-    sub-middle
-    add-middle
-    pin-of-requires
-    add-low
-    loop-less
-    loop-again
-    loop-less-2
-    loop-again-2
-    returns)
+    (tie.spec Inv-loop μ-loop (λ c. search needs) (λ c. search needs) (λ c. search needs) (λ c κs. search needs) (λ c. search needs)
+    (λ c. search needs) loop-again (λ c. search needs) loop-again-2 returns)

@@ -11,21 +11,6 @@ use Rattle.gatelist.proofs.GateListLaws.{right-not-above, right-not-fir
 use Rattle.gatelist.proofs.gate_right.Statement.{statement}
 use Rattle.gatelist.proofs.gate_right.Tie as tie
 
-pin-of-requires : tie.Need-pin-of-requires
-pin-of-requires c κs = search needs
-
-first-of-requires : tie.Need-first-of-requires
-first-of-requires c κs = search needs
-
-pin-requires : tie.Need-pin-requires
-pin-requires c κs = search needs
-
-second-of-requires : tie.Need-second-of-requires
-second-of-requires c κs = search needs
-
-pin-requires-2 : tie.Need-pin-requires-2
-pin-requires-2 c κs = search needs
-
 returns : tie.Need-returns
 returns c =
     let p = c .before .before in
@@ -43,22 +28,16 @@ returns-2 c =
 returns-3 : tie.Need-returns-3
 returns-3 c =
     let p = c .before .before .before in
-    let s = p .before .before .before .before .before .before .args in
+    let at-pin-of = p .before .before .before .before in
+    let s = at-pin-of .before .before .args in
     let h : beforeOver (listPin (s .l .now)) (s .g) < listPin (s .l .now) (s .g) = omega arith in
     let k : listFirst (s .l .now) (s .g) / 2 < listPin (s .l .now) (s .g) = omega arith in
     let y : p .pin2 .result .0 ≡ listSecond (s .l .now) (s .g) / 2 = omega arith in
-    let x : p .before .before .before .before .pin-of .result .0 ≡ listPin (s .l .now) (s .g) = omega arith in
+    let x : at-pin-of .pin-of .result .0 ≡ listPin (s .l .now) (s .g) = omega arith in
     ap₂ ltb y x ∙ sym (right-last (listPin (s .l .now)) (listFirst (s .l .now)) (listSecond (s .l .now)) (s .g) h k)
 
 pub gate-right-spec : {M : Type 1} → statement M
 gate-right-spec =
     tie.close
-    (tie.spec
-    pin-of-requires
-    first-of-requires
-    pin-requires
-    second-of-requires
-    pin-requires-2
-    returns
-    returns-2
-    returns-3)
+    (tie.spec (λ c κs. search needs) (λ c κs. search needs) (λ c κs. search needs) (λ c κs. search needs) (λ c κs. search needs) returns
+    returns-2 returns-3)

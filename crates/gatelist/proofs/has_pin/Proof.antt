@@ -11,9 +11,6 @@ use Rattle.gatelist.specs.Words.{listPin, wholeGates}
 use Rattle.gatelist.proofs.has_pin.Statement.{statement}
 use Rattle.gatelist.proofs.has_pin.Tie as tie
 
-pin-of-requires : tie.Need-pin-of-requires
-pin-of-requires c κs = search needs
-
 returns : tie.Need-returns
 returns c =
     let p = c .before .before in
@@ -31,7 +28,4 @@ returns-2 c =
 pub has-pin-spec : {M : Type 1} → statement M
 has-pin-spec =
     tie.close
-    (tie.spec
-    pin-of-requires
-    returns
-    returns-2)
+    (tie.spec (λ c κs. search needs) returns returns-2)

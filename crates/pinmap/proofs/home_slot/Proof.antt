@@ -7,20 +7,9 @@ use Rattle.pinmap.specs.PinMap.{home}
 use Rattle.pinmap.proofs.home_slot.Statement.{statement}
 use Rattle.pinmap.proofs.home_slot.Tie as tie
 
-cast-scattered : tie.Need-cast-scattered
-cast-scattered c = search needs
-
-mul-scattered : tie.Need-mul-scattered
-mul-scattered c = search needs
-
-rem-result : tie.Need-rem-result
-rem-result c = search needs
-
 returns : tie.Need-returns
 returns c = ap (λ (n : ℕ). home n (c .before .before .args .p .0)) (sym (c .if1 .taken))
 
-returns-2 : tie.Need-returns-2
-returns-2 c = search needs
-
 pub home-slot-spec : {M : Type 1} → statement M
-home-slot-spec = tie.close (tie.spec cast-scattered mul-scattered rem-result returns returns-2)
+home-slot-spec = tie.close
+    (tie.spec (λ c. search needs) (λ c. search needs) (λ c. search needs) returns (λ c. search needs))

@@ -5,24 +5,12 @@ use Rattle.pinmap.proofs.CodeLaws.{within, look-free, look-taken, look-
 use Rattle.pinmap.proofs.look_up.Statement.{statement}
 use Rattle.pinmap.proofs.look_up.Tie as tie
 
-probe-requires : tie.Need-probe-requires
-probe-requires c κs = search needs
-
-enum-told : tie.Need-enum-told
-enum-told c = search needs
-
-enum-known-i : tie.Need-enum-known-i
-enum-known-i c = search needs
-
 value-of-requires : tie.Need-value-of-requires
 value-of-requires c κs =
     let i = c .before in
     let a = i .before .before in
     let s = a .before .before .args in
     rw (i .i .given .1) at (within (s .t .now) (s .p .0) (a .probe .result) (a .probe .ensures))
-
-enum-told-2 : tie.Need-enum-told-2
-enum-told-2 c = search needs
 
 returns : tie.Need-returns
 returns c =
@@ -46,12 +34,5 @@ returns-3 c =
 pub look-up-spec : {M : Type 1} → statement M
 look-up-spec =
     tie.close
-    (tie.spec
-    probe-requires
-    enum-told
-    enum-known-i
-    value-of-requires
-    enum-told-2
-    returns
-    returns-2
+    (tie.spec (λ c κs. search needs) (λ c. search needs) (λ c. search needs) value-of-requires (λ c. search needs) returns returns-2
     returns-3)

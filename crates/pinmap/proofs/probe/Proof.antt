@@ -20,20 +20,11 @@ abbrev μ-loop : tie.MeasureT-loop
 returns : tie.Need-returns Inv-loop μ-loop
 returns c = sym (slot-none _ _ (c .if1 .taken))
 
-add-key : tie.Need-add-key Inv-loop μ-loop
-add-key c = search needs
-
-home-slot-requires : tie.Need-home-slot-requires Inv-loop μ-loop
-home-slot-requires c κs = search needs
-
 loop-holds : tie.Need-loop-holds Inv-loop μ-loop
 loop-holds c =
     let s = c .before .before .before .before .args in
     let h = home-lt (capacity (s .t .now)) (s .p .0) (omega arith) in
     (rw (c .home-slot .ensures) h, omega arith, probing-start (s .t .now) (s .p .0) (c .home-slot .result) (c .home-slot .ensures))
-
-key-of-requires : tie.Need-key-of-requires Inv-loop μ-loop
-key-of-requires c κs = search needs
 
 returns-2 : tie.Need-returns-2 Inv-loop μ-loop
 returns-2 c =
@@ -49,20 +40,12 @@ returns-3 c =
     let s = l .before .before .before .before .before .args in
     probing-taken (s .t .now) (l .loop .left) (l .loop .i) (k .key-of .result) (omega arith) (k .key-of .ensures) (s .p .0) (c .if3 .taken) (l .loop .inv .2)
 
-next-of-requires : tie.Need-next-of-requires Inv-loop μ-loop
-next-of-requires c κs = search needs
-
-sub-left : tie.Need-sub-left Inv-loop μ-loop
-sub-left c = search needs
-
-loop-less : tie.Need-loop-less Inv-loop μ-loop
-loop-less c = search needs
-
 loop-again : tie.Need-loop-again Inv-loop μ-loop
 loop-again c =
     let k = c .before .before .before in
     let l = k .before .before in
-    let s = l .before .before .before .before .before .args in
+    let start = l .before .before .before .before .before in
+    let s = start .args in
     let g = probing-on (s .t .now) (l .loop .left) (l .loop .i) (k .key-of .result) (omega arith) (k .key-of .ensures) _
     (c .before .before .if2 .left) (c .before .if3 .left) (l .loop .inv .2) in
     rw (c .next-of .ensures) (next-lt _ _ (l .loop .inv .0), omega arith, g)
@@ -76,18 +59,5 @@ returns-4 c =
 pub probe-spec : {M : Type 1} → statement M
 probe-spec =
     tie.close
-    (tie.spec
-    Inv-loop
-    μ-loop
-    returns
-    add-key
-    home-slot-requires
-    loop-holds
-    key-of-requires
-    returns-2
-    returns-3
-    next-of-requires
-    sub-left
-    loop-less
-    loop-again
-    returns-4)
+    (tie.spec Inv-loop μ-loop returns (λ c. search needs) (λ c κs. search needs) loop-holds (λ c κs. search needs) returns-2 returns-3
+    (λ c κs. search needs) (λ c. search needs) (λ c. search needs) loop-again returns-4)

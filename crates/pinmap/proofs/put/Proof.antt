@@ -6,12 +6,6 @@ use Rattle.pinmap.proofs.CodeLaws.{within, put-free, put-taken, put-now
 use Rattle.pinmap.proofs.put.Statement.{statement}
 use Rattle.pinmap.proofs.put.Tie as tie
 
-probe-requires : tie.Need-probe-requires
-probe-requires c κs = search needs
-
-enum-known-i : tie.Need-enum-known-i
-enum-known-i c = search needs
-
 take-slot-requires : tie.Need-take-slot-requires
 take-slot-requires c κs =
     let i = c .before .before in
@@ -24,12 +18,10 @@ store-value-requires c κs =
     let m = c .before .before .before in
     let i = m .before .before .before in
     let a = i .before .before in
-    let s = a .before .before .before .args in
+    let start = a .before .before .before in
+    let s = start .args in
     let h = rw (i .i .given .1) at (within (s .t .now) (s .p .0) (a .probe .result) (a .probe .ensures)) in
     rw (m .take-slot .ensures) (simp length-set h)
-
-enum-known-i-2 : tie.Need-enum-known-i-2
-enum-known-i-2 c = search needs
 
 store-value-requires-2 : tie.Need-store-value-requires-2
 store-value-requires-2 c κs =
@@ -38,23 +30,15 @@ store-value-requires-2 c κs =
     let s = a .before .before .before .args in
     rw (i .i2 .given .1) at (within (s .t .now) (s .p .0) (a .probe .result) (a .probe .ensures))
 
-enum-told : tie.Need-enum-told
-enum-told c = search needs
-
-same-length : tie.Need-same-length
-same-length c = search needs
-
 returns : tie.Need-returns
 returns c =
     let u = c .before .before in
     let m = u .before .before .before .before in
     let i = m .before .before .before in
     let a = i .before .before in
-    let s = a .before .before .before .args in
+    let start = a .before .before .before in
+    let s = start .args in
     put-free (s .t .now) (s .p .0) (a .probe .result) (a .probe .ensures) (s .v) _ _ _ (i .i .given .1) (m .take-slot .ensures) (u .store-value .ensures)
-
-same-length-2 : tie.Need-same-length-2
-same-length-2 c = search needs
 
 returns-2 : tie.Need-returns-2
 returns-2 c =
@@ -63,9 +47,6 @@ returns-2 c =
     let a = i .before .before in
     let s = a .before .before .before .args in
     put-taken (s .t .now) (s .p .0) (a .probe .result) (a .probe .ensures) (s .v) _ _ (i .i2 .given .1) (u .store-value2 .ensures)
-
-same-length-3 : tie.Need-same-length-3
-same-length-3 c = search needs
 
 returns-3 : tie.Need-returns-3
 returns-3 c =
@@ -76,17 +57,5 @@ returns-3 c =
 pub put-spec : {M : Type 1} → statement M
 put-spec =
     tie.close
-    (tie.spec
-    probe-requires
-    enum-known-i
-    take-slot-requires
-    store-value-requires
-    enum-known-i-2
-    store-value-requires-2
-    enum-told
-    same-length
-    returns
-    same-length-2
-    returns-2
-    same-length-3
-    returns-3)
+    (tie.spec (λ c κs. search needs) (λ c. search needs) take-slot-requires store-value-requires (λ c. search needs) store-value-requires-2
+    (λ c. search needs) (λ c. search needs) returns (λ c. search needs) returns-2 (λ c. search needs) returns-3)

@@ -5,15 +5,6 @@ use Rattle.pinmap.proofs.CodeLaws.{within, there-free, there-taken, the
 use Rattle.pinmap.proofs.put_where_there.Statement.{statement}
 use Rattle.pinmap.proofs.put_where_there.Tie as tie
 
-probe-requires : tie.Need-probe-requires
-probe-requires c κs = search needs
-
-enum-told : tie.Need-enum-told
-enum-told c = search needs
-
-enum-known-i : tie.Need-enum-known-i
-enum-known-i c = search needs
-
 store-value-requires : tie.Need-store-value-requires
 store-value-requires c κs =
     let i = c .before .before in
@@ -21,20 +12,11 @@ store-value-requires c κs =
     let s = a .before .before .before .args in
     rw (i .i .given .1) at (within (s .t .now) (s .p .0) (a .probe .result) (a .probe .ensures))
 
-enum-told-2 : tie.Need-enum-told-2
-enum-told-2 c = search needs
-
-same-length : tie.Need-same-length
-same-length c = search needs
-
 returns : tie.Need-returns
 returns c =
     let a = c .before .before in
     let s = a .before .before .before .args in
     there-free (s .t .now) (s .p .0) (a .probe .result) (a .probe .ensures) _ (s .v) (c .enum-told .given .1)
-
-same-length-2 : tie.Need-same-length-2
-same-length-2 c = search needs
 
 returns-2 : tie.Need-returns-2
 returns-2 c =
@@ -43,9 +25,6 @@ returns-2 c =
     let a = i .before .before in
     let s = a .before .before .before .args in
     there-taken (s .t .now) (s .p .0) (a .probe .result) (a .probe .ensures) (s .v) _ _ (i .i .given .1) (u .store-value .ensures)
-
-same-length-3 : tie.Need-same-length-3
-same-length-3 c = search needs
 
 returns-3 : tie.Need-returns-3
 returns-3 c =
@@ -56,15 +35,5 @@ returns-3 c =
 pub put-where-there-spec : {M : Type 1} → statement M
 put-where-there-spec =
     tie.close
-    (tie.spec
-    probe-requires
-    enum-told
-    enum-known-i
-    store-value-requires
-    enum-told-2
-    same-length
-    returns
-    same-length-2
-    returns-2
-    same-length-3
-    returns-3)
+    (tie.spec (λ c κs. search needs) (λ c. search needs) (λ c. search needs) store-value-requires (λ c. search needs) (λ c. search needs)
+    returns (λ c. search needs) returns-2 (λ c. search needs) returns-3)

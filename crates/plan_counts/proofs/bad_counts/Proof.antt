@@ -6,20 +6,8 @@ use borrow.Author.Needs.{needs}
 use Rattle.plan_counts.proofs.bad_counts.Statement.{statement}
 use Rattle.plan_counts.proofs.bad_counts.Tie as tie
 
-first-bad-location-requires : tie.Need-first-bad-location-requires
-first-bad-location-requires c κs = search needs
-
-enum-known-l : tie.Need-enum-known-l
-enum-known-l c = search needs
-
 returns : tie.Need-returns
 returns c = counts-location _ _ _ (c .before .before .before .first-bad-location .ensures) _ (c .before .l .given .1)
-
-enum-told : tie.Need-enum-told
-enum-told c = search needs
-
-counts-of-requires : tie.Need-counts-of-requires
-counts-of-requires c κs = search needs
 
 returns-2 : tie.Need-returns-2
 returns-2 c =
@@ -30,18 +18,12 @@ returns-2 c =
 returns-3 : tie.Need-returns-3
 returns-3 c =
     let a = c .before .before .before in
-    let n = c .before .before .before .before .before .before .before .pre .body .locations in
+    let start = a .before .before .before .before in
+    let n = start .pre .body .locations in
     let w = c .before .before .counts-of .ensures .words-are in
     counts-many _ _ _ (a .before .before .first-bad-location .ensures) (a .enum-told .given .1) _ n (omega (arith, w, c .if1 .left))
 
 pub bad-counts-spec : {M : Type 1} → statement M
 bad-counts-spec =
     tie.close
-    (tie.spec
-    first-bad-location-requires
-    enum-known-l
-    returns
-    enum-told
-    counts-of-requires
-    returns-2
-    returns-3)
+    (tie.spec (λ c κs. search needs) (λ c. search needs) returns (λ c. search needs) (λ c κs. search needs) returns-2 returns-3)

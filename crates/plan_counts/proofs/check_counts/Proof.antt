@@ -41,22 +41,10 @@ body-at-requires c κs =
 bad-counts-requires : tie.Need-bad-counts-requires Inv-loop μ-loop
 bad-counts-requires c κs = countable _ _ _ (c .before .before .before .before .before .before .pre) (among (c .before)) (c .body-at .ensures)
 
-enum-known-i : tie.Need-enum-known-i Inv-loop μ-loop
-enum-known-i c = search needs
-
 returns : tie.Need-returns Inv-loop μ-loop
 returns c =
     let a = c .before .before .before .before .before in
     pass-fault _ _ _ _ (a .before .loop .inv .2) (among a) _ (c .before .before .before .bad-counts .ensures) _ (c .before .i .given .1)
-
-enum-told : tie.Need-enum-told Inv-loop μ-loop
-enum-told c = search needs
-
-add-p : tie.Need-add-p Inv-loop μ-loop
-add-p c = search needs
-
-loop-less : tie.Need-loop-less Inv-loop μ-loop
-loop-less c = search needs
 
 loop-again : tie.Need-loop-again Inv-loop μ-loop
 loop-again c =
@@ -70,18 +58,5 @@ returns-2 c = pass-end _ _ _ _ (c .before .loop .inv .2) (omega (arith, c .befor
 pub check-counts-spec : {M : Type 1} → statement M
 check-counts-spec =
     tie.close
-    (tie.spec
-    Inv-loop
-    μ-loop
-    parts-of-requires
-    first-body-requires
-    loop-holds
-    body-at-requires
-    bad-counts-requires
-    enum-known-i
-    returns
-    enum-told
-    add-p
-    loop-less
-    loop-again
-    returns-2)
+    (tie.spec Inv-loop μ-loop parts-of-requires first-body-requires loop-holds body-at-requires bad-counts-requires (λ c. search needs)
+    returns (λ c. search needs) (λ c. search needs) (λ c. search needs) loop-again returns-2)

@@ -12,24 +12,6 @@ use Rattle.plan_counts.proofs.counts_of.Tie as tie
 few : (a : tie.Start) → endpointsOf (a .args .d .now) (a .args .p) ≤ 8192
 few a = omega (arith, a .pre .body .endpoints, a .pre .body .laid .endpoints)
 
-srams-of-requires : tie.Need-srams-of-requires
-srams-of-requires c κs = search needs
-
-duplicates-of-requires : tie.Need-duplicates-of-requires
-duplicates-of-requires c κs = search needs
-
-cast-t6 : tie.Need-cast-t6
-cast-t6 c = search needs
-
-add-t7 : tie.Need-add-t7
-add-t7 c = search needs
-
-cast-t8 : tie.Need-cast-t8
-cast-t8 c = search needs
-
-add-t9 : tie.Need-add-t9
-add-t9 c = search needs
-
 returns : tie.Need-returns
 unfolding writeOuts
 returns c =
@@ -47,4 +29,5 @@ returns c =
 pub counts-of-spec : {M : Type 1} → statement M
 counts-of-spec =
     tie.close
-    (tie.spec srams-of-requires duplicates-of-requires cast-t6 add-t7 cast-t8 add-t9 returns)
+    (tie.spec (λ c κs. search needs) (λ c κs. search needs) (λ c. search needs) (λ c. search needs) (λ c. search needs) (λ c. search needs)
+    returns)

@@ -21,20 +21,11 @@ abbrev μ-loop : tie.MeasureT-loop
 loop-holds : tie.Need-loop-holds Inv-loop μ-loop
 loop-holds c = (omega arith, look-start _ _)
 
-location-requires : tie.Need-location-requires Inv-loop μ-loop
-location-requires c κs = search needs
-
 returns : tie.Need-returns Inv-loop μ-loop
 returns c =
     let a = c .before .before .before in
     let s = a .before .before in
     look-fault _ _ _ _ (a .loop .inv .1) (omega (arith, s .pre .locations)) (lt-leb (locationAt (s .args .d .now) (s .args .p) (a .loop .l)) 255 (omega (arith, c .before .location .ensures)))
-
-add-l : tie.Need-add-l Inv-loop μ-loop
-add-l c = search needs
-
-loop-less : tie.Need-loop-less Inv-loop μ-loop
-loop-less c = search needs
 
 loop-again : tie.Need-loop-again Inv-loop μ-loop
 loop-again c =
@@ -51,13 +42,4 @@ returns-2 c =
 pub first-bad-location-spec : {M : Type 1} → statement M
 first-bad-location-spec =
     tie.close
-    (tie.spec
-    Inv-loop
-    μ-loop
-    loop-holds
-    location-requires
-    returns
-    add-l
-    loop-less
-    loop-again
-    returns-2)
+    (tie.spec Inv-loop μ-loop loop-holds (λ c κs. search needs) returns (λ c. search needs) (λ c. search needs) loop-again returns-2)

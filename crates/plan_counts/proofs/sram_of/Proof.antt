@@ -13,4 +13,5 @@ returns-2 : tie.Need-returns-2
 returns-2 c = (sym (sram-no _ (c .if1 .left)), omega arith)
 
 pub sram-of-spec : {M : Type 1} → statement M
-sram-of-spec = tie.close (tie.spec returns returns-2)
+sram-of-spec = tie.close
+    (tie.spec returns returns-2)

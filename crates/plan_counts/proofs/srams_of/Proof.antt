@@ -21,20 +21,8 @@ loop-holds : tie.Need-loop-holds Inv-loop μ-loop
 unfolding sumTo
 loop-holds c = (omega arith, refl, omega arith)
 
-endpoint-kind-requires : tie.Need-endpoint-kind-requires Inv-loop μ-loop
-endpoint-kind-requires c κs = search needs
-
-sram-of-requires : tie.Need-sram-of-requires Inv-loop μ-loop
-sram-of-requires c κs = search needs
-
 add-found : tie.Need-add-found Inv-loop μ-loop
 add-found c = omega (arith, c .sram-of .ensures .1, c .before .before .before .before .before .pre .laid .endpoints)
-
-add-i : tie.Need-add-i Inv-loop μ-loop
-add-i c = search needs
-
-loop-less : tie.Need-loop-less Inv-loop μ-loop
-loop-less c = search needs
 
 loop-again : tie.Need-loop-again Inv-loop μ-loop
 loop-again c =
@@ -54,14 +42,5 @@ returns c =
 pub srams-of-spec : {M : Type 1} → statement M
 srams-of-spec =
     tie.close
-    (tie.spec
-    Inv-loop
-    μ-loop
-    loop-holds
-    endpoint-kind-requires
-    sram-of-requires
-    add-found
-    add-i
-    loop-less
-    loop-again
-    returns)
+    (tie.spec Inv-loop μ-loop loop-holds (λ c κs. search needs) (λ c κs. search needs) add-found (λ c. search needs) (λ c. search needs)
+    loop-again returns)

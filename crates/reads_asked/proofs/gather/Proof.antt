@@ -17,28 +17,17 @@ abbrev μ-loop : tie.MeasureT-loop
 loop-holds : tie.Need-loop-holds Inv-loop μ-loop
 loop-holds c = gather-start _ _
 
-mul-ask-next : tie.Need-mul-ask-next Inv-loop μ-loop
-mul-ask-next c = search needs
-
-shared-slice-read-ask-next : tie.Need-shared-slice-read-ask-next Inv-loop μ-loop
-shared-slice-read-ask-next c = search needs
-
 ask-next-requires : tie.Need-ask-next-requires Inv-loop μ-loop
 ask-next-requires c κs =
     let start = c .before .before .before .before .before .before in
     let l = c .before .before .before .loop in
     gather-askable (start .args .keys .now) (start .args .set .now) (l .set) (l .n) (l .i) (start .pre) (l .inv) (omega arith)
 
-add-i : tie.Need-add-i Inv-loop μ-loop
-add-i c = search needs
-
-loop-less : tie.Need-loop-less Inv-loop μ-loop
-loop-less c = search needs
-
 loop-again : tie.Need-loop-again Inv-loop μ-loop
 loop-again c =
-    let start = c .before .before .before .before .before .before .before .before .before in
-    let l = c .before .before .before .before .before .before .loop in
+    let at-loop = c .before .before .before .before .before .before in
+    let start = at-loop .before .before .before in
+    let l = at-loop .loop in
     let asked = c .before .before .ask-next in
     gather-more (start .args .keys .now) (start .args .set .now) (l .set) (l .n) (l .i) (start .pre) (l .inv) _ _ (omega arith) (asked .ensures .0) (asked .ensures .1)
 
@@ -57,15 +46,5 @@ returns c =
 pub gather-spec : {M : Type 1} → statement M
 gather-spec =
     tie.close
-    (tie.spec
-    Inv-loop
-    μ-loop
-    loop-holds
-    mul-ask-next
-    shared-slice-read-ask-next
-    ask-next-requires
-    add-i
-    loop-less
-    loop-again
-    same-length
-    returns)
+    (tie.spec Inv-loop μ-loop loop-holds (λ c. search needs) (λ c. search needs) ask-next-requires (λ c. search needs) (λ c. search needs)
+    loop-again same-length returns)

@@ -5,21 +5,6 @@ use borrow.Author.Needs.{needs}
 use Rattle.reads_section.proofs.entry_word.Statement.{statement}
 use Rattle.reads_section.proofs.entry_word.Tie as tie
 
-sub-result : tie.Need-sub-result
-sub-result c = search needs
-
-mul-result : tie.Need-mul-result
-mul-result c = search needs
-
-add-result : tie.Need-add-result
-add-result c = search needs
-
-mul-result-2 : tie.Need-mul-result-2
-mul-result-2 c = search needs
-
-shared-slice-read-result : tie.Need-shared-slice-read-result
-shared-slice-read-result c = search needs
-
 returns : tie.Need-returns
 returns c = entry-none _ _ _ (c .if1 .taken)
 
@@ -29,11 +14,4 @@ returns-2 c = entry-word _ _ _ (c .before .if1 .left)
 pub entry-word-spec : {M : Type 1} → statement M
 entry-word-spec =
     tie.close
-    (tie.spec
-    sub-result
-    mul-result
-    add-result
-    mul-result-2
-    shared-slice-read-result
-    returns
-    returns-2)
+    (tie.spec (λ c. search needs) (λ c. search needs) (λ c. search needs) (λ c. search needs) (λ c. search needs) returns returns-2)

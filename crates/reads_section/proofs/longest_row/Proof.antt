@@ -19,21 +19,14 @@ Inv-loop set room lanes best₀ j₀ best j = (j ≤ lanes) × (max best (longes
 abbrev μ-loop : tie.MeasureT-loop
 μ-loop set room lanes best₀ j₀ best j = lanes - j
 
-loop-holds : tie.Need-loop-holds Inv-loop μ-loop
-loop-holds c = search needs
-
 lane-load-requires : tie.Need-lane-load-requires Inv-loop μ-loop
 lane-load-requires c κs = filled-row (c .before .before .before .before .pre .filled) _ (c .loop-test .taken)
 
-add-j : tie.Need-add-j Inv-loop μ-loop
-add-j c = search needs
-
-loop-less : tie.Need-loop-less Inv-loop μ-loop
-loop-less c = search needs
-
 loop-again : tie.Need-loop-again Inv-loop μ-loop
 loop-again c =
-    let s = longest-step (c .before .before .before .before .before .before .before .pre) (c .before .before .before .before .loop .j) (c .before .before .before .loop-test .taken) in
+    let at-loop-test = c .before .before .before in
+    let start = at-loop-test .before .before .before .before in
+    let s = longest-step (start .pre) (at-loop-test .before .loop .j) (at-loop-test .loop-test .taken) in
     let e = c .before .before .lane-load .ensures .1 in
     ⊎-elim (λ w. omega (arith, s, e)) (λ w. omega (arith, s, e)) (c .if1 .came)
 
@@ -43,4 +36,4 @@ returns c = omega (arith, longest-end (c .before .before .before .before .pre) (
 pub longest-row-spec : {M : Type 1} → statement M
 longest-row-spec =
     tie.close
-    (tie.spec Inv-loop μ-loop loop-holds lane-load-requires add-j loop-less loop-again returns)
+    (tie.spec Inv-loop μ-loop (λ c. search needs) lane-load-requires (λ c. search needs) (λ c. search needs) loop-again returns)

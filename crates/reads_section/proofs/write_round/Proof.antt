@@ -26,69 +26,30 @@ abbrev μ-loop : tie.MeasureT-loop
 loop-holds : tie.Need-loop-holds Inv-loop μ-loop
 loop-holds c = (search needs, refl, rw add-zero)
 
-mul-e : tie.Need-mul-e Inv-loop μ-loop
-mul-e c = search needs
-
-add-e : tie.Need-add-e Inv-loop μ-loop
-add-e c = search needs
-
-mul-e-2 : tie.Need-mul-e-2 Inv-loop μ-loop
-mul-e-2 c = search needs
-
-shared-slice-read-e : tie.Need-shared-slice-read-e Inv-loop μ-loop
-shared-slice-read-e c = search needs
-
 entry-word-requires : tie.Need-entry-word-requires Inv-loop μ-loop
 entry-word-requires c κs = (filled-named (c .before .before .before .before .before .before .pre .0 .filled) _ (omega arith), omega arith)
 
-mul-out : tie.Need-mul-out Inv-loop μ-loop
-mul-out c = search needs
-
-add-out : tie.Need-add-out Inv-loop μ-loop
-add-out c = search needs
-
-mul-out-2 : tie.Need-mul-out-2 Inv-loop μ-loop
-mul-out-2 c = search needs
-
-slice-write-out : tie.Need-slice-write-out Inv-loop μ-loop
-slice-write-out c = search needs
-
 entry-word-requires-2 : tie.Need-entry-word-requires-2 Inv-loop μ-loop
-entry-word-requires-2 c κs = (filled-named (c .before .before .before .before .before .before .before .pre .0 .filled) _ (omega arith), omega arith)
-
-mul-out-3 : tie.Need-mul-out-3 Inv-loop μ-loop
-mul-out-3 c = search needs
-
-add-out-2 : tie.Need-add-out-2 Inv-loop μ-loop
-add-out-2 c = search needs
-
-add-out-3 : tie.Need-add-out-3 Inv-loop μ-loop
-add-out-3 c = search needs
-
-mul-out-4 : tie.Need-mul-out-4 Inv-loop μ-loop
-mul-out-4 c = search needs
+entry-word-requires-2 c κs =
+    let way = c .before .before .before .before in
+    let start = way .before .before .before in
+    (filled-named (start .pre .0 .filled) _ (omega arith), omega arith)
 
 slice-write-out-2 : tie.Need-slice-write-out-2 Inv-loop μ-loop
 slice-write-out-2 c = simp length-set (omega arith)
 
-add-i : tie.Need-add-i Inv-loop μ-loop
-add-i c = search needs
-
-loop-less : tie.Need-loop-less Inv-loop μ-loop
-loop-less c = search needs
-
 loop-again : tie.Need-loop-again Inv-loop μ-loop
 loop-again c =
-    let l = c .before .before .before .before .loop in
-    let a = c .before .before .before .before .before .before .before .before in
-    let q : l .i < a .args .lanes = omega arith in
-    let w = c .before .entry-word .ensures ∙ read-word (a .pre .0) (l .i) (a .args .r) q (a .pre .1) in
-    let m = c .entry-word2 .ensures ∙ read-mask (a .pre .0) (l .i) (a .args .r) q (a .pre .1) in
-    let n : l .i < length (lanesAt (a .args .set .now) (a .args .room .now) (a .args .lanes)) = omega (arith, a .pre .0 .filled .kept .wide) in
-    (omega arith, simp length-set (l .inv .1), rw (w, m) (round-step _ (a .args .r) (l .out) (a .args .at) (l .i) n ∙ l .inv .2))
-
-same-length : tie.Need-same-length Inv-loop μ-loop
-same-length c = search needs
+    let at-loop = c .before .before .before .before in
+    let a = at-loop .before .before .before .before in
+    let lanes = a .args .lanes in
+    let r = a .args .r in
+    let l = at-loop .loop in
+    let q : l .i < lanes = omega arith in
+    let w = c .before .entry-word .ensures ∙ read-word (a .pre .0) (l .i) r q (a .pre .1) in
+    let m = c .entry-word2 .ensures ∙ read-mask (a .pre .0) (l .i) r q (a .pre .1) in
+    let n : l .i < length (lanesAt (a .args .set .now) (a .args .room .now) lanes) = omega (arith, a .pre .0 .filled .kept .wide) in
+    (omega arith, simp length-set (l .inv .1), rw (w, m) (round-step _ r (l .out) (a .args .at) (l .i) n ∙ l .inv .2))
 
 returns : tie.Need-returns Inv-loop μ-loop
 returns c =
@@ -100,27 +61,7 @@ returns c =
 pub write-round-spec : {M : Type 1} → statement M
 write-round-spec =
     tie.close
-    (tie.spec
-    Inv-loop
-    μ-loop
-    loop-holds
-    mul-e
-    add-e
-    mul-e-2
-    shared-slice-read-e
-    entry-word-requires
-    mul-out
-    add-out
-    mul-out-2
-    slice-write-out
-    entry-word-requires-2
-    mul-out-3
-    add-out-2
-    add-out-3
-    mul-out-4
-    slice-write-out-2
-    add-i
-    loop-less
-    loop-again
-    same-length
-    returns)
+    (tie.spec Inv-loop μ-loop loop-holds (λ c. search needs) (λ c. search needs) (λ c. search needs) (λ c. search needs) entry-word-requires
+    (λ c. search needs) (λ c. search needs) (λ c. search needs) (λ c. search needs) entry-word-requires-2 (λ c. search needs)
+    (λ c. search needs) (λ c. search needs) (λ c. search needs) slice-write-out-2 (λ c. search needs) (λ c. search needs) loop-again
+    (λ c. search needs) returns)

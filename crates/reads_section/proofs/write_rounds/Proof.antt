@@ -33,34 +33,26 @@ write-round-requires c κs =
     let s = at-step (2 * a .args .lanes) (l .r) (a .args .rounds) (c .before .loop-test .taken) in
     (a .pre .table, omega (arith, a .pre .rounds), omega (arith, a .pre .fits, s))
 
-mul-at : tie.Need-mul-at Inv-loop μ-loop
-mul-at c = search needs
-
 add-at : tie.Need-add-at Inv-loop μ-loop
 add-at c =
-    let a = c .before .before .before .before .before .before .before .before .before in
-    let l = c .before .before .before .before .before .loop in
-    omega (arith, a .pre .fits, at-step (2 * a .args .lanes) (l .r) (a .args .rounds) (c .before .before .before .before .loop-test .taken))
-
-add-r : tie.Need-add-r Inv-loop μ-loop
-add-r c = search needs
-
-loop-less : tie.Need-loop-less Inv-loop μ-loop
-loop-less c = search needs
+    let at-loop-test = c .before .before .before .before in
+    let a = at-loop-test .before .before .before .before .before in
+    let l = at-loop-test .before .loop in
+    omega (arith, a .pre .fits, at-step (2 * a .args .lanes) (l .r) (a .args .rounds) (at-loop-test .loop-test .taken))
 
 loop-again : tie.Need-loop-again Inv-loop μ-loop
 loop-again c =
-    let a = c .before .before .before .before .before .before .before .before .before in
-    let l = c .before .before .before .before .before .loop in (
+    let at-write-round = c .before .before in
+    let at-loop = at-write-round .before .before .before in
+    let a = at-loop .before .before .before .before in
+    let lanes = a .args .lanes in
+    let l = at-loop .loop in (
       omega arith,
-      at-next (2 * a .args .lanes) (l .r) (l .at) (l .inv .1),
-      c .before .before .write-round .kept .1 .1 .1 .1 .0 ∙ l .inv .2,
-      rw (c .before .before .write-round .ensures)
-          (rounds-step _ (a .args .rounds) (l .out) (l .at) (l .r) (a .args .lanes) (a .pre .table .filled .kept .wide) (c .before .before .before .before .loop-test .taken) ∙ l .inv .3),
+      at-next (2 * lanes) (l .r) (l .at) (l .inv .1),
+      at-write-round .write-round .kept .1 .1 .1 .1 .0 ∙ l .inv .2,
+      rw (at-write-round .write-round .ensures)
+          (rounds-step _ (a .args .rounds) (l .out) (l .at) (l .r) lanes (a .pre .table .filled .kept .wide) (at-write-round .before .before .loop-test .taken) ∙ l .inv .3),
     )
-
-same-length : tie.Need-same-length Inv-loop μ-loop
-same-length c = search needs
 
 returns : tie.Need-returns Inv-loop μ-loop
 returns c =
@@ -70,15 +62,5 @@ returns c =
 pub write-rounds-spec : {M : Type 1} → statement M
 write-rounds-spec =
     tie.close
-    (tie.spec
-    Inv-loop
-    μ-loop
-    loop-holds
-    write-round-requires
-    mul-at
-    add-at
-    add-r
-    loop-less
-    loop-again
-    same-length
-    returns)
+    (tie.spec Inv-loop μ-loop loop-holds write-round-requires (λ c. search needs) add-at (λ c. search needs) (λ c. search needs) loop-again
+    (λ c. search needs) returns)

@@ -33,9 +33,6 @@ bitsAt s j = total (getD (lanesAt (s .args .set .now) (s .args .room .now) (s .a
 loaded : (c : tie.After-lane-load Inv-loop μ-loop) → c .lane-load .result .bits ≡ bitsAt (called c) (c .before .before .loop .j)
 loaded c = c .lane-load .ensures .0 ∙ ap total (sym (lane-at _ _ (called c .args .lanes) _ (c .before .before .loop .inv .0)))
 
-loop-holds : tie.Need-loop-holds Inv-loop μ-loop
-loop-holds c = search needs
-
 lane-load-requires : tie.Need-lane-load-requires Inv-loop μ-loop
 lane-load-requires c κs = row-in _ _ _ (c .before .before .before .before .pre .in-room) (c .before .before .before .before .pre .named) _ (c .before .loop .inv .0)
 
@@ -46,24 +43,17 @@ add-if1 c =
 
 returns : tie.Need-returns Inv-loop μ-loop
 returns c =
-    let l = c .before .before .before .before .loop in
-    let h : bitsAt (called (c .before .before)) (l .j) + called (c .before .before) .args .b ≤ 32 = omega (arith, loaded (c .before .before)) in
-    ap foundOf (sym (room-here _ _ _ _ _ (c .before .before .before .loop-test .taken) h) ∙ l .inv .2)
-
-next-of-requires : tie.Need-next-of-requires Inv-loop μ-loop
-next-of-requires c κs = search needs
-
-sub-left : tie.Need-sub-left Inv-loop μ-loop
-sub-left c = search needs
-
-loop-less : tie.Need-loop-less Inv-loop μ-loop
-loop-less c = search needs
+    let way = c .before .before in
+    let l = way .before .before .loop in
+    let h : bitsAt (called way) (l .j) + called way .args .b ≤ 32 = omega (arith, loaded way) in
+    ap foundOf (sym (room-here _ _ _ _ _ (way .before .loop-test .taken) h) ∙ l .inv .2)
 
 loop-again : tie.Need-loop-again Inv-loop μ-loop
 loop-again c =
-    let l = c .before .before .before .before .before .loop in
-    let h : 32 < bitsAt (called (c .before .before .before)) (l .j) + called (c .before .before .before) .args .b = omega (arith, loaded (c .before .before .before)) in
-    rw (c .next-of .ensures) (next-lt _ _ (l .inv .0), omega arith, sym (room-on _ _ _ _ _ (c .before .before .before .before .loop-test .taken) h) ∙ l .inv .2)
+    let way = c .before .before .before in
+    let l = way .before .before .loop in
+    let h : 32 < bitsAt (called way) (l .j) + called way .args .b = omega (arith, loaded way) in
+    rw (c .next-of .ensures) (next-lt _ _ (l .inv .0), omega arith, sym (room-on _ _ _ _ _ (way .before .loop-test .taken) h) ∙ l .inv .2)
 
 returns-2 : tie.Need-returns-2 Inv-loop μ-loop
 returns-2 c =
@@ -74,15 +64,5 @@ returns-2 c =
 pub find-lane-spec : {M : Type 1} → statement M
 find-lane-spec =
     tie.close
-    (tie.spec
-    Inv-loop
-    μ-loop
-    loop-holds
-    lane-load-requires
-    add-if1
-    returns
-    next-of-requires
-    sub-left
-    loop-less
-    loop-again
-    returns-2)
+    (tie.spec Inv-loop μ-loop (λ c. search needs) lane-load-requires add-if1 returns (λ c κs. search needs) (λ c. search needs)
+    (λ c. search needs) loop-again returns-2)

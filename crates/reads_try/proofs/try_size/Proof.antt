@@ -33,7 +33,10 @@ abbrev μ-pieces : tie.MeasureT-pieces
 
 -- where a piece begins: what the function was called with, and the outer loop
 abbrev called : tie.After-least Inv-pairs μ-pairs Inv-pieces μ-pieces → tie.Start Inv-pairs μ-pairs Inv-pieces μ-pieces
-called c = c .before .before .before .before .before .before .before
+called c =
+    let way = c .before .before .before .before in
+    let way-2 = way .before .before .before in
+    way-2
 
 abbrev outer : tie.After-least Inv-pairs μ-pairs Inv-pieces μ-pieces → tie.At-pieces Inv-pairs μ-pairs Inv-pieces μ-pieces
 outer c = c .before .before .before
@@ -76,51 +79,28 @@ pair-in c =
 pieces-holds : tie.Need-pieces-holds Inv-pairs μ-pairs Inv-pieces μ-pieces
 pieces-holds c = (search needs, refl, held-start (c .before .before .before .pre) (c .before .before .before .args .keys .now))
 
-mul-i : tie.Need-mul-i Inv-pairs μ-pairs Inv-pieces μ-pieces
-mul-i c = search needs
-
-shared-slice-read-i : tie.Need-shared-slice-read-i Inv-pairs μ-pairs Inv-pieces μ-pieces
-shared-slice-read-i c = search needs
-
 mul-p : tie.Need-mul-p Inv-pairs μ-pairs Inv-pieces μ-pieces
-mul-p c = omega (arith, piece-small (getD (c .before .before .before .before .before .before .args .keys .now) (c .before .before .pieces .t) 0) (c .before .before .before .before .before .before .args .k) (c .before .before .before .before .before .before .pre .size))
+mul-p c =
+    let start = c .before .before .before .before .before .before in
+    omega (arith, piece-small (getD (start .args .keys .now) (c .before .before .pieces .t) 0) (start .args .k) (start .pre .size))
 
 add-least : tie.Need-add-least Inv-pairs μ-pairs Inv-pieces μ-pieces
-add-least c = omega (arith, piece-small (getD (c .before .before .before .before .before .before .args .keys .now) (c .before .before .pieces .t) 0) (c .before .before .before .before .before .before .args .k) (c .before .before .before .before .before .before .pre .size), c .before .before .before .before .before .before .pre .size)
-
-least-requires : tie.Need-least-requires Inv-pairs μ-pairs Inv-pieces μ-pieces
-least-requires c κs = search needs
-
-pairs-holds : tie.Need-pairs-holds Inv-pairs μ-pairs Inv-pieces μ-pieces
-pairs-holds c = search needs
+add-least c =
+    let start = c .before .before .before .before .before .before in
+    omega (arith, piece-small (getD (start .args .keys .now) (c .before .before .pieces .t) 0) (start .args .k) (start .pre .size), start .pre .size)
 
 place-requires : tie.Need-place-requires Inv-pairs μ-pairs Inv-pieces μ-pieces
 place-requires c κs = held-placeable (called (c .before .before .before) .pre) (pair-in (c .before)) _ (below (c .before))
 
-enum-told : tie.Need-enum-told Inv-pairs μ-pairs Inv-pieces μ-pieces
-enum-told c = search needs
-
-enum-known-j : tie.Need-enum-known-j Inv-pairs μ-pairs Inv-pieces μ-pieces
-enum-known-j c = search needs
-
-add-p : tie.Need-add-p Inv-pairs μ-pairs Inv-pieces μ-pieces
-add-p c = search needs
-
-pairs-less : tie.Need-pairs-less Inv-pairs μ-pairs Inv-pieces μ-pieces
-pairs-less c = search needs
-
 pairs-again : tie.Need-pairs-again Inv-pairs μ-pairs Inv-pieces μ-pieces
 pairs-again c =
-    let l = c .before .before .before .before .before .before .before .before .pairs in (
+    let at-place = c .before .before .before .before .before in
+    let at-pairs = at-place .before .before .before in
+    let way = at-pairs .before in
+    let l = at-pairs .pairs in (
       l .inv .0,
-      piece-step (called (c .before .before .before .before .before .before .before .before .before) .pre) (begin (c .before .before .before .before .before .before .before .before .before)) _ _ _ (l .p) (l .room) (l .cur) (l .inv .1) (c .before .before .before .before .before .before .before .pairs-test .taken) (end-in (c .before .before .before .before .before .before .before .before .before)) _ _ (c .before .before .before .before .before .place .ensures) _ (c .before .j .given .1),
+      piece-step (called way .pre) (begin way) _ _ _ (l .p) (l .room) (l .cur) (l .inv .1) (at-place .before .before .pairs-test .taken) (end-in way) _ _ (at-place .place .ensures) _ (c .before .j .given .1),
     )
-
-add-t : tie.Need-add-t Inv-pairs μ-pairs Inv-pieces μ-pieces
-add-t c = search needs
-
-pieces-less : tie.Need-pieces-less Inv-pairs μ-pairs Inv-pieces μ-pieces
-pieces-less c = search needs
 
 pieces-again : tie.Need-pieces-again Inv-pairs μ-pairs Inv-pieces μ-pieces
 pieces-again c = (omega arith, c .before .pairs .inv .0, run-next _ _ _ (c .pairs-test .left) (c .before .pairs .inv .1 _ _ _ (piece-in (c .before .before))))
@@ -132,7 +112,10 @@ returns : tie.Need-returns Inv-pairs μ-pairs Inv-pieces μ-pieces
 returns c = rw (c .before .pieces .inv .1) (run-ended _ _ _ (c .pieces-test .left) (c .before .pieces .inv .2))
 
 same-length-2 : tie.Need-same-length-2 Inv-pairs μ-pairs Inv-pieces μ-pieces
-same-length-2 c = c .before .before .before .before .place .kept .1 .0 ∙ same-room (called (c .before .before .before .before .before .before .before .before)) (pair-in (c .before .before .before .before .before .before))
+same-length-2 c =
+    let at-place = c .before .before .before .before in
+    let way = at-place .before .before .before .before in
+    at-place .place .kept .1 .0 ∙ same-room (called way) (pair-in (at-place .before .before))
 
 returns-2 : tie.Need-returns-2 Inv-pairs μ-pairs Inv-pieces μ-pieces
 returns-2 c = held-stop (pair-in (c .before .before .before .before .before .before)) _ _ (c .before .before .before .before .place .ensures) (c .enum-told .given .1)
@@ -140,28 +123,6 @@ returns-2 c = held-stop (pair-in (c .before .before .before .before .before .bef
 pub try-size-spec : {M : Type 1} → statement M
 try-size-spec =
     tie.close
-    (tie.spec
-    Inv-pairs
-    μ-pairs
-    Inv-pieces
-    μ-pieces
-    pieces-holds
-    mul-i
-    shared-slice-read-i
-    mul-p
-    add-least
-    least-requires
-    pairs-holds
-    place-requires
-    enum-told
-    enum-known-j
-    add-p
-    pairs-less
-    pairs-again
-    add-t
-    pieces-less
-    pieces-again
-    same-length
-    returns
-    same-length-2
-    returns-2)
+    (tie.spec Inv-pairs μ-pairs Inv-pieces μ-pieces pieces-holds (λ c. search needs) (λ c. search needs) mul-p add-least
+    (λ c κs. search needs) (λ c. search needs) place-requires (λ c. search needs) (λ c. search needs) (λ c. search needs)
+    (λ c. search needs) pairs-again (λ c. search needs) (λ c. search needs) pieces-again same-length returns same-length-2 returns-2)

@@ -111,7 +111,11 @@ put-decimal-returns-2 : (t : ℕ) → put-decimal-lts.Need-returns-2 (
   put-decimal-below t,
   put-decimal.Post,
 ) (put-decimal-at t) put-decimal.Post
-put-decimal-returns-2 t c = put-last _ _ (c .before .before .before .before .before .before .before .before .before .if1 .left) (c .before .before .before .before .before .before .before .before .before .before .before .fits .n .fits) (c .before .before .before .digit2 .ensures) (c .before .before .before .before .before .before .before .put-decimal .ensures) (c .before .before .put2 .ensures)
+put-decimal-returns-2 t c =
+    let at-digit2 = c .before .before .before in
+    let at-put-decimal = at-digit2 .before .before .before .before in
+    let at-fits = at-put-decimal .before .before .before .before in
+    put-last _ _ (at-put-decimal .before .before .if1 .left) (at-fits .fits .n .fits) (at-digit2 .digit2 .ensures) (at-put-decimal .put-decimal .ensures) (c .before .before .put2 .ensures)
 
 pub +put-decimal-spec : {M : Type 1} → statement M
 +put-decimal-spec = close μ-put-decimal λ t. put-decimal-lts.spec (

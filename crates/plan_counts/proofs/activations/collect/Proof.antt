@@ -28,12 +28,6 @@ put-key-requires c κs =
     let a = c .before .before .before .before .before in
     (a .pre .0, c .before .loop-test .taken, collect-room _ _ _ _ _ _ (c .before .before .loop .inv .2) (room c))
 
-add-i : tie.Need-add-i Inv-loop μ-loop
-add-i c = search needs
-
-loop-less : tie.Need-loop-less Inv-loop μ-loop
-loop-less c = search needs
-
 loop-again : tie.Need-loop-again Inv-loop μ-loop
 loop-again c =
     let a = c .before .before in
@@ -56,13 +50,4 @@ returns c =
 pub collect-spec : {M : Type 1} → statement M
 collect-spec =
     tie.close
-    (tie.spec
-    Inv-loop
-    μ-loop
-    loop-holds
-    put-key-requires
-    add-i
-    loop-less
-    loop-again
-    same-length
-    returns)
+    (tie.spec Inv-loop μ-loop loop-holds put-key-requires (λ c. search needs) (λ c. search needs) loop-again same-length returns)

@@ -12,18 +12,13 @@ use Rattle.plan_counts.proofs.activations.duplicate_words.Tie as tie
 
 -- the extras that are found: no more than the keys, and those that make the duplicate words
 found : (c : tie.After-extras-in)
-    → (c .extras-in .result ≤ length (c .before .before .before .before .before .before .before .before .before .before .before .args .keys .now))
-    × ((c .extras-in .result + 31) / 32 ≡ duplicatesIn (c .before .before .before .before .before .before .before .before .before .before .before .args .keys .now))
+    → let way = c .before .before .before .before .before .before in
+    let keys = way .before .before .before .before .before .args .keys .now in
+    (c .extras-in .result ≤ length keys) × ((c .extras-in .result + 31) / 32 ≡ duplicatesIn keys)
 found c =
     let a = c .before .before .before .before .before .before in
     let s = a .before .before .before .before .before in
     extras-sorted (s .args .keys .now) (s .args .scratch .now) (a .sort .last .0) _ (s .pre .1) (a .sort .ensures .1 .0) (c .extras-in .ensures)
-
-sort-requires : tie.Need-sort-requires
-sort-requires c κs = search needs
-
-extras-in-requires : tie.Need-extras-in-requires
-extras-in-requires c κs = search needs
 
 add-result : tie.Need-add-result
 add-result c = omega (arith, found c .0)
@@ -31,23 +26,10 @@ add-result c = omega (arith, found c .0)
 cast-result : tie.Need-cast-result
 cast-result c = omega (arith, found c .0)
 
-same-length : tie.Need-same-length
-same-length c = search needs
-
-same-length-2 : tie.Need-same-length-2
-same-length-2 c = search needs
-
 returns : tie.Need-returns
 returns c = (found c .1, c .before .before .before .before .before .before .sort .ensures .1)
 
 pub duplicate-words-spec : {M : Type 1} → statement M
 duplicate-words-spec =
     tie.close
-    (tie.spec
-    sort-requires
-    extras-in-requires
-    add-result
-    cast-result
-    same-length
-    same-length-2
-    returns)
+    (tie.spec (λ c κs. search needs) (λ c κs. search needs) add-result cast-result (λ c. search needs) (λ c. search needs) returns)

@@ -13,20 +13,8 @@ use Rattle.plan_counts.proofs.activations.duplicates_of.Tie as tie
 long : (a : tie.After-collect) → a .collect .result ≡ length (take (a .collect .result) (a .collect .last .1 .1 .1 .0))
 long a = let e = a .collect .ensures in front-length _ _ _ _ (a .collect .last .1 .1 .1 .0) (e .0 .0) (e .1)
 
-slice-aggregate-collect : tie.Need-slice-aggregate-collect
-slice-aggregate-collect c = search needs
-
-collect-requires : tie.Need-collect-requires
-collect-requires c κs = search needs
-
-array-borrow-prefix-keys : tie.Need-array-borrow-prefix-keys
-array-borrow-prefix-keys c = search needs
-
 slice-aggregate-duplicate-words : tie.Need-slice-aggregate-duplicate-words
 slice-aggregate-duplicate-words c = long (c .before .before)
-
-slice-aggregate-duplicate-words-2 : tie.Need-slice-aggregate-duplicate-words-2
-slice-aggregate-duplicate-words-2 c = search needs
 
 duplicate-words-requires : tie.Need-duplicate-words-requires
 duplicate-words-requires c κs =
@@ -42,11 +30,5 @@ returns c =
 pub duplicates-of-spec : {M : Type 1} → statement M
 duplicates-of-spec =
     tie.close
-    (tie.spec
-    slice-aggregate-collect
-    collect-requires
-    array-borrow-prefix-keys
-    slice-aggregate-duplicate-words
-    slice-aggregate-duplicate-words-2
-    duplicate-words-requires
-    returns)
+    (tie.spec (λ c. search needs) (λ c κs. search needs) (λ c. search needs) slice-aggregate-duplicate-words (λ c. search needs)
+    duplicate-words-requires returns)

@@ -16,4 +16,5 @@ returns-3 : tie.Need-returns-3
 returns-3 c = (sym (extra-no _ _ (c .before .if1 .left) (c .if2 .left)), omega arith)
 
 pub extra-of-spec : {M : Type 1} → statement M
-extra-of-spec = tie.close (tie.spec returns returns-2 returns-3)
+extra-of-spec = tie.close
+    (tie.spec returns returns-2 returns-3)

@@ -16,39 +16,6 @@ Inv-loop keys found₀ i₀ found i = (i ≤ length keys) × (found ≤ i) × (f
 abbrev μ-loop : tie.MeasureT-loop
 μ-loop keys found₀ i₀ found i = length keys - i
 
-loop-holds : tie.Need-loop-holds Inv-loop μ-loop
-loop-holds c = search needs
-
-add-loop : tie.Need-add-loop Inv-loop μ-loop
-add-loop c = search needs
-
-mul-extra-of : tie.Need-mul-extra-of Inv-loop μ-loop
-mul-extra-of c = search needs
-
-shared-slice-read-extra-of : tie.Need-shared-slice-read-extra-of Inv-loop μ-loop
-shared-slice-read-extra-of c = search needs
-
-add-extra-of : tie.Need-add-extra-of Inv-loop μ-loop
-add-extra-of c = search needs
-
-mul-extra-of-2 : tie.Need-mul-extra-of-2 Inv-loop μ-loop
-mul-extra-of-2 c = search needs
-
-shared-slice-read-extra-of-2 : tie.Need-shared-slice-read-extra-of-2 Inv-loop μ-loop
-shared-slice-read-extra-of-2 c = search needs
-
-extra-of-requires : tie.Need-extra-of-requires Inv-loop μ-loop
-extra-of-requires c κs = search needs
-
-add-found : tie.Need-add-found Inv-loop μ-loop
-add-found c = search needs
-
-add-i : tie.Need-add-i Inv-loop μ-loop
-add-i c = search needs
-
-loop-less : tie.Need-loop-less Inv-loop μ-loop
-loop-less c = search needs
-
 loop-again : tie.Need-loop-again Inv-loop μ-loop
 loop-again c =
     let a = c .before .before .before in
@@ -60,19 +27,6 @@ returns c = omega (arith, extras-end (c .before .before .before .args .keys .now
 pub extras-in-spec : {M : Type 1} → statement M
 extras-in-spec =
     tie.close
-    (tie.spec
-    Inv-loop
-    μ-loop
-    loop-holds
-    add-loop
-    mul-extra-of
-    shared-slice-read-extra-of
-    add-extra-of
-    mul-extra-of-2
-    shared-slice-read-extra-of-2
-    extra-of-requires
-    add-found
-    add-i
-    loop-less
-    loop-again
+    (tie.spec Inv-loop μ-loop (λ c. search needs) (λ c. search needs) (λ c. search needs) (λ c. search needs) (λ c. search needs)
+    (λ c. search needs) (λ c. search needs) (λ c κs. search needs) (λ c. search needs) (λ c. search needs) (λ c. search needs) loop-again
     returns)

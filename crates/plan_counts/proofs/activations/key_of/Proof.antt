@@ -6,17 +6,8 @@ use borrow.Author.Needs.{needs}
 use Rattle.plan_counts.proofs.activations.key_of.Statement.{statement}
 use Rattle.plan_counts.proofs.activations.key_of.Tie as tie
 
-mul-result : tie.Need-mul-result
-mul-result c = search needs
-
-add-result : tie.Need-add-result
-add-result c = search needs
-
 returns : tie.Need-returns
 returns c = output-key _ _ _ (c .if1 .taken)
-
-mul-result-2 : tie.Need-mul-result-2
-mul-result-2 c = search needs
 
 mul-result-3 : tie.Need-mul-result-3
 mul-result-3 c = omega (arith, c .before .before .pre .1 (c .if2 .taken))
@@ -27,26 +18,11 @@ add-result-2 c = omega (arith, c .before .before .pre .1 (c .if2 .taken))
 returns-2 : tie.Need-returns-2
 returns-2 c = staged-key _ _ _ (c .if2 .taken)
 
-mul-result-4 : tie.Need-mul-result-4
-mul-result-4 c = search needs
-
-add-result-3 : tie.Need-add-result-3
-add-result-3 c = search needs
-
 returns-3 : tie.Need-returns-3
 returns-3 c = register-key _ _ _ (omega arith)
 
 pub key-of-spec : {M : Type 1} → statement M
 key-of-spec =
     tie.close
-    (tie.spec
-    mul-result
-    add-result
-    returns
-    mul-result-2
-    mul-result-3
-    add-result-2
-    returns-2
-    mul-result-4
-    add-result-3
-    returns-3)
+    (tie.spec (λ c. search needs) (λ c. search needs) returns (λ c. search needs) mul-result-3 add-result-2 returns-2 (λ c. search needs)
+    (λ c. search needs) returns-3)

@@ -8,30 +8,6 @@ use Rattle.plan_record.proofs.BodyLaws.{body-sizes, body-made}
 use Rattle.plan_record.proofs.bodies.body_at.Statement.{statement}
 use Rattle.plan_record.proofs.bodies.body_at.Tie as tie
 
-head-base-requires : tie.Need-head-base-requires
-head-base-requires c κs = search needs
-
-mul-head : tie.Need-mul-head
-mul-head c = search needs
-
-add-head : tie.Need-add-head
-add-head c = search needs
-
-word-at-requires : tie.Need-word-at-requires
-word-at-requires c κs = search needs
-
-cast-stages : tie.Need-cast-stages
-cast-stages c = search needs
-
-add-word-at : tie.Need-add-word-at
-add-word-at c = search needs
-
-word-at-requires-2 : tie.Need-word-at-requires-2
-word-at-requires-2 c κs = search needs
-
-cast-endpoints : tie.Need-cast-endpoints
-cast-endpoints c = search needs
-
 sizes : (c : tie.After-word-at2) → (c .before .before .before .before .args .at ≤ length (c .before .before .before .before .args .d .now) / 4) × (c .before .word-at .result ≤ 255) × (c .word-at2 .result ≤ 8192)
 sizes c =
     let o = c .before .before .before .before in
@@ -40,17 +16,11 @@ sizes c =
 locations-in-requires : tie.Need-locations-in-requires
 locations-in-requires c κs = let s = sizes c in (omega arith, s .1, s .2)
 
-mul-counts : tie.Need-mul-counts
-mul-counts c = search needs
-
 add-counts : tie.Need-add-counts
 add-counts c = omega (arith, sizes (c .before))
 
 add-slots : tie.Need-add-slots
 add-slots c = omega (arith, sizes (c .before))
-
-mul-places : tie.Need-mul-places
-mul-places c = search needs
 
 add-places : tie.Need-add-places
 add-places c = omega (arith, sizes (c .before))
@@ -70,21 +40,6 @@ returns c =
 pub body-at-spec : {M : Type 1} → statement M
 body-at-spec =
     tie.close
-    (tie.spec
-    head-base-requires
-    mul-head
-    add-head
-    word-at-requires
-    cast-stages
-    add-word-at
-    word-at-requires-2
-    cast-endpoints
-    locations-in-requires
-    mul-counts
-    add-counts
-    add-slots
-    mul-places
-    add-places
-    add-tables
-    add-t13
-    returns)
+    (tie.spec (λ c κs. search needs) (λ c. search needs) (λ c. search needs) (λ c κs. search needs) (λ c. search needs) (λ c. search needs)
+    (λ c κs. search needs) (λ c. search needs) locations-in-requires (λ c. search needs) add-counts add-slots (λ c. search needs) add-places
+    add-tables add-t13 returns)

@@ -6,18 +6,6 @@ use Rattle.plan_record.proofs.RecordLaws.{body-first}
 use Rattle.plan_record.proofs.bodies.first_body.Statement.{statement}
 use Rattle.plan_record.proofs.bodies.first_body.Tie as tie
 
-head-base-requires : tie.Need-head-base-requires
-head-base-requires c κs = search needs
-
-parts-of-requires : tie.Need-parts-of-requires
-parts-of-requires c κs = search needs
-
-mul-result : tie.Need-mul-result
-mul-result c = search needs
-
-add-result : tie.Need-add-result
-add-result c = search needs
-
 returns : tie.Need-returns
 returns c =
     let d = c .before .before .before .args .d .now in
@@ -25,4 +13,5 @@ returns c =
 
 pub first-body-spec : {M : Type 1} → statement M
 first-body-spec =
-    tie.close (tie.spec head-base-requires parts-of-requires mul-result add-result returns)
+    tie.close
+    (tie.spec (λ c κs. search needs) (λ c κs. search needs) (λ c. search needs) (λ c. search needs) returns)

@@ -25,12 +25,6 @@ Inv-loop d parts at₀ p₀ at p = (p ≤ parts) × (at ≡ bodyAt d p) × (allB
 abbrev μ-loop : tie.MeasureT-loop
 μ-loop d parts at₀ p₀ at p = parts - p
 
-parts-of-requires : tie.Need-parts-of-requires Inv-loop μ-loop
-parts-of-requires c κs = search needs
-
-first-body-requires : tie.Need-first-body-requires Inv-loop μ-loop
-first-body-requires c κs = search needs
-
 loop-holds : tie.Need-loop-holds Inv-loop μ-loop
 unfolding allBelow
 loop-holds c = (omega arith, c .first-body .ensures .0, refl)
@@ -41,26 +35,21 @@ body-at-requires c κs =
     let l : c .before .loop .p < partsOf (o .args .d .now) = omega arith in
     body-ready (o .args .d .now) (o .pre) (c .before .loop .p) (c .before .loop .at) l (c .before .loop .inv .1)
 
-endpoints-form-requires : tie.Need-endpoints-form-requires Inv-loop μ-loop
-endpoints-form-requires c κs = search needs
-
 returns : tie.Need-returns Inv-loop μ-loop
 returns c =
-    let d = c .before .before .before .before .before .before .before .before .args .d .now in
-    sym (all-fault (endpointsRight d) (partsOf d) (c .before .before .before .before .loop .p) (omega arith) (sym (c .before .endpoints-form .ensures) ∙ not-true _ (c .if1 .taken)))
-
-add-p : tie.Need-add-p Inv-loop μ-loop
-add-p c = search needs
-
-loop-less : tie.Need-loop-less Inv-loop μ-loop
-loop-less c = search needs
+    let at-loop = c .before .before .before .before in
+    let start = at-loop .before .before .before .before in
+    let d = start .args .d .now in
+    sym (all-fault (endpointsRight d) (partsOf d) (at-loop .loop .p) (omega arith) (sym (c .before .endpoints-form .ensures) ∙ not-true _ (c .if1 .taken)))
 
 loop-again : tie.Need-loop-again Inv-loop μ-loop
 loop-again c =
-    let d = c .before .before .before .before .before .before .before .before .args .d .now in (
+    let at-loop = c .before .before .before .before in
+    let start = at-loop .before .before .before .before in
+    let d = start .args .d .now in (
       omega arith,
       c .before .before .body-at .ensures .end,
-      all-on (endpointsRight d) (c .before .before .before .before .loop .p) (c .before .before .before .before .loop .inv .2) (sym (c .before .endpoints-form .ensures) ∙ not-false _ (c .if1 .left)),
+      all-on (endpointsRight d) (at-loop .loop .p) (at-loop .loop .inv .2) (sym (c .before .endpoints-form .ensures) ∙ not-false _ (c .if1 .left)),
     )
 
 returns-2 : tie.Need-returns-2 Inv-loop μ-loop
@@ -71,16 +60,5 @@ returns-2 c =
 pub bodies-form-spec : {M : Type 1} → statement M
 bodies-form-spec =
     tie.close
-    (tie.spec
-    Inv-loop
-    μ-loop
-    parts-of-requires
-    first-body-requires
-    loop-holds
-    body-at-requires
-    endpoints-form-requires
-    returns
-    add-p
-    loop-less
-    loop-again
-    returns-2)
+    (tie.spec Inv-loop μ-loop (λ c κs. search needs) (λ c κs. search needs) loop-holds body-at-requires (λ c κs. search needs) returns
+    (λ c. search needs) (λ c. search needs) loop-again returns-2)

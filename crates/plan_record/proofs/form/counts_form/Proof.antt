@@ -20,39 +20,25 @@ Inv-loop d majors s₀ s = (s ≤ majors) × (allBelow (λ i. leb (countAt d i) 
 abbrev μ-loop : tie.MeasureT-loop
 μ-loop d majors s₀ s = majors - s
 
-word-at-requires : tie.Need-word-at-requires Inv-loop μ-loop
-word-at-requires c κs = search needs
-
-cast-majors : tie.Need-cast-majors Inv-loop μ-loop
-cast-majors c = search needs
-
 loop-holds : tie.Need-loop-holds Inv-loop μ-loop
 unfolding allBelow
 loop-holds c = (omega arith, refl)
 
-add-word-at : tie.Need-add-word-at Inv-loop μ-loop
-add-word-at c = search needs
-
-word-at-requires-2 : tie.Need-word-at-requires-2 Inv-loop μ-loop
-word-at-requires-2 c κs = search needs
-
 returns : tie.Need-returns Inv-loop μ-loop
 unfolding countsForm
 returns c =
-    let d = c .before .before .before .before .before .before .args .d .now in
+    let at-loop = c .before .before .before in
+    let start = at-loop .before .before .before in
+    let d = start .args .d .now in
     sym
-    (all-fault (λ i. leb (countAt d i) 4096) (majorsOf d) (c .before .before .before .loop .s) (omega arith) (lt-leb (countAt d (c .before .before .before .loop .s)) 4096 (omega arith)))
-
-add-s : tie.Need-add-s Inv-loop μ-loop
-add-s c = search needs
-
-loop-less : tie.Need-loop-less Inv-loop μ-loop
-loop-less c = search needs
+    (all-fault (λ i. leb (countAt d i) 4096) (majorsOf d) (at-loop .loop .s) (omega arith) (lt-leb (countAt d (at-loop .loop .s)) 4096 (omega arith)))
 
 loop-again : tie.Need-loop-again Inv-loop μ-loop
 loop-again c =
-    let d = c .before .before .before .before .before .before .args .d .now in
-    (omega arith, all-on (λ i. leb (countAt d i) 4096) (c .before .before .before .loop .s) (c .before .before .before .loop .inv .1) (le-leb (countAt d (c .before .before .before .loop .s)) 4096 (omega arith)))
+    let at-loop = c .before .before .before in
+    let start = at-loop .before .before .before in
+    let d = start .args .d .now in
+    (omega arith, all-on (λ i. leb (countAt d i) 4096) (at-loop .loop .s) (at-loop .loop .inv .1) (le-leb (countAt d (at-loop .loop .s)) 4096 (omega arith)))
 
 returns-2 : tie.Need-returns-2 Inv-loop μ-loop
 unfolding countsForm
@@ -63,16 +49,5 @@ returns-2 c =
 pub counts-form-spec : {M : Type 1} → statement M
 counts-form-spec =
     tie.close
-    (tie.spec
-    Inv-loop
-    μ-loop
-    word-at-requires
-    cast-majors
-    loop-holds
-    add-word-at
-    word-at-requires-2
-    returns
-    add-s
-    loop-less
-    loop-again
-    returns-2)
+    (tie.spec Inv-loop μ-loop (λ c κs. search needs) (λ c. search needs) loop-holds (λ c. search needs) (λ c κs. search needs) returns
+    (λ c. search needs) (λ c. search needs) loop-again returns-2)

@@ -23,39 +23,27 @@ loop-holds : tie.Need-loop-holds Inv-loop μ-loop
 unfolding allBelow
 loop-holds c = (omega arith, refl)
 
-endpoint-kind-requires : tie.Need-endpoint-kind-requires Inv-loop μ-loop
-endpoint-kind-requires c κs = search needs
-
-endpoint-x-requires : tie.Need-endpoint-x-requires Inv-loop μ-loop
-endpoint-x-requires c κs = search needs
-
-endpoint-y-requires : tie.Need-endpoint-y-requires Inv-loop μ-loop
-endpoint-y-requires c κs = search needs
-
-endpoint-numbers-requires : tie.Need-endpoint-numbers-requires Inv-loop μ-loop
-endpoint-numbers-requires c κs = search needs
-
 -- what the three words say is what the definition says
-right : (c : tie.After-endpoint-numbers Inv-loop μ-loop) → endpointForm (c .before .before .before .before .before .before .before .args .d .now) (c .before .before .before .before .before .before .before .args .p) (c .before .before .before .before .before .loop .i) ≡ c .endpoint-numbers .result
+right : (c : tie.After-endpoint-numbers Inv-loop μ-loop)
+    → let at-loop = c .before .before .before .before .before in
+    let start = at-loop .before .before in
+    endpointForm (start .args .d .now) (start .args .p) (at-loop .loop .i) ≡ c .endpoint-numbers .result
 unfolding endpointForm
 right c = sym (c .endpoint-numbers .ensures ∙ (rw (c .before .before .before .endpoint-kind .ensures, c .before .before .endpoint-x .ensures, c .before .endpoint-y .ensures) refl))
 
 returns : tie.Need-returns Inv-loop μ-loop
 returns c =
-    let o = c .before .before .before .before .before .before .before .before in
+    let at-loop = c .before .before .before .before .before .before in
+    let o = at-loop .before .before in
+    let p = o .args .p in
     let d = o .args .d .now in
-    sym (all-fault (endpointForm d (o .args .p)) (endpointsOf d (o .args .p)) (c .before .before .before .before .before .before .loop .i) (omega arith) (right (c .before) ∙ not-true _ (c .if1 .taken)))
-
-add-i : tie.Need-add-i Inv-loop μ-loop
-add-i c = search needs
-
-loop-less : tie.Need-loop-less Inv-loop μ-loop
-loop-less c = search needs
+    sym (all-fault (endpointForm d p) (endpointsOf d p) (at-loop .loop .i) (omega arith) (right (c .before) ∙ not-true _ (c .if1 .taken)))
 
 loop-again : tie.Need-loop-again Inv-loop μ-loop
 loop-again c =
-    let o = c .before .before .before .before .before .before .before .before in
-    (omega arith, all-on (endpointForm (o .args .d .now) (o .args .p)) (c .before .before .before .before .before .before .loop .i) (c .before .before .before .before .before .before .loop .inv .1) (right (c .before) ∙ not-false _ (c .if1 .left)))
+    let at-loop = c .before .before .before .before .before .before in
+    let o = at-loop .before .before in
+    (omega arith, all-on (endpointForm (o .args .d .now) (o .args .p)) (at-loop .loop .i) (at-loop .loop .inv .1) (right (c .before) ∙ not-false _ (c .if1 .left)))
 
 returns-2 : tie.Need-returns-2 Inv-loop μ-loop
 returns-2 c =
@@ -66,16 +54,5 @@ returns-2 c =
 pub endpoints-form-spec : {M : Type 1} → statement M
 endpoints-form-spec =
     tie.close
-    (tie.spec
-    Inv-loop
-    μ-loop
-    loop-holds
-    endpoint-kind-requires
-    endpoint-x-requires
-    endpoint-y-requires
-    endpoint-numbers-requires
-    returns
-    add-i
-    loop-less
-    loop-again
-    returns-2)
+    (tie.spec Inv-loop μ-loop loop-holds (λ c κs. search needs) (λ c κs. search needs) (λ c κs. search needs) (λ c κs. search needs) returns
+    (λ c. search needs) (λ c. search needs) loop-again returns-2)

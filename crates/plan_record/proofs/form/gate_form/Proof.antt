@@ -5,42 +5,6 @@ use Rattle.plan_record.specs.Form.{gateForm}
 use Rattle.plan_record.proofs.form.gate_form.Statement.{statement}
 use Rattle.plan_record.proofs.form.gate_form.Tie as tie
 
-mul-at : tie.Need-mul-at
-mul-at c = search needs
-
-add-at : tie.Need-add-at
-add-at c = search needs
-
-word-in-requires : tie.Need-word-in-requires
-word-in-requires c κs = search needs
-
-is-pin-requires : tie.Need-is-pin-requires
-is-pin-requires c κs = search needs
-
-add-word-in : tie.Need-add-word-in
-add-word-in c = search needs
-
-word-in-requires-2 : tie.Need-word-in-requires-2
-word-in-requires-2 c κs = search needs
-
-is-pin-iv-requires : tie.Need-is-pin-iv-requires
-is-pin-iv-requires c κs = search needs
-
-both-requires : tie.Need-both-requires
-both-requires c κs = search needs
-
-add-word-in-2 : tie.Need-add-word-in-2
-add-word-in-2 c = search needs
-
-word-in-requires-3 : tie.Need-word-in-requires-3
-word-in-requires-3 c κs = search needs
-
-is-pin-iv-requires-2 : tie.Need-is-pin-iv-requires-2
-is-pin-iv-requires-2 c κs = search needs
-
-both-requires-2 : tie.Need-both-requires-2
-both-requires-2 c κs = search needs
-
 returns : tie.Need-returns
 unfolding gateForm
 returns c = cc
@@ -48,17 +12,6 @@ returns c = cc
 pub gate-form-spec : {M : Type 1} → statement M
 gate-form-spec =
     tie.close
-    (tie.spec
-    mul-at
-    add-at
-    word-in-requires
-    is-pin-requires
-    add-word-in
-    word-in-requires-2
-    is-pin-iv-requires
-    both-requires
-    add-word-in-2
-    word-in-requires-3
-    is-pin-iv-requires-2
-    both-requires-2
-    returns)
+    (tie.spec (λ c. search needs) (λ c. search needs) (λ c κs. search needs) (λ c κs. search needs) (λ c. search needs)
+    (λ c κs. search needs) (λ c κs. search needs) (λ c κs. search needs) (λ c. search needs) (λ c κs. search needs) (λ c κs. search needs)
+    (λ c κs. search needs) returns)

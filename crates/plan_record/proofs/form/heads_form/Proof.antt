@@ -19,34 +19,23 @@ Inv-loop d heads parts p₀ p = (p ≤ parts) × (allBelow (partForm d) p ≡ tr
 abbrev μ-loop : tie.MeasureT-loop
 μ-loop d heads parts p₀ p = parts - p
 
-head-base-requires : tie.Need-head-base-requires Inv-loop μ-loop
-head-base-requires c κs = search needs
-
-parts-of-requires : tie.Need-parts-of-requires Inv-loop μ-loop
-parts-of-requires c κs = search needs
-
 loop-holds : tie.Need-loop-holds Inv-loop μ-loop
 unfolding allBelow
 loop-holds c = (omega arith, refl)
 
-part-form-requires : tie.Need-part-form-requires Inv-loop μ-loop
-part-form-requires c κs = search needs
-
 returns : tie.Need-returns Inv-loop μ-loop
 returns c =
-    let d = c .before .before .before .before .before .before .before .args .d .now in
-    sym (all-fault (partForm d) (partsOf d) (c .before .before .before .loop .p) (omega arith) (sym (c .before .part-form .ensures) ∙ not-true _ (c .if1 .taken)))
-
-add-p : tie.Need-add-p Inv-loop μ-loop
-add-p c = search needs
-
-loop-less : tie.Need-loop-less Inv-loop μ-loop
-loop-less c = search needs
+    let at-loop = c .before .before .before in
+    let start = at-loop .before .before .before .before in
+    let d = start .args .d .now in
+    sym (all-fault (partForm d) (partsOf d) (at-loop .loop .p) (omega arith) (sym (c .before .part-form .ensures) ∙ not-true _ (c .if1 .taken)))
 
 loop-again : tie.Need-loop-again Inv-loop μ-loop
 loop-again c =
-    let d = c .before .before .before .before .before .before .before .args .d .now in
-    (omega arith, all-on (partForm d) (c .before .before .before .loop .p) (c .before .before .before .loop .inv .1) (sym (c .before .part-form .ensures) ∙ not-false _ (c .if1 .left)))
+    let at-loop = c .before .before .before in
+    let start = at-loop .before .before .before .before in
+    let d = start .args .d .now in
+    (omega arith, all-on (partForm d) (at-loop .loop .p) (at-loop .loop .inv .1) (sym (c .before .part-form .ensures) ∙ not-false _ (c .if1 .left)))
 
 returns-2 : tie.Need-returns-2 Inv-loop μ-loop
 returns-2 c =
@@ -56,15 +45,5 @@ returns-2 c =
 pub heads-form-spec : {M : Type 1} → statement M
 heads-form-spec =
     tie.close
-    (tie.spec
-    Inv-loop
-    μ-loop
-    head-base-requires
-    parts-of-requires
-    loop-holds
-    part-form-requires
-    returns
-    add-p
-    loop-less
-    loop-again
-    returns-2)
+    (tie.spec Inv-loop μ-loop (λ c κs. search needs) (λ c κs. search needs) loop-holds (λ c κs. search needs) returns (λ c. search needs)
+    (λ c. search needs) loop-again returns-2)

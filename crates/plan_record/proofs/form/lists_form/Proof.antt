@@ -38,29 +38,25 @@ positions-form-requires c κs = let o = c .before .before .before .before .befor
 
 returns-3 : tie.Need-returns-3
 returns-3 c =
+    let way = c .before .before .before .before in
+    let start = way .before .before .before in
     let wrong = sym (c .before .positions-form .ensures) ∙ not-true _ (c .if3 .taken) in
-    sym (lists-are (c .before .before .before .before .before .before .before .args .d .now) _ _ _ _ (gates-right (c .before .before .before .before)) (layout-right (c .before .before)) wrong refl)
+    sym (lists-are (start .args .d .now) _ _ _ _ (gates-right way) (layout-right (c .before .before)) wrong refl)
 
-positions-right : (c : tie.Else3) → allBelow (positionForm (c .before .before .before .before .before .before .before .args .d .now)) (positionsOf (c .before .before .before .before .before .before .before .args .d .now)) ≡ true
+positions-right : (c : tie.Else3)
+    → let way = c .before .before .before .before in
+    let d = way .before .before .before .args .d .now in
+    allBelow (positionForm d) (positionsOf d) ≡ true
 positions-right c = sym (c .before .positions-form .ensures) ∙ not-false _ (c .if3 .left)
-
-bodies-form-requires : tie.Need-bodies-form-requires
-bodies-form-requires c κs = search needs
 
 returns-4 : tie.Need-returns-4
 returns-4 c =
+    let way = c .before .before .before in
+    let start = way .before .before .before .before .before in
     sym
-    (lists-are (c .before .before .before .before .before .before .before .before .args .d .now) _ _ _ _ (gates-right (c .before .before .before .before .before)) (layout-right (c .before .before .before)) (positions-right (c .before)) (sym (c .bodies-form .ensures)))
+    (lists-are (start .args .d .now) _ _ _ _ (gates-right (way .before .before)) (layout-right way) (positions-right (c .before)) (sym (c .bodies-form .ensures)))
 
 pub lists-form-spec : {M : Type 1} → statement M
 lists-form-spec =
     tie.close
-    (tie.spec
-    gates-form-requires
-    returns
-    layouts-form-requires
-    returns-2
-    positions-form-requires
-    returns-3
-    bodies-form-requires
-    returns-4)
+    (tie.spec gates-form-requires returns layouts-form-requires returns-2 positions-form-requires returns-3 (λ c κs. search needs) returns-4)

@@ -9,9 +9,6 @@ use Rattle.plan_record.specs.Body.{Headed}
 use Rattle.plan_record.proofs.form.parts_form.Statement.{statement}
 use Rattle.plan_record.proofs.form.parts_form.Tie as tie
 
-heads-form-requires : tie.Need-heads-form-requires
-heads-form-requires c κs = search needs
-
 returns : tie.Need-returns
 returns c =
     let d = c .before .before .before .args .d .now in
@@ -50,10 +47,4 @@ returns-3 c =
 pub parts-form-spec : {M : Type 1} → statement M
 parts-form-spec =
     tie.close
-    (tie.spec
-    heads-form-requires
-    returns
-    length-form-requires
-    returns-2
-    lists-form-requires
-    returns-3)
+    (tie.spec (λ c κs. search needs) returns length-form-requires returns-2 lists-form-requires returns-3)

@@ -11,9 +11,6 @@ use Rattle.plan_record.proofs.FormLaws.{head-ranges, parts-range, plan-
 use Rattle.plan_record.proofs.form.plan_form.Statement.{statement}
 use Rattle.plan_record.proofs.form.plan_form.Tie as tie
 
-head-form-requires : tie.Need-head-form-requires
-head-form-requires c κs = search needs
-
 returns : tie.Need-returns
 returns c =
     let wrong = sym (c .before .head-form .ensures) ∙ not-true _ (c .if1 .taken) in
@@ -21,9 +18,6 @@ returns c =
 
 head-right : (c : tie.Else1) → headForm (c .before .before .before .args .d .now) ≡ true
 head-right c = sym (c .before .head-form .ensures) ∙ not-false _ (c .if1 .left)
-
-counts-form-requires : tie.Need-counts-form-requires
-counts-form-requires c κs = search needs
 
 returns-2 : tie.Need-returns-2
 returns-2 c =
@@ -45,10 +39,4 @@ returns-3 c =
 pub plan-form-spec : {M : Type 1} → statement M
 plan-form-spec =
     tie.close
-    (tie.spec
-    head-form-requires
-    returns
-    counts-form-requires
-    returns-2
-    parts-form-requires
-    returns-3)
+    (tie.spec (λ c κs. search needs) returns (λ c κs. search needs) returns-2 parts-form-requires returns-3)

@@ -5,21 +5,6 @@ use Rattle.plan_record.specs.Record.{headBase}
 use Rattle.plan_record.proofs.places.head_base.Statement.{statement}
 use Rattle.plan_record.proofs.places.head_base.Tie as tie
 
-position-base-requires : tie.Need-position-base-requires
-position-base-requires c κs = search needs
-
-word-at-requires : tie.Need-word-at-requires
-word-at-requires c κs = search needs
-
-cast-result : tie.Need-cast-result
-cast-result c = search needs
-
-mul-result : tie.Need-mul-result
-mul-result c = search needs
-
-add-result : tie.Need-add-result
-add-result c = search needs
-
 returns : tie.Need-returns
 unfolding headBase
 returns c = search needs
@@ -27,4 +12,4 @@ returns c = search needs
 pub head-base-spec : {M : Type 1} → statement M
 head-base-spec =
     tie.close
-    (tie.spec position-base-requires word-at-requires cast-result mul-result add-result returns)
+    (tie.spec (λ c κs. search needs) (λ c κs. search needs) (λ c. search needs) (λ c. search needs) (λ c. search needs) returns)

@@ -9,30 +9,6 @@ use Rattle.plan_record.specs.Form.{roomWords}
 use Rattle.plan_record.proofs.places.room_words.Statement.{statement}
 use Rattle.plan_record.proofs.places.room_words.Tie as tie
 
-word-at-requires : tie.Need-word-at-requires
-word-at-requires c κs = search needs
-
-cast-majors : tie.Need-cast-majors
-cast-majors c = search needs
-
-parts-before-requires : tie.Need-parts-before-requires
-parts-before-requires c κs = search needs
-
-mul-result : tie.Need-mul-result
-mul-result c = search needs
-
-add-result : tie.Need-add-result
-add-result c = search needs
-
-parts-before-requires-2 : tie.Need-parts-before-requires-2
-parts-before-requires-2 c κs = search needs
-
-mul-result-2 : tie.Need-mul-result-2
-mul-result-2 c = search needs
-
-add-result-2 : tie.Need-add-result-2
-add-result-2 c = search needs
-
 returns : tie.Need-returns
 unfolding roomWords
 returns c =
@@ -50,14 +26,5 @@ returns-2 c =
 pub room-words-spec : {M : Type 1} → statement M
 room-words-spec =
     tie.close
-    (tie.spec
-    word-at-requires
-    cast-majors
-    parts-before-requires
-    mul-result
-    add-result
-    parts-before-requires-2
-    mul-result-2
-    add-result-2
-    returns
-    returns-2)
+    (tie.spec (λ c κs. search needs) (λ c. search needs) (λ c κs. search needs) (λ c. search needs) (λ c. search needs)
+    (λ c κs. search needs) (λ c. search needs) (λ c. search needs) returns returns-2)

@@ -6,22 +6,11 @@ use Rattle.words.specs.Bit.{bit, bitAt}
 use Rattle.words.proofs.bits.bit_at.Statement.{statement}
 use Rattle.words.proofs.bits.bit_at.Tie as tie
 
-mul-result : tie.Need-mul-result
-mul-result c = search needs
-
-shared-slice-read-result : tie.Need-shared-slice-read-result
-shared-slice-read-result c = search needs
-
-cast-result : tie.Need-cast-result
-cast-result c = search needs
-
-shr-result : tie.Need-shr-result
-shr-result c = search needs
-
 returns : tie.Need-returns
 unfolding bit bitAt
 returns c = and-mask _ 1
 
 pub bit-at-spec : {M : Type 1} → statement M
 bit-at-spec =
-    tie.close (tie.spec mul-result shared-slice-read-result cast-result shr-result returns)
+    tie.close
+    (tie.spec (λ c. search needs) (λ c. search needs) (λ c. search needs) (λ c. search needs) returns)

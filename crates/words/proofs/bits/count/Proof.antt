@@ -9,4 +9,5 @@ returns : tie.Need-returns
 returns c = sym (pop-ones (c .args .m) (c .fits .m .fits))
 
 pub count-spec : {M : Type 1} → statement M
-count-spec = tie.close (tie.spec returns)
+count-spec = tie.close
+    (tie.spec returns)

@@ -7,14 +7,9 @@ use Rattle.words.specs.Bit.{pop}
 use Rattle.words.proofs.bits.count_above.Statement.{statement}
 use Rattle.words.proofs.bits.count_above.Tie as tie
 
-shr-count : tie.Need-shr-count
-shr-count c = search needs
-
-count-requires : tie.Need-count-requires
-count-requires c κs = search needs
-
 returns : tie.Need-returns
 returns c = c .count .ensures ∙ ap pop (shr-shr (c .before .args .m) (c .before .args .k) 1)
 
 pub count-above-spec : {M : Type 1} → statement M
-count-above-spec = tie.close (tie.spec shr-count count-requires returns)
+count-above-spec = tie.close
+    (tie.spec (λ c. search needs) (λ c κs. search needs) returns)

@@ -20,25 +20,10 @@ abbrev μ-loop : tie.MeasureT-loop
 loop-holds : tie.Need-loop-holds Inv-loop μ-loop
 loop-holds c = (search needs, refl, fill-none _ 0)
 
-mul-l : tie.Need-mul-l Inv-loop μ-loop
-mul-l c = search needs
-
-slice-write-l : tie.Need-slice-write-l Inv-loop μ-loop
-slice-write-l c = search needs
-
-add-i : tie.Need-add-i Inv-loop μ-loop
-add-i c = search needs
-
-loop-less : tie.Need-loop-less Inv-loop μ-loop
-loop-less c = search needs
-
 loop-again : tie.Need-loop-again Inv-loop μ-loop
 loop-again c =
     let l = c .before .loop in
     (omega arith, simp length-set (l .inv .1), ap (λ (d : List ℕ). set d (l .i) 0) (l .inv .2) ∙ fill-more (l .i) 0 _ (omega arith))
-
-same-length : tie.Need-same-length Inv-loop μ-loop
-same-length c = search needs
 
 returns : tie.Need-returns Inv-loop μ-loop
 returns c =
@@ -50,14 +35,5 @@ returns c =
 pub clear-spec : {M : Type 1} → statement M
 clear-spec =
     tie.close
-    (tie.spec
-    Inv-loop
-    μ-loop
-    loop-holds
-    mul-l
-    slice-write-l
-    add-i
-    loop-less
-    loop-again
-    same-length
-    returns)
+    (tie.spec Inv-loop μ-loop loop-holds (λ c. search needs) (λ c. search needs) (λ c. search needs) (λ c. search needs) loop-again
+    (λ c. search needs) returns)

@@ -17,78 +17,35 @@ abbrev μ-loop : tie.MeasureT-loop
 loop-holds : tie.Need-loop-holds Inv-loop μ-loop
 loop-holds c = (omega arith, record { long = c .before .before .pre .1; done = λ i l. absurd (omega arith) })
 
-mul-put-four : tie.Need-mul-put-four Inv-loop μ-loop
-mul-put-four c = search needs
-
-mul-put-four-2 : tie.Need-mul-put-four-2 Inv-loop μ-loop
-mul-put-four-2 c = search needs
-
 put-four-requires : tie.Need-put-four-requires Inv-loop μ-loop
 put-four-requires c κs = let start = c .before .before .before .before .before in (omega arith, omega arith, λ i l. start .pre .3 i (omega arith))
 
-mul-put-four-3 : tie.Need-mul-put-four-3 Inv-loop μ-loop
-mul-put-four-3 c = search needs
-
-mul-put-four-4 : tie.Need-mul-put-four-4 Inv-loop μ-loop
-mul-put-four-4 c = search needs
-
-add-put-four : tie.Need-add-put-four Inv-loop μ-loop
-add-put-four c = search needs
-
-mul-put-four-5 : tie.Need-mul-put-four-5 Inv-loop μ-loop
-mul-put-four-5 c = search needs
-
-add-put-four-2 : tie.Need-add-put-four-2 Inv-loop μ-loop
-add-put-four-2 c = search needs
-
 put-four-requires-2 : tie.Need-put-four-requires-2 Inv-loop μ-loop
-put-four-requires-2 c κs = let start = c .before .before .before .before .before .before .before .before .before in (omega arith, omega arith, λ i l. start .pre .3 i (omega arith))
-
-mul-put-four-6 : tie.Need-mul-put-four-6 Inv-loop μ-loop
-mul-put-four-6 c = search needs
-
-mul-put-four-7 : tie.Need-mul-put-four-7 Inv-loop μ-loop
-mul-put-four-7 c = search needs
-
-add-put-four-3 : tie.Need-add-put-four-3 Inv-loop μ-loop
-add-put-four-3 c = search needs
-
-mul-put-four-8 : tie.Need-mul-put-four-8 Inv-loop μ-loop
-mul-put-four-8 c = search needs
-
-add-put-four-4 : tie.Need-add-put-four-4 Inv-loop μ-loop
-add-put-four-4 c = search needs
+put-four-requires-2 c κs =
+    let way = c .before .before .before .before .before in
+    let start = way .before .before .before .before in
+    (omega arith, omega arith, λ i l. start .pre .3 i (omega arith))
 
 put-four-requires-3 : tie.Need-put-four-requires-3 Inv-loop μ-loop
-put-four-requires-3 c κs = let start = c .before .before .before .before .before .before .before .before .before .before .before .before .before in (omega arith, omega arith, λ i l. start .pre .3 i (omega arith))
-
-mul-put-four-9 : tie.Need-mul-put-four-9 Inv-loop μ-loop
-mul-put-four-9 c = search needs
-
-mul-put-four-10 : tie.Need-mul-put-four-10 Inv-loop μ-loop
-mul-put-four-10 c = search needs
-
-add-put-four-5 : tie.Need-add-put-four-5 Inv-loop μ-loop
-add-put-four-5 c = search needs
-
-mul-put-four-11 : tie.Need-mul-put-four-11 Inv-loop μ-loop
-mul-put-four-11 c = search needs
-
-add-put-four-6 : tie.Need-add-put-four-6 Inv-loop μ-loop
-add-put-four-6 c = search needs
+put-four-requires-3 c κs =
+    let way = c .before .before .before .before .before in
+    let way-2 = way .before .before .before .before in
+    let start = way-2 .before .before .before .before in
+    (omega arith, omega arith, λ i l. start .pre .3 i (omega arith))
 
 put-four-requires-4 : tie.Need-put-four-requires-4 Inv-loop μ-loop
-put-four-requires-4 c κs = let start = c .before .before .before .before .before .before .before .before .before .before .before .before .before .before .before .before .before in (omega arith, omega arith, λ i l. start .pre .3 i (omega arith))
-
-add-t : tie.Need-add-t Inv-loop μ-loop
-add-t c = search needs
-
-loop-less : tie.Need-loop-less Inv-loop μ-loop
-loop-less c = search needs
+put-four-requires-4 c κs =
+    let way = c .before .before .before .before .before .before in
+    let way-2 = way .before .before .before .before .before .before in
+    let start = way-2 .before .before .before .before .before in
+    (omega arith, omega arith, λ i l. start .pre .3 i (omega arith))
 
 loop-again : tie.Need-loop-again Inv-loop μ-loop
 loop-again c =
-    let head = c .before .before .before .before .before .before .before .before .before .before .before .before .before .before .before .before .before in
+    let at-put-four3 = c .before .before .before .before .before .before in
+    let at-put-four2 = at-put-four3 .before .before .before .before in
+    let at-put-four = at-put-four2 .before .before .before .before in
+    let head = at-put-four .before .before .before in
     let start = head .before .before .before in (
       omega arith,
       lane-more
@@ -102,9 +59,9 @@ loop-again c =
           _
           _
           (omega arith)
-          (c .before .before .before .before .before .before .before .before .before .before .before .before .before .before .put-four .ensures)
-          (c .before .before .before .before .before .before .before .before .before .before .put-four2 .ensures)
-          (c .before .before .before .before .before .before .put-four3 .ensures)
+          (at-put-four .put-four .ensures)
+          (at-put-four2 .put-four2 .ensures)
+          (at-put-four3 .put-four3 .ensures)
           (c .before .before .put-four4 .ensures)
           (head .loop .inv .1),
     )
@@ -120,33 +77,8 @@ returns c =
 pub pack-spec : {M : Type 1} → statement M
 pack-spec =
     tie.close
-    (tie.spec
-    Inv-loop
-    μ-loop
-    loop-holds
-    mul-put-four
-    mul-put-four-2
-    put-four-requires
-    mul-put-four-3
-    mul-put-four-4
-    add-put-four
-    mul-put-four-5
-    add-put-four-2
-    put-four-requires-2
-    mul-put-four-6
-    mul-put-four-7
-    add-put-four-3
-    mul-put-four-8
-    add-put-four-4
-    put-four-requires-3
-    mul-put-four-9
-    mul-put-four-10
-    add-put-four-5
-    mul-put-four-11
-    add-put-four-6
-    put-four-requires-4
-    add-t
-    loop-less
-    loop-again
-    same-length
-    returns)
+    (tie.spec Inv-loop μ-loop loop-holds (λ c. search needs) (λ c. search needs) put-four-requires (λ c. search needs) (λ c. search needs)
+    (λ c. search needs) (λ c. search needs) (λ c. search needs) put-four-requires-2 (λ c. search needs) (λ c. search needs)
+    (λ c. search needs) (λ c. search needs) (λ c. search needs) put-four-requires-3 (λ c. search needs) (λ c. search needs)
+    (λ c. search needs) (λ c. search needs) (λ c. search needs) put-four-requires-4 (λ c. search needs) (λ c. search needs) loop-again
+    same-length returns)

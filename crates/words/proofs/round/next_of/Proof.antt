@@ -6,12 +6,6 @@ use Rattle.words.proofs.RoundLaws.{next-wrap, next-step}
 use Rattle.words.proofs.round.next_of.Statement.{statement}
 use Rattle.words.proofs.round.next_of.Tie as tie
 
-add-if1 : tie.Need-add-if1
-add-if1 c = search needs
-
-add-result : tie.Need-add-result
-add-result c = search needs
-
 returns : tie.Need-returns
 returns c = sym (next-wrap _ _ (c .if1 .taken))
 
@@ -19,4 +13,5 @@ returns-2 : tie.Need-returns-2
 returns-2 c = sym (next-step _ _ (c .if1 .left))
 
 pub next-of-spec : {M : Type 1} → statement M
-next-of-spec = tie.close (tie.spec add-if1 add-result returns returns-2)
+next-of-spec = tie.close
+    (tie.spec (λ c. search needs) (λ c. search needs) returns returns-2)
