@@ -11,7 +11,10 @@ use lib.Dec.{ltb, eqb}
 use lib.ListN.{length}
 use Rattle.sort.specs.Search.{Monotone, least}
 use Rattle.words.specs.Tests.{firstFrom}
-use Rattle.words.proofs.TestLaws.{not-none, none-not, first-fault, first-next, first-end}
+use Rattle.words.specs.Found.{itemOf}
+use Rattle.words.specs.declared.found.Item.the-variants as item
+use Rattle.words.proofs.TestLaws.{not-none, none-not}
+use Rattle.words.proofs.FoundLaws.{look-start, look-fault, look-next, look-end}
 use Rattle.gatelist.specs.GateList.{rightOver, badOver}
 use Rattle.gatelist.specs.Words.{listPin, listFirst, listSecond, wholeGates, allGates, listRight, badList, gateIn}
 use Rattle.gatelist.proofs.GateListLaws.{gate-at, first-falls, second-falls, pins-monotone, has-gate, least-gate}
@@ -26,27 +29,27 @@ module _ (l : List ℕ) where
   unfolding listRight
   right-cut = let k : length l < 3 * wholeGates l + 3 = omega arith in rw (lt-leb (3 * wholeGates l + 3) (length l) k)
 
-  -- refusal 6, gate by gate
+  -- refusal 6, gate by gate: the answer from gate g on is the answer
   pub list-from : firstFrom (listRight l) (allGates l - 0) 0 ≡ badList l
   unfolding badList
-  list-from = let e : allGates l - 0 ≡ allGates l = omega arith in ap (λ (m : ℕ). firstFrom (listRight l) m 0) e
+  list-from = look-start (listRight l) (allGates l)
 
   pub list-fault : (g : ℕ) → g < wholeGates l → firstFrom (listRight l) (allGates l - g) g ≡ badList l
-      → rightOver (listPin l) (listFirst l) (listSecond l) g ≡ false → some g ≡ badList l
-  list-fault g h b f = sym (first-fault (listRight l) (allGates l) g (omega arith) (right-whole g h ∙ f)) ∙ b
+      → rightOver (listPin l) (listFirst l) (listSecond l) g ≡ false → item.At g ≡ itemOf (badList l)
+  list-fault g h b f = look-fault (listRight l) (allGates l) g (badList l) b (omega arith) (right-whole g h ∙ f)
 
   pub list-next : (g : ℕ) → g < wholeGates l → firstFrom (listRight l) (allGates l - g) g ≡ badList l
       → rightOver (listPin l) (listFirst l) (listSecond l) g ≡ true → firstFrom (listRight l) (allGates l - (g + 1)) (g + 1) ≡ badList l
-  list-next g h b t = sym (first-next (listRight l) (allGates l) g (omega arith) (right-whole g h ∙ t)) ∙ b
+  list-next g h b t = look-next (listRight l) (allGates l) g (badList l) b (omega arith) (right-whole g h ∙ t)
 
-  pub list-cut : (g : ℕ) → g ≡ wholeGates l → 0 < length l % 3 → firstFrom (listRight l) (allGates l - g) g ≡ badList l → some g ≡ badList l
+  pub list-cut : (g : ℕ) → g ≡ wholeGates l → 0 < length l % 3 → firstFrom (listRight l) (allGates l - g) g ≡ badList l → item.At g ≡ itemOf (badList l)
   list-cut g e h b =
       let k : g < allGates l = omega arith in
       let f : listRight l g ≡ false = rw e right-cut in
-      sym (first-fault (listRight l) (allGates l) g k f) ∙ b
+      look-fault (listRight l) (allGates l) g (badList l) b k f
 
-  pub list-good : (g : ℕ) → g ≡ wholeGates l → length l % 3 ≡ 0 → firstFrom (listRight l) (allGates l - g) g ≡ badList l → none ≡ badList l
-  list-good g e h b = let k : allGates l ≤ g = omega arith in sym (first-end (listRight l) (allGates l) g k) ∙ b
+  pub list-good : (g : ℕ) → g ≡ wholeGates l → length l % 3 ≡ 0 → firstFrom (listRight l) (allGates l - g) g ≡ badList l → item.Fine ≡ itemOf (badList l)
+  list-good g e h b = let k : allGates l ≤ g = omega arith in look-end (listRight l) (allGates l) g (badList l) b k
 
   module _ (good : badList l ≡ none) where
     pub gates-good : badOver (listPin l) (listFirst l) (listSecond l) (wholeGates l) ≡ none

@@ -8,8 +8,6 @@ use lib.Dec.{leb}
 use lib.ListN.{length, getD}
 use Rattle.words.specs.Tests.{firstNot}
 use Rattle.gatelist.specs.GateList.{rightOver, gateOver}
-use Rattle.gatelist.specs.declared.ListForm.{ListForm}
-use Rattle.gatelist.specs.declared.ListForm.the-variants.{Good, Bad}
 use Rattle.gatelist.specs.declared.Listed.{Listed}
 use Rattle.gatelist.specs.declared.Listed.the-variants.{Gate, Missing}
 
@@ -40,11 +38,7 @@ badList l = firstNot (listRight l) (allGates l)
 unfoldable pub gateIn : List ℕ → ℕ → Option ℕ
 gateIn l x = gateOver (listPin l) (wholeGates l) x
 
--- both as answers
-abbrev pub formOf : Option ℕ → ListForm
-formOf none = Good
-formOf (some g) = Bad g
-
+-- as an answer
 abbrev pub listedOf : Option ℕ → Listed
 listedOf none = Missing
 listedOf (some g) = Gate g

@@ -6,16 +6,12 @@ ghost use Prim.Native.Nat.{_<_};
 ghost use lib.Dec.{ltb, eqb};
 ghost use Rattle.sort.specs.Search.{least};
 ghost use Rattle.gatelist.specs.GateList.{beforeOver, rightOver};
-ghost use Rattle.gatelist.specs.Words.{listPin, listFirst, listSecond, wholeGates, badList, gateIn, formOf, listedOf};
+ghost use Rattle.gatelist.specs.Words.{listPin, listFirst, listSecond, wholeGates, badList, gateIn, listedOf};
+ghost use Rattle.words.specs.Found.{itemOf};
 use std::num::wrapping_sub_u32;
+use words::found::Item;
 use words::units::Pin;
 use words::units::PinIv;
-
-// `Bad`: refusal 6 at this gate.
-pub enum ListForm {
-    Good,
-    Bad(usize),
-}
 
 pub enum Listed {
     Gate(usize),
@@ -61,9 +57,9 @@ fn gate_right(l: &[u32], before: Pin, g: usize) -> bool
     second < pin
 }
 
-// Refusal 6 over the whole list. A last gate that is cut breaks the form.
-pub fn check_list(l: &[u32]) -> ListForm
-    ensures { λ r. ⌜ r ≡ formOf (badList (now (l .entry))) ⌝ }
+// Refusal 6 over the whole list: the lowest gate that is not right. A last gate that is cut breaks the form.
+pub fn check_list(l: &[u32]) -> Item
+    ensures { λ r. ⌜ r ≡ itemOf (badList (now (l .entry))) ⌝ }
 {
     let gates = l.len() / 3;
     let mut before = Pin(0);
@@ -73,13 +69,13 @@ pub fn check_list(l: &[u32]) -> ListForm
             before = pin_of(l, g);
             g += 1;
         } else {
-            return ListForm::Bad(g);
+            return Item::At(g);
         }
     }
     if 0 < l.len() % 3 {
-        return ListForm::Bad(g);
+        return Item::At(g);
     }
-    ListForm::Good
+    Item::Fine
 }
 
 // The first gate whose pin is not below this one, by halves.

@@ -27,17 +27,17 @@ use Rattle.listing.proofs.SectionLaws.{no-line, one-line}
 
 -- ---- from words to lanes
 
--- the words of a lane from round r on, for n rounds, are those of the list of pairs
-pub record Stands (L : ℕ) (s : List ℕ) (i r n : ℕ) (l : Lane) : Type 0 where
-  pub word : (k : ℕ) → k < n → getD s (placeOf L i (r + k)) 0 ≡ wordIn l k
-  pub mask : (k : ℕ) → k < n → getD s (placeOf L i (r + k) + 1) 0 ≡ maskIn l k
+-- the words of a lane from round r on, for t rounds, are those of the list of pairs
+pub record Stands (n : ℕ) (s : List ℕ) (i r t : ℕ) (l : Lane) : Type 0 where
+  pub word : (k : ℕ) → k < t → getD s (placeOf n i (r + k)) 0 ≡ wordIn l k
+  pub mask : (k : ℕ) → k < t → getD s (placeOf n i (r + k) + 1) 0 ≡ maskIn l k
   pub full : (k : ℕ) → k < length l → 0 < maskIn l k
-  pub fits : length l ≤ n
+  pub fits : length l ≤ t
 
-module _ (L : ℕ) (s : List ℕ) (i : ℕ) where
-  next-none : (r n : ℕ) → Stands L s i r (suc n) [] → Stands L s i (r + 1) n []
+module _ (n : ℕ) (s : List ℕ) (i : ℕ) where
+  next-none : (r t : ℕ) → Stands n s i r (suc t) [] → Stands n s i (r + 1) t []
   unfolding wordIn maskIn
-  next-none r n S =
+  next-none r t S =
       record {
         word = λ k h. (rw (add-one r, suc-add r k, ← (add-suc r k)) (S .word (suc k) (omega arith)));
         mask = λ k h. (rw (add-one r, suc-add r k, ← (add-suc r k)) (S .mask (suc k) (omega arith)));
@@ -45,9 +45,9 @@ module _ (L : ℕ) (s : List ℕ) (i : ℕ) where
         fits = omega arith;
       }
 
-  next-some : (r n : ℕ) (p : Pair) (l : Lane) → Stands L s i r (suc n) (p ∷ l) → Stands L s i (r + 1) n l
+  next-some : (r t : ℕ) (p : Pair) (l : Lane) → Stands n s i r (suc t) (p ∷ l) → Stands n s i (r + 1) t l
   unfolding wordIn maskIn
-  next-some r n p l S =
+  next-some r t p l S =
       record {
         word = λ k h. (rw (add-one r, suc-add r k, ← (add-suc r k)) (S .word (suc k) (omega arith)));
         mask = λ k h. (rw (add-one r, suc-add r k, ← (add-suc r k)) (S .mask (suc k) (omega arith)));
@@ -55,27 +55,27 @@ module _ (L : ℕ) (s : List ℕ) (i : ℕ) where
         fits = omega (arith, S .fits);
       }
 
-  pub lane-lines : (n r : ℕ) (l : Lane) → Stands L s i r n l → lanePlaces L s i n r ≡ laneLines i r l
+  pub lane-lines : (t r : ℕ) (l : Lane) → Stands n s i r t l → lanePlaces n s i t r ≡ laneLines i r l
   unfolding lanePlaces laneLines wordIn maskIn
   lane-lines zero r [] S = refl
   lane-lines zero r (p ∷ l) S = absurd (not-suc-le-zero (S .fits))
-  lane-lines (suc n) r [] S =
-      let m : getD s (placeOf L i r + 1) 0 ≡ 0 = (rw add-zero at (S .mask 0 (omega arith))) in
-      rw (← (no-line L s i r m)) (lane-lines n (r + 1) [] (next-none r n S))
-  lane-lines (suc n) r (p ∷ l) S =
-      let w : p .word ≡ getD s (placeOf L i r) 0 = sym (rw add-zero at (S .word 0 (omega arith))) in
-      let m : p .mask ≡ getD s (placeOf L i r + 1) 0 = sym (rw add-zero at (S .mask 0 (omega arith))) in
+  lane-lines (suc t) r [] S =
+      let m : getD s (placeOf n i r + 1) 0 ≡ 0 = (rw add-zero at (S .mask 0 (omega arith))) in
+      rw (← (no-line n s i r m)) (lane-lines t (r + 1) [] (next-none r t S))
+  lane-lines (suc t) r (p ∷ l) S =
+      let w : p .word ≡ getD s (placeOf n i r) 0 = sym (rw add-zero at (S .word 0 (omega arith))) in
+      let m : p .mask ≡ getD s (placeOf n i r + 1) 0 = sym (rw add-zero at (S .mask 0 (omega arith))) in
       let z : 0 < p .mask = S .full 0 (omega arith) in
-      rw (← (one-line L s i r (p .word) (p .mask) w m (λ e. absurd (omega arith))), lane-lines n (r + 1) l (next-some r n p l S))
+      rw (← (one-line n s i r (p .word) (p .mask) w m (λ e. absurd (omega arith))), lane-lines t (r + 1) l (next-some r t p l S))
 
-pub lane-all : (L : ℕ) (s : List ℕ) (n i : ℕ) (ls : List Lane) → ((j : ℕ) → j < length ls → Stands L s (i + j) 0 n (getD ls j [])) → places L s n (length ls) i ≡ lines i ls
+pub lane-all : (n : ℕ) (s : List ℕ) (t i : ℕ) (ls : List Lane) → ((j : ℕ) → j < length ls → Stands n s (i + j) 0 t (getD ls j [])) → places n s t (length ls) i ≡ lines i ls
 unfolding places lines
-lane-all L s n i [] S = refl
-lane-all L s n i (l ∷ ls) S =
-    let here : Stands L s i 0 n l = (rw add-zero at (S 0 (omega arith))) in
+lane-all n s t i [] S = refl
+lane-all n s t i (l ∷ ls) S =
+    let here : Stands n s i 0 t l = (rw add-zero at (S 0 (omega arith))) in
     rw (
-      lane-lines L s i n 0 l here,
-      lane-all L s n (i + 1) ls (λ j h. (rw (add-one i, suc-add i j, ← (add-suc i j)) (S (suc j) (omega arith)))),
+      lane-lines n s i t 0 l here,
+      lane-all n s t (i + 1) ls (λ j h. (rw (add-one i, suc-add i j, ← (add-suc i j)) (S (suc j) (omega arith)))),
     )
 
 -- ---- the section in lent words that held zeros
@@ -99,8 +99,8 @@ mask-at (p ∷ l) zero d h = refl
 mask-at (p ∷ l) (suc k) d h = mask-at l k d (le-of-suc-le-suc h)
 
 -- in every lane every pair has a mask that is not 0
-pub masks-some : (L : ℕ) (ps : List Pair) (lanes : List Lane) → Packing L ps lanes → broken ps ≡ none → (i k : ℕ) → k < length (getD lanes i []) → 0 < maskIn (getD lanes i []) k
-masks-some L ps lanes packing form i k h =
+pub masks-some : (n : ℕ) (ps : List Pair) (lanes : List Lane) → Packing n ps lanes → broken ps ≡ none → (i k : ℕ) → k < length (getD lanes i []) → 0 < maskIn (getD lanes i []) k
+masks-some n ps lanes packing form i k h =
     let l = getD lanes i [] in
     let d : Pair = record { at = 0; word = 0; mask = 0 } in
     rw (mask-at l k d h)
@@ -117,12 +117,12 @@ section-stands o lanes long full j h =
       fits = longest-ge lanes j;
     }
 
-pub placed-lines : (L o : ℕ) (ws : List ℕ) (lanes : List Lane) → 0 < L → fitted L o (readSet L (pairsOf ws)) ≡ placed lanes
-    → places L (sets (replicate o 0) 0 (readSection lanes)) (longest lanes) L 0 ≡ lines 0 lanes
-placed-lines L o ws lanes pos e =
-    let f = fitted-placed L o (readSet L (pairsOf ws)) lanes e in
-    let p : Passed L (pairsOf ws) lanes = placed-passed L (pairsOf ws) lanes (f .0) in
-    let q : Packing L (pairsOf ws) lanes = lanes-packing L (pairsOf ws) lanes (p .found) pos in
-    let long : length (readSection lanes) ≤ o = (rw (section-length L lanes (q .wide)) (f .1)) in
+pub placed-lines : (n o : ℕ) (ws : List ℕ) (lanes : List Lane) → 0 < n → fitted n o (readSet n (pairsOf ws)) ≡ placed lanes
+    → places n (sets (replicate o 0) 0 (readSection lanes)) (longest lanes) n 0 ≡ lines 0 lanes
+placed-lines n o ws lanes pos e =
+    let f = fitted-placed n o (readSet n (pairsOf ws)) lanes e in
+    let p : Passed n (pairsOf ws) lanes = placed-passed n (pairsOf ws) lanes (f .0) in
+    let q : Packing n (pairsOf ws) lanes = lanes-packing n (pairsOf ws) lanes (p .found) pos in
+    let long : length (readSection lanes) ≤ o = (rw (section-length n lanes (q .wide)) (f .1)) in
     rw (← (q .wide))
-    (lane-all (length lanes) (sets (replicate o 0) 0 (readSection lanes)) (longest lanes) 0 lanes (section-stands o lanes long (masks-some L (pairsOf ws) lanes q (p .form))))
+    (lane-all (length lanes) (sets (replicate o 0) 0 (readSection lanes)) (longest lanes) 0 lanes (section-stands o lanes long (masks-some n (pairsOf ws) lanes q (p .form))))

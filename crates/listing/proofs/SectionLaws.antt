@@ -9,28 +9,28 @@ use lib.ListN.{getD}
 use Rattle.listing.specs.Line.{line}
 use Rattle.listing.specs.Section.{placeOf, placeLine, lanePlaces, places}
 
-module _ (L : ℕ) (s : List ℕ) where
-  pub no-line : (i r : ℕ) → getD s (placeOf L i r + 1) 0 ≡ 0 → [] ≡ placeLine L s i r
+module _ (n : ℕ) (s : List ℕ) where
+  pub no-line : (i r : ℕ) → getD s (placeOf n i r + 1) 0 ≡ 0 → [] ≡ placeLine n s i r
   unfolding placeLine
   no-line i r h = rw (eq-eqb _ _ h, placeLine)
 
-  pub one-line : (i r w m : ℕ) → w ≡ getD s (placeOf L i r) 0 → m ≡ getD s (placeOf L i r + 1) 0 → (m ≡ 0 → ⊥) → line i r w m ≡ placeLine L s i r
+  pub one-line : (i r w m : ℕ) → w ≡ getD s (placeOf n i r) 0 → m ≡ getD s (placeOf n i r + 1) 0 → (m ≡ 0 → ⊥) → line i r w m ≡ placeLine n s i r
   unfolding placeLine
   one-line i r w m e f h = rw (e, f) (rw (ne-eqb _ _ (λ z. h (f ∙ z)), placeLine))
 
-  -- a round more of n, and a lane more of n
-  pub next-round : (i n r : ℕ) → r < n → lanePlaces L s i (n - r) r ≡ placeLine L s i r ++ lanePlaces L s i (n - (r + 1)) (r + 1)
+  -- a round more of t, and a lane more of t
+  pub next-round : (i t r : ℕ) → r < t → lanePlaces n s i (t - r) r ≡ placeLine n s i r ++ lanePlaces n s i (t - (r + 1)) (r + 1)
   unfolding lanePlaces
-  next-round i n r h = let e : n - r ≡ suc (n - (r + 1)) = omega arith in rw (e, lanePlaces)
+  next-round i t r h = let e : t - r ≡ suc (t - (r + 1)) = omega arith in rw (e, lanePlaces)
 
-  pub last-round : (i n r : ℕ) → n ≤ r → lanePlaces L s i (n - r) r ≡ []
+  pub last-round : (i t r : ℕ) → t ≤ r → lanePlaces n s i (t - r) r ≡ []
   unfolding lanePlaces
-  last-round i n r h = let e : n - r ≡ 0 = omega arith in rw (e, lanePlaces)
+  last-round i t r h = let e : t - r ≡ 0 = omega arith in rw (e, lanePlaces)
 
-  pub next-lane : (m n i : ℕ) → i < n → places L s m (n - i) i ≡ lanePlaces L s i m 0 ++ places L s m (n - (i + 1)) (i + 1)
+  pub next-lane : (m t i : ℕ) → i < t → places n s m (t - i) i ≡ lanePlaces n s i m 0 ++ places n s m (t - (i + 1)) (i + 1)
   unfolding places
-  next-lane m n i h = let e : n - i ≡ suc (n - (i + 1)) = omega arith in rw (e, places)
+  next-lane m t i h = let e : t - i ≡ suc (t - (i + 1)) = omega arith in rw (e, places)
 
-  pub last-lane : (m n i : ℕ) → n ≤ i → places L s m (n - i) i ≡ []
+  pub last-lane : (m t i : ℕ) → t ≤ i → places n s m (t - i) i ≡ []
   unfolding places
-  last-lane m n i h = let e : n - i ≡ 0 = omega arith in rw (e, places)
+  last-lane m t i h = let e : t - i ≡ 0 = omega arith in rw (e, places)

@@ -1,4 +1,4 @@
--- The lines as the words of a read section give them, over the number of lanes L: word and mask of lane i in round r stand at 2Lr + 2i and the
+-- The lines as the words of a read section give them, over the number of lanes n: word and mask of lane i in round r stand at 2nr + 2i and the
 -- word after it, and mask 0 is no pair.
 -- Assumes nothing.
 use mathlib.Core.Bool.{true, false}
@@ -9,18 +9,18 @@ use lib.ListN.{getD}
 use Rattle.listing.specs.Line.{line}
 
 abbrev pub placeOf : ℕ → ℕ → ℕ → ℕ
-placeOf L i r = 2 * L * r + 2 * i
+placeOf n i r = 2 * n * r + 2 * i
 
 unfoldable pub placeLine : ℕ → List ℕ → ℕ → ℕ → List ℕ
-placeLine L s i r =
-    elim (eqb (getD s (placeOf L i r + 1) 0) 0) [ true ↦ [] | false ↦ line i r (getD s (placeOf L i r) 0) (getD s (placeOf L i r + 1) 0) ]
+placeLine n s i r =
+    elim (eqb (getD s (placeOf n i r + 1) 0) 0) [ true ↦ [] | false ↦ line i r (getD s (placeOf n i r) 0) (getD s (placeOf n i r + 1) 0) ]
 
--- n rounds of lane i from round r on
+-- t rounds of lane i from round r on
 unfoldable pub lanePlaces : ℕ → List ℕ → ℕ → ℕ → ℕ → List ℕ
-lanePlaces L s i zero r = []
-lanePlaces L s i (suc n) r = placeLine L s i r ++ lanePlaces L s i n (r + 1)
+lanePlaces n s i zero r = []
+lanePlaces n s i (suc t) r = placeLine n s i r ++ lanePlaces n s i t (r + 1)
 
--- n lanes from lane i on, each of so many rounds
+-- t lanes from lane i on, each of so many rounds
 unfoldable pub places : ℕ → List ℕ → ℕ → ℕ → ℕ → List ℕ
-places L s rounds zero i = []
-places L s rounds (suc n) i = lanePlaces L s i rounds 0 ++ places L s rounds n (i + 1)
+places n s rounds zero i = []
+places n s rounds (suc t) i = lanePlaces n s i rounds 0 ++ places n s rounds t (i + 1)

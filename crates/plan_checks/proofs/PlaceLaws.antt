@@ -13,10 +13,9 @@ use Rattle.words.specs.Tests.{Place, lowest}
 use Rattle.plan_record.specs.Form.{planForm}
 use Rattle.words.proofs.TestLaws.{lowest-at}
 use Rattle.plan_record.proofs.FormLaws.{formed}
-use Rattle.plan_gates.specs.declared.GateList.{GateList}
-use Rattle.plan_gates.specs.Values.{gateListOf}
+use Rattle.words.specs.declared.found.Item.{Item}
 use Rattle.words.specs.declared.found.Lowest.{Lowest}
-use Rattle.words.specs.Found.{lowestOf}
+use Rattle.words.specs.Found.{itemOf, lowestOf}
 use Rattle.plan_counts.specs.Counts.{refusal7}
 use Rattle.plan_slots.specs.Slots.{refusal9, refusal10, refusal11}
 use Rattle.plan_positions.specs.Positions.{refusal12, refusal13}
@@ -64,7 +63,7 @@ module _ (d : List ℕ) (form : planForm d ≡ true) where
 
 -- ---- an answer's place
 
-pub list-told : (o : Option ℕ) (r : GateList) → r ≡ gateListOf o → listPlace r ≡ gatePlace o
+pub list-told : (o : Option ℕ) (r : Item) → r ≡ itemOf o → listPlace r ≡ gatePlace o
 list-told none r e = ap listPlace e
 list-told (some g) r e = ap listPlace e
 

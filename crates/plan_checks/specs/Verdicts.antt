@@ -3,8 +3,8 @@
 use mathlib.Core.Bool.{Bool, true, false}
 use mathlib.Core.Option.{Option, none, some}
 use Rattle.words.specs.Tests.{Place}
-use Rattle.plan_gates.specs.declared.GateList.{GateList}
-use Rattle.plan_gates.specs.declared.GateList.the-variants as gate
+use Rattle.words.specs.declared.found.Item.{Item}
+use Rattle.words.specs.declared.found.Item.the-variants as item
 use Rattle.words.specs.declared.found.Lowest.{Lowest}
 use Rattle.words.specs.declared.found.Lowest.the-variants as low
 use Rattle.plan_reads.specs.declared.check.Checked.{Checked}
@@ -26,9 +26,9 @@ abbrev pub lowestPlace : Lowest → Option Place
 lowestPlace low.Fine = none
 lowestPlace (low.At p i) = some (record { part = p; item = i })
 
-abbrev pub listPlace : GateList → Option Place
-listPlace gate.Good = none
-listPlace (gate.Bad g) = some (record { part = 0; item = g })
+abbrev pub listPlace : Item → Option Place
+listPlace item.Fine = none
+listPlace (item.At g) = some (record { part = 0; item = g })
 
 -- 3 and 4 are told at the part
 abbrev pub nothingPlace : Checked → Option Place

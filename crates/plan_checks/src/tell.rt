@@ -7,8 +7,8 @@ ghost use Rattle.plan_checks.specs.Steps.{Few};
 ghost use Rattle.plan_checks.specs.Verdicts.{verdictOf, isRefused, lowestPlace, listPlace, nothingPlace, roomPlace, checkedRefusal};
 ghost use Rattle.plan_checks.specs.declared.Verdict.the-variants as verdict;
 use crate::Verdict;
-use plan_gates::GateList;
 use plan_reads::check::Checked;
+use words::found::Item;
 use words::found::Lowest;
 use words::refusals::GATE_ORDER;
 use words::refusals::NO_ROOM_FOUND;
@@ -46,12 +46,12 @@ pub fn of_test(number: u32, right: bool) -> Verdict
     refuse(number, 0, 0)
 }
 
-pub fn of_gates(list: GateList) -> Verdict
+pub fn of_gates(list: Item) -> Verdict
     ensures { λ r. ⌜ r ≡ verdictOf (orElse 6 (listPlace list) none) ⌝ }
 {
     match list {
-        GateList::Good => Verdict::Accepted,
-        GateList::Bad(g) => refuse(GATE_ORDER, 0, g as usize),
+        Item::Fine => Verdict::Accepted,
+        Item::At(g) => refuse(GATE_ORDER, 0, g),
     }
 }
 

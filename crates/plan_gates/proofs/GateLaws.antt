@@ -12,6 +12,7 @@ use Rattle.words.proofs.BitLaws.{differ-lt}
 use Rattle.sort.specs.Search.{Monotone, least}
 use Rattle.plan_record.specs.Record.{gatesOf, gatePin, gateFirst, gateSecond}
 use Rattle.words.specs.Tests.{firstFrom}
+use Rattle.words.proofs.FoundLaws.{look-start}
 use Rattle.gatelist.specs.GateList.{badOver}
 use Rattle.gatelist.proofs.GateListLaws as over
 use Rattle.plan_gates.specs.Gates.{pinBefore, gateRight, badGate, gateOf}
@@ -29,7 +30,7 @@ before-next d g = over.before-next (gatePin d) g
 -- the answer from the first gate on
 pub bad-from : (d : List ℕ) → firstFrom (gateRight d) (gatesOf d - 0) 0 ≡ badGate d
 unfolding badGate badOver gateRight
-bad-from d = let e : gatesOf d - 0 ≡ gatesOf d = omega arith in ap (λ (m : ℕ). firstFrom (gateRight d) m 0) e
+bad-from d = look-start (gateRight d) (gatesOf d)
 
 module _ (d : List ℕ) (g : ℕ) where
   -- a gate is right or not by its three tests, in their order

@@ -13,15 +13,8 @@ use Rattle.words.specs.Section.{listOf}
 use Rattle.pinmap.specs.PinMap.{look}
 use Rattle.plan_record.specs.Record.{gatesOf, gatePin}
 use Rattle.plan_gates.specs.Gates.{badGate, value}
-use Rattle.plan_gates.specs.declared.GateList.{GateList}
-use Rattle.plan_gates.specs.declared.GateList.the-variants.{Good, Bad}
 use Rattle.plan_gates.specs.declared.GateFound.{GateFound}
 use Rattle.plan_gates.specs.declared.GateFound.the-variants.{Gate, Missing}
-
--- refusal 6 as an answer: `Bad` has the item, the lowest gate
-abbrev pub gateListOf : Option ℕ → GateList
-gateListOf none = Good
-gateListOf (some g) = Bad g
 
 abbrev pub gateFoundOf : Option ℕ → GateFound
 gateFoundOf none = Missing

@@ -9,8 +9,9 @@ ghost use lib.ListN.{length};
 ghost use Rattle.sort.specs.Search.{least};
 ghost use Rattle.pinmap.specs.PinMap.{look};
 ghost use Rattle.plan_record.specs.Record.{gatesOf, gatePin, gateFirst, gateSecond};
+ghost use Rattle.words.specs.Found.{itemOf};
 ghost use Rattle.plan_gates.specs.Gates.{pinBefore, gateRight, badGate, gateOf, value};
-ghost use Rattle.plan_gates.specs.Values.{gateListOf, gateFoundOf, gateWords, storeBit, Given, Askable, ValuedBelow, Ready, Fillable};
+ghost use Rattle.plan_gates.specs.Values.{gateFoundOf, gateWords, storeBit, Given, Askable, ValuedBelow, Ready, Fillable};
 use pinmap::Found;
 use plan_record::places::gate_base;
 use plan_record::places::word_at;
@@ -18,14 +19,9 @@ use std::num::wrapping_sub_u32;
 use words::bits::bit_at;
 use words::bits::set_bit;
 use words::clear::clear;
+use words::found::Item;
 use words::units::Pin;
 use words::units::PinIv;
-
-// `Bad`: refusal 6 at this gate.
-pub enum GateList {
-    Good,
-    Bad(u32),
-}
 
 pub enum GateFound {
     Gate(u32),
@@ -68,9 +64,9 @@ fn gate_right(d: &[u8], before: Pin, g: u32) -> bool
     second < pin
 }
 
-// Refusal 6 over the whole list.
-pub fn check_gates(d: &[u8]) -> GateList
-    ensures { λ r. ⌜ r ≡ gateListOf (badGate (now (d .entry))) ⌝ }
+// Refusal 6 over the whole list: the lowest gate that is not right.
+pub fn check_gates(d: &[u8]) -> Item
+    ensures { λ r. ⌜ r ≡ itemOf (badGate (now (d .entry))) ⌝ }
 {
     let gates = word_at(d, 2);
     let mut before = Pin(0);
@@ -80,10 +76,10 @@ pub fn check_gates(d: &[u8]) -> GateList
             before = gate_pin(d, g);
             g += 1;
         } else {
-            return GateList::Bad(g);
+            return Item::At(g as usize);
         }
     }
-    GateList::Good
+    Item::Fine
 }
 
 // The first gate whose pin is not below this one, by halves.

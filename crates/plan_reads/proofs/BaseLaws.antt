@@ -100,29 +100,29 @@ module _ (ws t : List ℕ) (j : ℕ) (row : RowIn ws t j) (bases₀ : List ℕ) 
 
 -- ---- all lanes
 
-pub lanes-count : (ws t : List ℕ) (L : ℕ) → length (lanesAt ws t L) ≡ L
+pub lanes-count : (ws t : List ℕ) (n : ℕ) → length (lanesAt ws t n) ≡ n
 unfolding lanesAt
 lanes-count ws t zero = refl
-lanes-count ws t (suc L) = ap suc (lanes-count ws (drop 32 t) L)
+lanes-count ws t (suc n) = ap suc (lanes-count ws (drop 32 t) n)
 
-module _ (ws t : List ℕ) (L : ℕ) where
-  lanes-from : (j : ℕ) → j < L → drop j (lanesAt ws t L) ≡ laneOf ws (rowAt t j) ∷ drop (j + 1) (lanesAt ws t L)
+module _ (ws t : List ℕ) (n : ℕ) where
+  lanes-from : (j : ℕ) → j < n → drop j (lanesAt ws t n) ≡ laneOf ws (rowAt t j) ∷ drop (j + 1) (lanesAt ws t n)
   lanes-from j h =
-      let n : j < length (lanesAt ws t L) = omega (arith, lanes-count ws t L) in
-      drop-cons (lanesAt ws t L) j [] n ∙ rw (add-one, lane-at ws t L j h)
+      let there : j < length (lanesAt ws t n) = omega (arith, lanes-count ws t n) in
+      drop-cons (lanesAt ws t n) j [] there ∙ rw (add-one, lane-at ws t n j h)
 
   abbrev pub lanesLeft : ℕ → List ℕ → List ℕ
-  lanesLeft j bases = storeLanes j (drop j (lanesAt ws t L)) bases
+  lanesLeft j bases = storeLanes j (drop j (lanesAt ws t n)) bases
 
-  pub lanes-on : (j : ℕ) (bases bases′ : List ℕ) → j < L → bases′ ≡ storeLane (32 * j) (laneOf ws (rowAt t j)) bases → lanesLeft (j + 1) bases′ ≡ lanesLeft j bases
+  pub lanes-on : (j : ℕ) (bases bases′ : List ℕ) → j < n → bases′ ≡ storeLane (32 * j) (laneOf ws (rowAt t j)) bases → lanesLeft (j + 1) bases′ ≡ lanesLeft j bases
   unfolding storeLanes
   lanes-on j bases bases′ h e = rw (lanes-from j h, e, storeLanes)
 
-  pub lanes-end : (j : ℕ) (bases : List ℕ) → L ≤ j → lanesLeft j bases ≡ bases
+  pub lanes-end : (j : ℕ) (bases : List ℕ) → n ≤ j → lanesLeft j bases ≡ bases
   unfolding storeLanes
   lanes-end j bases h =
-      let q : length (lanesAt ws t L) ≤ j = omega (arith, lanes-count ws t L) in
-      rw (drop-of-length-le (lanesAt ws t L) q)
+      let q : length (lanesAt ws t n) ≤ j = omega (arith, lanes-count ws t n) in
+      rw (drop-of-length-le (lanesAt ws t n) q)
 
-pub readable-row : {ws t : List ℕ} {L j : ℕ} → Readable ws t L → j < L → RowIn ws t j
+pub readable-row : {ws t : List ℕ} {n j : ℕ} → Readable ws t n → j < n → RowIn ws t j
 readable-row r h = filled-row (r .filled) _ h

@@ -83,11 +83,11 @@ pub data Answered (o : Outcome) : Type 0 where
   four : o ≡ refused 4 0 → Answered o
   rounds : (lanes : List Lane) → o ≡ placed lanes → Answered o
 
-pub answered : (L : ℕ) (ps : List Pair) → Answered (packed L ps)
+pub answered : (n : ℕ) (ps : List Pair) → Answered (packed n ps)
 unfolding packed
-answered L ps = go (ltb 0 (length ps)) refl (lanesOf L ps) refl
+answered n ps = go (ltb 0 (length ps)) refl (lanesOf n ps) refl
   where
-    go : (b : Bool) → ltb 0 (length ps) ≡ b → (o : Option (List Lane)) → lanesOf L ps ≡ o → Answered (packed L ps)
+    go : (b : Bool) → ltb 0 (length ps) ≡ b → (o : Option (List Lane)) → lanesOf n ps ≡ o → Answered (packed n ps)
     go false e o f = three (rw (e, packed))
     go true e none f = four (rw (e, f, packed))
     go true e (some lanes) f = rounds lanes (rw (e, f, packed))

@@ -76,11 +76,11 @@ asked-in d p (suc n) j y h full e = ⊎-elim last (earlier (λ s. asked-in d p n
 
 -- ---- a part that was searched, with its lanes in the table
 
-pub packed-found : (L : ℕ) (ps : List Pair) (lanes : List Lane) → packed L ps ≡ placed lanes → lanesOf L ps ≡ some lanes
+pub packed-found : (n : ℕ) (ps : List Pair) (lanes : List Lane) → packed n ps ≡ placed lanes → lanesOf n ps ≡ some lanes
 unfolding packed
-packed-found L ps lanes h = go (ltb 0 (length ps)) refl (lanesOf L ps) refl
+packed-found n ps lanes h = go (ltb 0 (length ps)) refl (lanesOf n ps) refl
   where
-    go : (b : Bool) → ltb 0 (length ps) ≡ b → (o : Option (List Lane)) → lanesOf L ps ≡ o → lanesOf L ps ≡ some lanes
+    go : (b : Bool) → ltb 0 (length ps) ≡ b → (o : Option (List Lane)) → lanesOf n ps ≡ o → lanesOf n ps ≡ some lanes
     go false e o f =
         let q : refused 3 0 ≡ placed lanes = rw (e, packed) at h in
         let z : _≡_ {A = ℕ} 0 1 = cc in
@@ -98,36 +98,36 @@ is-planned : (o : Option Planned) → (o ≡ none → ⊥) → (y : Planned) × 
 is-planned none h = absurd (h refl)
 is-planned (some y) h = (y, refl)
 
-module _ (d : List ℕ) (p : ℕ) (narrow : AllNarrow (askedTo d p 8192)) {K S L : ℕ} {t : ℕ} (s : Solvable t K S L) (lanes : List Lane) (found : partReads L d p ≡ placed lanes) where
-  pub part-found : lanesOf L (pairsOf (readWords d p)) ≡ some lanes
+module _ (d : List ℕ) (p : ℕ) (narrow : AllNarrow (askedTo d p 8192)) {K S n : ℕ} {t : ℕ} (s : Solvable t K S n) (lanes : List Lane) (found : partReads n d p ≡ placed lanes) where
+  pub part-found : lanesOf n (pairsOf (readWords d p)) ≡ some lanes
   unfolding partReads
-  part-found = packed-found L (pairsOf (readWords d p)) lanes found
+  part-found = packed-found n (pairsOf (readWords d p)) lanes found
 
-  pub part-win : (table : List ℕ) → table ≡ tableAfter L (lanesOf L (pairsOf (readWords d p))) → length table ≡ 32 * L → Win (readWords d p) table L
-  part-win table e n = won (in-search (words-form d p narrow) s (words-small d p narrow)) true table (rw part-found) refl e n
+  pub part-win : (table : List ℕ) → table ≡ tableAfter n (lanesOf n (pairsOf (readWords d p))) → length table ≡ 32 * n → Win (readWords d p) table n
+  part-win table e long = won (in-search (words-form d p narrow) s (words-small d p narrow)) true table (rw part-found) refl e long
 
   -- the table says the part's lanes
-  pub part-lanes : (table : List ℕ) → table ≡ tableAfter L (lanesOf L (pairsOf (readWords d p))) → length table ≡ 32 * L → lanesAt (readWords d p) table L ≡ partLanes L d p
-  part-lanes table e n =
-      let w = part-win table e n in
+  pub part-lanes : (table : List ℕ) → table ≡ tableAfter n (lanesOf n (pairsOf (readWords d p))) → length table ≡ 32 * n → lanesAt (readWords d p) table n ≡ partLanes n d p
+  part-lanes table e long =
+      let w = part-win table e long in
       let twice : some (w .lanes) ≡ some lanes = sym (w .found) ∙ part-found in
       let one : w .lanes ≡ lanes = cc in
       w .same ∙ (one ∙ ap lanesIn (sym found))
 
   -- the pins of the slots are found at their local positions
-  pub part-numbered : (table bases : List ℕ) → table ≡ tableAfter L (lanesOf L (pairsOf (readWords d p))) → length table ≡ 32 * L → length (readWords d p) / 2 ≤ length bases
-      → AllPlanned d p → Numbered L d p (readWords d p) (storeLanes 0 (lanesAt (readWords d p) table L) bases)
+  pub part-numbered : (table bases : List ℕ) → table ≡ tableAfter n (lanesOf n (pairsOf (readWords d p))) → length table ≡ 32 * n → length (readWords d p) / 2 ≤ length bases
+      → AllPlanned d p → Numbered n d p (readWords d p) (storeLanes 0 (lanesAt (readWords d p) table n) bases)
   unfolding readWords localPosition
-  part-numbered table bases e n room all j l full =
+  part-numbered table bases e long room all j l full =
       let ws = readWords d p in
-      let w = part-win table e n in
-      let at = lanesAt ws table L in
-      let sound : Sound L (pairsOf ws) at = rw (w .same) (won-sound (words-form d p narrow) s (words-small d p narrow) (w .lanes) (w .found)) in
+      let w = part-win table e long in
+      let at = lanesAt ws table n in
+      let sound : Sound n (pairsOf ws) at = rw (w .same) (won-sound (words-form d p narrow) s (words-small d p narrow) (w .lanes) (w .found)) in
       let (y, is) = is-planned (planned d (slotAt d p 0 (8192 + j))) (all j l full) in
       let (i, k, g) = asked-in d p 8192 j y l full is in
       let asked : Requested (pairsOf ws) (bitNumber y / 32) (bitNumber y % 32) = rw g at (set-requests (askedTo d p 8192) i k) in
-      let here = local-is L ws at (s .few-lanes) (set-rising (askedTo d p 8192)) sound (w .readable .filled .kept) bases room (bitNumber y) asked in
-      let same : at ≡ partLanes L d p = part-lanes table e n in
+      let here = local-is n ws at (s .few-lanes) (set-rising (askedTo d p 8192)) sound (w .readable .filled .kept) bases room (bitNumber y) asked in
+      let same : at ≡ partLanes n d p = part-lanes table e long in
       record {
         placeable = rw is (here .placeable);
         is = rw is (here .is ∙ ap (λ (ls : List Lane). orZero (localOf ls (bitNumber y / 32) (bitNumber y % 32))) same);

@@ -181,17 +181,17 @@ mask-in (p ∷ l) zero z h = refl
 mask-in (p ∷ l) (suc r) z h = mask-in l r z (omega arith)
 
 -- what is said of bit q
-pub record LocalAt (L : ℕ) (ws : List ℕ) (lanes : List Lane) (bases : List ℕ) (q : ℕ) : Type 0 where
+pub record LocalAt (n : ℕ) (ws : List ℕ) (lanes : List Lane) (bases : List ℕ) (q : ℕ) : Type 0 where
   pub placeable : Placeable ws bases q
   pub is : localBy ws bases q ≡ orZero (localOf lanes (q / 32) (q % 32))
-  pub below : localBy ws bases q < 32 * L
+  pub below : localBy ws bases q < 32 * n
 
-module _ (L : ℕ) (ws : List ℕ) (lanes : List Lane) (few : L ≤ 256) (rising : Rising 0 ws) (sound : Sound L (pairsOf ws) lanes) (kept : Kept ws L lanes) (bases : List ℕ) (room : length ws / 2 ≤ length bases) where
-  pub local-is : (q : ℕ) → Requested (pairsOf ws) (q / 32) (q % 32) → LocalAt L ws lanes (storeLanes 0 lanes bases) q
+module _ (n : ℕ) (ws : List ℕ) (lanes : List Lane) (few : n ≤ 256) (rising : Rising 0 ws) (sound : Sound n (pairsOf ws) lanes) (kept : Kept ws n lanes) (bases : List ℕ) (room : length ws / 2 ≤ length bases) where
+  pub local-is : (q : ℕ) → Requested (pairsOf ws) (q / 32) (q % 32) → LocalAt n ws lanes (storeLanes 0 lanes bases) q
   unfolding localBy localAt
   local-is q asked =
       let form = sound .passed .form in
-      let s = spotted L (pairsOf ws) lanes (sound .packing) form (q / 32) (asked .mask) (asked .stands) in
+      let s = spotted n (pairsOf ws) lanes (sound .packing) form (q / 32) (asked .mask) (asked .stands) in
       let i = s .spot .lane in
       let r = s .spot .round in
       let lane = getD lanes i [] in
@@ -208,7 +208,7 @@ module _ (L : ℕ) (ws : List ℕ) (lanes : List Lane) (few : L ≤ 256) (rising
       omega (arith, count-times ws e (joined lanes) (drawn-joined ws lanes (kept .sound)), sound .packing .once (getD ws (2 * e) 0) (getD ws (2 * e + 1) 0)) in
       let base : getD (storeLanes 0 lanes bases) e 0 ≡ 32 * (0 + i) + total (later lane r) =
       lanes-stored e 0 lanes i r z bases wide (s .round-there) refl once (omega (arith, drawn .in-set)) in
-      let at : localOf lanes (q / 32) (q % 32) ≡ some (localAt lanes i r (q % 32)) = local-some L lanes (q / 32) (asked .mask) (q % 32) s in
+      let at : localOf lanes (q / 32) (q % 32) ≡ some (localAt lanes i r (q % 32)) = local-some n lanes (q / 32) (asked .mask) (q % 32) s in
       let above : pop (getD ws (2 * e + 1) 0 / 2 ^ (q % 32 + 1)) ≡ pop (maskIn lane r / 2 ^ (q % 32 + 1)) = ap (λ (m : ℕ). pop (m / 2 ^ (q % 32 + 1))) mask in
       let (p, at′, low) = sound .positions .below (q / 32) (q % 32) asked in
       let whole : localBy ws (storeLanes 0 lanes bases) q ≡ localAt lanes i r (q % 32) = rw (found) (omega (arith, base, above)) in

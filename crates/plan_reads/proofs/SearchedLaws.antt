@@ -36,43 +36,43 @@ use Rattle.plan_reads.specs.Answers.{readsOf}
 
 -- ---- the outcome
 
-module _ {ws : List ℕ} {t K S L : ℕ} (f : InForm ws) (s : Solvable t K S L) (fits : (x : ℕ) → getD ws x 0 < 2 ^ 32) where
-  pub in-search : Searchable ws t K S L
+module _ {ws : List ℕ} {t K S n : ℕ} (f : InForm ws) (s : Solvable t K S n) (fits : (x : ℕ) → getD ws x 0 < 2 ^ 32) where
+  pub in-search : Searchable ws t K S n
   in-search = searchable s (f .few) (f .form) fits
 
-  some-words : (lanes : List Lane) → lanesOf L (pairsOf ws) ≡ some lanes → length ws ≡ 0 → ⊥
+  some-words : (lanes : List Lane) → lanesOf n (pairsOf ws) ≡ some lanes → length ws ≡ 0 → ⊥
   some-words lanes e z =
-      let n : length (pairsOf ws) ≡ 0 = omega (arith, pairs-length 0 ws) in
-      let q : none ≡ some lanes = sym (win-none L (pairsOf ws) 14) ∙ (rw n at e) in
+      let none-there : length (pairsOf ws) ≡ 0 = omega (arith, pairs-length 0 ws) in
+      let q : none ≡ some lanes = sym (win-none n (pairsOf ws) 14) ∙ (rw none-there at e) in
       let x : _≡_ {A = ℕ} 0 1 = cc in
       omega arith
 
-  pub won-sound : (lanes : List Lane) → lanesOf L (pairsOf ws) ≡ some lanes → Sound L (pairsOf ws) lanes
-  won-sound lanes e = placed-sound L ws lanes (s .some-lanes) fits (is-packed L ws 0 (f .few) (f .form) (some-words lanes e) lanes e)
+  pub won-sound : (lanes : List Lane) → lanesOf n (pairsOf ws) ≡ some lanes → Sound n (pairsOf ws) lanes
+  won-sound lanes e = placed-sound n ws lanes (s .some-lanes) fits (is-packed n ws 0 (f .few) (f .form) (some-words lanes e) lanes e)
 
-  pub won-packed : (lanes : List Lane) → lanesOf L (pairsOf ws) ≡ some lanes → packed L (pairsOf ws) ≡ placed lanes
+  pub won-packed : (lanes : List Lane) → lanesOf n (pairsOf ws) ≡ some lanes → packed n (pairsOf ws) ≡ placed lanes
   unfolding packed
   won-packed lanes e =
-      let n : 0 < length (pairsOf ws) = omega (arith, pairs-length 0 ws, some-words lanes e) in
-      rw (lt-ltb 0 (length (pairsOf ws)) n, e, packed)
+      let some-there : 0 < length (pairsOf ws) = omega (arith, pairs-length 0 ws, some-words lanes e) in
+      rw (lt-ltb 0 (length (pairsOf ws)) some-there, e, packed)
 
-  module _ (table : List ℕ) (w : Win ws table L) (n : ℕ) (is : n ≡ longest (lanesAt ws table L)) where
-    rounds-are : n ≡ longest (w .lanes)
+  module _ (table : List ℕ) (w : Win ws table n) (r : ℕ) (is : r ≡ longest (lanesAt ws table n)) where
+    rounds-are : r ≡ longest (w .lanes)
     rounds-are = is ∙ ap longest (w .same)
 
-    pub won-few : n ≤ 32
+    pub won-few : r ≤ 32
     won-few = omega (arith, rounds-are, won-sound (w .lanes) (w .found) .rounds .1)
 
-    pub won-reads : Rounds n ≡ readsOf (packed L (pairsOf ws))
+    pub won-reads : Rounds r ≡ readsOf (packed n (pairsOf ws))
     won-reads = rw (won-packed (w .lanes) (w .found)) (ap Rounds rounds-are)
 
-pub none-reads : (L : ℕ) (ws : List ℕ) → length ws ≡ 0 → Nothing ≡ readsOf (packed L (pairsOf ws))
+pub none-reads : (n : ℕ) (ws : List ℕ) → length ws ≡ 0 → Nothing ≡ readsOf (packed n (pairsOf ws))
 unfolding packed
-none-reads L ws z = rw (le-ltb 0 (length (pairsOf ws)) (omega (arith, pairs-length 0 ws)), packed)
+none-reads n ws z = rw (le-ltb 0 (length (pairsOf ws)) (omega (arith, pairs-length 0 ws)), packed)
 
-pub stuck-reads : (L : ℕ) (ws : List ℕ) → (length ws ≡ 0 → ⊥) → lanesOf L (pairsOf ws) ≡ none → NoRoom ≡ readsOf (packed L (pairsOf ws))
+pub stuck-reads : (n : ℕ) (ws : List ℕ) → (length ws ≡ 0 → ⊥) → lanesOf n (pairsOf ws) ≡ none → NoRoom ≡ readsOf (packed n (pairsOf ws))
 unfolding packed
-stuck-reads L ws z e = rw (lt-ltb 0 (length (pairsOf ws)) (omega (arith, pairs-length 0 ws, z)), e, packed)
+stuck-reads n ws z e = rw (lt-ltb 0 (length (pairsOf ws)) (omega (arith, pairs-length 0 ws, z)), e, packed)
 
 -- ---- the table of pins
 

@@ -171,7 +171,8 @@ module _ (d : List ℕ) (p : ℕ) (s : Sound d p) where
         let asked = slot-requested j l full in
         let (q, at, low) = own-positions 256 (pairsOf (readWords d p)) (partLanes 256 d p) packing in-form masks-small .below (bitNumber y / 32) (bitNumber y % 32) asked in
         let here : entryAt 256 W o 0 j ≡ q = w .entry 0 j some-stages (omega arith) ∙ first-entry j full y (r .is) ∙ ap orZero at in
-        let left = read-requested 256 (pairsOf (readWords d p)) (partLanes 256 d p) packing in-form masks-small (stateWord old new) (λ i r. stateWord old new (readWordAt 256 W o r i)) (λ i r. readMaskAt 256 W o r i) (readRow 256 W o old new) read-turn (bitNumber y / 32) (bitNumber y % 32) q asked at in
+        let left = read-requested 256 (pairsOf (readWords d p)) (partLanes 256 d p) packing in-form masks-small (stateWord old new) (λ i r. stateWord old new (readWordAt 256 W o r i))
+        (λ i r. readMaskAt 256 W o r i) (readRow 256 W o old new) read-turn (bitNumber y / 32) (bitNumber y % 32) q asked at in
         let bits : input d p old new x ≡ some (bit (stateWord old new (bitNumber y / 32)) (bitNumber y % 32)) =
         input-read d p old new x (s .part) (reads-slot d p j l) ∙ ap (plannedBit old new) (r .is) ∙ word-bit old new y (place-small x r) (r .mark) in
         ap (bitAt (readRow 256 W o old new)) here ∙ left ∙ sym (pin-value d p old new x full ∙ value-read d (input d p old new) x _ bits)

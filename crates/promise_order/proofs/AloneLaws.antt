@@ -32,7 +32,7 @@ pub record Laid (n : ℕ) (W starts : List ℕ) (s t : ℕ) (new : List ℕ) : T
   pub size : length new ≡ t
   pub apart : Apart n W starts (length starts - 1)
 
-module _ (n L : ℕ) (W starts : List ℕ) (s t : ℕ) (old new : List ℕ) (laid : Laid n W starts s t new) where
+module _ (n H : ℕ) (W starts : List ℕ) (s t : ℕ) (old new : List ℕ) (laid : Laid n W starts s t new) where
   abbrev m : ℕ
   m = length starts - 1
 
@@ -44,7 +44,7 @@ module _ (n L : ℕ) (W starts : List ℕ) (s t : ℕ) (old new : List ℕ) (lai
 
   -- what the part at o captures
   abbrev caps : ℕ → List ℕ
-  caps o = capturedBy n L W o old new
+  caps o = capturedBy n H W o old new
 
   -- ---- the parts of a block
 
@@ -151,7 +151,7 @@ module _ (n L : ℕ) (W starts : List ℕ) (s t : ℕ) (old new : List ℕ) (lai
 
   -- the block after the read turn and j stages of the part at o
   abbrev staging : ℕ → ℕ → Block
-  staging o j = staged n L W o (readRow n W o old new) j
+  staging o j = staged n H W o (readRow n W o old new) j
 
   -- what a block does next, at its i-th part: read, a stage, store, nothing
   data Now (b i : ℕ) (p : Block) : Type 0 where
@@ -167,10 +167,10 @@ module _ (n L : ℕ) (W starts : List ℕ) (s t : ℕ) (old new : List ℕ) (lai
     pub now : Now b index p
 
   abbrev turn : Block → List ℕ → Block
-  turn p k = turnOf n L W old p k
+  turn p k = turnOf n H W old p k
 
   abbrev write : Block → List ℕ → List ℕ
-  write p k = putOf n L W old p k
+  write p k = putOf n H W old p k
 
   abbrev left : Block → ℕ
   left p = leftOf n W p
@@ -186,8 +186,8 @@ module _ (n L : ℕ) (W starts : List ℕ) (s t : ℕ) (old new : List ℕ) (lai
   same-new k S = S .size ∙ laid .size
 
   put-held : (b i o : ℕ) (k : List ℕ) → Part b i o → Same Free k new → Held b i k → Held b (suc i) (put o k)
-  put-held b i o k q S H j e w r h g = ⊎-elim
-      (λ d. put-other o w k (λ st. omega (arith, laid .apart .apart b i o b j e w q r st g .1)) ∙ H j e w r d g)
+  put-held b i o k q S kept j e w r h g = ⊎-elim
+      (λ d. put-other o w k (λ st. omega (arith, laid .apart .apart b i o b j e w q r st g .1)) ∙ kept j e w r d g)
       (λ d.
       let is : j ≡ i = omega arith in
       let at : e ≡ o = r .at ∙ ap (λ (x : ℕ). getD (partsOf b) x 0) is ∙ sym (q .at) in
@@ -202,32 +202,32 @@ module _ (n L : ℕ) (W starts : List ℕ) (s t : ℕ) (old new : List ℕ) (lai
 
   -- ---- each turn
 
-  turn-reads : (b i o : ℕ) (p : Block) (k : List ℕ) → Part b i o → p ≡ begins W o → turn p k ≡ staged n L W o (readRow n W o old k) 0
-  turn-reads b i o p k q e = ap (λ x. turn x k) e ∙ turn-read n L W old o k (known b i o q .formed .stages)
+  turn-reads : (b i o : ℕ) (p : Block) (k : List ℕ) → Part b i o → p ≡ begins W o → turn p k ≡ staged n H W o (readRow n W o old k) 0
+  turn-reads b i o p k q e = ap (λ x. turn x k) e ∙ turn-read n H W old o k (known b i o q .formed .stages)
 
   write-reads : (b i o : ℕ) (p : Block) (k : List ℕ) → Part b i o → p ≡ begins W o → write p k ≡ k
-  write-reads b i o p k q e = ap (λ x. write x k) e ∙ put-read n L W old o k (known b i o q .formed .stages)
+  write-reads b i o p k q e = ap (λ x. write x k) e ∙ put-read n H W old o k (known b i o q .formed .stages)
 
   turn-works : (o j : ℕ) (p : Block) (k : List ℕ) → j < stagesAt W o → p ≡ staging o j → turn p k ≡ staging o (suc j)
-  turn-works o j p k h e = ap (λ x. turn x k) e ∙ turn-stage n L W old o _ j k h
+  turn-works o j p k h e = ap (λ x. turn x k) e ∙ turn-stage n H W old o _ j k h
 
   write-works : (o j : ℕ) (p : Block) (k : List ℕ) → j < stagesAt W o → p ≡ staging o j → write p k ≡ k
-  write-works o j p k h e = ap (λ x. write x k) e ∙ put-stage n L W old o _ j k h
+  write-works o j p k h e = ap (λ x. write x k) e ∙ put-stage n H W old o _ j k h
 
   write-puts : (o : ℕ) (p : Block) (k : List ℕ) → p ≡ staging o (stagesAt W o) → write p k ≡ put o k
-  write-puts o p k e = ap (λ x. write x k) e ∙ put-store n L W old o _ k
+  write-puts o p k e = ap (λ x. write x k) e ∙ put-store n H W old o _ k
 
   -- after the store turn: finished, or at the next part
   turn-puts : (b i o : ℕ) (p : Block) (k : List ℕ) → Part b i o → p ≡ staging o (stagesAt W o) → Now b (suc i) (turn p k)
   turn-puts b i o p k q e = ⊎-elim
-      (λ x. rests (ap (λ y. turn y k .phase) e ∙ ap (λ y. y .phase) (turn-last n L W old o _ k (x .0)) ∙ ended-phase o) (omega arith))
-      (λ x. reads (endAt n W o) (x .1) (ap (λ y. turn y k) e ∙ turn-more n L W old o _ k (x .0)))
+      (λ x. rests (ap (λ y. turn y k .phase) e ∙ ap (λ y. y .phase) (turn-last n H W old o _ k (x .0)) ∙ ended-phase o) (omega arith))
+      (λ x. reads (endAt n W o) (x .1) (ap (λ y. turn y k) e ∙ turn-more n H W old o _ k (x .0)))
       (known b i o q .next)
 
   left-puts : (b i o : ℕ) (p : Block) (k : List ℕ) → Part b i o → p ≡ staging o (stagesAt W o) → left (turn p k) ≡ turnsAfter n W o
   left-puts b i o p k q e = ap (λ x. left (turn x k)) e ∙ ⊎-elim
-      (λ x. ap left (turn-last n L W old o _ k (x .0)) ∙ left-none n W (ended o) (ended-phase o) ∙ sym (after-last n W t o (x .0)))
-      (λ x. ap left (turn-more n L W old o _ k (x .0)) ∙ left-read n W (endAt n W o) (known b (suc i) (endAt n W o) (x .1) .formed .stages) ∙ sym (x .2))
+      (λ x. ap left (turn-last n H W old o _ k (x .0)) ∙ left-none n W (ended o) (ended-phase o) ∙ sym (after-last n W t o (x .0)))
+      (λ x. ap left (turn-more n H W old o _ k (x .0)) ∙ left-read n W (endAt n W o) (known b (suc i) (endAt n W o) (x .1) .formed .stages) ∙ sym (x .2))
       (known b i o q .next)
 
   -- ---- a block's turn keeps what is known of it, sees words alone that no part stores, and writes its own words alone
@@ -245,17 +245,17 @@ module _ (n L : ℕ) (W starts : List ℕ) (s t : ℕ) (old new : List ℕ) (lai
       go (puts o q e) =
           rw (write-puts o p k e)
           (record { same = put-free b (a .index) o k q (a .same); index = suc (a .index); held = put-held b (a .index) o k q (a .same) (a .held); now = turn-puts b (a .index) o p k q e })
-      go (rests e h) = rw (turn-none n L W old p k e, put-none n L W old p k e) a
+      go (rests e h) = rw (turn-none n H W old p k e, put-none n H W old p k e) a
 
   turn-blind : (b : ℕ) (p : Block) (k k′ : List ℕ) → Ok b p k′ → Same Free k k′ → turn p k ≡ turn p k′
   turn-blind b p k k′ a S = go (a .now)
     where
       go : Now b (a .index) p → turn p k ≡ turn p k′
       go (reads o q e) =
-          turn-reads b (a .index) o p k q e ∙ ap (λ row. staged n L W o row 0) (row-is b (a .index) o q k k′ S) ∙ sym (turn-reads b (a .index) o p k′ q e)
+          turn-reads b (a .index) o p k q e ∙ ap (λ row. staged n H W o row 0) (row-is b (a .index) o q k k′ S) ∙ sym (turn-reads b (a .index) o p k′ q e)
       go (works o j q h e) = turn-works o j p k h e ∙ sym (turn-works o j p k′ h e)
-      go (puts o q e) = ap (λ x. turn x k) e ∙ turn-store n L W old o _ k ∙ sym (turn-store n L W old o _ k′) ∙ sym (ap (λ x. turn x k′) e)
-      go (rests e h) = turn-none n L W old p k e ∙ sym (turn-none n L W old p k′ e)
+      go (puts o q e) = ap (λ x. turn x k) e ∙ turn-store n H W old o _ k ∙ sym (turn-store n H W old o _ k′) ∙ sym (ap (λ x. turn x k′) e)
+      go (rests e h) = turn-none n H W old p k e ∙ sym (turn-none n H W old p k′ e)
 
   turn-word : (b : ℕ) (p : Block) (k k′ : List ℕ) (w : ℕ) → Ok b p k′ → Same Free k k′ → getD k w 0 ≡ getD k′ w 0 → getD (write p k) w 0 ≡ getD (write p k′) w 0
   turn-word b p k k′ w a S d = go (a .now)
@@ -266,7 +266,7 @@ module _ (n L : ℕ) (W starts : List ℕ) (s t : ℕ) (old new : List ℕ) (lai
       go (puts o q e) =
           rw (write-puts o p k e, write-puts o p k′ e)
           (put-word b (a .index) o w k k′ q (S .size ∙ same-new k′ (a .same)) (same-new k′ (a .same)) d)
-      go (rests e h) = rw (put-none n L W old p k e, put-none n L W old p k′ e) d
+      go (rests e h) = rw (put-none n H W old p k e, put-none n H W old p k′ e) d
 
   turn-frame : (b : ℕ) (p : Block) (k k′ : List ℕ) (w : ℕ) → Ok b p k′ → own b w ≡ false → getD (write p k) w 0 ≡ getD k w 0
   turn-frame b p k k′ w a d = go (a .now)
@@ -275,7 +275,7 @@ module _ (n L : ℕ) (W starts : List ℕ) (s t : ℕ) (old new : List ℕ) (lai
       go (reads o q e) = rw (write-reads b (a .index) o p k q e)
       go (works o j q h e) = rw (write-works o j p k h e)
       go (puts o q e) = rw (write-puts o p k e) (put-other o w k (λ st. not-both (own b w) (owns b (a .index) o w q st) d))
-      go (rests e h) = rw (put-none n L W old p k e)
+      go (rests e h) = rw (put-none n H W old p k e)
 
   turn-size : (p : Block) (k : List ℕ) → length (write p k) ≡ length k
   turn-size p k = written-size W n old (p .phase) p k
@@ -287,12 +287,12 @@ module _ (n L : ℕ) (W starts : List ℕ) (s t : ℕ) (old new : List ℕ) (lai
       go : Now b (a .index) p → left (turn p k) ≡ left p - 1
       go (reads o q e) =
           ap left (turn-reads b (a .index) o p k q e)
-          ∙ left-stage n L W o _ 0 (omega arith)
+          ∙ left-stage n H W o _ 0 (omega arith)
           ∙ omega (arith, ap left e ∙ left-read n W o (known b (a .index) o q .formed .stages))
       go (works o j q h e) =
-          ap left (turn-works o j p k h e) ∙ left-stage n L W o _ (suc j) h ∙ omega (arith, ap left e ∙ left-stage n L W o _ j (omega arith))
-      go (puts o q e) = left-puts b (a .index) o p k q e ∙ omega (arith, ap left e ∙ left-stage n L W o _ (stagesAt W o) (omega arith))
-      go (rests e h) = ap left (turn-none n L W old p k e) ∙ omega (arith, left-none n W p e)
+          ap left (turn-works o j p k h e) ∙ left-stage n H W o _ (suc j) h ∙ omega (arith, ap left e ∙ left-stage n H W o _ j (omega arith))
+      go (puts o q e) = left-puts b (a .index) o p k q e ∙ omega (arith, ap left e ∙ left-stage n H W o _ (stagesAt W o) (omega arith))
+      go (rests e h) = ap left (turn-none n H W old p k e) ∙ omega (arith, left-none n W p e)
 
   independent : Independent Block (ended 0) turn write m Ok own left
   independent = record {
@@ -308,8 +308,8 @@ module _ (n L : ℕ) (W starts : List ℕ) (s t : ℕ) (old new : List ℕ) (lai
   -- nothing left: each of its parts has stored
   rests-of : (b i : ℕ) (p : Block) → Now b i p → left p ≡ 0 → length (partsOf b) ≤ i
   rests-of b i p (reads o q e) z = absurd (omega (arith, ap left e ∙ left-read n W o (known b i o q .formed .stages)))
-  rests-of b i p (works o j q h e) z = absurd (omega (arith, ap left e ∙ left-stage n L W o _ j (omega arith)))
-  rests-of b i p (puts o q e) z = absurd (omega (arith, ap left e ∙ left-stage n L W o _ (stagesAt W o) (omega arith)))
+  rests-of b i p (works o j q h e) z = absurd (omega (arith, ap left e ∙ left-stage n H W o _ j (omega arith)))
+  rests-of b i p (puts o q e) z = absurd (omega (arith, ap left e ∙ left-stage n H W o _ (stagesAt W o) (omega arith)))
   rests-of b i p (rests e h) z = h
 
   -- ---- the run
@@ -349,15 +349,15 @@ module _ (n L : ℕ) (W starts : List ℕ) (s t : ℕ) (old new : List ℕ) (lai
     now = start-now b h;
   })
 
-  run-new : (x : Running) (ts : List ℕ) → runFrom n L W old x ts .new ≡ Turns.run Block (ended 0) turn write (x .blocks, x .new) ts .1
+  run-new : (x : Running) (ts : List ℕ) → runFrom n H W old x ts .new ≡ Turns.run Block (ended 0) turn write (x .blocks, x .new) ts .1
   unfolding runFrom step
   run-new x [] = refl
-  run-new x (b ∷ ts) = run-new (step n L W old x b) ts
+  run-new x (b ∷ ts) = run-new (step n H W old x b) ts
 
-  run-blocks : (x : Running) (ts : List ℕ) → runFrom n L W old x ts .blocks ≡ Turns.run Block (ended 0) turn write (x .blocks, x .new) ts .0
+  run-blocks : (x : Running) (ts : List ℕ) → runFrom n H W old x ts .blocks ≡ Turns.run Block (ended 0) turn write (x .blocks, x .new) ts .0
   unfolding runFrom step
   run-blocks x [] = refl
-  run-blocks x (b ∷ ts) = run-blocks (step n L W old x b) ts
+  run-blocks x (b ∷ ts) = run-blocks (step n H W old x b) ts
 
   long : length (starting .0) ≡ m
   unfolding starting
@@ -372,10 +372,10 @@ module _ (n L : ℕ) (W starts : List ℕ) (s t : ℕ) (old new : List ℕ) (lai
         → turnsLeft n W (getD (x .blocks) b (ended 0) .phase) (getD (x .blocks) b (ended 0)) ≡ blockTurns n W (getD starts b 0) - count b turns
     pub finished : (b i o w : ℕ) → PartAt n W starts (length starts - 1) b i o → Stores W o w
         → turnsLeft n W (getD (x .blocks) b (ended 0) .phase) (getD (x .blocks) b (ended 0)) ≡ 0
-        → getD (x .new) w 0 ≡ storeWord n W o old (capturedBy n L W o old new) w
+        → getD (x .new) w 0 ≡ storeWord n W o old (capturedBy n H W o old new) w
     pub rest : (w : ℕ) → Unstored n W starts (length starts - 1) w → getD (x .new) w 0 ≡ getD new w 0
 
-  pub ran : (turns : List ℕ) → Names (length starts - 1) turns → Ran turns (runTurns n L W starts turns old new)
+  pub ran : (turns : List ℕ) → Names (length starts - 1) turns → Ran turns (runTurns n H W starts turns old new)
   unfolding starting
   ran ts h = record {
     blocks = ap length blocks-are ∙ I .blocks;
@@ -391,13 +391,13 @@ module _ (n L : ℕ) (W starts : List ℕ) (s t : ℕ) (old new : List ℕ) (lai
       I : Project Block (ended 0) turn write Ok own left starting m long independent start-ok (λ b. count b ts) (Turns.run Block (ended 0) turn write starting ts)
       I = Turns.project Block (ended 0) turn write Ok own left starting m long independent start-ok ts h
 
-      new-is : runTurns n L W starts ts old new .new ≡ Turns.run Block (ended 0) turn write starting ts .1
+      new-is : runTurns n H W starts ts old new .new ≡ Turns.run Block (ended 0) turn write starting ts .1
       new-is = run-new (record { blocks = blocksFrom W starts m 0; new = new }) ts
 
-      blocks-are : runTurns n L W starts ts old new .blocks ≡ Turns.run Block (ended 0) turn write starting ts .0
+      blocks-are : runTurns n H W starts ts old new .blocks ≡ Turns.run Block (ended 0) turn write starting ts .0
       blocks-are = run-blocks (record { blocks = blocksFrom W starts m 0; new = new }) ts
 
-      priv : (b : ℕ) → b < m → getD (runTurns n L W starts ts old new .blocks) b (ended 0) ≡ Turns.solo Block (ended 0) turn write starting b (count b ts) .0
+      priv : (b : ℕ) → b < m → getD (runTurns n H W starts ts old new .blocks) b (ended 0) ≡ Turns.solo Block (ended 0) turn write starting b (count b ts) .0
       priv b l = ap (λ ps. getD ps b (ended 0)) blocks-are ∙ I .priv b l
 
   -- ---- a word is stored by a part, or by none

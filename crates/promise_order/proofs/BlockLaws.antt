@@ -86,18 +86,18 @@ module _ (n : ℕ) (W : List ℕ) where
 
 -- ---- the stages
 
-module _ (n L : ℕ) (W : List ℕ) where
+module _ (n H : ℕ) (W : List ℕ) where
   -- the block at the part at o, whose read turn left `row`, after k stages
   pub staged : ℕ → List ℕ → ℕ → Block
   staged o row k = record {
     part = o;
     phase = elim (eqb k (stagesAt W o)) [ true ↦ 2 | false ↦ 1 ];
     stage = k;
-    row = rowAfter n L W o row k;
-    caps = capsAfter n L W o row k;
+    row = rowAfter n H W o row k;
+    caps = capsAfter n H W o row k;
   }
 
-  pub caps-length : (o : ℕ) (row : List ℕ) (k : ℕ) → length (capsAfter n L W o row k) ≡ normalAt W o
+  pub caps-length : (o : ℕ) (row : List ℕ) (k : ℕ) → length (capsAfter n H W o row k) ≡ normalAt W o
   unfolding capsAfter
   caps-length o row zero = length-replicate (normalAt W o) 0
   caps-length o row (suc k) = captured-length n W o k _ _
@@ -124,14 +124,14 @@ module _ (n L : ℕ) (W : List ℕ) where
   module _ (old : List ℕ) where
     -- what block p's turn makes of it, and of the new state
     abbrev pub turnOf : Block → List ℕ → Block
-    turnOf p m = turned n L W old (p .phase) p m
+    turnOf p m = turned n H W old (p .phase) p m
 
     abbrev pub putOf : Block → List ℕ → List ℕ
     putOf p m = written n W old (p .phase) p m
 
     pub turn-read : (o : ℕ) (m : List ℕ) → 1 ≤ stagesAt W o → turnOf (begins W o) m ≡ staged o (readRow n W o old m) 0
     unfolding turned afterRead staged begins rowAfter capsAfter
-    turn-read o m h = ap (λ f. turned n L W old f (begins W o) m) (begins-phase W o h) ∙ rw (ne-eqb 0 (stagesAt W o) (λ e. omega arith))
+    turn-read o m h = ap (λ f. turned n H W old f (begins W o) m) (begins-phase W o h) ∙ rw (ne-eqb 0 (stagesAt W o) (λ e. omega arith))
 
     pub put-read : (o : ℕ) (m : List ℕ) → 1 ≤ stagesAt W o → putOf (begins W o) m ≡ m
     unfolding written
@@ -139,7 +139,7 @@ module _ (n L : ℕ) (W : List ℕ) where
 
     pub turn-stage : (o : ℕ) (row : List ℕ) (k : ℕ) (m : List ℕ) → k < stagesAt W o → turnOf (staged o row k) m ≡ staged o row (suc k)
     unfolding turned afterStage staged rowAfter capsAfter
-    turn-stage o row k m h = ap (λ f. turned n L W old f (staged o row k) m) (staged-phase o row k h) ∙ rw (add-one k)
+    turn-stage o row k m h = ap (λ f. turned n H W old f (staged o row k) m) (staged-phase o row k h) ∙ rw (add-one k)
 
     pub put-stage : (o : ℕ) (row : List ℕ) (k : ℕ) (m : List ℕ) → k < stagesAt W o → putOf (staged o row k) m ≡ m
     unfolding written
@@ -147,7 +147,7 @@ module _ (n L : ℕ) (W : List ℕ) where
 
     pub turn-store : (o : ℕ) (row m : List ℕ) → turnOf (staged o row (stagesAt W o)) m ≡ afterStore n W (staged o row (stagesAt W o))
     unfolding turned
-    turn-store o row m = ap (λ f. turned n L W old f (staged o row (stagesAt W o)) m) (all-phase o row)
+    turn-store o row m = ap (λ f. turned n H W old f (staged o row (stagesAt W o)) m) (all-phase o row)
 
     pub turn-last : (o : ℕ) (row m : List ℕ) → lastAt W o ≡ 1 → turnOf (staged o row (stagesAt W o)) m ≡ ended o
     unfolding afterStore staged
@@ -157,14 +157,14 @@ module _ (n L : ℕ) (W : List ℕ) where
     unfolding afterStore staged
     turn-more o row m e = turn-store o row m ∙ rw (ne-eqb (lastAt W o) 1 (λ k. omega arith), afterStore)
 
-    pub put-store : (o : ℕ) (row m : List ℕ) → putOf (staged o row (stagesAt W o)) m ≡ putPart n W o old (capsAfter n L W o row (stagesAt W o)) m
+    pub put-store : (o : ℕ) (row m : List ℕ) → putOf (staged o row (stagesAt W o)) m ≡ putPart n W o old (capsAfter n H W o row (stagesAt W o)) m
     unfolding written stored staged
     put-store o row m = ap (λ f. written n W old f (staged o row (stagesAt W o)) m) (all-phase o row)
 
     -- "A turn of a finished block does nothing"
     pub turn-none : (p : Block) (m : List ℕ) → p .phase ≡ 3 → turnOf p m ≡ p
     unfolding turned
-    turn-none p m e = ap (λ f. turned n L W old f p m) e
+    turn-none p m e = ap (λ f. turned n H W old f p m) e
 
     pub put-none : (p : Block) (m : List ℕ) → p .phase ≡ 3 → putOf p m ≡ m
     unfolding written

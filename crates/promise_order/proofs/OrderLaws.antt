@@ -89,48 +89,48 @@ one-count n W starts (suc k) b h =
 
 -- ---- the theorems
 
-module _ (n L : ℕ) (W starts : List ℕ) (s t : ℕ) (old new : List ℕ) (laid : Laid n W starts s t new) where
-  pub same-length : (turns : List ℕ) → badTurn starts turns ≡ none → length (runTurns n L W starts turns old new .new) ≡ length new
-  same-length turns name = ran n L W starts s t old new laid turns (names starts turns name) .size
+module _ (n H : ℕ) (W starts : List ℕ) (s t : ℕ) (old new : List ℕ) (laid : Laid n W starts s t new) where
+  pub same-length : (turns : List ℕ) → badTurn starts turns ≡ none → length (runTurns n H W starts turns old new .new) ≡ length new
+  same-length turns name = ran n H W starts s t old new laid turns (names starts turns name) .size
 
   -- done or not, a word that no part stores is as it was
   pub untouched : (turns : List ℕ) → badTurn starts turns ≡ none
       → (w : ℕ) → Unstored n W starts (length starts - 1) w
-      → getD (runTurns n L W starts turns old new .new) w 0 ≡ getD new w 0
-  untouched turns name w free = ran n L W starts s t old new laid turns (names starts turns name) .rest w free
+      → getD (runTurns n H W starts turns old new .new) w 0 ≡ getD new w 0
+  untouched turns name w free = ran n H W starts s t old new laid turns (names starts turns name) .rest w free
 
   -- once no turns are left, a part's words hold what it puts there, having captured between the old state and the new one as it was at first
-  pub stored : (turns : List ℕ) → badTurn starts turns ≡ none → allLeft n W (runTurns n L W starts turns old new .blocks) ≡ 0
+  pub stored : (turns : List ℕ) → badTurn starts turns ≡ none → allLeft n W (runTurns n H W starts turns old new .blocks) ≡ 0
       → (b i o w : ℕ) → PartAt n W starts (length starts - 1) b i o → Stores W o w
-      → getD (runTurns n L W starts turns old new .new) w 0 ≡ storeWord n W o old (capturedBy n L W o old new) w
+      → getD (runTurns n H W starts turns old new .new) w 0 ≡ storeWord n W o old (capturedBy n H W o old new) w
   stored turns name done b i o w part h =
-      ran n L W starts s t old new laid turns (names starts turns name) .finished b i o w part h (none-each n W _ done b)
+      ran n H W starts s t old new laid turns (names starts turns name) .finished b i o w part h (none-each n W _ done b)
 
   -- done or not, the turns left are those of each block less how often it was named
   pub left-total : (turns : List ℕ) → badTurn starts turns ≡ none
-      → allLeft n W (runTurns n L W starts turns old new .blocks) ≡ sumTo (λ b. blockTurns n W (getD starts b 0) - count b turns) (length starts - 1)
+      → allLeft n W (runTurns n H W starts turns old new .blocks) ≡ sumTo (λ b. blockTurns n W (getD starts b 0) - count b turns) (length starts - 1)
   left-total turns name =
-      let r = ran n L W starts s t old new laid turns (names starts turns name) in
+      let r = ran n H W starts s t old new laid turns (names starts turns name) in
       all-sum n W _ ∙ ap (sumTo _) (r .blocks) ∙ sum-ext _ _ (length starts - 1) (r .turns-left)
 
   -- two lists of turns that both leave none make one new state
   pub one-end : (ts us : List ℕ) → badTurn starts ts ≡ none → badTurn starts us ≡ none
-      → allLeft n W (runTurns n L W starts ts old new .blocks) ≡ 0 → allLeft n W (runTurns n L W starts us old new .blocks) ≡ 0
-      → runTurns n L W starts ts old new .new ≡ runTurns n L W starts us old new .new
+      → allLeft n W (runTurns n H W starts ts old new .blocks) ≡ 0 → allLeft n W (runTurns n H W starts us old new .blocks) ≡ 0
+      → runTurns n H W starts ts old new .new ≡ runTurns n H W starts us old new .new
   one-end ts us a b f g = ext-getD 0 _ _ (same-length ts a ∙ sym (same-length us b)) (λ w h. ⊎-elim
       (λ q. stored ts a f (q .b) (q .i) (q .o) w (q .part) (q .stores) ∙ sym (stored us b g (q .b) (q .i) (q .o) w (q .part) (q .stores)))
       (λ free. untouched ts a w free ∙ sym (untouched us b w free))
-      (storer n L W starts s t old new laid w))
+      (storer n H W starts s t old new laid w))
 
   -- the turns one block after another leave none
-  pub one-done : allLeft n W (runTurns n L W starts (oneAfterAnother n W starts (length starts - 1)) old new .blocks) ≡ 0
+  pub one-done : allLeft n W (runTurns n H W starts (oneAfterAnother n W starts (length starts - 1)) old new .blocks) ≡ 0
   one-done =
-      let r = ran n L W starts s t old new laid (oneAfterAnother n W starts (length starts - 1)) (one-names n W starts (length starts - 1) (length starts - 1) (omega arith)) in
+      let r = ran n H W starts s t old new laid (oneAfterAnother n W starts (length starts - 1)) (one-names n W starts (length starts - 1) (length starts - 1) (omega arith)) in
       each-none n W _ (λ b h.
       let l : b < length starts - 1 = omega (arith, r .blocks) in
       omega (arith, r .turns-left b l, one-count n W starts (length starts - 1) b l))
 
   -- any order makes the new state that the blocks make one after another
-  pub in-any-order : (turns : List ℕ) → badTurn starts turns ≡ none → allLeft n W (runTurns n L W starts turns old new .blocks) ≡ 0
-      → runTurns n L W starts turns old new .new ≡ runTurns n L W starts (oneAfterAnother n W starts (length starts - 1)) old new .new
+  pub in-any-order : (turns : List ℕ) → badTurn starts turns ≡ none → allLeft n W (runTurns n H W starts turns old new .blocks) ≡ 0
+      → runTurns n H W starts turns old new .new ≡ runTurns n H W starts (oneAfterAnother n W starts (length starts - 1)) old new .new
   in-any-order turns name done = one-end turns _ name (one-named n W starts) done one-done

@@ -1,5 +1,5 @@
 -- The blocks of one major stage over the words: which parts a block has, what a part captures, its turns one after another, and what keeps the
--- blocks apart. n is the number of lanes and 2^L the number of positions, W the words.
+-- blocks apart. n is the number of lanes and 2^H the number of positions, W the words.
 -- Assumes nothing.
 use mathlib.Core.Path.{_≡_}
 use mathlib.Core.Bool.{Bool, true, false, _&&_}
@@ -22,16 +22,16 @@ partsAt n W o = elim (eqb (stagesAt W o) 0) [ true ↦ [] | false ↦ partsFrom 
 
 -- the positions and the captured words of the part at word o after its first k stages, `row` being what its read turn left
 unfoldable pub rowAfter : ℕ → ℕ → List ℕ → ℕ → List ℕ → ℕ → List ℕ
-rowAfter n L W o row zero = row
-rowAfter n L W o row (suc k) = stageRow n L W o k (rowAfter n L W o row k)
+rowAfter n H W o row zero = row
+rowAfter n H W o row (suc k) = stageRow n H W o k (rowAfter n H W o row k)
 
 unfoldable pub capsAfter : ℕ → ℕ → List ℕ → ℕ → List ℕ → ℕ → List ℕ
-capsAfter n L W o row zero = replicate (normalAt W o) 0
-capsAfter n L W o row (suc k) = captured n W o k (rowAfter n L W o row (suc k)) (capsAfter n L W o row k)
+capsAfter n H W o row zero = replicate (normalAt W o) 0
+capsAfter n H W o row (suc k) = captured n W o k (rowAfter n H W o row (suc k)) (capsAfter n H W o row k)
 
 -- what the part at word o captures, between the two states
 abbrev pub capturedBy : ℕ → ℕ → List ℕ → ℕ → List ℕ → List ℕ → List ℕ
-capturedBy n L W o old new = capsAfter n L W o (readRow n W o old new) (stagesAt W o)
+capturedBy n H W o old new = capsAfter n H W o (readRow n W o old new) (stagesAt W o)
 
 -- ---- "running the blocks one after another": all turns of block 0, then all of block 1, .. for the first m blocks
 

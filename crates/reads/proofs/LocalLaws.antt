@@ -191,18 +191,18 @@ spot-none from (l ∷ ls) w m e = go (roundFrom 0 l w) refl (spot-none (from + 1
 -- ---- a set and its packing
 
 -- the pair of a word and a mask is found at a spot of the lanes, and stands there
-pub record Spotted (L : ℕ) (lanes : List Lane) (w m : ℕ) : Type 0 where
+pub record Spotted (n : ℕ) (lanes : List Lane) (w m : ℕ) : Type 0 where
   pub spot : Spot
   pub found : spotFrom 0 lanes w ≡ some spot
-  pub lane-there : spot .lane < L
+  pub lane-there : spot .lane < n
   pub round-there : spot .round < length (getD lanes (spot .lane) [])
   pub word : wordIn (getD lanes (spot .lane) []) (spot .round) ≡ w
   pub mask : maskIn (getD lanes (spot .lane) []) (spot .round) ≡ m
 
 -- so each of its bits has a local position
-pub local-some : (L : ℕ) (lanes : List Lane) (w m k : ℕ) (s : Spotted L lanes w m) → localOf lanes w k ≡ some (localAt lanes (s .spot .lane) (s .spot .round) k)
+pub local-some : (n : ℕ) (lanes : List Lane) (w m k : ℕ) (s : Spotted n lanes w m) → localOf lanes w k ≡ some (localAt lanes (s .spot .lane) (s .spot .round) k)
 unfolding localOf
-local-some L lanes w m k s = rw (s .found, localOf)
+local-some n lanes w m k s = rw (s .found, localOf)
 
 -- bit k of word w is requested
 pub record Requested (ps : List Pair) (w k : ℕ) : Type 0 where
@@ -211,10 +211,10 @@ pub record Requested (ps : List Pair) (w k : ℕ) : Type 0 where
   pub set : bit mask k ≡ 1
 
 -- where it stands: its lane and round, and its place in that lane
-pub record Located (L : ℕ) (lanes : List Lane) (w k : ℕ) : Type 0 where
+pub record Located (n : ℕ) (lanes : List Lane) (w k : ℕ) : Type 0 where
   pub lane : ℕ
   pub round : ℕ
-  pub lane-there : lane < L
+  pub lane-there : lane < n
   pub round-there : round < length (getD lanes lane [])
   pub word : wordIn (getD lanes lane []) round ≡ w
   pub small : maskIn (getD lanes lane []) round < 2 ^ 32
@@ -224,21 +224,21 @@ pub record Located (L : ℕ) (lanes : List Lane) (w k : ℕ) : Type 0 where
   pub thin : total (getD lanes lane []) ≤ 32
 
 -- "Each requested bit has its own, below 8192."
-pub record OwnPositions (L : ℕ) (ps : List Pair) (lanes : List Lane) : Type 0 where
-  pub below : (w k : ℕ) → Requested ps w k → (p : ℕ) × (localOf lanes w k ≡ some p) × (p < 32 * L)
+pub record OwnPositions (n : ℕ) (ps : List Pair) (lanes : List Lane) : Type 0 where
+  pub below : (w k : ℕ) → Requested ps w k → (p : ℕ) × (localOf lanes w k ≡ some p) × (p < 32 * n)
   pub own : (w k x j : ℕ) → Requested ps w k → Requested ps x j → localOf lanes w k ≡ localOf lanes x j → (w ≡ x) × (k ≡ j)
 
-module _ (L : ℕ) (ps : List Pair) (lanes : List Lane) (packing : Packing L ps lanes) (form : broken ps ≡ none) where
-  pub spotted : (w m : ℕ) → 0 < times w m ps → Spotted L lanes w m
+module _ (n : ℕ) (ps : List Pair) (lanes : List Lane) (packing : Packing n ps lanes) (form : broken ps ≡ none) where
+  pub spotted : (w m : ℕ) → 0 < times w m ps → Spotted n lanes w m
   spotted w m h = go (spotFrom 0 lanes w) refl
     where
-      go : (o : Option Spot) → spotFrom 0 lanes w ≡ o → Spotted L lanes w m
+      go : (o : Option Spot) → spotFrom 0 lanes w ≡ o → Spotted n lanes w m
       go none o = absurd (omega (arith, spot-none 0 lanes w m o, packing .once w m))
       go (some s) o =
           let a = spot-at 0 lanes w s o in
           let lane : a .i ≡ s .lane = omega (arith, a .is) in
-          let n = maskIn (getD lanes (a .i) []) (s .round) in
-          let one : n ≡ m = mask-one ps form w n m (omega (arith, a .mask, packing .once w n)) h in
+          let own = maskIn (getD lanes (a .i) []) (s .round) in
+          let one : own ≡ m = mask-one ps form w own m (omega (arith, a .mask, packing .once w own)) h in
           record {
             spot = s;
             found = o;
@@ -249,7 +249,7 @@ module _ (L : ℕ) (ps : List Pair) (lanes : List Lane) (packing : Packing L ps 
           }
 
   module _ (small : (w m : ℕ) → 0 < times w m ps → m < 2 ^ 32) where
-    pub located : (w k : ℕ) → Requested ps w k → Located L lanes w k
+    pub located : (w k : ℕ) → Requested ps w k → Located n lanes w k
     located w k b =
         let s = spotted w (b .mask) (b .stands) in
         let i = s .spot .lane in
@@ -264,15 +264,15 @@ module _ (L : ℕ) (ps : List Pair) (lanes : List Lane) (packing : Packing L ps 
           word = s .word;
           small = fits;
           set = there;
-          local = local-some L lanes w (b .mask) k s ∙ ap some (local-at lanes i r k);
+          local = local-some n lanes w (b .mask) k s ∙ ap some (local-at lanes i r k);
           in-lane = local-lt (getD lanes i []) r k fits there;
           thin = packing .thin i;
         }
 
-    pub own-positions : OwnPositions L ps lanes
+    pub own-positions : OwnPositions n ps lanes
     own-positions = record { below = below; own = own }
       where
-        below : (w k : ℕ) → Requested ps w k → (p : ℕ) × (localOf lanes w k ≡ some p) × (p < 32 * L)
+        below : (w k : ℕ) → Requested ps w k → (p : ℕ) × (localOf lanes w k ≡ some p) × (p < 32 * n)
         below w k b =
             let a = located w k b in
             (32 * a .lane + localIn (getD lanes (a .lane) []) (a .round) k, a .local, omega (arith, a .lane-there, a .in-lane, a .thin))

@@ -21,11 +21,11 @@ use Rattle.reads.proofs.LocalLaws.{OwnPositions, own-positions}
 refused-placed : {A : Type 0} (n i : ℕ) (lanes : List Lane) → refused n i ≡ placed lanes → A
 refused-placed n i lanes e = let z : _≡_ {A = ℕ} 0 1 = cc in absurd (omega arith)
 
-packed-placed : (L : ℕ) (ps : List Pair) (lanes : List Lane) → packed L ps ≡ placed lanes → (0 < length ps) × (lanesOf L ps ≡ some lanes)
+packed-placed : (n : ℕ) (ps : List Pair) (lanes : List Lane) → packed n ps ≡ placed lanes → (0 < length ps) × (lanesOf n ps ≡ some lanes)
 unfolding packed
-packed-placed L ps lanes e = go (ltb 0 (length ps)) refl (lanesOf L ps) refl
+packed-placed n ps lanes e = go (ltb 0 (length ps)) refl (lanesOf n ps) refl
   where
-    go : (t : Bool) → ltb 0 (length ps) ≡ t → (o : Option (List Lane)) → lanesOf L ps ≡ o → (0 < length ps) × (lanesOf L ps ≡ some lanes)
+    go : (t : Bool) → ltb 0 (length ps) ≡ t → (o : Option (List Lane)) → lanesOf n ps ≡ o → (0 < length ps) × (lanesOf n ps ≡ some lanes)
     go false t o f = refused-placed 3 0 lanes (rw (t, packed) at e)
     go true t none f = refused-placed 4 0 lanes (rw (t, f, packed) at e)
     go true t (some ls) f =
@@ -33,53 +33,53 @@ packed-placed L ps lanes e = go (ltb 0 (length ps)) refl (lanesOf L ps) refl
         (ltb-true 0 (length ps) t, cc)
 
 -- what the refusals before it leave
-pub record Passed (L : ℕ) (ps : List Pair) (lanes : List Lane) : Type 0 where
+pub record Passed (n : ℕ) (ps : List Pair) (lanes : List Lane) : Type 0 where
   pub few : length ps ≤ 8192
   pub form : broken ps ≡ none
   pub nonempty : 0 < length ps
-  pub found : lanesOf L ps ≡ some lanes
+  pub found : lanesOf n ps ≡ some lanes
 
-pub placed-passed : (L : ℕ) (ps : List Pair) (lanes : List Lane) → readSet L ps ≡ placed lanes → Passed L ps lanes
+pub placed-passed : (n : ℕ) (ps : List Pair) (lanes : List Lane) → readSet n ps ≡ placed lanes → Passed n ps lanes
 unfolding readSet
-placed-passed L ps lanes e = go (leb (length ps) 8192) refl (broken ps) refl
+placed-passed n ps lanes e = go (leb (length ps) 8192) refl (broken ps) refl
   where
-    go : (t : Bool) → leb (length ps) 8192 ≡ t → (o : Option ℕ) → broken ps ≡ o → Passed L ps lanes
+    go : (t : Bool) → leb (length ps) 8192 ≡ t → (o : Option ℕ) → broken ps ≡ o → Passed n ps lanes
     go false t o f = refused-placed 1 0 lanes (rw (t, readSet) at e)
     go true t (some i) f = refused-placed 2 i lanes (rw (t, f, readSet) at e)
     go true t none f =
-        let p = packed-placed L ps lanes (rw (t, f, readSet) at e) in
+        let p = packed-placed n ps lanes (rw (t, f, readSet) at e) in
         record { few = leb-true (length ps) 8192 t; form = f; nonempty = p .0; found = p .1 }
 
-pub fitted-placed : (L o : ℕ) (d : Outcome) (lanes : List Lane) → fitted L o d ≡ placed lanes → (d ≡ placed lanes) × (2 * L * longest lanes ≤ o)
+pub fitted-placed : (n o : ℕ) (d : Outcome) (lanes : List Lane) → fitted n o d ≡ placed lanes → (d ≡ placed lanes) × (2 * n * longest lanes ≤ o)
 unfolding fitted
-fitted-placed L o (refused n i) lanes e = refused-placed n i lanes e
-fitted-placed L o (placed ls) lanes e = go (leb (2 * L * longest ls) o) refl
+fitted-placed n o (refused k i) lanes e = refused-placed k i lanes e
+fitted-placed n o (placed ls) lanes e = go (leb (2 * n * longest ls) o) refl
   where
-    go : (t : Bool) → leb (2 * L * longest ls) o ≡ t → (placed ls ≡ placed lanes) × (2 * L * longest lanes ≤ o)
+    go : (t : Bool) → leb (2 * n * longest ls) o ≡ t → (placed ls ≡ placed lanes) × (2 * n * longest lanes ≤ o)
     go false t = refused-placed 14 0 lanes (rw (t, fitted) at e)
     go true t =
         let q : placed ls ≡ placed lanes = rw (t, fitted) at e in
         let s : ls ≡ lanes = cc in
-        (q, rw (← s) (leb-true (2 * L * longest ls) o t))
+        (q, rw (← s) (leb-true (2 * n * longest ls) o t))
 
 -- what is promised of the lanes
-pub record Sound (L : ℕ) (ps : List Pair) (lanes : List Lane) : Type 0 where
-  pub passed : Passed L ps lanes
-  pub packing : Packing L ps lanes
+pub record Sound (n : ℕ) (ps : List Pair) (lanes : List Lane) : Type 0 where
+  pub passed : Passed n ps lanes
+  pub packing : Packing n ps lanes
   pub small : (w m : ℕ) → 0 < times w m ps → m < 2 ^ 32
   pub rounds : (0 < longest lanes) × (longest lanes ≤ 32)
-  pub positions : OwnPositions L ps lanes
+  pub positions : OwnPositions n ps lanes
 
-pub placed-sound : (L : ℕ) (ws : List ℕ) (lanes : List Lane)
-    → 0 < L → ((x : ℕ) → getD ws x 0 < 2 ^ 32) → readSet L (pairsOf ws) ≡ placed lanes → Sound L (pairsOf ws) lanes
-placed-sound L ws lanes h fits e =
-    let p = placed-passed L (pairsOf ws) lanes e in
-    let packs = lanes-packing L (pairsOf ws) lanes (p .found) h in
+pub placed-sound : (n : ℕ) (ws : List ℕ) (lanes : List Lane)
+    → 0 < n → ((x : ℕ) → getD ws x 0 < 2 ^ 32) → readSet n (pairsOf ws) ≡ placed lanes → Sound n (pairsOf ws) lanes
+placed-sound n ws lanes h fits e =
+    let p = placed-passed n (pairsOf ws) lanes e in
+    let packs = lanes-packing n (pairsOf ws) lanes (p .found) h in
     let masks : (w m : ℕ) → 0 < times w m (pairsOf ws) → m < 2 ^ 32 = λ w m q. pairs-small 0 ws (2 ^ 32) fits w m q .1 in
     record {
       passed = p;
       packing = packs;
       small = masks;
-      rounds = rounds-range L (pairsOf ws) lanes packs (p .form) masks (p .nonempty);
-      positions = own-positions L (pairsOf ws) lanes packs (p .form) masks;
+      rounds = rounds-range n (pairsOf ws) lanes packs (p .form) masks (p .nonempty);
+      positions = own-positions n (pairsOf ws) lanes packs (p .form) masks;
     }

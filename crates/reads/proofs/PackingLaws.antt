@@ -104,32 +104,32 @@ thin-push lanes i p h l thin j = by (ℕ-discrete j i)
 -- ---- a try
 
 -- lanes to which a run of pairs was added
-record Added (L : ℕ) (run : List Pair) (lanes after : List Lane) : Type 0 where
-  wide : length after ≡ L
+record Added (n : ℕ) (run : List Pair) (lanes after : List Lane) : Type 0 where
+  wide : length after ≡ n
   once : (w m : ℕ) → times w m (joined after) ≡ times w m (joined lanes) + times w m run
   thin : (i : ℕ) → total (getD after i []) ≤ 32
 
-added : (L : ℕ) (run : List Pair) (lanes : List Lane) (j : ℕ) (after : List Lane) → j < L → length lanes ≡ L → ((i : ℕ) → total (getD lanes i []) ≤ 32)
-    → tryFrom L run lanes j ≡ all after → Added L run lanes after
+added : (n : ℕ) (run : List Pair) (lanes : List Lane) (j : ℕ) (after : List Lane) → j < n → length lanes ≡ n → ((i : ℕ) → total (getD lanes i []) ≤ 32)
+    → tryFrom n run lanes j ≡ all after → Added n run lanes after
 unfolding tryFrom
-added L [] lanes j after h wide thin e =
+added n [] lanes j after h wide thin e =
     let q : lanes ≡ after = cc in
     rw (← q) (record { wide = wide; once = λ w m. omega (arith, times-nil w m); thin = thin })
-added L (p ∷ run) lanes j after h wide thin e =
-    go (firstRoom L L lanes (bits p) j) refl (λ i. added L run (push lanes i p) (next L i) after)
+added n (p ∷ run) lanes j after h wide thin e =
+    go (firstRoom n n lanes (bits p) j) refl (λ i. added n run (push lanes i p) (next n i) after)
   where
-    go : (o : Option ℕ) → firstRoom L L lanes (bits p) j ≡ o
-        → ((i : ℕ) → next L i < L → length (push lanes i p) ≡ L → ((q : ℕ) → total (getD (push lanes i p) q []) ≤ 32) → tryFrom L run (push lanes i p) (next L i) ≡ all after
-        → Added L run (push lanes i p) after)
-        → Added L (p ∷ run) lanes after
+    go : (o : Option ℕ) → firstRoom n n lanes (bits p) j ≡ o
+        → ((i : ℕ) → next n i < n → length (push lanes i p) ≡ n → ((q : ℕ) → total (getD (push lanes i p) q []) ≤ 32) → tryFrom n run (push lanes i p) (next n i) ≡ all after
+        → Added n run (push lanes i p) after)
+        → Added n (p ∷ run) lanes after
     go none o r =
         let s : stuck lanes ≡ all after = rw (o, tryFrom) at e in
         let z : _≡_ {A = ℕ} 0 1 = cc in
         absurd (omega arith)
     go (some i) o r =
-        let room = room-found L L lanes (bits p) j i h o in
+        let room = room-found n n lanes (bits p) j i h o in
         let there : i < length lanes = omega arith in
-        let rest = r i (next-lt L i (room .0)) (length-set lanes i _ ∙ wide) (thin-push lanes i p there (room .1) thin) (rw (o, tryFrom) at e) in
+        let rest = r i (next-lt n i (room .0)) (length-set lanes i _ ∙ wide) (thin-push lanes i p there (room .1) thin) (rw (o, tryFrom) at e) in
         record {
           wide = rest .wide;
           once = λ w m. omega (arith, rest .once w m, times-push w m lanes i p there, times-cons w m p run);
@@ -148,17 +148,17 @@ none-total (suc n) zero = omega arith
 none-total (suc n) (suc i) = none-total n i
 
 -- a try of any size that places all gives a packing
-pub try-packing : (L : ℕ) (ps : List Pair) (k : ℕ) (lanes : List Lane) → 0 < L → 0 < k → try L ps k ≡ all lanes → Packing L ps lanes
-try-packing L ps k lanes h l e =
-    let a = added L (joined (ordered (pieces k ps))) (replicate L []) 0 lanes h (length-replicate L []) (none-total L) e in
+pub try-packing : (n : ℕ) (ps : List Pair) (k : ℕ) (lanes : List Lane) → 0 < n → 0 < k → try n ps k ≡ all lanes → Packing n ps lanes
+try-packing n ps k lanes h l e =
+    let a = added n (joined (ordered (pieces k ps))) (replicate n []) 0 lanes h (length-replicate n []) (none-total n) e in
     record {
       wide = a .wide;
-      once = λ w m. omega (arith, a .once w m, none-joined w m L, times-run w m k ps l);
+      once = λ w m. omega (arith, a .once w m, none-joined w m n, times-run w m k ps l);
       thin = a .thin;
     }
 
 -- What the search returns is a packing.
-pub lanes-packing : (L : ℕ) (ps : List Pair) (lanes : List Lane) → lanesOf L ps ≡ some lanes → 0 < L → Packing L ps lanes
-lanes-packing L ps lanes e h =
-    let w = win-first L ps 14 (length ps) lanes e in
-    try-packing L ps (length ps / 2 ^ w .i) lanes h (w .size) (w .wins)
+pub lanes-packing : (n : ℕ) (ps : List Pair) (lanes : List Lane) → lanesOf n ps ≡ some lanes → 0 < n → Packing n ps lanes
+lanes-packing n ps lanes e h =
+    let w = win-first n ps 14 (length ps) lanes e in
+    try-packing n ps (length ps / 2 ^ w .i) lanes h (w .size) (w .wins)

@@ -174,17 +174,17 @@ module _ (W M : ℕ → ℕ) (R : ℕ) (l : Lane) (masks : (r : ℕ) → r < R �
 
 -- The words of a read turn: W i r and M i r are the state word and the mask of lane i in round r, as the read section has them; state w is the state
 -- word that the section's word w names.
-pub record ReadBy (L : ℕ) (lanes : List Lane) (state : ℕ → ℕ) (W M : ℕ → ℕ → ℕ) (row : List ℕ) : Type 0 where
-  pub words : (i r : ℕ) → i < L → r < longest lanes → W i r ≡ state (getD (readSection lanes) (2 * L * r + 2 * i) 0)
-  pub masks : (i r : ℕ) → i < L → r < longest lanes → M i r ≡ getD (readSection lanes) (2 * L * r + 2 * i + 1) 0
-  pub left : (i : ℕ) → i < L → getD row i 0 ≡ laneWord (W i) (M i) (longest lanes)
+pub record ReadBy (n : ℕ) (lanes : List Lane) (state : ℕ → ℕ) (W M : ℕ → ℕ → ℕ) (row : List ℕ) : Type 0 where
+  pub words : (i r : ℕ) → i < n → r < longest lanes → W i r ≡ state (getD (readSection lanes) (2 * n * r + 2 * i) 0)
+  pub masks : (i r : ℕ) → i < n → r < longest lanes → M i r ≡ getD (readSection lanes) (2 * n * r + 2 * i + 1) 0
+  pub left : (i : ℕ) → i < n → getD row i 0 ≡ laneWord (W i) (M i) (longest lanes)
 
-module _ (L : ℕ) (lanes : List Lane) (wide : length lanes ≡ L) (state : ℕ → ℕ) (W M : ℕ → ℕ → ℕ) (row : List ℕ) (turn : ReadBy L lanes state W M row) where
-  lane-masks : (i : ℕ) → i < L → (r : ℕ) → r < longest lanes → M i r ≡ maskIn (getD lanes i []) r
-  lane-masks i h r l = turn .masks i r h l ∙ section-mask L lanes wide r i h
+module _ (n : ℕ) (lanes : List Lane) (wide : length lanes ≡ n) (state : ℕ → ℕ) (W M : ℕ → ℕ → ℕ) (row : List ℕ) (turn : ReadBy n lanes state W M row) where
+  lane-masks : (i : ℕ) → i < n → (r : ℕ) → r < longest lanes → M i r ≡ maskIn (getD lanes i []) r
+  lane-masks i h r l = turn .masks i r h l ∙ section-mask n lanes wide r i h
 
   -- a located bit is, at its local position, the bit of the state
-  pub read-located : (w k p : ℕ) → Located L lanes w k → localOf lanes w k ≡ some p → bitAt row p ≡ bit (state w) k
+  pub read-located : (w k p : ℕ) → Located n lanes w k → localOf lanes w k ≡ some p → bitAt row p ≡ bit (state w) k
   unfolding bitAt
   read-located w k p a e =
       let i = a .lane in
@@ -195,13 +195,13 @@ module _ (L : ℕ) (lanes : List Lane) (wide : length lanes ≡ L) (state : ℕ 
       let lane : p / 32 ≡ i = omega (arith, a .in-lane, a .thin) in
       let place : p % 32 ≡ localIn l r k = omega (arith, a .in-lane, a .thin) in
       let long = longest-ge lanes i in
-      let value : W i r ≡ state w = turn .words i r (a .lane-there) (omega (arith, a .round-there)) ∙ ap state (section-word L lanes wide r i (a .lane-there) ∙ a .word) in
+      let value : W i r ≡ state w = turn .words i r (a .lane-there) (omega (arith, a .round-there)) ∙ ap state (section-word n lanes wide r i (a .lane-there) ∙ a .word) in
       rw (lane, place, turn .left i (a .lane-there))
       (read-bit (W i) (M i) (longest lanes) l (lane-masks i (a .lane-there)) long r k (a .round-there) (a .small) (a .set) ∙ ap (λ (x : ℕ). bit x k) value)
 
 -- The read turn of a packed set puts each requested bit at its local position.
-pub read-requested : (L : ℕ) (ps : List Pair) (lanes : List Lane) → Packing L ps lanes → broken ps ≡ none → ((w m : ℕ) → 0 < times w m ps → m < 2 ^ 32)
-    → (state : ℕ → ℕ) (W M : ℕ → ℕ → ℕ) (row : List ℕ) → ReadBy L lanes state W M row
+pub read-requested : (n : ℕ) (ps : List Pair) (lanes : List Lane) → Packing n ps lanes → broken ps ≡ none → ((w m : ℕ) → 0 < times w m ps → m < 2 ^ 32)
+    → (state : ℕ → ℕ) (W M : ℕ → ℕ → ℕ) (row : List ℕ) → ReadBy n lanes state W M row
     → (w k p : ℕ) → Requested ps w k → localOf lanes w k ≡ some p → bitAt row p ≡ bit (state w) k
-read-requested L ps lanes packing form small state W M row turn w k p b e =
-    read-located L lanes (packing .wide) state W M row turn w k p (located L ps lanes packing form small w k b) e
+read-requested n ps lanes packing form small state W M row turn w k p b e =
+    read-located n lanes (packing .wide) state W M row turn w k p (located n ps lanes packing form small w k b) e

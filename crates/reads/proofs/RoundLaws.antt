@@ -49,7 +49,7 @@ lane-bits (p ∷ l) h =
     let rest : length l ≤ total l = lane-bits l (λ w m q. h w m (omega (arith, times-cons w m p l))) in
     omega (arith, h (p .word) (p .mask) (times-here p l))
 
-module _ (L : ℕ) (ps : List Pair) (lanes : List Lane) (packing : Packing L ps lanes) where
+module _ (n : ℕ) (ps : List Pair) (lanes : List Lane) (packing : Packing n ps lanes) where
   pub rounds-some : 0 < length ps → 0 < longest lanes
   rounds-some h = go ps h (packing .once)
     where
@@ -70,7 +70,7 @@ module _ (L : ℕ) (ps : List Pair) (lanes : List Lane) (packing : Packing L ps 
     rounds-le = longest-le lanes 32 (λ i. omega (arith, lane-length i, packing .thin i))
 
 -- "rounds is the longest lane, at most 32": for a set that passes refusals 2 and 3
-pub rounds-range : (L : ℕ) (ps : List Pair) (lanes : List Lane) → Packing L ps lanes → broken ps ≡ none → ((w m : ℕ) → 0 < times w m ps → m < 2 ^ 32)
+pub rounds-range : (n : ℕ) (ps : List Pair) (lanes : List Lane) → Packing n ps lanes → broken ps ≡ none → ((w m : ℕ) → 0 < times w m ps → m < 2 ^ 32)
     → 0 < length ps → (0 < longest lanes) × (longest lanes ≤ 32)
-rounds-range L ps lanes packing form small h =
-    (rounds-some L ps lanes packing h, rounds-le L ps lanes packing (λ w m q. (mask-some ps form w m q, small w m q)))
+rounds-range n ps lanes packing form small h =
+    (rounds-some n ps lanes packing h, rounds-le n ps lanes packing (λ w m q. (mask-some ps form w m q, small w m q)))

@@ -21,91 +21,91 @@ use Rattle.reads.specs.Search.{Lane, Tried, all, stuck, firstRoom, try, 
 -- ---- the search for room, lane by lane
 
 -- what is found is a lane, and it has room
-pub room-found : (L f : ℕ) (lanes : List Lane) (b j i : ℕ) → j < L → firstRoom L f lanes b j ≡ some i → (i < L) × (total (getD lanes i []) + b ≤ 32)
+pub room-found : (n f : ℕ) (lanes : List Lane) (b j i : ℕ) → j < n → firstRoom n f lanes b j ≡ some i → (i < n) × (total (getD lanes i []) + b ≤ 32)
 unfolding firstRoom
-room-found L zero lanes b j i h e = let z : _≡_ {A = ℕ} 0 1 = cc in absurd (omega arith)
-room-found L (suc f) lanes b j i h e = ⊎-elim
+room-found n zero lanes b j i h e = let z : _≡_ {A = ℕ} 0 1 = cc in absurd (omega arith)
+room-found n (suc f) lanes b j i h e = ⊎-elim
     (λ c. (rw (← (c .1)) h, rw (← (c .1)) (leb-true _ _ (c .0))))
-    (λ c. room-found L f lanes b (next L j) i (next-lt L j h) c)
-    (chosen _ j i (firstRoom L f lanes b (next L j)) e)
+    (λ c. room-found n f lanes b (next n j) i (next-lt n j h) c)
+    (chosen _ j i (firstRoom n f lanes b (next n j)) e)
   where
     chosen : (t : Bool) (j i : ℕ) (o : Option ℕ) → elim t [ true ↦ some j | false ↦ o ] ≡ some i → ((t ≡ true) × (j ≡ i)) ⊎ (o ≡ some i)
     chosen true j i o e = inl (refl, cc)
     chosen false j i o e = inr e
 
-pub room-here : (L f : ℕ) (lanes : List Lane) (b j : ℕ) → 0 < f → total (getD lanes j []) + b ≤ 32 → firstRoom L f lanes b j ≡ some j
+pub room-here : (n f : ℕ) (lanes : List Lane) (b j : ℕ) → 0 < f → total (getD lanes j []) + b ≤ 32 → firstRoom n f lanes b j ≡ some j
 unfolding firstRoom
-room-here L zero lanes b j p h = absurd (not-suc-le-zero p)
-room-here L (suc f) lanes b j p h = rw (le-leb _ _ h, firstRoom)
+room-here n zero lanes b j p h = absurd (not-suc-le-zero p)
+room-here n (suc f) lanes b j p h = rw (le-leb _ _ h, firstRoom)
 
-pub room-on : (L f : ℕ) (lanes : List Lane) (b j : ℕ) → 0 < f → 32 < total (getD lanes j []) + b
-    → firstRoom L f lanes b j ≡ firstRoom L (f - 1) lanes b (next L j)
+pub room-on : (n f : ℕ) (lanes : List Lane) (b j : ℕ) → 0 < f → 32 < total (getD lanes j []) + b
+    → firstRoom n f lanes b j ≡ firstRoom n (f - 1) lanes b (next n j)
 unfolding firstRoom
-room-on L zero lanes b j p h = absurd (not-suc-le-zero p)
-room-on L (suc f) lanes b j p h = rw (lt-leb _ _ h, firstRoom, sub-one)
+room-on n zero lanes b j p h = absurd (not-suc-le-zero p)
+room-on n (suc f) lanes b j p h = rw (lt-leb _ _ h, firstRoom, sub-one)
 
-pub room-none : (L : ℕ) (lanes : List Lane) (b j : ℕ) → firstRoom L 0 lanes b j ≡ none
+pub room-none : (n : ℕ) (lanes : List Lane) (b j : ℕ) → firstRoom n 0 lanes b j ≡ none
 unfolding firstRoom
-room-none L lanes b j = refl
+room-none n lanes b j = refl
 
 -- ---- the piece sizes k, k/2, k/4 ..
 
-module _ (L : ℕ) (ps : List Pair) where
-  pub win-none : (f : ℕ) → firstWin L ps f 0 ≡ none
+module _ (n : ℕ) (ps : List Pair) where
+  pub win-none : (f : ℕ) → firstWin n ps f 0 ≡ none
   unfolding firstWin
   win-none zero = refl
   win-none (suc f) = refl
 
-  pub win-all : (f k : ℕ) (lanes : List Lane) → 0 < k → try L ps k ≡ all lanes → firstWin L ps (suc f) k ≡ some lanes
+  pub win-all : (f k : ℕ) (lanes : List Lane) → 0 < k → try n ps k ≡ all lanes → firstWin n ps (suc f) k ≡ some lanes
   unfolding firstWin
   win-all f zero lanes h t = absurd (not-suc-le-zero h)
   win-all f (suc k) lanes h t = rw (t, firstWin)
 
-  pub win-stuck : (f k : ℕ) (lanes : List Lane) → 0 < k → try L ps k ≡ stuck lanes → firstWin L ps (suc f) k ≡ firstWin L ps f (k / 2)
+  pub win-stuck : (f k : ℕ) (lanes : List Lane) → 0 < k → try n ps k ≡ stuck lanes → firstWin n ps (suc f) k ≡ firstWin n ps f (k / 2)
   unfolding firstWin
   win-stuck f zero lanes h t = absurd (not-suc-le-zero h)
   win-stuck f (suc k) lanes h t = rw (t, firstWin)
 
   -- more fuel than a size has binary digits changes nothing
-  pub win-fuel : (f g k : ℕ) → k < 2 ^ f → k < 2 ^ g → firstWin L ps f k ≡ firstWin L ps g k
+  pub win-fuel : (f g k : ℕ) → k < 2 ^ f → k < 2 ^ g → firstWin n ps f k ≡ firstWin n ps g k
   win-fuel zero g zero h l = win-none zero ∙ sym (win-none g)
   win-fuel zero g (suc k) h l = absurd (omega arith)
   win-fuel (suc f) g zero h l = win-none (suc f) ∙ sym (win-none g)
   win-fuel (suc f) zero (suc k) h l = absurd (omega arith)
-  win-fuel (suc f) (suc g) (suc k) h l = go (try L ps (suc k)) refl (win-fuel f g (suc k / 2) (omega arith) (omega arith))
+  win-fuel (suc f) (suc g) (suc k) h l = go (try n ps (suc k)) refl (win-fuel f g (suc k / 2) (omega arith) (omega arith))
     where
-      go : (t : Tried) → try L ps (suc k) ≡ t → firstWin L ps f (suc k / 2) ≡ firstWin L ps g (suc k / 2)
-          → firstWin L ps (suc f) (suc k) ≡ firstWin L ps (suc g) (suc k)
+      go : (t : Tried) → try n ps (suc k) ≡ t → firstWin n ps f (suc k / 2) ≡ firstWin n ps g (suc k / 2)
+          → firstWin n ps (suc f) (suc k) ≡ firstWin n ps (suc g) (suc k)
       go (all lanes) t r = win-all f (suc k) lanes (zero-lt-suc k) t ∙ sym (win-all g (suc k) lanes (zero-lt-suc k) t)
       go (stuck lanes) t r = win-stuck f (suc k) lanes (zero-lt-suc k) t ∙ r ∙ sym (win-stuck g (suc k) lanes (zero-lt-suc k) t)
 
   -- so fourteen is no bound of its own
-  pub lanes-fuel : (f : ℕ) → length ps ≤ 8192 → 14 ≤ f → firstWin L ps f (length ps) ≡ lanesOf L ps
+  pub lanes-fuel : (f : ℕ) → length ps ≤ 8192 → 14 ≤ f → firstWin n ps f (length ps) ≡ lanesOf n ps
   lanes-fuel f h l =
       let few : length ps < 2 ^ 14 = lt-of-le-of-lt h (lit< tt) in
       win-fuel f 14 (length ps) (lt-of-lt-of-le few (pow-mono l)) few
 
   -- the try of size k ended without room
   abbrev pub Ended : ℕ → Type 0
-  Ended k = (lanes : List Lane) × (try L ps k ≡ stuck lanes)
+  Ended k = (lanes : List Lane) × (try n ps k ≡ stuck lanes)
 
   -- size k / 2 ^ i wins, with these lanes, and it is the first of k, k/2, k/4 .. that does
   pub record Won (k : ℕ) (lanes : List Lane) : Type 0 where
     pub i : ℕ
     pub size : 0 < k / 2 ^ i
-    pub wins : try L ps (k / 2 ^ i) ≡ all lanes
+    pub wins : try n ps (k / 2 ^ i) ≡ all lanes
     pub before : (j : ℕ) → j < i → Ended (k / 2 ^ j)
 
   half : (k i : ℕ) → k / 2 / 2 ^ i ≡ k / 2 ^ suc i
   half k i = shr-shr k 1 i ∙ ap (λ (x : ℕ). k / 2 ^ x) (one-add i)
 
-  pub win-first : (f k : ℕ) (lanes : List Lane) → firstWin L ps f k ≡ some lanes → Won k lanes
+  pub win-first : (f k : ℕ) (lanes : List Lane) → firstWin n ps f k ≡ some lanes → Won k lanes
   unfolding firstWin
   win-first zero k lanes e = let z : _≡_ {A = ℕ} 0 1 = cc in absurd (omega arith)
   win-first (suc f) zero lanes e = let z : _≡_ {A = ℕ} 0 1 = cc in absurd (omega arith)
-  win-first (suc f) (suc k) lanes e = go (try L ps (suc k)) refl (win-first f (suc k / 2) lanes)
+  win-first (suc f) (suc k) lanes e = go (try n ps (suc k)) refl (win-first f (suc k / 2) lanes)
     where
-      go : (t : Tried) → try L ps (suc k) ≡ t → (firstWin L ps f (suc k / 2) ≡ some lanes → Won (suc k / 2) lanes) → Won (suc k) lanes
+      go : (t : Tried) → try n ps (suc k) ≡ t → (firstWin n ps f (suc k / 2) ≡ some lanes → Won (suc k / 2) lanes) → Won (suc k) lanes
       go (all ls) t r =
           let s : some ls ≡ some lanes = sym (win-all f (suc k) ls (zero-lt-suc k) t) ∙ e in
           let q : ls ≡ lanes = cc in
@@ -124,14 +124,14 @@ module _ (L : ℕ) (ps : List Pair) where
           earlier w b (suc j) h = rw (← (half (suc k) j)) (b j (omega arith))
 
   -- none wins: each size ends without room
-  pub win-never : (f k : ℕ) → k < 2 ^ f → firstWin L ps f k ≡ none → (j : ℕ) → 0 < k / 2 ^ j → Ended (k / 2 ^ j)
+  pub win-never : (f k : ℕ) → k < 2 ^ f → firstWin n ps f k ≡ none → (j : ℕ) → 0 < k / 2 ^ j → Ended (k / 2 ^ j)
   win-never zero zero h e j l = absurd (omega (arith, zero-div (2 ^ j)))
   win-never zero (suc k) h e j l = absurd (omega arith)
   win-never (suc f) zero h e j l = absurd (omega (arith, zero-div (2 ^ j)))
-  win-never (suc f) (suc k) h e j l = go (try L ps (suc k)) refl j l (win-never f (suc k / 2) (omega arith))
+  win-never (suc f) (suc k) h e j l = go (try n ps (suc k)) refl j l (win-never f (suc k / 2) (omega arith))
     where
-      go : (t : Tried) → try L ps (suc k) ≡ t → (j : ℕ) → 0 < suc k / 2 ^ j
-          → (firstWin L ps f (suc k / 2) ≡ none → (j : ℕ) → 0 < suc k / 2 / 2 ^ j → Ended (suc k / 2 / 2 ^ j)) → Ended (suc k / 2 ^ j)
+      go : (t : Tried) → try n ps (suc k) ≡ t → (j : ℕ) → 0 < suc k / 2 ^ j
+          → (firstWin n ps f (suc k / 2) ≡ none → (j : ℕ) → 0 < suc k / 2 / 2 ^ j → Ended (suc k / 2 / 2 ^ j)) → Ended (suc k / 2 ^ j)
       go (all ls) t j l r =
           let s : some ls ≡ none = sym (win-all f (suc k) ls (zero-lt-suc k) t) ∙ e in
           let z : _≡_ {A = ℕ} 0 1 = cc in
@@ -141,7 +141,7 @@ module _ (L : ℕ) (ps : List Pair) where
           rw (← (half (suc k) j)) (r (sym (win-stuck f (suc k) ls (zero-lt-suc k) t) ∙ e) j (rw (half (suc k) j) l))
 
   -- and the other way round
-  pub never-win : (f k : ℕ) → ((j : ℕ) → 0 < k / 2 ^ j → Ended (k / 2 ^ j)) → firstWin L ps f k ≡ none
+  pub never-win : (f k : ℕ) → ((j : ℕ) → 0 < k / 2 ^ j → Ended (k / 2 ^ j)) → firstWin n ps f k ≡ none
   unfolding firstWin
   never-win zero k h = refl
   never-win (suc f) zero h = refl
@@ -151,5 +151,5 @@ module _ (L : ℕ) (ps : List Pair) where
       ∙ never-win f (suc k / 2) (λ j l. rw (half (suc k) j) (h (suc j) (rw (← (half (suc k) j)) l)))
 
   -- Refusal 4, "every piece size ended without room", for the sets that get that far.
-  pub lanes-none : length ps ≤ 8192 → (lanesOf L ps ≡ none) ↔ ((j : ℕ) → 0 < length ps / 2 ^ j → Ended (length ps / 2 ^ j))
+  pub lanes-none : length ps ≤ 8192 → (lanesOf n ps ≡ none) ↔ ((j : ℕ) → 0 < length ps / 2 ^ j → Ended (length ps / 2 ^ j))
   lanes-none h = (win-never 14 (length ps) (lt-of-le-of-lt h (lit< tt)), never-win 14 (length ps))

@@ -77,28 +77,28 @@ rounds-at ls (suc n) r (suc q) x h l =
 
 -- ---- the section
 
-module _ (L : ℕ) (lanes : List Lane) (wide : length lanes ≡ L) where
-  pub section-length : length (readSection lanes) ≡ 2 * L * longest lanes
+module _ (n : ℕ) (lanes : List Lane) (wide : length lanes ≡ n) where
+  pub section-length : length (readSection lanes) ≡ 2 * n * longest lanes
   section-length = rw (← wide) (rounds-length lanes (longest lanes) 0)
 
-  section-at : (r x : ℕ) → r < longest lanes → x < 2 * L → getD (readSection lanes) (2 * L * r + x) 0 ≡ getD (roundWords lanes r) x 0
+  section-at : (r x : ℕ) → r < longest lanes → x < 2 * n → getD (readSection lanes) (2 * n * r + x) 0 ≡ getD (roundWords lanes r) x 0
   section-at r x h l = rw (← wide) (rounds-at lanes (longest lanes) 0 r x h (omega arith)) ∙ ap (λ (q : ℕ). getD (roundWords lanes q) x 0) (zero-add r)
 
-  section-past : (r x : ℕ) → longest lanes ≤ r → getD (readSection lanes) (2 * L * r + x) 0 ≡ 0
+  section-past : (r x : ℕ) → longest lanes ≤ r → getD (readSection lanes) (2 * n * r + x) 0 ≡ 0
   section-past r x h =
-      let past : length (readSection lanes) ≤ 2 * L * r + x = omega (arith, section-length, mul-le-mul-left (2 * L) h) in
+      let past : length (readSection lanes) ≤ 2 * n * r + x = omega (arith, section-length, mul-le-mul-left (2 * n) h) in
       List·getD-eq-default (readSection lanes) 0 past
 
   -- "word and mask of lane i at 2i and 2i+1, zero where none", in round r; the section ends with the longest lane, so r may be any
-  pub section-word : (r i : ℕ) → i < L → getD (readSection lanes) (2 * L * r + 2 * i) 0 ≡ wordIn (getD lanes i []) r
+  pub section-word : (r i : ℕ) → i < n → getD (readSection lanes) (2 * n * r + 2 * i) 0 ≡ wordIn (getD lanes i []) r
   section-word r i h = ⊎-elim
       (λ l. section-at r (2 * i) l (omega arith) ∙ round-word lanes r i)
       (λ l. section-past r (2 * i) l ∙ sym (word-none (getD lanes i []) r (omega (arith, longest-ge lanes i))))
       (lt-or-ge r (longest lanes))
 
-  pub section-mask : (r i : ℕ) → i < L → getD (readSection lanes) (2 * L * r + 2 * i + 1) 0 ≡ maskIn (getD lanes i []) r
+  pub section-mask : (r i : ℕ) → i < n → getD (readSection lanes) (2 * n * r + 2 * i + 1) 0 ≡ maskIn (getD lanes i []) r
   section-mask r i h =
-      let e : 2 * L * r + 2 * i + 1 ≡ 2 * L * r + (2 * i + 1) = omega arith in
+      let e : 2 * n * r + 2 * i + 1 ≡ 2 * n * r + (2 * i + 1) = omega arith in
       rw e
       (⊎-elim (λ l. section-at r (2 * i + 1) l (omega arith) ∙ round-mask lanes r i)
       (λ l. section-past r (2 * i + 1) l ∙ sym (mask-none (getD lanes i []) r (omega (arith, longest-ge lanes i))))

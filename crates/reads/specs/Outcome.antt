@@ -19,20 +19,20 @@ pub data Outcome : Type 0 where
 
 -- what the search over a set's pairs gives: 3, 4 or lanes
 unfoldable pub packed : ℕ → List Pair → Outcome
-packed L ps = elim (ltb 0 (length ps)) [ false ↦ refused 3 0 | true ↦ elim (lanesOf L ps) [ none ↦ refused 4 0 | some lanes ↦ placed lanes ] ]
+packed n ps = elim (ltb 0 (length ps)) [ false ↦ refused 3 0 | true ↦ elim (lanesOf n ps) [ none ↦ refused 4 0 | some lanes ↦ placed lanes ] ]
 
 -- 1 and 2 come before that
 unfoldable pub readSet : ℕ → List Pair → Outcome
-readSet L ps = elim (leb (length ps) 8192) [ false ↦ refused 1 0 | true ↦ elim (broken ps) [ some i ↦ refused 2 i | none ↦ packed L ps ] ]
+readSet n ps = elim (leb (length ps) 8192) [ false ↦ refused 1 0 | true ↦ elim (broken ps) [ some i ↦ refused 2 i | none ↦ packed n ps ] ]
 
 -- 14 after it: the lent result has o words
 unfoldable pub fitted : ℕ → ℕ → Outcome → Outcome
-fitted L o (refused n i) = refused n i
-fitted L o (placed lanes) = elim (leb (2 * L * longest lanes) o) [ false ↦ refused 14 0 | true ↦ placed lanes ]
+fitted n o (refused k i) = refused k i
+fitted n o (placed lanes) = elim (leb (2 * n * longest lanes) o) [ false ↦ refused 14 0 | true ↦ placed lanes ]
 
 -- and 32 before all: the lent room has r words
 unfoldable pub outcome : ℕ → List ℕ → ℕ → ℕ → Outcome
-outcome L ws o r = elim (leb 16384 r) [ false ↦ refused 32 0 | true ↦ fitted L o (readSet L (pairsOf ws)) ]
+outcome n ws o r = elim (leb 16384 r) [ false ↦ refused 32 0 | true ↦ fitted n o (readSet n (pairsOf ws)) ]
 
 -- the lent result then holds the read section from its start, or what it held
 unfoldable pub resultAfter : Outcome → List ℕ → List ℕ

@@ -16,7 +16,7 @@ times w m (p ∷ ps) = elim (eqb (p .word) w && eqb (p .mask) m) [ true ↦ suc 
 
 -- Every pair of the set stands in exactly one lane once and nothing else stands there (a set has no pair twice), and no lane has more than
 -- 32 bits.
-pub record Packing (L : ℕ) (ps : List Pair) (lanes : List Lane) : Type 0 where
-  pub wide : length lanes ≡ L
+pub record Packing (n : ℕ) (ps : List Pair) (lanes : List Lane) : Type 0 where
+  pub wide : length lanes ≡ n
   pub once : (w m : ℕ) → times w m (joined lanes) ≡ times w m ps
   pub thin : (i : ℕ) → total (getD lanes i []) ≤ 32

@@ -1,4 +1,4 @@
--- The search: document 01, "Read rounds", second paragraph, sentence by sentence. L is the number of lanes.
+-- The search: document 01, "Read rounds", second paragraph, sentence by sentence. n is the number of lanes.
 -- Assumes nothing.
 use mathlib.Core.Bool.{true, false}
 use mathlib.Core.Option.{Option, none, some}
@@ -40,8 +40,8 @@ Lane = List Pair
 -- "the first lane, going round from the current one, whose bits plus the pair's are at most 32": f lanes from lane j are looked at. The bits
 -- of a lane are summed anew each time, as the Rust does.
 unfoldable pub firstRoom : ℕ → ℕ → List Lane → ℕ → ℕ → Option ℕ
-firstRoom L zero lanes b j = none
-firstRoom L (suc f) lanes b j = elim (leb (total (getD lanes j []) + b) 32) [ true ↦ some j | false ↦ firstRoom L f lanes b (next L j) ]
+firstRoom n zero lanes b j = none
+firstRoom n (suc f) lanes b j = elim (leb (total (getD lanes j []) + b) 32) [ true ↦ some j | false ↦ firstRoom n f lanes b (next n j) ]
 
 -- a pair at the end of lane i
 abbrev pub push : List Lane → ℕ → Pair → List Lane
@@ -54,26 +54,26 @@ pub data Tried : Type 0 where
 
 -- "Each pair goes to [that lane]; the current lane becomes the next one round. If all lanes lack room the try ends at once."
 unfoldable pub tryFrom : ℕ → List Pair → List Lane → ℕ → Tried
-tryFrom L [] lanes j = all lanes
-tryFrom L (p ∷ ps) lanes j =
-    elim (firstRoom L L lanes (bits p) j) [
+tryFrom n [] lanes j = all lanes
+tryFrom n (p ∷ ps) lanes j =
+    elim (firstRoom n n lanes (bits p) j) [
       | none ↦ stuck lanes
-      | some i ↦ tryFrom L ps (push lanes i p) (next L i)
+      | some i ↦ tryFrom n ps (push lanes i p) (next n i)
     ]
 
 -- "Start at lane 0"
 abbrev pub try : ℕ → List Pair → ℕ → Tried
-try L ps k = tryFrom L (joined (ordered (pieces k ps))) (replicate L []) 0
+try n ps k = tryFrom n (joined (ordered (pieces k ps))) (replicate n []) 0
 
--- "Try piece sizes n, n/2, n/4 .. down to 1 (whole division)." "The first try that places all is the result." f sizes at most.
+-- "Try piece sizes n, n/2, n/4 .. down to 1 (whole division)", where 01 has n pairs; here k. "The first try that places all is the result." f sizes at most.
 unfoldable pub firstWin : ℕ → List Pair → ℕ → ℕ → Option (List Lane)
-firstWin L ps zero k = none
-firstWin L ps (suc f) zero = none
-firstWin L ps (suc f) (suc k) = elim (try L ps (suc k)) [ all lanes ↦ some lanes | stuck lanes ↦ firstWin L ps f (suc k / 2) ]
+firstWin n ps zero k = none
+firstWin n ps (suc f) zero = none
+firstWin n ps (suc f) (suc k) = elim (try n ps (suc k)) [ all lanes ↦ some lanes | stuck lanes ↦ firstWin n ps f (suc k / 2) ]
 
 -- fourteen sizes are enough for 8192 pairs
 abbrev pub lanesOf : ℕ → List Pair → Option (List Lane)
-lanesOf L ps = firstWin L ps 14 (length ps)
+lanesOf n ps = firstWin n ps 14 (length ps)
 
 -- "rounds is the longest lane"
 unfoldable pub longest : List Lane → ℕ

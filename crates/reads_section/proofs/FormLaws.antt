@@ -16,8 +16,6 @@ use Rattle.reads.specs.ReadSet.{pairsFrom, pairsOf, pairForm, brokenFrom, broke
 use Rattle.reads.proofs.SetLaws.{times-at, mask-some}
 use Rattle.reads_try.specs.Decoded.{pairAt}
 use Rattle.reads_try.proofs.PairLaws.{pairs-length, pairs-at}
-use Rattle.reads_section.specs.declared.Form.the-variants.{Good, Bad}
-use Rattle.reads_section.specs.Readout.{formOf}
 
 module _ (ws : List ℕ) (i : ℕ) where
   -- what is left from pair i on breaks the form there, with words from `low` on
@@ -99,12 +97,3 @@ module _ (ws : List ℕ) (form : broken (pairsOf ws) ≡ none) where
       let at : getD (pairsOf ws) p (pairAt ws 0) ≡ pairAt ws p = pairs-at ws p (pairAt ws 0) h in
       let some-times = rw at at (times-at (pairsOf ws) p (pairAt ws 0) (omega (arith, pairs-length 0 ws))) in
       pop-some (getD ws (2 * p + 1) 0) (small (2 * p + 1)) (mask-some (pairsOf ws) form _ _ some-times)
-
--- the answer, taken back
-pub form-bad : (o : Option ℕ) (i : ℕ) → formOf o ≡ Bad i → o ≡ some i
-form-bad none i e = let z : _≡_ {A = ℕ} 0 1 = cc in absurd (omega arith)
-form-bad (some j) i e = cc
-
-pub form-good : (o : Option ℕ) → formOf o ≡ Good → o ≡ none
-form-good none e = refl
-form-good (some j) e = let z : _≡_ {A = ℕ} 0 1 = cc in absurd (omega arith)

@@ -67,30 +67,30 @@ unfolding entryWord
 entry-word ws zero h n = absurd (n refl)
 entry-word ws (suc e) h n = rw (sub-one, entryWord)
 
-module _ {ws t : List ℕ} {L : ℕ} (h : Readable ws t L) where
+module _ {ws t : List ℕ} {n : ℕ} (h : Readable ws t n) where
   abbrev lanes : List Lane
-  lanes = lanesAt ws t L
+  lanes = lanesAt ws t n
 
-  entry-at : (i r : ℕ) → i < L → r < 32 → getD t (32 * i + r) 0 ≡ entryOf (getD lanes i []) r
+  entry-at : (i r : ℕ) → i < n → r < 32 → getD t (32 * i + r) 0 ≡ entryOf (getD lanes i []) r
   entry-at i r l k =
       let m : 32 * i + r < length (tableOf lanes) = omega (arith, filled-length (h .filled)) in
       ap (λ (x : List ℕ). getD x (32 * i + r) 0) (h .filled .table)
-      ∙ List·getD-append (tableOf lanes) (drop (32 * L) t) 0 (32 * i + r) m
+      ∙ List·getD-append (tableOf lanes) (drop (32 * n) t) 0 (32 * i + r) m
       ∙ table-at lanes i r (omega (arith, h .filled .kept .wide)) k
 
-  pub read-word : (i r : ℕ) → i < L → r < 32 → entryWord ws (getD t (32 * i + r) 0) 0 ≡ wordIn (getD lanes i []) r
+  pub read-word : (i r : ℕ) → i < n → r < 32 → entryWord ws (getD t (32 * i + r) 0) 0 ≡ wordIn (getD lanes i []) r
   read-word i r l k = rw (entry-at i r l k) (word-is ws (getD lanes i []) (kept-sound (h .filled .kept) i l .drawn) r)
 
-  pub read-mask : (i r : ℕ) → i < L → r < 32 → entryWord ws (getD t (32 * i + r) 0) 1 ≡ maskIn (getD lanes i []) r
+  pub read-mask : (i r : ℕ) → i < n → r < 32 → entryWord ws (getD t (32 * i + r) 0) 1 ≡ maskIn (getD lanes i []) r
   read-mask i r l k = rw (entry-at i r l k) (mask-is ws (getD lanes i []) (kept-sound (h .filled .kept) i l .drawn) r)
 
   -- ---- the longest lane
 
-  pub longest-step : (j : ℕ) → j < L → longest (drop j lanes) ≡ max (length (laneOf ws (rowAt t j))) (longest (drop (j + 1) lanes))
+  pub longest-step : (j : ℕ) → j < n → longest (drop j lanes) ≡ max (length (laneOf ws (rowAt t j))) (longest (drop (j + 1) lanes))
   unfolding longest
-  longest-step j l = ap longest (drop-cons lanes j [] (omega (arith, h .filled .kept .wide))) ∙ rw (add-one j, lane-at ws t L j l, longest)
+  longest-step j l = ap longest (drop-cons lanes j [] (omega (arith, h .filled .kept .wide))) ∙ rw (add-one j, lane-at ws t n j l, longest)
 
-  pub longest-end : (j : ℕ) → L ≤ j → longest (drop j lanes) ≡ 0
+  pub longest-end : (j : ℕ) → n ≤ j → longest (drop j lanes) ≡ 0
   unfolding longest
   longest-end j l = let q : length lanes ≤ j = omega (arith, h .filled .kept .wide) in rw (drop-of-length-le lanes q)
 
@@ -112,12 +112,12 @@ module _ (ls : List Lane) (r : ℕ) (out : List ℕ) (at i : ℕ) where
 -- ---- rounds, one after the other
 
 module _ (ls : List Lane) (rounds : ℕ) (out : List ℕ) (at r : ℕ) where
-  pub rounds-step : (L : ℕ) → length ls ≡ L → r < rounds
-      → sets (sets out at (roundWords ls r)) (at + 2 * L) (roundsFrom ls (rounds - (r + 1)) (r + 1)) ≡ sets out at (roundsFrom ls (rounds - r) r)
+  pub rounds-step : (n : ℕ) → length ls ≡ n → r < rounds
+      → sets (sets out at (roundWords ls r)) (at + 2 * n) (roundsFrom ls (rounds - (r + 1)) (r + 1)) ≡ sets out at (roundsFrom ls (rounds - r) r)
   unfolding roundsFrom
-  rounds-step L w h =
+  rounds-step n w h =
       let a : rounds - r ≡ suc (rounds - (r + 1)) = omega arith in
-      let b : 2 * L ≡ length (roundWords ls r) = omega (arith, round-length ls r) in
+      let b : 2 * n ≡ length (roundWords ls r) = omega (arith, round-length ls r) in
       rw (a, b, roundsFrom) (sym (sets-append out at (roundWords ls r) (roundsFrom ls (rounds - (r + 1)) (r + 1))))
 
   pub rounds-end : rounds ≤ r → sets out at (roundsFrom ls (rounds - r) r) ≡ out

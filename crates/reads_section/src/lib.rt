@@ -7,17 +7,13 @@ ghost use Rattle.reads.specs.ReadSet.{pairsOf, broken};
 ghost use Rattle.reads.specs.Search.{longest};
 ghost use Rattle.reads.specs.Words.{roundWords, roundsFrom};
 ghost use Rattle.reads_try.specs.Decoded.{lanesAt};
-ghost use Rattle.reads_section.specs.Readout.{formOf, entryWord, Readable, Writable};
+ghost use Rattle.words.specs.Found.{itemOf};
+ghost use Rattle.reads_section.specs.Readout.{entryWord, Readable, Writable};
+use words::found::Item;
 
-// The first pair that breaks the form, if one does.
-pub enum Form {
-    Good,
-    Bad(usize),
-}
-
-// Whether the pairs have the read-set form. A last half pair has no mask, and breaks it.
-pub fn check_form(set: &[u32]) -> Form
-    ensures { λ r. ⌜ r ≡ formOf (broken (pairsOf (now (set .entry)))) ⌝ }
+// The first pair that breaks the read-set form, if one does. A last half pair has no mask, and breaks it.
+pub fn check_form(set: &[u32]) -> Item
+    ensures { λ r. ⌜ r ≡ itemOf (broken (pairsOf (now (set .entry)))) ⌝ }
 {
     let n = set.len() / 2;
     let mut i = 0;
@@ -25,21 +21,21 @@ pub fn check_form(set: &[u32]) -> Form
     while i < n {
         let w = set[2 * i];
         if w < low {
-            return Form::Bad(i);
+            return Item::At(i);
         }
         if w % 0x8000_0000 >= 0x0800_0000 {
-            return Form::Bad(i);
+            return Item::At(i);
         }
         if set[2 * i + 1] == 0 {
-            return Form::Bad(i);
+            return Item::At(i);
         }
         low = w + 1;
         i += 1;
     }
     if set.len() % 2 == 1 {
-        return Form::Bad(n);
+        return Item::At(n);
     }
-    Form::Good
+    Item::Fine
 }
 
 // The number of rounds: the longest lane of the table.

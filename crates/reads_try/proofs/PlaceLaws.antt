@@ -35,13 +35,13 @@ found-some (some i) j e = cc
 -- ---- a pair is placed
 
 -- what `place` ensures
-abbrev pub Placed : (set room : List ℕ) (L cur p : ℕ) → Search → List ℕ → Type 0
-Placed set room L cur p r room′ =
-    (r ≡ foundOf (nextOf L (laneFor set room L cur p)))
-    × (room′ ≡ tableOf (lanesAfter (laneFor set room L cur p) (lanesAt set room L) (pairAt set p)) ++ drop (32 * L) room)
+abbrev pub Placed : (set room : List ℕ) (n cur p : ℕ) → Search → List ℕ → Type 0
+Placed set room n cur p r room′ =
+    (r ≡ foundOf (nextOf n (laneFor set room n cur p)))
+    × (room′ ≡ tableOf (lanesAfter (laneFor set room n cur p) (lanesAt set room n) (pairAt set p)) ++ drop (32 * n) room)
 
-module _ (set room : List ℕ) (L cur p : ℕ) (h : Placeable set room L cur p) (b : ℕ) (eb : b ≡ pop (getD set (2 * p + 1) 0)) where
-  pub place-search : Searched set room L cur b
+module _ (set room : List ℕ) (n cur p : ℕ) (h : Placeable set room n cur p) (b : ℕ) (eb : b ≡ pop (getD set (2 * p + 1) 0)) where
+  pub place-search : Searched set room n cur b
   place-search = record {
     in-room = filled-in-room (h .filled);
     named = filled-named (h .filled);
@@ -49,25 +49,25 @@ module _ (set room : List ℕ) (L cur p : ℕ) (h : Placeable set room L cur p) 
     mask = count-le b _ eb;
   }
 
-  module _ (r : Search) (er : r ≡ foundOf (firstRoom L L (lanesAt set room L) b cur)) where
-    pub place-full : r ≡ Full → Placed set room L cur p Full room
+  module _ (r : Search) (er : r ≡ foundOf (firstRoom n n (lanesAt set room n) b cur)) where
+    pub place-full : r ≡ Full → Placed set room n cur p Full room
     place-full f =
-        let e : laneFor set room L cur p ≡ none = found-none _ (sym (rw eb at er) ∙ f) in
+        let e : laneFor set room n cur p ≡ none = found-none _ (sym (rw eb at er) ∙ f) in
         rw e (refl, h .filled .table)
 
     module _ (j : ℕ) (f : r ≡ LaneAt j) where
-      found : laneFor set room L cur p ≡ some j
+      found : laneFor set room n cur p ≡ some j
       found = found-some _ j (sym (rw eb at er) ∙ f)
 
-      pub place-lt : j < L
-      place-lt = room-found L L (lanesAt set room L) _ cur j (h .lane) found .0
+      pub place-lt : j < n
+      place-lt = room-found n n (lanesAt set room n) _ cur j (h .lane) found .0
 
       pub place-put : Puttable set room j p
       place-put = record {
         lane = filled-row (h .filled) j place-lt;
-        free = filled-free (h .filled) j _ place-lt (h .some-bits) (room-found L L (lanesAt set room L) _ cur j (h .lane) found .1);
+        free = filled-free (h .filled) j _ place-lt (h .some-bits) (room-found n n (lanesAt set room n) _ cur j (h .lane) found .1);
         pair = omega arith;
       }
 
-      pub place-lane : (n : ℕ) (room′ : List ℕ) → n ≡ next L j → room′ ≡ putIn set room j p → Placed set room L cur p (LaneAt n) room′
-      place-lane n room′ en e = rw found (ap LaneAt en, e ∙ filled-put (h .filled) j p place-lt (place-put .free))
+      pub place-lane : (i : ℕ) (room′ : List ℕ) → i ≡ next n j → room′ ≡ putIn set room j p → Placed set room n cur p (LaneAt i) room′
+      place-lane i room′ en e = rw found (ap LaneAt en, e ∙ filled-put (h .filled) j p place-lt (place-put .free))

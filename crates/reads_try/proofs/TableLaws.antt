@@ -59,28 +59,28 @@ row-short ws (suc p ∷ es) = omega (arith, row-short ws es)
 pub row-at-word : (t : List ℕ) (j i : ℕ) → i < 32 → getD (rowAt t j) i 0 ≡ getD t (32 * j + i) 0
 row-at-word t j i h = rw (getD-take, getD-drop)
 
--- a lane of the L that the words say
-pub lane-at : (ws t : List ℕ) (L j : ℕ) → j < L → getD (lanesAt ws t L) j [] ≡ laneOf ws (rowAt t j)
+-- a lane of the n that the words say
+pub lane-at : (ws t : List ℕ) (n j : ℕ) → j < n → getD (lanesAt ws t n) j [] ≡ laneOf ws (rowAt t j)
 unfolding lanesAt
 lane-at ws t zero j h = absurd (not-suc-le-zero h)
-lane-at ws t (suc L) zero h = refl
-lane-at ws t (suc L) (suc j) h =
+lane-at ws t (suc n) zero h = refl
+lane-at ws t (suc n) (suc j) h =
     let e : 32 * suc j ≡ 32 + 32 * j = omega arith in
-    lane-at ws (drop 32 t) L j (le-of-suc-le-suc h) ∙ rw (e, drop-drop)
+    lane-at ws (drop 32 t) n j (le-of-suc-le-suc h) ∙ rw (e, drop-drop)
 
 -- a row has at most 1024 bits
 pub row-bits-le : (ws t : List ℕ) (j : ℕ) → total (laneOf ws (rowAt t j)) ≤ 1024
 row-bits-le ws t j = omega (arith, total-le (laneOf ws (rowAt t j)), row-short ws (rowAt t j), length-take 32 (drop (32 * j) t))
 
 -- a row whose words name pairs of the set
-pub row-in : (ws t : List ℕ) (L : ℕ) → 32 * L ≤ length t → ((i : ℕ) → i < 32 * L → getD t i 0 ≤ length ws / 2) → (j : ℕ) → j < L → RowIn ws t j
-row-in ws t L r n j l = record {
+pub row-in : (ws t : List ℕ) (n : ℕ) → 32 * n ≤ length t → ((i : ℕ) → i < 32 * n → getD t i 0 ≤ length ws / 2) → (j : ℕ) → j < n → RowIn ws t j
+row-in ws t n r names j l = record {
   in-room = omega arith;
   row = record {
     short = omega (arith, length-take 32 (drop (32 * j) t));
     named = λ i k.
         let s : i < 32 = omega (arith, length-take 32 (drop (32 * j) t)) in
-        rw (row-at-word t j i s) (n (32 * j + i) (omega arith));
+        rw (row-at-word t j i s) (names (32 * j + i) (omega arith));
   };
 }
 
@@ -131,12 +131,12 @@ pub sound-empty : (ws : List ℕ) → Sound ws []
 unfolding total
 sound-empty ws = record { drawn = tt; light = zero-le }
 
-module _ {ws : List ℕ} {L : ℕ} {lanes : List Lane} (k : Kept ws L lanes) where
-  pub kept-sound : (j : ℕ) → j < L → Sound ws (getD lanes j [])
+module _ {ws : List ℕ} {n : ℕ} {lanes : List Lane} (k : Kept ws n lanes) where
+  pub kept-sound : (j : ℕ) → j < n → Sound ws (getD lanes j [])
   kept-sound j h = each-at (Sound ws) lanes j [] (k .sound) (omega (arith, k .wide))
 
   -- a lane with room takes a pair
-  pub kept-push : (j : ℕ) (p : Pair) → j < L → total (getD lanes j []) + bits p ≤ 32 → Drawn ws p → Kept ws L (push lanes j p)
+  pub kept-push : (j : ℕ) (p : Pair) → j < n → total (getD lanes j []) + bits p ≤ 32 → Drawn ws p → Kept ws n (push lanes j p)
   unfolding total
   kept-push j p h r d = record {
     wide = length-set lanes j _ ∙ k .wide;
@@ -146,8 +146,8 @@ module _ {ws : List ℕ} {L : ℕ} {lanes : List Lane} (k : Kept ws L lanes) whe
     });
   }
 
-pub kept-empty : (ws : List ℕ) (L : ℕ) → Kept ws L (replicate L [])
-kept-empty ws L = record { wide = length-replicate L []; sound = each-replicate (Sound ws) L [] (sound-empty ws) }
+pub kept-empty : (ws : List ℕ) (n : ℕ) → Kept ws n (replicate n [])
+kept-empty ws n = record { wide = length-replicate n []; sound = each-replicate (Sound ws) n [] (sound-empty ws) }
 
 -- ---- the table
 
@@ -223,45 +223,45 @@ table-empty (suc n) =
 
 -- ---- words that begin with the table of kept lanes
 
-module _ {ws : List ℕ} {L : ℕ} {lanes : List Lane} (k : Kept ws L lanes) {t : List ℕ} (rest : List ℕ) (e : t ≡ tableOf lanes ++ rest) where
-  pub filled-lanes : lanesAt ws t L ≡ lanes
+module _ {ws : List ℕ} {n : ℕ} {lanes : List Lane} (k : Kept ws n lanes) {t : List ℕ} (rest : List ℕ) (e : t ≡ tableOf lanes ++ rest) where
+  pub filled-lanes : lanesAt ws t n ≡ lanes
   filled-lanes = rw (e, ← k .wide) (table-back ws lanes rest (k .sound))
 
-  pub filled-rest : drop (32 * L) t ≡ rest
-  filled-rest = rw e (drop-at (tableOf lanes) rest (32 * L) (table-length lanes ∙ ap (λ (n : ℕ). 32 * n) (k .wide)))
+  pub filled-rest : drop (32 * n) t ≡ rest
+  filled-rest = rw e (drop-at (tableOf lanes) rest (32 * n) (table-length lanes ∙ ap (λ (m : ℕ). 32 * m) (k .wide)))
 
-  pub filled-of : Filled ws t L
+  pub filled-of : Filled ws t n
   filled-of = record { table = rw (filled-lanes, filled-rest) e; kept = rw filled-lanes k }
 
-module _ {ws t : List ℕ} {L : ℕ} (h : Filled ws t L) where
-  pub filled-length : length (tableOf (lanesAt ws t L)) ≡ 32 * L
-  filled-length = table-length (lanesAt ws t L) ∙ ap (λ (n : ℕ). 32 * n) (h .kept .wide)
+module _ {ws t : List ℕ} {n : ℕ} (h : Filled ws t n) where
+  pub filled-length : length (tableOf (lanesAt ws t n)) ≡ 32 * n
+  filled-length = table-length (lanesAt ws t n) ∙ ap (λ (m : ℕ). 32 * m) (h .kept .wide)
 
-  pub filled-in-room : 32 * L ≤ length t
-  filled-in-room = omega (arith, ap length (h .table), length-append (tableOf (lanesAt ws t L)) (drop (32 * L) t), filled-length)
+  pub filled-in-room : 32 * n ≤ length t
+  filled-in-room = omega (arith, ap length (h .table), length-append (tableOf (lanesAt ws t n)) (drop (32 * n) t), filled-length)
 
-  pub filled-named : (i : ℕ) → i < 32 * L → getD t i 0 ≤ length ws / 2
+  pub filled-named : (i : ℕ) → i < 32 * n → getD t i 0 ≤ length ws / 2
   filled-named i l =
-      let m : i < length (tableOf (lanesAt ws t L)) = omega (arith, filled-length) in
-      let g : getD t i 0 ≡ getD (tableOf (lanesAt ws t L)) i 0 = ap (λ (x : List ℕ). getD x i 0) (h .table) ∙ List·getD-append (tableOf (lanesAt ws t L)) (drop (32 * L) t) 0 i m in
-      rw g (each-at (Names ws) (tableOf (lanesAt ws t L)) i 0 (table-named ws (lanesAt ws t L) (h .kept .sound)) m)
+      let m : i < length (tableOf (lanesAt ws t n)) = omega (arith, filled-length) in
+      let g : getD t i 0 ≡ getD (tableOf (lanesAt ws t n)) i 0 = ap (λ (x : List ℕ). getD x i 0) (h .table) ∙ List·getD-append (tableOf (lanesAt ws t n)) (drop (32 * n) t) 0 i m in
+      rw g (each-at (Names ws) (tableOf (lanesAt ws t n)) i 0 (table-named ws (lanesAt ws t n) (h .kept .sound)) m)
 
-  pub filled-row : (j : ℕ) → j < L → RowIn ws t j
-  filled-row j l = row-in ws t L filled-in-room filled-named j l
+  pub filled-row : (j : ℕ) → j < n → RowIn ws t j
+  filled-row j l = row-in ws t n filled-in-room filled-named j l
 
   -- a lane with room has a free word, and the pair that is put there is in the lane
-  pub filled-free : (j b : ℕ) → j < L → 0 < b → total (getD (lanesAt ws t L) j []) + b ≤ 32 → length (laneOf ws (rowAt t j)) < 32
+  pub filled-free : (j b : ℕ) → j < n → 0 < b → total (getD (lanesAt ws t n) j []) + b ≤ 32 → length (laneOf ws (rowAt t j)) < 32
   filled-free j b l p r =
-      let e = lane-at ws t L j l in
+      let e = lane-at ws t n j l in
       omega (arith, drawn-thin ws (laneOf ws (rowAt t j)) (rw e at (kept-sound (h .kept) j l .drawn)), rw e at r)
 
-  pub filled-put : (j p : ℕ) → j < L → length (laneOf ws (rowAt t j)) < 32 → putIn ws t j p ≡ tableOf (push (lanesAt ws t L) j (pairAt ws p)) ++ drop (32 * L) t
+  pub filled-put : (j p : ℕ) → j < n → length (laneOf ws (rowAt t j)) < 32 → putIn ws t j p ≡ tableOf (push (lanesAt ws t n) j (pairAt ws p)) ++ drop (32 * n) t
   filled-put j p l f =
-      let ls = lanesAt ws t L in
-      let e : laneOf ws (rowAt t j) ≡ getD ls j [] = sym (lane-at ws t L j l) in
+      let ls = lanesAt ws t n in
+      let e : laneOf ws (rowAt t j) ≡ getD ls j [] = sym (lane-at ws t n j l) in
       let m : 32 * j + length (getD ls j []) < length (tableOf ls) = omega (arith, filled-length, ap length e) in
-      let n : j < length ls = omega (arith, h .kept .wide) in
+      let there : j < length ls = omega (arith, h .kept .wide) in
       ap (λ (x : Lane). set t (32 * j + length x) (p + 1)) e
       ∙ ap (λ (x : List ℕ). set x (32 * j + length (getD ls j [])) (p + 1)) (h .table)
-      ∙ set-append-left (tableOf ls) (drop (32 * L) t) _ _ m
-      ∙ ap (λ (x : List ℕ). x ++ drop (32 * L) t) (table-put ls j (pairAt ws p) n (rw e at f))
+      ∙ set-append-left (tableOf ls) (drop (32 * n) t) _ _ m
+      ∙ ap (λ (x : List ℕ). x ++ drop (32 * n) t) (table-put ls j (pairAt ws p) there (rw e at f))

@@ -27,19 +27,19 @@ use Rattle.reads_try.proofs.PlaceLaws.{Placed}
 
 -- ---- what any try keeps of the lanes
 
-pub try-kept : (ws : List ℕ) (L : ℕ) (run : List Pair) (lanes : List Lane) (j : ℕ) → j < L → Each (Drawn ws) run → Kept ws L lanes
-    → Kept ws L (lanesIn (tryFrom L run lanes j))
+pub try-kept : (ws : List ℕ) (n : ℕ) (run : List Pair) (lanes : List Lane) (j : ℕ) → j < n → Each (Drawn ws) run → Kept ws n lanes
+    → Kept ws n (lanesIn (tryFrom n run lanes j))
 unfolding tryFrom
-try-kept ws L [] lanes j h d k = k
-try-kept ws L (p ∷ run) lanes j h d k = go (firstRoom L L lanes (bits p) j) refl (λ i l q. try-kept ws L run (push lanes i p) (next L i) l (d .1) q)
+try-kept ws n [] lanes j h d k = k
+try-kept ws n (p ∷ run) lanes j h d k = go (firstRoom n n lanes (bits p) j) refl (λ i l q. try-kept ws n run (push lanes i p) (next n i) l (d .1) q)
   where
-    go : (o : Option ℕ) → firstRoom L L lanes (bits p) j ≡ o
-        → ((i : ℕ) → next L i < L → Kept ws L (push lanes i p) → Kept ws L (lanesIn (tryFrom L run (push lanes i p) (next L i))))
-        → Kept ws L (lanesIn (tryFrom L (p ∷ run) lanes j))
+    go : (o : Option ℕ) → firstRoom n n lanes (bits p) j ≡ o
+        → ((i : ℕ) → next n i < n → Kept ws n (push lanes i p) → Kept ws n (lanesIn (tryFrom n run (push lanes i p) (next n i))))
+        → Kept ws n (lanesIn (tryFrom n (p ∷ run) lanes j))
     go none e r = rw (e, tryFrom) k
     go (some i) e r =
-        let f = room-found L L lanes (bits p) j i h e in
-        rw (e, tryFrom) (r i (next-lt L i (f .0)) (kept-push k i p (f .0) (f .1) (d .0)))
+        let f = room-found n n lanes (bits p) j i h e in
+        rw (e, tryFrom) (r i (next-lt n i (f .0)) (kept-push k i p (f .0) (f .1) (d .0)))
 
 -- a set of whole pairs with no mask that is 0
 module _ (ws : List ℕ) (whole : length ws % 2 ≡ 0) (masks : (p : ℕ) → p < length ws / 2 → 0 < pop (getD ws (2 * p + 1) 0)) where
@@ -59,74 +59,71 @@ module _ (ws : List ℕ) (whole : length ws % 2 ≡ 0) (masks : (p : ℕ) → p 
       each-append (Drawn ws) (pieceOf k (pairsOf ws) (x % 8192)) _ (each-take (Drawn ws) k _ (each-drop (Drawn ws) (x % 8192 * k) (pairsOf ws) pairs-drawn)) (run-drawn k keys)
 
   -- the lanes of a try of it
-  pub tried-kept : (L k : ℕ) (keys : List ℕ) → 0 < L → Kept ws L (lanesIn (triedOf L k ws keys))
-  tried-kept L k keys h = try-kept ws L (runOf k (pairsOf ws) keys) (replicate L []) 0 h (run-drawn k keys) (kept-empty ws L)
-
-  -- the words that a try of it leaves say its lanes
-  module _ (L k : ℕ) (keys : List ℕ) (some-lanes : 0 < L) {t : List ℕ} (rest : List ℕ) (e : t ≡ tableOf (lanesIn (triedOf L k ws keys)) ++ rest) where
+  pub tried-kept : (n k : ℕ) (keys : List ℕ) → 0 < n → Kept ws n (lanesIn (triedOf n k ws keys))
+  tried-kept n k keys h = try-kept ws n (runOf k (pairsOf ws) keys) (replicate n []) 0 h (run-drawn k keys) (kept-empty ws n)
 
 -- ---- what holds while a try runs
 
 -- the room holds kept lanes, and rest after them; run is still to be placed, from lane cur on, and the try will end in goal
-pub record Held (ws : List ℕ) (L : ℕ) (rest : List ℕ) (goal : Tried) (run : List Pair) (room : List ℕ) (cur : ℕ) : Type 0 where
-  pub filled : Filled ws room L
-  pub rest-is : drop (32 * L) room ≡ rest
-  pub lane : cur < L
-  pub ends : tryFrom L run (lanesAt ws room L) cur ≡ goal
+pub record Held (ws : List ℕ) (n : ℕ) (rest : List ℕ) (goal : Tried) (run : List Pair) (room : List ℕ) (cur : ℕ) : Type 0 where
+  pub filled : Filled ws room n
+  pub rest-is : drop (32 * n) room ≡ rest
+  pub lane : cur < n
+  pub ends : tryFrom n run (lanesAt ws room n) cur ≡ goal
 
 -- how a try ends
 abbrev pub Ended : Tried → List ℕ → Bool → List ℕ → Type 0
 Ended goal rest fits room = (fits ≡ isAll goal) × (room ≡ tableOf (lanesIn goal) ++ rest)
 
-module _ {ws : List ℕ} {L : ℕ} {rest : List ℕ} {goal : Tried} where
-  pub held-room : {run : List Pair} {room : List ℕ} {cur : ℕ} → Held ws L rest goal run room cur → room ≡ tableOf (lanesAt ws room L) ++ rest
-  held-room {room = room} h = h .filled .table ∙ ap (λ (x : List ℕ). tableOf (lanesAt ws room L) ++ x) (h .rest-is)
+module _ {ws : List ℕ} {n : ℕ} {rest : List ℕ} {goal : Tried} where
+  pub held-room : {run : List Pair} {room : List ℕ} {cur : ℕ} → Held ws n rest goal run room cur → room ≡ tableOf (lanesAt ws room n) ++ rest
+  held-room {room = room} h = h .filled .table ∙ ap (λ (x : List ℕ). tableOf (lanesAt ws room n) ++ x) (h .rest-is)
 
-  pub held-length : {run : List Pair} {room : List ℕ} {cur : ℕ} → Held ws L rest goal run room cur → length room ≡ 32 * L + length rest
+  pub held-length : {run : List Pair} {room : List ℕ} {cur : ℕ} → Held ws n rest goal run room cur → length room ≡ 32 * n + length rest
   held-length {room = room} h =
-      omega (arith, ap length (held-room h), length-append (tableOf (lanesAt ws room L)) rest, table-length (lanesAt ws room L), h .filled .kept .wide)
+      omega (arith, ap length (held-room h), length-append (tableOf (lanesAt ws room n)) rest, table-length (lanesAt ws room n), h .filled .kept .wide)
 
   -- all is placed
-  pub held-all : {room : List ℕ} {cur : ℕ} → Held ws L rest goal [] room cur → Ended goal rest true room
+  pub held-all : {room : List ℕ} {cur : ℕ} → Held ws n rest goal [] room cur → Ended goal rest true room
   unfolding tryFrom
   held-all h = rw (← h .ends) (refl, held-room h)
 
-  module _ {p : ℕ} {run : List Pair} {room : List ℕ} {cur : ℕ} (h : Held ws L rest goal (pairAt ws p ∷ run) room cur)
-      (r : Search) (room′ : List ℕ) (placed : Placed ws room L cur p r room′) where
+  module _ {p : ℕ} {run : List Pair} {room : List ℕ} {cur : ℕ} (h : Held ws n rest goal (pairAt ws p ∷ run) room cur)
+      (r : Search) (room′ : List ℕ) (placed : Placed ws room n cur p r room′) where
     -- the lane that is found takes the pair
-    pub held-step : Drawn ws (pairAt ws p) → (j : ℕ) → r ≡ LaneAt j → Held ws L rest goal run room′ j
+    pub held-step : Drawn ws (pairAt ws p) → (j : ℕ) → r ≡ LaneAt j → Held ws n rest goal run room′ j
     unfolding tryFrom
-    held-step d j f = go (laneFor ws room L cur p) refl
+    held-step d j f = go (laneFor ws room n cur p) refl
       where
-        go : (o : Option ℕ) → laneFor ws room L cur p ≡ o → Held ws L rest goal run room′ j
+        go : (o : Option ℕ) → laneFor ws room n cur p ≡ o → Held ws n rest goal run room′ j
         go none e =
             let q : Full ≡ LaneAt j = sym (rw e at (placed .0)) ∙ f in
             let z : _≡_ {A = ℕ} 0 1 = cc in
             absurd (omega arith)
         go (some i) e =
-            let q : LaneAt (next L i) ≡ LaneAt j = sym (rw e at (placed .0)) ∙ f in
-            let n : next L i ≡ j = cc in
-            let x = room-found L L (lanesAt ws room L) (bits (pairAt ws p)) cur i (h .lane) e in
+            let q : LaneAt (next n i) ≡ LaneAt j = sym (rw e at (placed .0)) ∙ f in
+            let on : next n i ≡ j = cc in
+            let x = room-found n n (lanesAt ws room n) (bits (pairAt ws p)) cur i (h .lane) e in
             let k = kept-push (h .filled .kept) i (pairAt ws p) (x .0) (x .1) d in
             let t = rw e at (placed .1) in
             record {
               filled = filled-of k _ t;
               rest-is = filled-rest k _ t ∙ h .rest-is;
-              lane = rw (← n) (next-lt L i (x .0));
-              ends = rw (filled-lanes k _ t, ← n) (rw (e, tryFrom) at (h .ends));
+              lane = rw (← on) (next-lt n i (x .0));
+              ends = rw (filled-lanes k _ t, ← on) (rw (e, tryFrom) at (h .ends));
             }
 
     -- no lane has room
     pub held-stop : r ≡ Full → Ended goal rest false room′
     unfolding tryFrom
-    held-stop f = go (laneFor ws room L cur p) refl
+    held-stop f = go (laneFor ws room n cur p) refl
       where
-        go : (o : Option ℕ) → laneFor ws room L cur p ≡ o → Ended goal rest false room′
+        go : (o : Option ℕ) → laneFor ws room n cur p ≡ o → Ended goal rest false room′
         go none e =
-            let s : stuck (lanesAt ws room L) ≡ goal = rw (e, tryFrom) at (h .ends) in
-            rw (← s) (refl, (rw e at (placed .1)) ∙ ap (λ (x : List ℕ). tableOf (lanesAt ws room L) ++ x) (h .rest-is))
+            let s : stuck (lanesAt ws room n) ≡ goal = rw (e, tryFrom) at (h .ends) in
+            rw (← s) (refl, (rw e at (placed .1)) ∙ ap (λ (x : List ℕ). tableOf (lanesAt ws room n) ++ x) (h .rest-is))
         go (some i) e =
-            let q : LaneAt (next L i) ≡ Full = sym (rw e at (placed .0)) ∙ f in
+            let q : LaneAt (next n i) ≡ Full = sym (rw e at (placed .0)) ∙ f in
             let z : _≡_ {A = ℕ} 0 1 = cc in
             absurd (omega arith)
 
@@ -134,27 +131,27 @@ module _ {ws : List ℕ} {L : ℕ} {rest : List ℕ} {goal : Tried} where
 
 -- Pairs p to e of a piece, and the pieces after it, are still to be placed, as they were from p₀ on: whatever the try was to end in, it is to
 -- end in now.
-abbrev pub Piece : (ws : List ℕ) (L p₀ e : ℕ) (room₀ : List ℕ) (cur₀ p : ℕ) (room : List ℕ) (cur : ℕ) → Type 0
-Piece ws L p₀ e room₀ cur₀ p room cur =
+abbrev pub Piece : (ws : List ℕ) (n p₀ e : ℕ) (room₀ : List ℕ) (cur₀ p : ℕ) (room : List ℕ) (cur : ℕ) → Type 0
+Piece ws n p₀ e room₀ cur₀ p room cur =
     (rest : List ℕ) (goal : Tried) (tail : List Pair)
-    → Held ws L rest goal (slice p₀ e (pairsOf ws) ++ tail) room₀ cur₀ → Held ws L rest goal (slice p e (pairsOf ws) ++ tail) room cur
+    → Held ws n rest goal (slice p₀ e (pairsOf ws) ++ tail) room₀ cur₀ → Held ws n rest goal (slice p e (pairsOf ws) ++ tail) room cur
 
-module _ {ws room₀ : List ℕ} {L k : ℕ} (ready : Ready ws room₀ L k) where
-  pub held-start : (keys : List ℕ) → Held ws L (drop (32 * L) room₀) (triedOf L k ws keys) (runOf k (pairsOf ws) keys) room₀ 0
+module _ {ws room₀ : List ℕ} {n k : ℕ} (ready : Ready ws room₀ n k) where
+  pub held-start : (keys : List ℕ) → Held ws n (drop (32 * n) room₀) (triedOf n k ws keys) (runOf k (pairsOf ws) keys) room₀ 0
   held-start keys =
-      let t : room₀ ≡ tableOf (replicate L []) ++ drop (32 * L) room₀ =
-      sym (take-append-drop (32 * L) room₀) ∙ ap (λ (x : List ℕ). x ++ drop (32 * L) room₀) (ready .empty ∙ sym (table-empty L)) in
-      let q = kept-empty ws L in
+      let t : room₀ ≡ tableOf (replicate n []) ++ drop (32 * n) room₀ =
+      sym (take-append-drop (32 * n) room₀) ∙ ap (λ (x : List ℕ). x ++ drop (32 * n) room₀) (ready .empty ∙ sym (table-empty n)) in
+      let q = kept-empty ws n in
       record {
         filled = filled-of q _ t;
         rest-is = refl;
         lane = ready .some-lanes;
-        ends = ap (λ (x : List Lane). tryFrom L (runOf k (pairsOf ws) keys) x 0) (filled-lanes q _ t);
+        ends = ap (λ (x : List Lane). tryFrom n (runOf k (pairsOf ws) keys) x 0) (filled-lanes q _ t);
       }
 
   module _ {rest : List ℕ} {goal : Tried} where
     -- what `place` asks
-    pub held-placeable : {run : List Pair} {room : List ℕ} {cur : ℕ} → Held ws L rest goal run room cur → (p : ℕ) → p < length ws / 2 → Placeable ws room L cur p
+    pub held-placeable : {run : List Pair} {room : List ℕ} {cur : ℕ} → Held ws n rest goal run room cur → (p : ℕ) → p < length ws / 2 → Placeable ws room n cur p
     held-placeable h p l = record {
       lane = h .lane;
       pairs = ready .pairs;
@@ -164,30 +161,30 @@ module _ {ws room₀ : List ℕ} {L k : ℕ} (ready : Ready ws room₀ L k) wher
     }
 
     -- a key is read, and its piece comes next
-    pub run-step : (keys : List ℕ) (t : ℕ) {room : List ℕ} {cur : ℕ} → t < length keys → Held ws L rest goal (runOf k (pairsOf ws) (drop t keys)) room cur
+    pub run-step : (keys : List ℕ) (t : ℕ) {room : List ℕ} {cur : ℕ} → t < length keys → Held ws n rest goal (runOf k (pairsOf ws) (drop t keys)) room cur
         → (i e : ℕ) → i ≡ getD keys t 0 % 8192 → e ≡ min (i * k + k) (length ws / 2)
-        → Held ws L rest goal (slice (i * k) e (pairsOf ws) ++ runOf k (pairsOf ws) (drop (t + 1) keys)) room cur
+        → Held ws n rest goal (slice (i * k) e (pairsOf ws) ++ runOf k (pairsOf ws) (drop (t + 1) keys)) room cur
     unfolding runOf
     run-step keys t h H i e ei ee =
         let d : drop t keys ≡ getD keys t 0 ∷ drop (t + 1) keys = drop-cons keys t 0 h ∙ rw (add-one t) in
-        let n : length (pairsOf ws) ≡ length ws / 2 = omega (arith, pairs-length 0 ws, ready .whole) in
-        let q : pieceOf k (pairsOf ws) i ≡ slice (i * k) e (pairsOf ws) = piece-slice k (pairsOf ws) i ∙ rw (n, ee) in
+        let long : length (pairsOf ws) ≡ length ws / 2 = omega (arith, pairs-length 0 ws, ready .whole) in
+        let q : pieceOf k (pairsOf ws) i ≡ slice (i * k) e (pairsOf ws) = piece-slice k (pairsOf ws) i ∙ rw (long, ee) in
         rw (← q, ei) (rw d at H)
 
   -- a pair is placed, and the one after it comes next
-  pub piece-step : (p₀ e : ℕ) (room : List ℕ) (cur₀ p : ℕ) (room₁ : List ℕ) (cur : ℕ) → Piece ws L p₀ e room cur₀ p room₁ cur → p < e → e ≤ length ws / 2
-      → (r : Search) (room₂ : List ℕ) → Placed ws room₁ L cur p r room₂ → (j : ℕ) → r ≡ LaneAt j → Piece ws L p₀ e room cur₀ (p + 1) room₂ j
+  pub piece-step : (p₀ e : ℕ) (room : List ℕ) (cur₀ p : ℕ) (room₁ : List ℕ) (cur : ℕ) → Piece ws n p₀ e room cur₀ p room₁ cur → p < e → e ≤ length ws / 2
+      → (r : Search) (room₂ : List ℕ) → Placed ws room₁ n cur p r room₂ → (j : ℕ) → r ≡ LaneAt j → Piece ws n p₀ e room cur₀ (p + 1) room₂ j
   piece-step p₀ e room cur₀ p room₁ cur P h l r room₂ placed j f rest goal tail H =
       held-step (rw (span-step ws p e h l) at (P rest goal tail H)) r room₂ placed (pair-drawn ws (ready .whole) (ready .masks) p (omega arith)) j f
 
 -- the piece is through
-pub run-next : {ws : List ℕ} {L : ℕ} {rest : List ℕ} {goal : Tried} (p e : ℕ) (tail : List Pair) {room : List ℕ} {cur : ℕ} → e ≤ p
-    → Held ws L rest goal (slice p e (pairsOf ws) ++ tail) room cur → Held ws L rest goal tail room cur
+pub run-next : {ws : List ℕ} {n : ℕ} {rest : List ℕ} {goal : Tried} (p e : ℕ) (tail : List Pair) {room : List ℕ} {cur : ℕ} → e ≤ p
+    → Held ws n rest goal (slice p e (pairsOf ws) ++ tail) room cur → Held ws n rest goal tail room cur
 run-next {ws} p e tail h H = rw (slice-none p e (pairsOf ws) h) at H
 
 -- so are all
-pub run-ended : {ws : List ℕ} {L : ℕ} {rest : List ℕ} {goal : Tried} (k : ℕ) (keys : List ℕ) (t : ℕ) {room : List ℕ} {cur : ℕ} → length keys ≤ t
-    → Held ws L rest goal (runOf k (pairsOf ws) (drop t keys)) room cur → Ended goal rest true room
+pub run-ended : {ws : List ℕ} {n : ℕ} {rest : List ℕ} {goal : Tried} (k : ℕ) (keys : List ℕ) (t : ℕ) {room : List ℕ} {cur : ℕ} → length keys ≤ t
+    → Held ws n rest goal (runOf k (pairsOf ws) (drop t keys)) room cur → Ended goal rest true room
 unfolding runOf
 run-ended k keys t h H = held-all (rw (drop-of-length-le keys h) at H)
 

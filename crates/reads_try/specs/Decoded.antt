@@ -22,10 +22,10 @@ laneOf ws (suc p ∷ es) = pairAt ws p ∷ laneOf ws es
 abbrev pub rowAt : List ℕ → ℕ → List ℕ
 rowAt t j = take 32 (drop (32 * j) t)
 
--- L lanes, row by row
+-- n lanes, row by row
 unfoldable pub lanesAt : List ℕ → List ℕ → ℕ → List Lane
 lanesAt ws t zero = []
-lanesAt ws t (suc L) = laneOf ws (take 32 t) ∷ lanesAt ws (drop 32 t) L
+lanesAt ws t (suc n) = laneOf ws (take 32 t) ∷ lanesAt ws (drop 32 t) n
 
 -- the words with pair p behind those of lane j
 abbrev pub putIn : List ℕ → List ℕ → ℕ → ℕ → List ℕ
@@ -47,12 +47,12 @@ pub record Sound (ws : List ℕ) (l : Lane) : Type 0 where
   pub drawn : Each (Drawn ws) l
   pub light : total l ≤ 32
 
--- L such lanes
-pub record Kept (ws : List ℕ) (L : ℕ) (lanes : List Lane) : Type 0 where
-  pub wide : length lanes ≡ L
+-- n such lanes
+pub record Kept (ws : List ℕ) (n : ℕ) (lanes : List Lane) : Type 0 where
+  pub wide : length lanes ≡ n
   pub sound : Each (Sound ws) lanes
 
 -- words that begin with the table of such lanes
-pub record Filled (ws t : List ℕ) (L : ℕ) : Type 0 where
-  pub table : t ≡ tableOf (lanesAt ws t L) ++ drop (32 * L) t
-  pub kept : Kept ws L (lanesAt ws t L)
+pub record Filled (ws t : List ℕ) (n : ℕ) : Type 0 where
+  pub table : t ≡ tableOf (lanesAt ws t n) ++ drop (32 * n) t
+  pub kept : Kept ws n (lanesAt ws t n)

@@ -1,4 +1,4 @@
--- What the functions answer, and what they ask. L is the number of lanes.
+-- What the functions answer, and what they ask. n is the number of lanes.
 -- Assumes nothing.
 use mathlib.Core.Path.{_≡_}
 use mathlib.Core.Bool.{Bool, true, false}
@@ -22,12 +22,12 @@ foundOf (some j) = LaneAt j
 
 -- the lane for pair p, over the lanes that the room says
 abbrev pub laneFor : List ℕ → List ℕ → ℕ → ℕ → ℕ → Option ℕ
-laneFor set room L cur p = firstRoom L L (lanesAt set room L) (bits (pairAt set p)) cur
+laneFor set room n cur p = firstRoom n n (lanesAt set room n) (bits (pairAt set p)) cur
 
 -- the lane after the one that took the pair
 abbrev pub nextOf : ℕ → Option ℕ → Option ℕ
-nextOf L none = none
-nextOf L (some i) = some (next L i)
+nextOf n none = none
+nextOf n (some i) = some (next n i)
 
 -- the lanes after it took the pair
 abbrev pub lanesAfter : Option ℕ → List Lane → Pair → List Lane
@@ -45,7 +45,7 @@ lanesIn (stuck lanes) = lanes
 
 -- the try of a set at piece size k, the pieces in the order of the keys, from empty lanes
 abbrev pub triedOf : ℕ → ℕ → List ℕ → List ℕ → Tried
-triedOf L k set keys = tryFrom L (runOf k (pairsOf set) keys) (replicate L []) 0
+triedOf n k set keys = tryFrom n (runOf k (pairsOf set) keys) (replicate n []) 0
 
 -- what a row's sum asks: its words name pairs of the set
 pub record Named (set row : List ℕ) : Type 0 where
@@ -58,10 +58,10 @@ pub record RowIn (set room : List ℕ) (j : ℕ) : Type 0 where
   pub row : Named set (rowAt room j)
 
 -- what the search asks: so do those of each row
-pub record Searched (set room : List ℕ) (L from b : ℕ) : Type 0 where
-  pub in-room : 32 * L ≤ length room
-  pub named : (i : ℕ) → i < 32 * L → getD room i 0 ≤ length set / 2
-  pub lane : from < L
+pub record Searched (set room : List ℕ) (n from b : ℕ) : Type 0 where
+  pub in-room : 32 * n ≤ length room
+  pub named : (i : ℕ) → i < 32 * n → getD room i 0 ≤ length set / 2
+  pub lane : from < n
   pub mask : b ≤ 32
 
 -- what a put of pair p into lane j asks: a free word in the row
@@ -71,19 +71,19 @@ pub record Puttable (set room : List ℕ) (j p : ℕ) : Type 0 where
   pub pair : p < 8192
 
 -- what a placing of pair p asks, from the current lane on
-pub record Placeable (set room : List ℕ) (L cur p : ℕ) : Type 0 where
-  pub lane : cur < L
+pub record Placeable (set room : List ℕ) (n cur p : ℕ) : Type 0 where
+  pub lane : cur < n
   pub pairs : length set ≤ 16384
   pub pair : p < length set / 2
   pub some-bits : 0 < pop (getD set (2 * p + 1) 0)
-  pub filled : Filled set room L
+  pub filled : Filled set room n
 
 -- what a try asks: whole pairs, no mask that is 0, empty lanes
-pub record Ready (set room : List ℕ) (L k : ℕ) : Type 0 where
+pub record Ready (set room : List ℕ) (n k : ℕ) : Type 0 where
   pub whole : length set % 2 ≡ 0
   pub pairs : length set ≤ 16384
   pub masks : (p : ℕ) → p < length set / 2 → 0 < pop (getD set (2 * p + 1) 0)
-  pub in-room : 32 * L ≤ length room
-  pub empty : take (32 * L) room ≡ replicate (32 * L) 0
-  pub some-lanes : 0 < L
+  pub in-room : 32 * n ≤ length room
+  pub empty : take (32 * n) room ≡ replicate (32 * n) 0
+  pub some-lanes : 0 < n
   pub size : k ≤ 8192

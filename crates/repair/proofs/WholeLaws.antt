@@ -1,4 +1,4 @@
--- The room, refusal 5 and the gate list's answer, in the code's terms; what the exported contracts take together.
+-- The room and refusal 5 in the code's terms; what the exported contracts take together.
 -- Assumes nothing.
 use mathlib.Core.Path.{_≡_, refl, sym, ap, ap₂, _∙_}
 use mathlib.Core.Bool.{Bool, true, false, _&&_, and-false}
@@ -11,9 +11,6 @@ use lib.Dec.{leb, ltb}
 use lib.ListN.{length, replicate, length-replicate}
 use Rattle.words.specs.Pins.{isPin}
 use Rattle.words.proofs.TestLaws.{and-true}
-use Rattle.gatelist.specs.Words.{badList, formOf}
-use Rattle.gatelist.specs.declared.ListForm.{ListForm}
-use Rattle.gatelist.specs.declared.ListForm.the-variants.{Good, Bad}
 use Rattle.repair_nodes.specs.Stage.{width}
 use Rattle.repair_nodes.specs.Counts.{countsRight}
 use Rattle.repair_nodes.specs.Outcome.{Outcome, roomWords, placeRight, slotsAfter, listAfter, roomAfter}
@@ -81,19 +78,3 @@ both-counts p c e = ap (λ (b : Bool). p && b) e ∙ and-false p
 
 pub both-right : (p c : Bool) → p ≡ true → c ≡ true → (p && c) ≡ true
 both-right p c e f = ap₂ (λ (a : Bool) (b : Bool). a && b) e f
-
--- ---- the gate list's answer
-
-pub list-good : (l : List ℕ) (r : ListForm) → r ≡ formOf (badList l) → r ≡ Good → badList l ≡ none
-list-good l r e f = go (badList l) (sym e ∙ f)
-  where
-    go : (o : Option ℕ) → formOf o ≡ Good → o ≡ none
-    go none k = refl
-    go (some g) k = let z : _≡_ {A = ℕ} 0 1 = cc in absurd (omega arith)
-
-pub list-bad : (l : List ℕ) (r : ListForm) (g : ℕ) → r ≡ formOf (badList l) → r ≡ Bad g → badList l ≡ some g
-list-bad l r g e f = go (badList l) (sym e ∙ f)
-  where
-    go : (o : Option ℕ) → formOf o ≡ Bad g → o ≡ some g
-    go none k = let z : _≡_ {A = ℕ} 0 1 = cc in absurd (omega arith)
-    go (some i) k = cc

@@ -11,7 +11,6 @@ ghost use Rattle.repair_nodes.specs.Outcome.{roomWords, placeRight, placedAt, p
 ghost use Rattle.repair_subtree.specs.Subtree.{Added, Listable};
 ghost use Rattle.repair_settle.specs.Settle.{repairedOf, Ended, placedSpots, Entered};
 ghost use Rattle.repair.specs.Repair.{Placed, Placeable};
-use gatelist::ListForm;
 use gatelist::check_list;
 use repair_settle::Repaired;
 use repair_settle::numbers;
@@ -29,6 +28,7 @@ use repair_subtree::subtree_empty;
 use repair_tally::check_counts;
 use words::clear::clear;
 use words::edition::Edition;
+use words::found::Item;
 use words::refusals;
 use words::units::Pin;
 
@@ -168,8 +168,8 @@ fn place_over(
     if place_form(level, slot) {
         if check_counts(counts, map) {
             return match check_list(gates) {
-                ListForm::Bad(g) => refused(refusals::GATE_ORDER, g as u64),
-                ListForm::Good => {
+                Item::At(g) => refused(refusals::GATE_ORDER, g as u64),
+                Item::Fine => {
                     place_at(gates, levels, counts, slots, after, map, level, slot, node)
                 }
             };

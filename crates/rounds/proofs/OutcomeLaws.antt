@@ -32,9 +32,9 @@ use Rattle.rounds.proofs.SizeLaws.{tried-is}
 
 -- ---- which outcome: 1, 2, 3, 4, 14, each after those before it
 
-module _ (L : ℕ) (ws : List ℕ) (o : ℕ) where
+module _ (n : ℕ) (ws : List ℕ) (o : ℕ) where
   abbrev pub end : Outcome
-  end = fitted L o (readSet L (pairsOf ws))
+  end = fitted n o (readSet n (pairsOf ws))
 
   pub is-many : 16384 < length ws → end ≡ refused 1 0
   unfolding readSet fitted
@@ -57,22 +57,22 @@ module _ (L : ℕ) (ws : List ℕ) (o : ℕ) where
         some-pairs : ltb 0 (length (pairsOf ws)) ≡ true
         some-pairs = lt-ltb 0 (length (pairsOf ws)) (omega (arith, pairs-length 0 ws))
 
-        pub is-stuck : lanesOf L (pairsOf ws) ≡ none → end ≡ refused 4 0
+        pub is-stuck : lanesOf n (pairsOf ws) ≡ none → end ≡ refused 4 0
         unfolding readSet packed fitted
         is-stuck e = rw (pairs-few, form, some-pairs, e, readSet, packed)
 
-        module _ (lanes : List Lane) (e : lanesOf L (pairsOf ws) ≡ some lanes) where
-          pub is-packed : readSet L (pairsOf ws) ≡ placed lanes
+        module _ (lanes : List Lane) (e : lanesOf n (pairsOf ws) ≡ some lanes) where
+          pub is-packed : readSet n (pairsOf ws) ≡ placed lanes
           unfolding readSet packed
           is-packed = rw (pairs-few, form, some-pairs, e, readSet, packed)
 
-          pub is-short : o < 2 * L * longest lanes → end ≡ refused 14 0
+          pub is-short : o < 2 * n * longest lanes → end ≡ refused 14 0
           unfolding fitted
-          is-short l = rw (is-packed, lt-leb (2 * L * longest lanes) o l, fitted)
+          is-short l = rw (is-packed, lt-leb (2 * n * longest lanes) o l, fitted)
 
-          pub is-placed : 2 * L * longest lanes ≤ o → end ≡ placed lanes
+          pub is-placed : 2 * n * longest lanes ≤ o → end ≡ placed lanes
           unfolding fitted
-          is-placed l = rw (is-packed, le-leb (2 * L * longest lanes) o l, fitted)
+          is-placed l = rw (is-packed, le-leb (2 * n * longest lanes) o l, fitted)
 
 -- ---- the answer and the result, by the outcome
 
@@ -90,8 +90,8 @@ placed-post D lanes ls n out out′ e el en eo =
 
 -- ---- a set that has the form is searched
 
-pub searchable : {ws : List ℕ} {t K S L : ℕ} → Solvable t K S L → length ws ≤ 16384 → broken (pairsOf ws) ≡ none → ((x : ℕ) → getD ws x 0 < 2 ^ 32)
-    → Searchable ws t K S L
+pub searchable : {ws : List ℕ} {t K S n : ℕ} → Solvable t K S n → length ws ≤ 16384 → broken (pairsOf ws) ≡ none → ((x : ℕ) → getD ws x 0 < 2 ^ 32)
+    → Searchable ws t K S n
 searchable {ws} s few form small = record {
   whole = form-whole ws form;
   few = few;
@@ -113,25 +113,25 @@ lost (some lanes) r e f =
     absurd (omega arith)
 
 -- the lanes that won, as the table says them
-pub record Win (ws table : List ℕ) (L : ℕ) : Type 0 where
+pub record Win (ws table : List ℕ) (n : ℕ) : Type 0 where
   pub lanes : List Lane
-  pub found : lanesOf L (pairsOf ws) ≡ some lanes
-  pub readable : Readable ws table L
-  pub same : lanesAt ws table L ≡ lanes
+  pub found : lanesOf n (pairsOf ws) ≡ some lanes
+  pub readable : Readable ws table n
+  pub same : lanesAt ws table n ≡ lanes
 
-module _ {ws : List ℕ} {t K S L : ℕ} (s : Searchable ws t K S L) where
-  won-kept : (lanes : List Lane) → lanesOf L (pairsOf ws) ≡ some lanes → Kept ws L lanes
+module _ {ws : List ℕ} {t K S n : ℕ} (s : Searchable ws t K S n) where
+  won-kept : (lanes : List Lane) → lanesOf n (pairsOf ws) ≡ some lanes → Kept ws n lanes
   won-kept lanes e =
-      let w = win-first L (pairsOf ws) 14 (length (pairsOf ws)) lanes e in
+      let w = win-first n (pairsOf ws) 14 (length (pairsOf ws)) lanes e in
       let k = length (pairsOf ws) / 2 ^ w .i in
-      let tried : triedOf L k ws (keysOf k (pairsOf ws)) ≡ all lanes = tried-is s (w .size) (keysOf k (pairsOf ws)) refl ∙ w .wins in
-      subst (λ (T : Tried). Kept ws L (lanesIn T)) tried (tried-kept ws (s .whole) (s .masks) L k (keysOf k (pairsOf ws)) (s .some-lanes))
+      let tried : triedOf n k ws (keysOf k (pairsOf ws)) ≡ all lanes = tried-is s (w .size) (keysOf k (pairsOf ws)) refl ∙ w .wins in
+      subst (λ (T : Tried). Kept ws n (lanesIn T)) tried (tried-kept ws (s .whole) (s .masks) n k (keysOf k (pairsOf ws)) (s .some-lanes))
 
-  pub won : (r : Bool) (table : List ℕ) → r ≡ isWon (lanesOf L (pairsOf ws)) → r ≡ true → table ≡ tableAfter L (lanesOf L (pairsOf ws)) → length table ≡ 32 * L
-      → Win ws table L
-  won r table e f et n = go (lanesOf L (pairsOf ws)) refl
+  pub won : (r : Bool) (table : List ℕ) → r ≡ isWon (lanesOf n (pairsOf ws)) → r ≡ true → table ≡ tableAfter n (lanesOf n (pairsOf ws)) → length table ≡ 32 * n
+      → Win ws table n
+  won r table e f et long = go (lanesOf n (pairsOf ws)) refl
     where
-      go : (o : Option (List Lane)) → lanesOf L (pairsOf ws) ≡ o → Win ws table L
+      go : (o : Option (List Lane)) → lanesOf n (pairsOf ws) ≡ o → Win ws table n
       go none q =
           let x : false ≡ true = sym (rw q at e) ∙ f in
           let z : _≡_ {A = ℕ} 0 1 = cc in
@@ -147,29 +147,29 @@ module _ {ws : List ℕ} {t K S L : ℕ} (s : Searchable ws t K S L) where
           }
 
 -- the words of 32 rounds of 256 lanes
-pub size-fits : (L n : ℕ) → L ≤ 256 → n ≤ 32 → 2 * L * n ≤ 16384
-size-fits L n h l = le-trans (mul-le-mul-left (2 * L) l) (omega arith)
+pub size-fits : (n r : ℕ) → n ≤ 256 → r ≤ 32 → 2 * n * r ≤ 16384
+size-fits n r h l = le-trans (mul-le-mul-left (2 * n) l) (omega arith)
 
 -- ---- 32 before all others
 
 -- what is promised of an answer, a result and a room
-abbrev pub Promised : (L : ℕ) (ws out room : List ℕ) → Rounds → (out′ room′ : List ℕ) → Type 0
-Promised L ws out room r out′ room′ =
-    (r ≡ roundsOf (outcome L ws (length out) (length room))) × ((out′ ≡ resultAfter (outcome L ws (length out) (length room)) out) × (room′ ≡ roomAfter room))
+abbrev pub Promised : (n : ℕ) (ws out room : List ℕ) → Rounds → (out′ room′ : List ℕ) → Type 0
+Promised n ws out room r out′ room′ =
+    (r ≡ roundsOf (outcome n ws (length out) (length room))) × ((out′ ≡ resultAfter (outcome n ws (length out) (length room)) out) × (room′ ≡ roomAfter room))
 
-pub short-post : (L : ℕ) (ws out room : List ℕ) (r : Rounds) → length room < 16384 → r ≡ roundsOf (refused 32 0) → Promised L ws out room r out room
+pub short-post : (n : ℕ) (ws out room : List ℕ) (r : Rounds) → length room < 16384 → r ≡ roundsOf (refused 32 0) → Promised n ws out room r out room
 unfolding outcome resultAfter roomAfter
-short-post L ws out room r h e =
+short-post n ws out room r h e =
     let t : leb 16384 (length room) ≡ false = lt-leb 16384 (length room) h in
     (rw (t, outcome) e, (rw (t, outcome, resultAfter), rw (t, roomAfter)))
 
-pub long-post : (L : ℕ) (ws out room : List ℕ) (r : Rounds) (out′ room′ used : List ℕ) → 16384 ≤ length room → r ≡ roundsOf (end L ws (length out))
-    → out′ ≡ resultAfter (end L ws (length out)) out → room′ ≡ replicate (length used) 0 → length used ≡ length room → Promised L ws out room r out′ room′
+pub long-post : (n : ℕ) (ws out room : List ℕ) (r : Rounds) (out′ room′ used : List ℕ) → 16384 ≤ length room → r ≡ roundsOf (end n ws (length out))
+    → out′ ≡ resultAfter (end n ws (length out)) out → room′ ≡ replicate (length used) 0 → length used ≡ length room → Promised n ws out room r out′ room′
 unfolding outcome roomAfter
-long-post L ws out room r out′ room′ used h er eo em n =
+long-post n ws out room r out′ room′ used h er eo em long =
     let t : leb 16384 (length room) ≡ true = le-leb 16384 (length room) h in
-    let o : outcome L ws (length out) (length room) ≡ end L ws (length out) = rw (t, outcome) in
-    (rw o er, (rw o eo, em ∙ rw (t, roomAfter, n)))
+    let o : outcome n ws (length out) (length room) ≡ end n ws (length out) = rw (t, outcome) in
+    (rw o er, (rw o eo, em ∙ rw (t, roomAfter, long)))
 
 -- a part comes back as long as it was lent
 pub part-length : (n : ℕ) (l part : List ℕ) → n ≤ length l → length part ≡ length (take n l) → length (part ++ drop n l) ≡ length l

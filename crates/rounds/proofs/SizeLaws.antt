@@ -29,7 +29,7 @@ cleared t n e l = e ∙ ap (λ (m : ℕ). replicate m 0) l
 
 -- ---- a try at size k
 
-module _ {ws : List ℕ} {t K S L k : ℕ} (s : Searchable ws t K S L) (h : 0 < k) where
+module _ {ws : List ℕ} {t K S n k : ℕ} (s : Searchable ws t K S n) (h : 0 < k) where
   pub count-few : pieceCount (length ws / 2) k ≤ K
   count-few = omega (arith, count-le (length ws / 2) k h, s .keys-room)
 
@@ -39,28 +39,28 @@ module _ {ws : List ℕ} {t K S L k : ℕ} (s : Searchable ws t K S L) (h : 0 < 
     room = omega (arith, count-le (length ws / 2) k h, s .scratch-room);
   }
 
-  pub ready : (table : List ℕ) → table ≡ replicate (32 * L) 0 → k ≤ length ws / 2 → Ready ws table L k
+  pub ready : (table : List ℕ) → table ≡ replicate (32 * n) 0 → k ≤ length ws / 2 → Ready ws table n k
   ready table e l =
-      let n : length table ≡ 32 * L = zeros-length e in
+      let long : length table ≡ 32 * n = zeros-length e in
       record {
         whole = s .whole;
         pairs = s .few;
         masks = s .masks;
         in-room = omega arith;
-        empty = take-all (32 * L) table (omega arith) ∙ e;
+        empty = take-all (32 * n) table (omega arith) ∙ e;
         some-lanes = s .some-lanes;
         size = omega (arith, s .few);
       }
 
   -- the keys in order name the pairs that the definition's try places
-  pub tried-is : (keys : List ℕ) → keys ≡ keysOf k (pairsOf ws) → triedOf L k ws keys ≡ try L (pairsOf ws) k
+  pub tried-is : (keys : List ℕ) → keys ≡ keysOf k (pairsOf ws) → triedOf n k ws keys ≡ try n (pairsOf ws) k
   tried-is keys e =
-      ap (λ (run : List Pair). tryFrom L run (replicate L []) 0) (rw e (run-is k (pairsOf ws) (omega (arith, pairs-length 0 ws, s .few)) h))
+      ap (λ (run : List Pair). tryFrom n run (replicate n []) 0) (rw e (run-is k (pairsOf ws) (omega (arith, pairs-length 0 ws, s .few)) h))
 
-  pub tried-table : (keys table table′ : List ℕ) → keys ≡ keysOf k (pairsOf ws) → length table ≡ 32 * L
-      → table′ ≡ tableOf (lanesIn (triedOf L k ws keys)) ++ drop (32 * L) table → table′ ≡ tableOf (lanesIn (try L (pairsOf ws) k))
-  tried-table keys table table′ e n f =
-      let q : length table ≤ 32 * L = omega arith in
+  pub tried-table : (keys table table′ : List ℕ) → keys ≡ keysOf k (pairsOf ws) → length table ≡ 32 * n
+      → table′ ≡ tableOf (lanesIn (triedOf n k ws keys)) ++ drop (32 * n) table → table′ ≡ tableOf (lanesIn (try n (pairsOf ws) k))
+  tried-table keys table table′ e long f =
+      let q : length table ≤ 32 * n = omega arith in
       f ∙ rw (drop-of-length-le table q, append-nil, tried-is keys e)
 
 -- the keys in front of others
@@ -71,19 +71,19 @@ front-room keys rest m e = omega (arith, length-append keys rest)
 
 -- from size k on the search ends as it does from the first
 abbrev pub Left : ℕ → List Pair → ℕ → Type 0
-Left L ps k = (k ≤ length ps) × (firstWin L ps 14 k ≡ lanesOf L ps)
+Left n ps k = (k ≤ length ps) × (firstWin n ps 14 k ≡ lanesOf n ps)
 
-pub left-start : (L : ℕ) (ps : List Pair) → Left L ps (length ps)
-left-start L ps = (le-refl (length ps), refl)
+pub left-start : (n : ℕ) (ps : List Pair) → Left n ps (length ps)
+left-start n ps = (le-refl (length ps), refl)
 
 pub pairs-whole : (ws : List ℕ) → length ws % 2 ≡ 0 → length (pairsOf ws) ≡ length ws / 2
 pairs-whole ws h = omega (arith, pairs-length 0 ws)
 
-module _ {ws : List ℕ} {t K S L : ℕ} (s : Searchable ws t K S L) where
+module _ {ws : List ℕ} {t K S n : ℕ} (s : Searchable ws t K S n) where
   pub search-few : length (pairsOf ws) ≤ 8192
   search-few = omega (arith, pairs-length 0 ws, s .few)
 
-  pub search-still : (t′ K′ S′ : ℕ) → t′ ≡ 32 * L → K′ ≡ K → S′ ≡ S → Searchable ws t′ K′ S′ L
+  pub search-still : (t′ K′ S′ : ℕ) → t′ ≡ 32 * n → K′ ≡ K → S′ ≡ S → Searchable ws t′ K′ S′ n
   search-still t′ K′ S′ et eK eS = record {
     whole = s .whole;
     few = s .few;
@@ -95,35 +95,35 @@ module _ {ws : List ℕ} {t K S L : ℕ} (s : Searchable ws t K S L) where
     scratch-room = rw eS (s .scratch-room);
   }
 
-  pub search-start : Left L (pairsOf ws) (length ws / 2)
-  search-start = subst (λ (k : ℕ). Left L (pairsOf ws) k) (pairs-whole ws (s .whole)) (left-start L (pairsOf ws))
+  pub search-start : Left n (pairsOf ws) (length ws / 2)
+  search-start = subst (λ (k : ℕ). Left n (pairsOf ws) k) (pairs-whole ws (s .whole)) (left-start n (pairsOf ws))
 
-module _ (L : ℕ) (ps : List Pair) (few : length ps ≤ 8192) where
-  pub left-end : (k : ℕ) → k ≤ 0 → Left L ps k → lanesOf L ps ≡ none
-  left-end k h l = let z : k ≡ 0 = omega arith in sym (l .1) ∙ rw z (win-none L ps 14)
+module _ (n : ℕ) (ps : List Pair) (few : length ps ≤ 8192) where
+  pub left-end : (k : ℕ) → k ≤ 0 → Left n ps k → lanesOf n ps ≡ none
+  left-end k h l = let z : k ≡ 0 = omega arith in sym (l .1) ∙ rw z (win-none n ps 14)
 
-  pub left-on : (k : ℕ) → 0 < k → Left L ps k → (r : Bool) → r ≡ isAll (try L ps k) → r ≡ false → Left L ps (k / 2)
-  left-on k h l r e f = go (try L ps k) refl
+  pub left-on : (k : ℕ) → 0 < k → Left n ps k → (r : Bool) → r ≡ isAll (try n ps k) → r ≡ false → Left n ps (k / 2)
+  left-on k h l r e f = go (try n ps k) refl
     where
-      go : (T : Tried) → try L ps k ≡ T → Left L ps (k / 2)
+      go : (T : Tried) → try n ps k ≡ T → Left n ps (k / 2)
       go (all lanes) t =
           let q : true ≡ false = sym (rw t at e) ∙ f in
           let z : _≡_ {A = ℕ} 0 1 = cc in
           absurd (omega arith)
       go (stuck lanes) t =
           let few-left : k / 2 ≤ 4096 = omega arith in
-          let same = win-fuel L ps 13 14 (k / 2) (lt-of-le-of-lt few-left (lit< tt)) (lt-of-le-of-lt few-left (lit< tt)) in
-          (omega arith, sym (win-stuck L ps 13 k lanes h t ∙ same) ∙ l .1)
+          let same = win-fuel n ps 13 14 (k / 2) (lt-of-le-of-lt few-left (lit< tt)) (lt-of-le-of-lt few-left (lit< tt)) in
+          (omega arith, sym (win-stuck n ps 13 k lanes h t ∙ same) ∙ l .1)
 
-  pub left-won : (k : ℕ) → 0 < k → Left L ps k → (r : Bool) → r ≡ isAll (try L ps k) → r ≡ true → (table : List ℕ) → table ≡ tableOf (lanesIn (try L ps k))
-      → (true ≡ isWon (lanesOf L ps)) × (table ≡ tableAfter L (lanesOf L ps))
-  left-won k h l r e f table et = go (try L ps k) refl
+  pub left-won : (k : ℕ) → 0 < k → Left n ps k → (r : Bool) → r ≡ isAll (try n ps k) → r ≡ true → (table : List ℕ) → table ≡ tableOf (lanesIn (try n ps k))
+      → (true ≡ isWon (lanesOf n ps)) × (table ≡ tableAfter n (lanesOf n ps))
+  left-won k h l r e f table et = go (try n ps k) refl
     where
-      go : (T : Tried) → try L ps k ≡ T → (true ≡ isWon (lanesOf L ps)) × (table ≡ tableAfter L (lanesOf L ps))
+      go : (T : Tried) → try n ps k ≡ T → (true ≡ isWon (lanesOf n ps)) × (table ≡ tableAfter n (lanesOf n ps))
       go (stuck lanes) t =
           let q : false ≡ true = sym (rw t at e) ∙ f in
           let z : _≡_ {A = ℕ} 0 1 = cc in
           absurd (omega arith)
       go (all lanes) t =
-          let won : lanesOf L ps ≡ some lanes = sym (l .1) ∙ win-all L ps 13 k lanes h t in
+          let won : lanesOf n ps ≡ some lanes = sym (l .1) ∙ win-all n ps 13 k lanes h t in
           rw won (refl, rw t at et)

@@ -1,4 +1,4 @@
--- Document 01's numbers of the answer, and what the search over the piece sizes asks and leaves. L is the number of lanes.
+-- Document 01's numbers of the answer, and what the search over the piece sizes asks and leaves. n is the number of lanes.
 -- Assumes nothing.
 use mathlib.Core.Path.{_≡_}
 use mathlib.Core.Bool.{Bool, true, false}
@@ -24,24 +24,24 @@ isWon none = false
 isWon (some lanes) = true
 
 abbrev pub tableAfter : ℕ → Option (List Lane) → List ℕ
-tableAfter L none = replicate (32 * L) 0
-tableAfter L (some lanes) = tableOf lanes
+tableAfter n none = replicate (32 * n) 0
+tableAfter n (some lanes) = tableOf lanes
 
 -- what a search asks: whole pairs, 8192 at most, with no mask that is 0; room for the table, and for keys and their scratch
-pub record Searchable (set : List ℕ) (table keys scratch L : ℕ) : Type 0 where
+pub record Searchable (set : List ℕ) (table keys scratch n : ℕ) : Type 0 where
   pub whole : length set % 2 ≡ 0
   pub few : length set ≤ 16384
   pub masks : (p : ℕ) → p < length set / 2 → 0 < pop (getD set (2 * p + 1) 0)
-  pub room : table ≡ 32 * L
-  pub some-lanes : 0 < L
-  pub few-lanes : L ≤ 256
+  pub room : table ≡ 32 * n
+  pub some-lanes : 0 < n
+  pub few-lanes : n ≤ 256
   pub keys-room : length set / 2 ≤ keys
   pub scratch-room : length set / 2 ≤ scratch
 
 -- what any set's rounds ask
-pub record Solvable (table keys scratch L : ℕ) : Type 0 where
-  pub room : table ≡ 32 * L
-  pub some-lanes : 0 < L
-  pub few-lanes : L ≤ 256
+pub record Solvable (table keys scratch n : ℕ) : Type 0 where
+  pub room : table ≡ 32 * n
+  pub some-lanes : 0 < n
+  pub few-lanes : n ≤ 256
   pub keys-room : 8192 ≤ keys
   pub scratch-room : 8192 ≤ scratch

@@ -10,6 +10,7 @@ ghost use Rattle.reads_try.specs.Tries.{isAll, lanesIn};
 ghost use Rattle.rounds.specs.Rounds.{roundsOf, isWon, tableAfter, Searchable, Solvable};
 use words::clear::clear;
 use words::edition::Edition;
+use words::found::Item;
 use words::refusals;
 
 // The number of rounds that were written, or the refusal.
@@ -88,7 +89,7 @@ pub fn rounds_over(
     if 16384 < set.len() {
         return refused(refusals::MANY_PAIRS, 0);
     }
-    if let reads_section::Form::Bad(i) = reads_section::check_form(set) {
+    if let Item::At(i) = reads_section::check_form(set) {
         return refused(refusals::PAIR_FORM, i as u64);
     }
     if set.len() == 0 {

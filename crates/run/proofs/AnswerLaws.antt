@@ -2,7 +2,7 @@
 -- Assumes nothing.
 use mathlib.Core.Path.{_≡_, sym, ap, subst, _∙_}
 use mathlib.Core.Bool.{true, false}
-use mathlib.Core.Option.{Option, none, some}
+use mathlib.Core.Option.{none, some}
 use mathlib.Core.List.{List}
 use Prim.Native.Nat.{ℕ, _+_, _*_, _-_, _/_, _≤_, _<_}
 use native.Mathlib.Omega.{arith}
@@ -13,9 +13,6 @@ use Rattle.words.specs.Tests.{firstNot}
 use Rattle.words.proofs.TestLaws.{not-none}
 use Rattle.run_machine.specs.Turn.{Block}
 use Rattle.run_machine.specs.Run.{Running, blocksFrom, runFrom, runTurns, allLeft, badBlock, badTurn, blockForm, outcome, newAfter, roomAfter, refused}
-use Rattle.run_form.specs.declared.refuse.Found.{Found}
-use Rattle.run_form.specs.declared.refuse.Found.the-variants.{At, Nowhere}
-use Rattle.run_form.specs.Found.{foundOf}
 use Rattle.run_form.proofs.RefuseLaws.{blockGood, turnGood}
 use Rattle.run.specs.declared.Ran.{Ran}
 use Rattle.run.specs.declared.Ran.the-variants.{Left}
@@ -57,13 +54,7 @@ module _ (W starts turns : List ℕ) (s t : ℕ) (room : List ℕ) (a : Accepted
 pub again : (n : ℕ) (u v : List ℕ) → v ≡ replicate (length u) 0 → length u ≡ n → v ≡ replicate n 0
 again n u v e l = e ∙ ap (λ (k : ℕ). replicate k 0) l
 
--- ---- what the searches say
-
-pub found-none : (r : Found) (o : Option ℕ) → foundOf r ≡ o → r ≡ Nowhere → o ≡ none
-found-none r o h e = sym h ∙ ap foundOf e
-
-pub found-some : (r : Found) (o : Option ℕ) (i : ℕ) → foundOf r ≡ o → r ≡ At i → o ≡ some i
-found-some r o i h e = sym h ∙ ap foundOf e
+-- ---- what the search for a bad block says
 
 blocks-good : (W starts : List ℕ) (s t : ℕ) → badBlock 256 W starts s t ≡ none → (b : ℕ) → b < length starts - 1 → blockForm 256 W s t (getD starts b 0) (getD starts (b + 1) 0) ≡ true
 unfolding badBlock

@@ -4,18 +4,18 @@ pub mod states;
 pub mod taking;
 
 ghost use mathlib.Core.Path.{_≡_};
-ghost use Prim.Native.Nat.{_-_};
 ghost use lib.ListN.{length, replicate};
 ghost use Rattle.run_machine.specs.Run.{refused, runTurns, allLeft, outcome, newAfter, roomAfter};
 ghost use Rattle.run.specs.Good.{Accepted};
 ghost use Rattle.run.specs.Answers.{ranOf};
 use left::turns_left;
-use run_form::refuse::Found;
 use run_form::refuse::bad_block;
 use run_form::refuse::bad_turn;
+use run_form::refuse::blocks_of;
 use states::begin_blocks;
 use taking::take_turns;
 use words::clear::clear;
+use words::found::Item;
 use words::refusals::ROOM_SHORT;
 use words::refusals::Refusal;
 use words::refusals::SCRIPT_FORM;
@@ -25,16 +25,6 @@ use words::refusals::TURN;
 pub enum Ran {
     Left(u64),
     Refused(Refusal),
-}
-
-// How many blocks the starts tell.
-fn blocks_of(starts: &[u64]) -> usize
-    ensures { λ r. ⌜ r ≡ length (now (starts .entry)) - 1 ⌝ }
-{
-    if starts.len() < 1 {
-        return 0;
-    }
-    starts.len() - 1
 }
 
 // A run that is not refused; how many turns are left. The blocks' rooms are clear after it.
@@ -88,10 +78,10 @@ pub fn run(
     }
     clear(room);
     match bad_block(words, starts, old.len(), new.len()) {
-        Found::At(i) => refuse(SCRIPT_FORM, i),
-        Found::Nowhere => match bad_turn(starts, turns) {
-            Found::At(i) => refuse(TURN, i),
-            Found::Nowhere => Ran::Left(run_well(words, starts, turns, old, new, room)),
+        Item::At(i) => refuse(SCRIPT_FORM, i),
+        Item::Fine => match bad_turn(starts, turns) {
+            Item::At(i) => refuse(TURN, i),
+            Item::Fine => Ran::Left(run_well(words, starts, turns, old, new, room)),
         },
     }
 }

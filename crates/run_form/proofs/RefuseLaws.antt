@@ -3,13 +3,15 @@
 use mathlib.Core.Path.{_≡_, ap, _∙_}
 use mathlib.Core.Bool.{Bool}
 use mathlib.Core.List.{List}
-use mathlib.Core.Option.{some}
 use Prim.Native.Nat.{ℕ, _+_, _-_, _≤_, _<_}
 use native.Mathlib.Nat.{sub-zero}
 use borrow.Author.Tests.{le-leb, lt-leb}
 use lib.Dec.{ltb}
 use lib.ListN.{length, getD}
 use Rattle.words.specs.Tests.{firstFrom}
+use Rattle.words.specs.Found.{itemOf}
+use Rattle.words.specs.declared.found.Item.the-variants as item
+use Rattle.words.proofs.FoundLaws.{look-start}
 use Rattle.run_machine.specs.Run.{blockForm, badBlock, badTurn}
 
 -- block i of the words is in form; turn i names a block
@@ -20,7 +22,7 @@ abbrev pub turnGood : List ℕ → List ℕ → ℕ → Bool
 turnGood starts turns i = ltb (getD turns i 0) (length starts - 1)
 
 module _ (n : ℕ) (W starts : List ℕ) (s t : ℕ) where
-  pub few-starts : length starts < 2 → some 0 ≡ badBlock n W starts s t
+  pub few-starts : length starts < 2 → item.At 0 ≡ itemOf (badBlock n W starts s t)
   unfolding badBlock
   few-starts h = rw (lt-leb 2 (length starts) h, badBlock)
 
@@ -30,4 +32,4 @@ module _ (n : ℕ) (W starts : List ℕ) (s t : ℕ) where
 
 pub first-turn : (starts turns : List ℕ) → firstFrom (turnGood starts turns) (length turns - 0) 0 ≡ badTurn starts turns
 unfolding badTurn
-first-turn starts turns = ap (λ (m : ℕ). firstFrom (turnGood starts turns) m 0) (sub-zero (length turns))
+first-turn starts turns = look-start (turnGood starts turns) (length turns)

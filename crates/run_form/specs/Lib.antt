@@ -1,3 +1,2 @@
 pub mod Well
 pub mod Form
-pub mod Found

@@ -1,5 +1,5 @@
 -- A stage: what its bits are at every position. Each position but 0 lies in one level, and the levels fix the bits from the gathered ones down, so
--- that whatever keeps the levels' rule holds the stage's words. Argued once over the lanes n and the levels L, with 2^L = 32n.
+-- that whatever keeps the levels' rule holds the stage's words. Argued once over the lanes n and the levels H, with 2^H = 32n.
 -- Assumes nothing.
 use mathlib.Core.Path.{_≡_, refl, sym, ap, ap₂, _∙_}
 use mathlib.Core.List.{List}
@@ -53,9 +53,9 @@ level-of = bin-ind (λ (q : ℕ). 0 < q → (s : ℕ) × (2 ^ s ≤ q) × (q < 2
     step : (q : ℕ) → (0 < q / 2 → (s : ℕ) × (2 ^ s ≤ q / 2) × (q / 2 < 2 * 2 ^ s)) → 0 < q → (s : ℕ) × (2 ^ s ≤ q) × (q < 2 * 2 ^ s)
     step q ih h = ⊎-elim (λ l. (0, omega arith, omega arith)) (λ l. let r = ih (omega arith) in (suc (r .0), omega (arith, r .1), omega (arith, r .2))) (lt-or-ge q 2)
 
--- and s is below L for a position below 2^L
-pub level-below : (L s q : ℕ) → 2 ^ s ≤ q → q < 2 ^ L → s < L
-level-below L s q h l = ⊎-elim (λ g. g) (λ g. let up : 2 ^ L ≤ 2 ^ s = pow-mono g in absurd (omega arith)) (lt-or-ge s L)
+-- and s is below H for a position below 2^H
+pub level-below : (H s q : ℕ) → 2 ^ s ≤ q → q < 2 ^ H → s < H
+level-below H s q h l = ⊎-elim (λ g. g) (λ g. let up : 2 ^ H ≤ 2 ^ s = pow-mono g in absurd (omega arith)) (lt-or-ge s H)
 
 pub gate-lt : (a b xa xb ob : ℕ) → a < 2 → xa < 2 → gate a b xa xb ob < 2
 unfolding gate
@@ -69,22 +69,22 @@ module _ (n : ℕ) (W : List ℕ) (o k : ℕ) (row : List ℕ) where
   level-bit-lt zero m q = at-lt row _
   level-bit-lt (suc h) m q = gate-lt _ _ _ _ _ (level-bit-lt h (2 * m) (q + m)) (bit-lt _ _)
 
-  module _ (L : ℕ) where
-    pub position-bit-lt : (t q : ℕ) → positionBit n L W o k row t q < 2
+  module _ (H : ℕ) where
+    pub position-bit-lt : (t q : ℕ) → positionBit n H W o k row t q < 2
     unfolding positionBit
     position-bit-lt zero q = omega arith
     position-bit-lt (suc s) q = ⊎-elim
-        (λ l. rw (le-leb (2 ^ s) q l, positionBit) (level-bit-lt (L - s) (2 ^ s) q))
+        (λ l. rw (le-leb (2 ^ s) q l, positionBit) (level-bit-lt (H - s) (2 ^ s) q))
         (λ l. rw (lt-leb (2 ^ s) q l, positionBit) (position-bit-lt s q))
         (⊎-elim (λ l. inr l) (λ l. inl l) (lt-or-ge q (2 ^ s)))
 
     -- "position 0 holds 0"
-    pub position-zero : (t : ℕ) → positionBit n L W o k row t 0 ≡ 0
+    pub position-zero : (t : ℕ) → positionBit n H W o k row t 0 ≡ 0
     unfolding positionBit
     position-zero zero = refl
     position-zero (suc s) = rw (lt-leb (2 ^ s) 0 (pow-pos s), positionBit) (position-zero s)
 
-    pub position-level : (t s q : ℕ) → s < t → 2 ^ s ≤ q → q < 2 * 2 ^ s → positionBit n L W o k row t q ≡ levelBit n W o k row (L - s) (2 ^ s) q
+    pub position-level : (t s q : ℕ) → s < t → 2 ^ s ≤ q → q < 2 * 2 ^ s → positionBit n H W o k row t q ≡ levelBit n W o k row (H - s) (2 ^ s) q
     unfolding positionBit
     position-level zero s q h lo hi = absurd (not-suc-le-zero h)
     position-level (suc t) s q h lo hi = ⊎-elim
@@ -92,20 +92,20 @@ module _ (n : ℕ) (W : List ℕ) (o k : ℕ) (row : List ℕ) where
         (λ l. let up : 2 ^ suc s ≤ 2 ^ t = pow-mono l in rw (lt-leb (2 ^ t) q (omega arith), positionBit) (position-level t s q l lo hi))
         (eq-or-lt-of-le (le-of-suc-le-suc h))
 
-  -- ---- what keeps the levels' rule: b gives a bit at each position, the gathered bits from 2^L on
+  -- ---- what keeps the levels' rule: b gives a bit at each position, the gathered bits from 2^H on
 
-  pub record StageBits (L : ℕ) (b : ℕ → ℕ) : Type 0 where
+  pub record StageBits (H : ℕ) (b : ℕ → ℕ) : Type 0 where
     pub zeroth : b 0 ≡ 0
-    pub gathered : (i : ℕ) → i < 2 ^ L → b (2 ^ L + i) ≡ bitAt row (entryAt n W o k i)
-    pub levels : (s : ℕ) → s < L → (q : ℕ) → 2 ^ s ≤ q → q < 2 * 2 ^ s → b q ≡ gateAt n W o k q (b (q + 2 ^ s)) (b (q + 2 * 2 ^ s))
+    pub gathered : (i : ℕ) → i < 2 ^ H → b (2 ^ H + i) ≡ bitAt row (entryAt n W o k i)
+    pub levels : (s : ℕ) → s < H → (q : ℕ) → 2 ^ s ≤ q → q < 2 * 2 ^ s → b q ≡ gateAt n W o k q (b (q + 2 ^ s)) (b (q + 2 * 2 ^ s))
 
-  module _ (L : ℕ) (wide : 2 ^ L ≡ 32 * n) where
-    pub bits-level : (b : ℕ → ℕ) → StageBits L b → (h s : ℕ) → h + s ≡ L → (q : ℕ) → 2 ^ s ≤ q → q < 2 * 2 ^ s → b q ≡ levelBit n W o k row h (2 ^ s) q
+  module _ (H : ℕ) (wide : 2 ^ H ≡ 32 * n) where
+    pub bits-level : (b : ℕ → ℕ) → StageBits H b → (h s : ℕ) → h + s ≡ H → (q : ℕ) → 2 ^ s ≤ q → q < 2 * 2 ^ s → b q ≡ levelBit n W o k row h (2 ^ s) q
     unfolding levelBit
     bits-level b a zero s e q lo hi =
-        let z : s ≡ L = omega arith in
-        let up : 2 ^ s ≡ 2 ^ L = ap (λ (x : ℕ). 2 ^ x) z in
-        let i : 2 ^ L + (q - 32 * n) ≡ q = omega arith in
+        let z : s ≡ H = omega arith in
+        let up : 2 ^ s ≡ 2 ^ H = ap (λ (x : ℕ). 2 ^ x) z in
+        let i : 2 ^ H + (q - 32 * n) ≡ q = omega arith in
         ap b (sym i) ∙ a .gathered (q - 32 * n) (omega arith)
     bits-level b a (suc h) s e q lo hi =
         let up = bits-level b a h (suc s) (omega arith) in
@@ -114,25 +114,25 @@ module _ (n : ℕ) (W : List ℕ) (o k : ℕ) (row : List ℕ) where
         ∙ ap₂ (gateAt n W o k q) (rw m at (up (q + 2 ^ s) (omega arith) (omega arith))) (rw m at (up (q + 2 * 2 ^ s) (omega arith) (omega arith)))
 
     -- the rule fixes the bit at every position
-    pub bits-position : (b : ℕ → ℕ) → StageBits L b → (q : ℕ) → q < 2 ^ L → b q ≡ positionBit n L W o k row L q
-    bits-position b a zero h = a .zeroth ∙ sym (position-zero L L)
+    pub bits-position : (b : ℕ → ℕ) → StageBits H b → (q : ℕ) → q < 2 ^ H → b q ≡ positionBit n H W o k row H q
+    bits-position b a zero h = a .zeroth ∙ sym (position-zero H H)
     bits-position b a (suc q) h =
         let r = level-of (suc q) (omega arith) in
         let s = r .0 in
-        let below = level-below L s (suc q) (r .1) h in
-        bits-level b a (L - s) s (omega arith) (suc q) (r .1) (r .2) ∙ sym (position-level L L s (suc q) below (r .1) (r .2))
+        let below = level-below H s (suc q) (r .1) h in
+        bits-level b a (H - s) s (omega arith) (suc q) (r .1) (r .2) ∙ sym (position-level H H s (suc q) below (r .1) (r .2))
 
     -- ---- the stage's words
 
-    pub stage-length : length (stageRow n L W o k row) ≡ n
+    pub stage-length : length (stageRow n H W o k row) ≡ n
     unfolding stageRow
     stage-length = length-listOf _ n
 
-    pub stage-bit : (q : ℕ) → q < 32 * n → bitAt (stageRow n L W o k row) q ≡ positionBit n L W o k row L q
+    pub stage-bit : (q : ℕ) → q < 32 * n → bitAt (stageRow n H W o k row) q ≡ positionBit n H W o k row H q
     unfolding stageRow
-    stage-bit q h = bit-words (positionBit n L W o k row L) n (λ q _. position-bit-lt L L q) q h
+    stage-bit q h = bit-words (positionBit n H W o k row H) n (λ q _. position-bit-lt H H q) q h
 
-    pub stage-is : (b : ℕ → ℕ) → StageBits L b → (l : List ℕ) → length l ≡ n → ((w : ℕ) → w < n → getD l w 0 < 2 ^ 32)
-        → ((q : ℕ) → q < 32 * n → bitAt l q ≡ b q) → l ≡ stageRow n L W o k row
+    pub stage-is : (b : ℕ → ℕ) → StageBits H b → (l : List ℕ) → length l ≡ n → ((w : ℕ) → w < n → getD l w 0 < 2 ^ 32)
+        → ((q : ℕ) → q < 32 * n → bitAt l q ≡ b q) → l ≡ stageRow n H W o k row
     unfolding stageRow
-    stage-is b a l long small same = words-of (positionBit n L W o k row L) n l long small (λ q h. same q h ∙ bits-position b a q (omega arith))
+    stage-is b a l long small same = words-of (positionBit n H W o k row H) n l long small (λ q h. same q h ∙ bits-position b a q (omega arith))

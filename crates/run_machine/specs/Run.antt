@@ -26,18 +26,18 @@ blocksFrom W starts (suc m) i = begins W (getD starts i 0) ∷ blocksFrom W star
 
 -- block t takes a turn
 unfoldable pub step : ℕ → ℕ → List ℕ → List ℕ → Running → ℕ → Running
-step n L W old s t = record {
-  blocks = set (s .blocks) t (turned n L W old (getD (s .blocks) t (ended 0) .phase) (getD (s .blocks) t (ended 0)) (s .new));
+step n H W old s t = record {
+  blocks = set (s .blocks) t (turned n H W old (getD (s .blocks) t (ended 0) .phase) (getD (s .blocks) t (ended 0)) (s .new));
   new = written n W old (getD (s .blocks) t (ended 0) .phase) (getD (s .blocks) t (ended 0)) (s .new);
 }
 
 unfoldable pub runFrom : ℕ → ℕ → List ℕ → List ℕ → Running → List ℕ → Running
-runFrom n L W old s [] = s
-runFrom n L W old s (t ∷ ts) = runFrom n L W old (step n L W old s t) ts
+runFrom n H W old s [] = s
+runFrom n H W old s (t ∷ ts) = runFrom n H W old (step n H W old s t) ts
 
 abbrev pub runTurns : ℕ → ℕ → List ℕ → List ℕ → List ℕ → List ℕ → List ℕ → Running
-runTurns n L W starts turns old new =
-    runFrom n L W old (record { blocks = blocksFrom W starts (length starts - 1) 0; new = new }) turns
+runTurns n H W starts turns old new =
+    runFrom n H W old (record { blocks = blocksFrom W starts (length starts - 1) 0; new = new }) turns
 
 -- ---- "A part takes stages + 2 turns: read, each stage, store." "The result says how many turns are left."
 
@@ -126,10 +126,10 @@ pub data Ran : Type 0 where
   refused : ℕ → ℕ → Ran
 
 abbrev pub runWell : ℕ → ℕ → List ℕ → Running → Ran
-runWell n L W s = ran (allLeft n W (s .blocks)) (s .new)
+runWell n H W s = ran (allLeft n W (s .blocks)) (s .new)
 
 unfoldable pub outcome : ℕ → ℕ → List ℕ → List ℕ → List ℕ → List ℕ → List ℕ → ℕ → Ran
-outcome n L W starts turns old new room =
+outcome n H W starts turns old new room =
     elim (leb (1024 * (length starts - 1)) room) [
       | false ↦ refused 32 0
       | true ↦
@@ -138,7 +138,7 @@ outcome n L W starts turns old new room =
             | none ↦
                 elim (badTurn starts turns) [
                   | some i ↦ refused 16 i
-                  | none ↦ runWell n L W (runTurns n L W starts turns old new)
+                  | none ↦ runWell n H W (runTurns n H W starts turns old new)
                 ]
           ]
     ]

@@ -1,4 +1,4 @@
--- A block's turn: document 01, "The run", sentence by sentence. n is the number of lanes and 2^L the number of positions, 32n; W the words, old and
+-- A block's turn: document 01, "The run", sentence by sentence. n is the number of lanes and 2^H the number of positions, 32n; W the words, old and
 -- new the states.
 -- Assumes nothing.
 use mathlib.Core.Bool.{true, false}
@@ -39,13 +39,13 @@ levelBit n W o k row (suc h) m q = gateAt n W o k q (levelBit n W o k row h (2 *
 
 -- the bit at position q: its level has 2^s slots, for the highest s below t with 2^s not above q; "position 0 holds 0"
 unfoldable pub positionBit : ℕ → ℕ → List ℕ → ℕ → ℕ → List ℕ → ℕ → ℕ → ℕ
-positionBit n L W o k row zero q = 0
-positionBit n L W o k row (suc s) q =
-    elim (leb (2 ^ s) q) [ true ↦ levelBit n W o k row (L - s) (2 ^ s) q | false ↦ positionBit n L W o k row s q ]
+positionBit n H W o k row zero q = 0
+positionBit n H W o k row (suc s) q =
+    elim (leb (2 ^ s) q) [ true ↦ levelBit n W o k row (H - s) (2 ^ s) q | false ↦ positionBit n H W o k row s q ]
 
 -- the positions after stage k
 unfoldable pub stageRow : ℕ → ℕ → List ℕ → ℕ → ℕ → List ℕ → List ℕ
-stageRow n L W o k row = listOf (λ w. wordOf (λ b. positionBit n L W o k row L (32 * w + b)) 32) n
+stageRow n H W o k row = listOf (λ w. wordOf (λ b. positionBit n H W o k row H (32 * w + b)) 32) n
 
 -- "A write-out location w captures positions 32w..32w+31", of its stage: the captured words after stage k
 unfoldable pub captured : ℕ → List ℕ → ℕ → ℕ → List ℕ → List ℕ → List ℕ
@@ -112,12 +112,12 @@ afterRead n W old new b =
     record { part = b .part; phase = 1; stage = 0; row = readRow n W (b .part) old new; caps = replicate (normalAt W (b .part)) 0 }
 
 unfoldable pub afterStage : ℕ → ℕ → List ℕ → Block → Block
-afterStage n L W b = record {
+afterStage n H W b = record {
   part = b .part;
   phase = elim (eqb (b .stage + 1) (stagesAt W (b .part))) [ true ↦ 2 | false ↦ 1 ];
   stage = b .stage + 1;
-  row = stageRow n L W (b .part) (b .stage) (b .row);
-  caps = captured n W (b .part) (b .stage) (stageRow n L W (b .part) (b .stage) (b .row)) (b .caps);
+  row = stageRow n H W (b .part) (b .stage) (b .row);
+  caps = captured n W (b .part) (b .stage) (stageRow n H W (b .part) (b .stage) (b .row)) (b .caps);
 }
 
 unfoldable pub afterStore : ℕ → List ℕ → Block → Block
@@ -129,10 +129,10 @@ stored n W old b new = sets new (startAt W (b .part)) (listOf (storedWord n W (b
 
 -- "A turn of a finished block does nothing": the block after a turn in phase f, and the new state after it
 unfoldable pub turned : ℕ → ℕ → List ℕ → List ℕ → ℕ → Block → List ℕ → Block
-turned n L W old zero b new = afterRead n W old new b
-turned n L W old (suc zero) b new = afterStage n L W b
-turned n L W old (suc (suc zero)) b new = afterStore n W b
-turned n L W old (suc (suc (suc f))) b new = b
+turned n H W old zero b new = afterRead n W old new b
+turned n H W old (suc zero) b new = afterStage n H W b
+turned n H W old (suc (suc zero)) b new = afterStore n W b
+turned n H W old (suc (suc (suc f))) b new = b
 
 unfoldable pub written : ℕ → List ℕ → List ℕ → ℕ → Block → List ℕ → List ℕ
 written n W old zero b new = new

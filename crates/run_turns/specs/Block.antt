@@ -28,15 +28,15 @@ unfoldable pub roomRead : ℕ → List ℕ → ℕ → List ℕ → List ℕ →
 roomRead n W o old new room = sets (sets room 0 (readRow n W o old new)) 512 (replicate 256 0)
 
 unfoldable pub roomStaged : ℕ → ℕ → List ℕ → ℕ → ℕ → List ℕ → List ℕ
-roomStaged n L W o k room =
-    sets (sets room 0 (stageRow n L W o k (take n room) ++ gatheredRow n W o k (take n room))) 512
-    (captured n W o k (stageRow n L W o k (take n room)) (drop 512 room))
+roomStaged n H W o k room =
+    sets (sets room 0 (stageRow n H W o k (take n room) ++ gatheredRow n W o k (take n room))) 512
+    (captured n W o k (stageRow n H W o k (take n room)) (drop 512 room))
 
 -- by the phase that the turn is in
 unfoldable pub roomTurned : ℕ → ℕ → List ℕ → ℕ → ℕ → List ℕ → List ℕ → ℕ → List ℕ → List ℕ
-roomTurned n L W o k old new zero room = roomRead n W o old new room
-roomTurned n L W o k old new (suc zero) room = roomStaged n L W o k room
-roomTurned n L W o k old new (suc (suc f)) room = room
+roomTurned n H W o k old new zero room = roomRead n W o old new room
+roomTurned n H W o k old new (suc zero) room = roomStaged n H W o k room
+roomTurned n H W o k old new (suc (suc f)) room = room
 
 -- ---- what a turn asks of the block's state, where the states have s and t words
 

@@ -15,10 +15,8 @@ use Rattle.plan_record.specs.Record.{gatesOf, gatePin}
 use Rattle.words.specs.Pins.{empty}
 use Rattle.plan_record.specs.Form.{roomWords, planForm}
 use Rattle.plan_record.proofs.FormLaws.{formed}
-use Rattle.plan_gates.specs.declared.GateList.{GateList}
-use Rattle.plan_gates.specs.declared.GateList.the-variants.{Good, Bad}
 use Rattle.plan_gates.specs.Gates.{badGate, value}
-use Rattle.plan_gates.specs.Values.{gateListOf, gateWords, Given, ValuedBelow, Fillable}
+use Rattle.plan_gates.specs.Values.{gateWords, Given, ValuedBelow, Fillable}
 use Rattle.plan_gates.proofs.ValueLaws.{value-ext}
 use Rattle.plan_gates.proofs.CodeLaws.{words-valued, words-ext}
 use Rattle.plan_slots.specs.Puts.{filled}
@@ -68,16 +66,6 @@ module _ (d : List ℕ) (p : ℕ) (old new t : List ℕ) (is : t ≡ filled 3276
 pub value-empty : (d : List ℕ) (p : ℕ) (old new : List ℕ) (x : ℕ) → x ≡ empty → 0 ≡ pinValue d p old new x
 unfolding pinValue
 value-empty d p old new x h = rw (eq-eqb _ _ h, pinValue)
-
--- ---- what the check of the gates says
-
-pub list-good : (o : Option ℕ) (r : GateList) → r ≡ gateListOf o → r ≡ Good → o ≡ none
-list-good none r p q = refl
-list-good (some g) r p q = let z : _≡_ {A = ℕ} 0 1 = cc in absurd (omega arith)
-
-pub list-bad : (o : Option ℕ) (r : GateList) (g : ℕ) → r ≡ gateListOf o → r ≡ Bad g → o ≡ some g
-list-bad none r g p q = let z : _≡_ {A = ℕ} 0 1 = cc in absurd (omega arith)
-list-bad (some h) r g p q = cc
 
 -- ---- the ways out
 

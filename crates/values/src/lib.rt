@@ -6,12 +6,12 @@ ghost use lib.ListN.{length, replicate};
 ghost use Rattle.values.specs.Known.{Asked};
 ghost use Rattle.values.specs.Values.{bitWords, pinValue, gateValues, refused, lentBits, outcome, answerOf, bitsAfter, roomAfter};
 use known::fill_known;
-use plan_gates::GateList;
 use plan_gates::check_gates;
 use plan_record::form::plan_form;
 use plan_record::places::room_words;
 use plan_record::places::word_at;
 use words::clear::clear;
+use words::found::Item;
 use words::refusals::GATE_ORDER;
 use words::refusals::PLAN_FORM;
 use words::refusals::RESULT_SHORT;
@@ -59,7 +59,7 @@ fn fill_bits(
 }
 
 // A refusal, which no part is told with.
-fn refuse(number: u32, item: u32) -> Answer
+fn refuse(number: u32, item: usize) -> Answer
     ensures { λ r. ⌜ r ≡ answerOf (refused number item) ⌝ }
 {
     Answer::Refused(Refusal {
@@ -113,7 +113,7 @@ pub fn value(
         return refuse(PLAN_FORM, 0);
     }
     match check_gates(plan) {
-        GateList::Bad(g) => refuse(GATE_ORDER, g),
-        GateList::Good => value_lent(plan, part as usize, old, new, room, bits, pin),
+        Item::At(g) => refuse(GATE_ORDER, g),
+        Item::Fine => value_lent(plan, part as usize, old, new, room, bits, pin),
     }
 }

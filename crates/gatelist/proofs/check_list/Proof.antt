@@ -1,12 +1,12 @@
 -- `gatelist::check_list` meets its contract. The loop's invariant: the answer from gate g on is the answer, and `before` is the pin before it.
 -- Assumes nothing.
-use mathlib.Core.Path.{_≡_, sym, ap, _∙_}
+use mathlib.Core.Path.{_≡_, sym, _∙_}
 use Prim.Native.Nat.{_-_, _≤_}
 use native.Mathlib.Omega.{arith}
 use borrow.Author.Needs.{needs}
 use Rattle.words.specs.Tests.{firstFrom}
 use Rattle.gatelist.specs.GateList.{beforeOver}
-use Rattle.gatelist.specs.Words.{listPin, wholeGates, allGates, listRight, badList, formOf}
+use Rattle.gatelist.specs.Words.{listPin, wholeGates, allGates, listRight, badList}
 use Rattle.gatelist.proofs.GateListLaws.{before-first, before-next}
 use Rattle.gatelist.proofs.WordLaws.{list-from, list-fault, list-next, list-cut, list-good}
 use Rattle.gatelist.proofs.check_list.Statement.{statement}
@@ -35,19 +35,19 @@ returns c =
     let a = c .before .before .before in
     let l = a .before .before .args .l .now in
     let e = sym (c .before .gate-right .ensures) ∙ c .if1 .left in
-    ap formOf (list-fault l (a .loop .g) (omega arith) (a .loop .inv .2) e)
+    list-fault l (a .loop .g) (omega arith) (a .loop .inv .2) e
 
 returns-2 : tie.Need-returns-2 Inv-loop μ-loop
 returns-2 c =
     let a = c .before .before in
     let l = a .before .before .args .l .now in
-    ap formOf (list-cut l (a .loop .g) (omega arith) (omega arith) (a .loop .inv .2))
+    list-cut l (a .loop .g) (omega arith) (omega arith) (a .loop .inv .2)
 
 returns-3 : tie.Need-returns-3 Inv-loop μ-loop
 returns-3 c =
     let a = c .before .before in
     let l = a .before .before .args .l .now in
-    ap formOf (list-good l (a .loop .g) (omega arith) (omega arith) (a .loop .inv .2))
+    list-good l (a .loop .g) (omega arith) (omega arith) (a .loop .inv .2)
 
 pub check-list-spec : {M : Type 1} → statement M
 check-list-spec =

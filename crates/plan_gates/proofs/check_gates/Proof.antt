@@ -1,14 +1,13 @@
 -- `plan_gates::check_gates` meets its contract. The loop's invariant: the answer from gate g on is the answer, and `before` is the pin before it.
 -- Assumes nothing.
-use mathlib.Core.Path.{_≡_, sym, ap, _∙_}
+use mathlib.Core.Path.{_≡_, sym, _∙_}
 use Prim.Native.Nat.{_-_, _≤_}
 use native.Mathlib.Omega.{arith}
 use borrow.Author.Needs.{needs}
 use Rattle.plan_record.specs.Record.{gatesOf}
 use Rattle.words.specs.Tests.{firstFrom}
-use Rattle.words.proofs.TestLaws.{first-fault, first-next, first-end}
+use Rattle.words.proofs.FoundLaws.{look-fault, look-next, look-end}
 use Rattle.plan_gates.specs.Gates.{pinBefore, gateRight, badGate}
-use Rattle.plan_gates.specs.Values.{gateListOf}
 use Rattle.plan_gates.proofs.GateLaws.{before-first, before-next, bad-from}
 use Rattle.plan_gates.proofs.check_gates.Statement.{statement}
 use Rattle.plan_gates.proofs.check_gates.Tie as tie
@@ -44,20 +43,23 @@ loop-again c =
     let l = t .before .before .before in
     let d = l .before .before .before .args .d .now in
     let e = sym (t .before .gate-right .ensures) ∙ t .if1 .taken in
-    (omega arith, c .gate-pin .ensures ∙ sym (before-next d (l .loop .g)), sym (first-next (gateRight d) _ (l .loop .g) (omega arith) e) ∙ l .loop .inv .2)
+    (omega arith, c .gate-pin .ensures ∙ sym (before-next d (l .loop .g)), look-next (gateRight d) _ (l .loop .g) _ (l .loop .inv .2) (omega arith) e)
+
+cast-t7 : tie.Need-cast-t7 Inv-loop μ-loop
+cast-t7 c = search needs
 
 returns : tie.Need-returns Inv-loop μ-loop
 returns c =
     let l = c .before .before .before in
     let d = l .before .before .before .args .d .now in
     let e = sym (c .before .gate-right .ensures) ∙ c .if1 .left in
-    ap gateListOf (sym (first-fault (gateRight d) _ (l .loop .g) (omega arith) e) ∙ l .loop .inv .2)
+    look-fault (gateRight d) _ (l .loop .g) _ (l .loop .inv .2) (omega arith) e
 
 returns-2 : tie.Need-returns-2 Inv-loop μ-loop
 returns-2 c =
     let l = c .before in
     let d = l .before .before .before .args .d .now in
-    ap gateListOf (sym (first-end (gateRight d) (gatesOf d) (l .loop .g) (omega arith)) ∙ l .loop .inv .2)
+    look-end (gateRight d) (gatesOf d) (l .loop .g) _ (l .loop .inv .2) (omega arith)
 
 pub check-gates-spec : {M : Type 1} → statement M
 check-gates-spec =
@@ -72,5 +74,6 @@ check-gates-spec =
     add-g
     loop-less
     loop-again
+    cast-t7
     returns
     returns-2)

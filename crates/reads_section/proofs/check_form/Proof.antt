@@ -5,8 +5,8 @@ use Prim.Native.Nat.{_*_, _-_, _/_, _≤_}
 use native.Mathlib.Omega.{arith}
 use lib.ListN.{length}
 use Rattle.reads.specs.ReadSet.{pairsOf, broken}
-use Rattle.reads_section.specs.declared.Form.the-variants.{Bad}
-use Rattle.reads_section.specs.Readout.{formOf}
+use Rattle.words.specs.Found.{itemOf}
+use Rattle.words.specs.declared.found.Item.the-variants as item
 use Rattle.reads_section.proofs.FormLaws.{brokenAt, bad-low, bad-word, bad-mask, good-pair, bad-half, good-end}
 use borrow.Author.Needs.{needs}
 use Rattle.reads_section.proofs.check_form.Statement.{statement}
@@ -22,13 +22,13 @@ returns : tie.Need-returns Inv-loop μ-loop
 returns c =
     let l = c .before .before .before .loop in
     let set = c .before .before .before .before .args .set .now in
-    ap formOf (sym (bad-low set (l .i) (l .low) (omega arith) (c .if1 .taken)) ∙ l .inv .1)
+    ap itemOf (sym (bad-low set (l .i) (l .low) (omega arith) (c .if1 .taken)) ∙ l .inv .1)
 
 returns-2 : tie.Need-returns-2 Inv-loop μ-loop
 returns-2 c =
     let l = c .before .before .before .before .loop in
     let set = c .before .before .before .before .before .args .set .now in
-    ap formOf (sym (bad-word set (l .i) (l .low) (omega arith) (c .before .if1 .left) (c .if2 .taken)) ∙ l .inv .1)
+    ap itemOf (sym (bad-word set (l .i) (l .low) (omega arith) (c .before .if1 .left) (c .if2 .taken)) ∙ l .inv .1)
 
 returns-3 : tie.Need-returns-3 Inv-loop μ-loop
 returns-3 c =
@@ -36,7 +36,7 @@ returns-3 c =
     let at-loop = at-if1 .before .before .before in
     let l = at-loop .loop in
     let set = at-loop .before .args .set .now in
-    ap formOf (sym (bad-mask set (l .i) (l .low) (omega arith) (at-if1 .if1 .left) (c .before .before .if2 .left) (c .if3 .taken)) ∙ l .inv .1)
+    ap itemOf (sym (bad-mask set (l .i) (l .low) (omega arith) (at-if1 .if1 .left) (c .before .before .if2 .left) (c .if3 .taken)) ∙ l .inv .1)
 
 add-low : tie.Need-add-low Inv-loop μ-loop
 add-low c =
@@ -55,13 +55,13 @@ returns-4 c =
     let l = c .before .before .loop in
     let set = c .before .before .before .args .set .now in
     let e : l .i ≡ length set / 2 = omega arith in
-    ap Bad (sym e) ∙ ap formOf (sym (bad-half set (l .i) (l .low) (omega arith)) ∙ l .inv .1)
+    ap item.At (sym e) ∙ ap itemOf (sym (bad-half set (l .i) (l .low) (omega arith)) ∙ l .inv .1)
 
 returns-5 : tie.Need-returns-5 Inv-loop μ-loop
 returns-5 c =
     let l = c .before .before .loop in
     let set = c .before .before .before .args .set .now in
-    ap formOf (sym (good-end set (l .i) (l .low) (omega arith)) ∙ l .inv .1)
+    ap itemOf (sym (good-end set (l .i) (l .low) (omega arith)) ∙ l .inv .1)
 
 pub check-form-spec : {M : Type 1} → statement M
 check-form-spec =

@@ -10,7 +10,8 @@ use Rattle.repair_tally.proofs.StepLaws.{told-true, told-false}
 use Rattle.repair_settle.proofs.EndLaws.{refused-end}
 use Rattle.repair.proofs.FormLaws.{entered-true, entered-false}
 use Rattle.repair.proofs.OutcomeLaws.{place-5, place-6, place-on}
-use Rattle.repair.proofs.WholeLaws.{place-parts, form-pin, form-place, form-counts, form-right, list-good, list-bad}
+use Rattle.repair.proofs.WholeLaws.{place-parts, form-pin, form-place, form-counts, form-right}
+use Rattle.words.proofs.FoundLaws.{item-some, item-none}
 use borrow.Author.Needs.{needs}
 use Rattle.repair.proofs.place_over.Statement.{statement}
 use Rattle.repair.proofs.place_over.Tie as tie
@@ -65,7 +66,7 @@ place-at-requires c κs =
     let e = entered-true (s .args .counts .now) (s .args .map .now) (s .pre .0) (s .pre .1) (u .check-counts .last .1 .0) (u .check-counts .kept .1 .0) (λ i. z .shared-slice-known3 .given i .fits) w in
     let n : s .args .node .0 ≤ 2 ^ 30 = omega (arith, x1 .if1 .left) in
     let (h, j) = place-parts (s .args .level) (s .args .slot) p in
-    (list-good (s .args .gates .now) (l .check-list .result) (l .check-list .ensures) (o .enum-told .given .1), h, j, n, e .1)
+    (item-none _ (sym (l .check-list .ensures) ∙ o .enum-told .given .1), h, j, n, e .1)
 
 same-length : tie.Need-same-length
 same-length c = search needs
@@ -85,7 +86,7 @@ returns-2 c =
     let w = told-true _ _ _ (u .check-counts .ensures) (t3 .if3 .taken) in
     let e = entered-true (s .args .counts .now) (s .args .map .now) (s .pre .0) (s .pre .1) (u .check-counts .last .1 .0) (u .check-counts .kept .1 .0) (λ i. z .shared-slice-known3 .given i .fits) w in
     let n : s .args .node .0 ≤ 2 ^ 30 = omega (arith, x1 .if1 .left) in
-    let b = list-bad (s .args .gates .now) (l .check-list .result) _ (l .check-list .ensures) (g .g .given .1) in
+    let b = item-some _ _ (sym (l .check-list .ensures) ∙ g .g .given .1) in
     refused-end _ _ (s .args .slots .now) (s .args .after .now) 6 (g .g .given .0 .0) (place-6 (s .args .gates .now) (s .args .levels .now) (s .args .counts .now) (s .args .slots .now) (length (s .args .after .now)) (s .args .level) (s .args .slot) (s .args .node .0) (length (s .args .map .now)) (s .pre .1) (form-right (placeRight 13 (s .args .level) (s .args .slot)) (countsRight (s .args .counts .now)) (s .args .node .0) p n (e .0)) (g .g .given .0 .0) b) (c .refused2 .ensures)
 
 same-length-2 : tie.Need-same-length-2
@@ -113,7 +114,7 @@ returns-3 c =
     let w = told-true _ _ _ (u .check-counts .ensures) (t3 .if3 .taken) in
     let e = entered-true (s .args .counts .now) (s .args .map .now) (s .pre .0) (s .pre .1) (u .check-counts .last .1 .0) (u .check-counts .kept .1 .0) (λ i. z .shared-slice-known3 .given i .fits) w in
     let n : s .args .node .0 ≤ 2 ^ 30 = omega (arith, x1 .if1 .left) in
-    let b = list-good (s .args .gates .now) (l .check-list .result) (l .check-list .ensures) (o .enum-told .given .1) in
+    let b = item-none _ (sym (l .check-list .ensures) ∙ o .enum-told .given .1) in
     rw (place-on (s .args .gates .now) (s .args .levels .now) (s .args .counts .now) (s .args .slots .now) (length (s .args .after .now)) (s .args .level) (s .args .slot) (s .args .node .0) (length (s .args .map .now)) (s .pre .1) (form-right (placeRight 13 (s .args .level) (s .args .slot)) (countsRight (s .args .counts .now)) (s .args .node .0) p n (e .0)) b) (d .place-at .ensures)
 
 refused-requires-3 : tie.Need-refused-requires-3

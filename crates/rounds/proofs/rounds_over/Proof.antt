@@ -8,7 +8,7 @@ use lib.ListN.{length}
 use Rattle.reads.specs.ReadSet.{pairsOf, broken}
 use Rattle.reads.specs.Search.{longest}
 use Rattle.reads.proofs.OutcomeLaws.{placed-sound}
-use Rattle.reads_section.proofs.FormLaws.{form-bad, form-good}
+use Rattle.words.proofs.FoundLaws.{item-some, item-none}
 use Rattle.rounds.specs.Rounds.{Searchable}
 use Rattle.rounds.proofs.OutcomeLaws.{is-many, is-bad, is-none, is-stuck, is-packed, is-short, is-placed, refused-post, placed-post, searchable, lost, Win, won, size-fits}
 use borrow.Author.Needs.{needs}
@@ -17,7 +17,7 @@ use Rattle.rounds.proofs.rounds_over.Tie as tie
 
 -- the set has the form
 form-in : (c : tie.After-enum-told) → broken (pairsOf (c .before .before .before .before .before .before .before .before .before .args .set .now)) ≡ none
-form-in c = form-good _ (sym (c .before .before .check-form .ensures) ∙ c .enum-told .given .1)
+form-in c = item-none _ (sym (c .before .before .check-form .ensures) ∙ c .enum-told .given .1)
 
 search-in : (c : tie.Else2) → Searchable (c .before .before .before .before .before .before .before .before .before .before .args .set .now) (length (c .before .before .before .before .before .before .before .before .before .before .args .table .now)) (length (c .before .before .before .before .before .before .before .before .before .before .args .keys .now)) (length (c .before .before .before .before .before .before .before .before .before .before .args .scratch .now)) (c .before .before .before .before .before .before .before .before .before .before .args .lanes)
 search-in c = searchable (c .before .before .before .before .before .before .before .before .before .before .pre) (c .before .before .before .before .if1 .left) (form-in (c .before)) (λ x. c .before .before .before .before .before .before .before .before .before .shared-slice-known .given x .fits)
@@ -58,7 +58,7 @@ refused-requires-2 c κs = search needs
 returns-2 : tie.Need-returns-2
 returns-2 c =
     let a = c .before .before .before .before .before .before .before .before .before .before .before .args in
-    let bad = form-bad _ _ (sym (c .before .before .before .before .check-form .ensures) ∙ c .before .before .i .given .1) in
+    let bad = item-some _ _ (sym (c .before .before .before .before .check-form .ensures) ∙ c .before .before .i .given .1) in
     refused-post _ _ _ 2 _ (is-bad (a .lanes) (a .set .now) _ (c .before .before .before .before .before .if1 .left) _ bad) (c .refused2 .ensures)
 
 enum-told : tie.Need-enum-told

@@ -1,7 +1,9 @@
 -- `run::run` meets its contract: one law for each way out.
 -- Assumes nothing.
+use mathlib.Core.Path.{sym, _∙_}
 use lib.ListN.{length}
-use Rattle.run.proofs.AnswerLaws.{again, found-none, found-some, told-short, told-block, told-turn, told-run, accepted}
+use Rattle.words.proofs.FoundLaws.{item-some, item-none}
+use Rattle.run.proofs.AnswerLaws.{again, told-short, told-block, told-turn, told-run, accepted}
 use borrow.Author.Needs.{needs}
 use Rattle.run.proofs.run.Statement.{statement}
 use Rattle.run.proofs.run.Tie as tie
@@ -13,7 +15,11 @@ refuse-requires : tie.Need-refuse-requires
 refuse-requires c κs = search needs
 
 returns : tie.Need-returns
-returns c = told-short (c .before .before .before .before .before .before .before .before .before .args .words .now) (c .before .before .before .before .before .before .before .before .before .args .starts .now) (c .before .before .before .before .before .before .before .before .before .args .turns .now) (c .before .before .before .before .before .before .before .before .before .args .old .now) (c .before .before .before .before .before .before .before .before .before .args .new .now) (c .before .before .before .before .before .before .before .before .before .args .room .now) _ (c .before .before .blocks-of .ensures) (c .before .if1 .taken) _ (c .refuse .ensures)
+returns c =
+    let at-blocks-of = c .before .before in
+    let way = at-blocks-of .before .before .before .before .before .before in
+    let start = way .before in
+    told-short (start .args .words .now) (start .args .starts .now) (start .args .turns .now) (start .args .old .now) (start .args .new .now) (start .args .room .now) _ (at-blocks-of .blocks-of .ensures) (c .before .if1 .taken) _ (c .refuse .ensures)
 
 clear-requires : tie.Need-clear-requires
 clear-requires c κs = search needs
@@ -43,19 +49,48 @@ enum-told-2 : tie.Need-enum-told-2
 enum-told-2 c = search needs
 
 run-well-requires : tie.Need-run-well-requires
-run-well-requires c κs = accepted (c .before .before .before .before .before .before .before .before .before .before .before .before .before .before .before .before .before .before .before .before .args .words .now) (c .before .before .before .before .before .before .before .before .before .before .before .before .before .before .before .before .before .before .before .before .args .starts .now) (c .before .before .before .before .before .before .before .before .before .before .before .before .before .before .before .before .before .before .before .before .args .turns .now) (c .before .before .before .before .before .before .before .before .before .before .before .before .before .before .before .before .before .before .before .before .args .old .now) (c .before .before .before .before .before .before .before .before .before .before .before .before .before .before .before .before .before .before .before .before .args .new .now) (c .before .before .before .before .before .before .before .before .before .before .before .before .before .before .before .before .before .before .before .before .args .room .now) _ (c .before .before .before .before .before .before .before .before .before .before .before .before .before .blocks-of .ensures) (c .before .before .before .before .before .before .before .before .before .before .before .before .if1 .left) _ (c .before .before .before .before .before .before .before .before .before .before .clear .ensures) (found-none _ _ (c .before .before .before .before .before .before .before .bad-block .ensures) (c .before .before .before .before .before .enum-told .given .1)) (found-none _ _ (c .before .before .before .before .bad-turn .ensures) (c .before .before .enum-told2 .given .1)) _ (search needs)
+run-well-requires c κs =
+    let at-enum-told = c .before .before .before .before .before in
+    let at-bad-block = at-enum-told .before .before in
+    let at-clear = at-bad-block .before .before .before in
+    let at-if1 = at-clear .before .before in
+    let at-blocks-of = at-if1 .before in
+    let way = at-blocks-of .before .before .before .before .before .before in
+    let start = way .before in
+    accepted (start .args .words .now) (start .args .starts .now) (start .args .turns .now) (start .args .old .now) (start .args .new .now) (start .args .room .now) _
+    (at-blocks-of .blocks-of .ensures) (at-if1 .if1 .left) _ (at-clear .clear .ensures) (item-none _ (sym (at-bad-block .bad-block .ensures) ∙ at-enum-told .enum-told .given .1))
+    (item-none _ (sym (c .before .before .before .before .bad-turn .ensures) ∙ c .before .before .enum-told2 .given .1)) _ (search needs)
 
 same-length : tie.Need-same-length
 same-length c = search needs
 
 returns-2 : tie.Need-returns-2
-returns-2 c = told-block (c .before .before .before .before .before .before .before .before .before .before .before .before .before .before .before .before .before .args .words .now) (c .before .before .before .before .before .before .before .before .before .before .before .before .before .before .before .before .before .args .starts .now) (c .before .before .before .before .before .before .before .before .before .before .before .before .before .before .before .before .before .args .turns .now) (c .before .before .before .before .before .before .before .before .before .before .before .before .before .before .before .before .before .args .old .now) (c .before .before .before .before .before .before .before .before .before .before .before .before .before .before .before .before .before .args .new .now) (c .before .before .before .before .before .before .before .before .before .before .before .before .before .before .before .before .before .args .room .now) _ (c .before .before .before .before .before .before .before .before .before .before .blocks-of .ensures) (c .before .before .before .before .before .before .before .before .before .if1 .left) _ (c .before .before .before .before .before .before .before .clear .ensures) _ (found-some _ _ _ (c .before .before .before .before .bad-block .ensures) (c .before .before .i .given .1)) _ (c .refuse2 .ensures)
+returns-2 c =
+    let at-bad-block = c .before .before .before .before in
+    let at-clear = at-bad-block .before .before .before in
+    let at-if1 = at-clear .before .before in
+    let at-blocks-of = at-if1 .before in
+    let way = at-blocks-of .before .before .before .before .before .before in
+    let start = way .before in
+    told-block (start .args .words .now) (start .args .starts .now) (start .args .turns .now) (start .args .old .now) (start .args .new .now) (start .args .room .now) _
+    (at-blocks-of .blocks-of .ensures) (at-if1 .if1 .left) _ (at-clear .clear .ensures) _ (item-some _ _ (sym (at-bad-block .bad-block .ensures) ∙ c .before .before .i .given .1)) _
+    (c .refuse2 .ensures)
 
 same-length-2 : tie.Need-same-length-2
 same-length-2 c = search needs
 
 returns-3 : tie.Need-returns-3
-returns-3 c = told-turn (c .before .before .before .before .before .before .before .before .before .before .before .before .before .before .before .before .before .before .before .before .args .words .now) (c .before .before .before .before .before .before .before .before .before .before .before .before .before .before .before .before .before .before .before .before .args .starts .now) (c .before .before .before .before .before .before .before .before .before .before .before .before .before .before .before .before .before .before .before .before .args .turns .now) (c .before .before .before .before .before .before .before .before .before .before .before .before .before .before .before .before .before .before .before .before .args .old .now) (c .before .before .before .before .before .before .before .before .before .before .before .before .before .before .before .before .before .before .before .before .args .new .now) (c .before .before .before .before .before .before .before .before .before .before .before .before .before .before .before .before .before .before .before .before .args .room .now) _ (c .before .before .before .before .before .before .before .before .before .before .before .before .before .blocks-of .ensures) (c .before .before .before .before .before .before .before .before .before .before .before .before .if1 .left) _ (c .before .before .before .before .before .before .before .before .before .before .clear .ensures) (found-none _ _ (c .before .before .before .before .before .before .before .bad-block .ensures) (c .before .before .before .before .before .enum-told .given .1)) _ (found-some _ _ _ (c .before .before .before .before .bad-turn .ensures) (c .before .before .i2 .given .1)) _ (c .refuse3 .ensures)
+returns-3 c =
+    let at-enum-told = c .before .before .before .before .before in
+    let at-bad-block = at-enum-told .before .before in
+    let at-clear = at-bad-block .before .before .before in
+    let at-if1 = at-clear .before .before in
+    let at-blocks-of = at-if1 .before in
+    let way = at-blocks-of .before .before .before .before .before .before in
+    let start = way .before in
+    told-turn (start .args .words .now) (start .args .starts .now) (start .args .turns .now) (start .args .old .now) (start .args .new .now) (start .args .room .now) _
+    (at-blocks-of .blocks-of .ensures) (at-if1 .if1 .left) _ (at-clear .clear .ensures) (item-none _ (sym (at-bad-block .bad-block .ensures) ∙ at-enum-told .enum-told .given .1)) _
+    (item-some _ _ (sym (c .before .before .before .before .bad-turn .ensures) ∙ c .before .before .i2 .given .1)) _ (c .refuse3 .ensures)
 
 same-length-3 : tie.Need-same-length-3
 same-length-3 c = search needs
@@ -65,8 +100,21 @@ same-length-4 c = search needs
 
 returns-4 : tie.Need-returns-4
 returns-4 c =
-    let done = c .before .before .before .before .run-well .ensures in
-    told-run (c .before .before .before .before .before .before .before .before .before .before .before .before .before .before .before .before .before .before .before .before .before .before .before .before .before .args .words .now) (c .before .before .before .before .before .before .before .before .before .before .before .before .before .before .before .before .before .before .before .before .before .before .before .before .before .args .starts .now) (c .before .before .before .before .before .before .before .before .before .before .before .before .before .before .before .before .before .before .before .before .before .before .before .before .before .args .turns .now) (c .before .before .before .before .before .before .before .before .before .before .before .before .before .before .before .before .before .before .before .before .before .before .before .before .before .args .old .now) (c .before .before .before .before .before .before .before .before .before .before .before .before .before .before .before .before .before .before .before .before .before .before .before .before .before .args .new .now) (c .before .before .before .before .before .before .before .before .before .before .before .before .before .before .before .before .before .before .before .before .before .before .before .before .before .args .room .now) _ (c .before .before .before .before .before .before .before .before .before .before .before .before .before .before .before .before .before .before .blocks-of .ensures) (c .before .before .before .before .before .before .before .before .before .before .before .before .before .before .before .before .before .if1 .left) _ (again (length (c .before .before .before .before .before .before .before .before .before .before .before .before .before .before .before .before .before .before .before .before .before .before .before .before .before .args .room .now)) (c .before .before .before .before .before .before .before .before .before .before .before .before .before .before .before .clear .last .0) _ (done .1 .1) (search needs)) (found-none _ _ (c .before .before .before .before .before .before .before .before .before .before .before .before .bad-block .ensures) (c .before .before .before .before .before .before .before .before .before .before .enum-told .given .1)) (found-none _ _ (c .before .before .before .before .before .before .before .before .before .bad-turn .ensures) (c .before .before .before .before .before .before .before .enum-told2 .given .1)) _ _ (done .0) (done .1 .0)
+    let at-run-well = c .before .before .before .before in
+    let at-enum-told2 = at-run-well .before .before .before in
+    let at-bad-turn = at-enum-told2 .before .before in
+    let at-enum-told = at-bad-turn .before in
+    let at-bad-block = at-enum-told .before .before in
+    let at-clear = at-bad-block .before .before .before in
+    let at-if1 = at-clear .before .before in
+    let at-blocks-of = at-if1 .before in
+    let way = at-blocks-of .before .before .before .before .before .before in
+    let start = way .before in
+    let room = start .args .room .now in
+    let done = at-run-well .run-well .ensures in
+    told-run (start .args .words .now) (start .args .starts .now) (start .args .turns .now) (start .args .old .now) (start .args .new .now) room _ (at-blocks-of .blocks-of .ensures)
+    (at-if1 .if1 .left) _ (again (length room) (at-clear .clear .last .0) _ (done .1 .1) (search needs)) (item-none _ (sym (at-bad-block .bad-block .ensures) ∙ at-enum-told .enum-told .given .1))
+    (item-none _ (sym (at-bad-turn .bad-turn .ensures) ∙ at-enum-told2 .enum-told2 .given .1)) _ _ (done .0) (done .1 .0)
 
 pub run-spec : {M : Type 1} → statement M
 run-spec =

@@ -10,16 +10,30 @@ blocks-of-requires : tie.Need-blocks-of-requires
 blocks-of-requires c κs = search needs
 
 begin-blocks-requires : tie.Need-begin-blocks-requires
-begin-blocks-requires c κs = beginnings (c .before .before .before .before .before .before .before .before .args .words .now) (c .before .before .before .before .before .before .before .before .args .starts .now) (c .before .before .before .before .before .before .before .before .args .turns .now) _ _ (c .before .before .before .before .before .before .before .before .args .rooms .now) (c .before .before .before .before .before .before .before .before .pre) _ (c .before .blocks-of .ensures)
+begin-blocks-requires c κs =
+    let at-blocks-of = c .before in
+    let way = at-blocks-of .before .before .before .before .before .before in
+    let start = way .before in
+    beginnings (start .args .words .now) (start .args .starts .now) (start .args .turns .now) _ _ (start .args .rooms .now) (start .pre) _ (at-blocks-of .blocks-of .ensures)
 
 take-turns-requires : tie.Need-take-turns-requires
-take-turns-requires c κs = (c .before .before .before .before .before .before .before .before .before .before .before .before .before .args .starts .now, goods-begun (c .before .before .before .before .before .before .before .before .before .before .before .before .before .args .words .now) (c .before .before .before .before .before .before .before .before .before .before .before .before .before .args .starts .now) (c .before .before .before .before .before .before .before .before .before .before .before .before .before .args .turns .now) _ _ (c .before .before .before .before .before .before .before .before .before .before .before .before .before .args .rooms .now) (c .before .before .before .before .before .before .before .before .before .before .before .before .before .pre) _ (search needs) _ (c .before .before .before .before .before .before .blocks-of .ensures) (c .before .before .before .before .begin-blocks .ensures), c .before .before .before .before .before .before .before .before .before .before .before .before .before .pre .named)
+take-turns-requires c κs =
+    let at-blocks-of = c .before .before .before .before .before .before in
+    let way = at-blocks-of .before .before .before .before .before .before in
+    let start = way .before in
+    let starts = start .args .starts .now in
+    (starts, goods-begun (start .args .words .now) starts (start .args .turns .now) _ _ (start .args .rooms .now) (start .pre) _ (search needs) _ (at-blocks-of .blocks-of .ensures) (c .before .before .before .before .begin-blocks .ensures), start .pre .named)
 
 turns-left-requires : tie.Need-turns-left-requires
 turns-left-requires c κs =
-    let start = c .before .before .before .before .before .before .before .before .before .before .before .before .before .before .before .before .before .before .before in
-    let begun = goods-begun (c .before .before .before .before .before .before .before .before .before .before .before .before .before .before .before .before .before .before .before .args .words .now) (c .before .before .before .before .before .before .before .before .before .before .before .before .before .before .before .before .before .before .before .args .starts .now) (c .before .before .before .before .before .before .before .before .before .before .before .before .before .before .before .before .before .before .before .args .turns .now) _ _ (c .before .before .before .before .before .before .before .before .before .before .before .before .before .before .before .before .before .before .before .args .rooms .now) (c .before .before .before .before .before .before .before .before .before .before .before .before .before .before .before .before .before .before .before .pre) _ (search needs) _ (c .before .before .before .before .before .before .before .before .before .before .before .before .blocks-of .ensures) (c .before .before .before .before .before .before .before .before .before .before .begin-blocks .ensures) in
-    (start .args .starts .now, _, _, c .before .before .before .before .before .before .before .before .before .before .before .before .blocks-of .ensures, c .before .before .before .before .before .take-turns .ensures .0 (start .args .starts .now) begun (start .pre .named))
+    let at-take-turns = c .before .before .before .before .before in
+    let at-begin-blocks = at-take-turns .before .before .before .before .before in
+    let at-blocks-of = at-begin-blocks .before .before in
+    let way = at-blocks-of .before .before .before .before .before .before in
+    let start = way .before in
+    let starts = start .args .starts .now in
+    let begun = goods-begun (start .args .words .now) starts (start .args .turns .now) _ _ (start .args .rooms .now) (start .pre) _ (search needs) _ (at-blocks-of .blocks-of .ensures) (at-begin-blocks .begin-blocks .ensures) in
+    (starts, _, _, at-blocks-of .blocks-of .ensures, at-take-turns .take-turns .ensures .0 starts begun (start .pre .named))
 
 clear-requires : tie.Need-clear-requires
 clear-requires c κs = search needs
@@ -32,13 +46,24 @@ same-length-2 c = search needs
 
 returns : tie.Need-returns
 returns c =
-    let start = c .before .before .before .before .before .before .before .before .before .before .before .before .before .before .before .before .before .before .before .before .before .before .before .before in
-    let blocks = c .before .before .before .before .before .before .before .before .before .before .before .before .before .before .before .before .before .blocks-of .ensures in
-    let begun = c .before .before .before .before .before .before .before .before .before .before .before .before .before .before .before .begin-blocks .ensures in
-    let good = goods-begun (c .before .before .before .before .before .before .before .before .before .before .before .before .before .before .before .before .before .before .before .before .before .before .before .before .args .words .now) (c .before .before .before .before .before .before .before .before .before .before .before .before .before .before .before .before .before .before .before .before .before .before .before .before .args .starts .now) (c .before .before .before .before .before .before .before .before .before .before .before .before .before .before .before .before .before .before .before .before .before .before .before .before .args .turns .now) _ _ (c .before .before .before .before .before .before .before .before .before .before .before .before .before .before .before .before .before .before .before .before .before .before .before .before .args .rooms .now) (c .before .before .before .before .before .before .before .before .before .before .before .before .before .before .before .before .before .before .before .before .before .before .before .before .pre) _ (search needs) _ blocks begun in
-    let ran = c .before .before .before .before .before .before .before .before .before .before .take-turns .ensures .1 (start .args .starts .now) good (start .pre .named) in (
-      run-left (c .before .before .before .before .before .before .before .before .before .before .before .before .before .before .before .before .before .before .before .before .before .before .before .before .args .words .now) (c .before .before .before .before .before .before .before .before .before .before .before .before .before .before .before .before .before .before .before .before .before .before .before .before .args .starts .now) (c .before .before .before .before .before .before .before .before .before .before .before .before .before .before .before .before .before .before .before .before .before .before .before .before .args .turns .now) _ _ (c .before .before .before .before .before .before .before .before .before .before .before .before .before .before .before .before .before .before .before .before .before .before .before .before .args .rooms .now) (c .before .before .before .before .before .before .before .before .before .before .before .before .before .before .before .before .before .before .before .before .before .before .before .before .pre) _ (search needs) _ blocks begun (start .args .old .now) (start .args .new .now) _ _ ran _ (c .before .before .before .before .turns-left .ensures),
-      (run-new (c .before .before .before .before .before .before .before .before .before .before .before .before .before .before .before .before .before .before .before .before .before .before .before .before .args .words .now) (c .before .before .before .before .before .before .before .before .before .before .before .before .before .before .before .before .before .before .before .before .before .before .before .before .args .starts .now) (c .before .before .before .before .before .before .before .before .before .before .before .before .before .before .before .before .before .before .before .before .before .before .before .before .args .turns .now) _ _ (c .before .before .before .before .before .before .before .before .before .before .before .before .before .before .before .before .before .before .before .before .before .before .before .before .args .rooms .now) (c .before .before .before .before .before .before .before .before .before .before .before .before .before .before .before .before .before .before .before .before .before .before .before .before .pre) _ (search needs) _ blocks begun (start .args .old .now) (start .args .new .now) _ _ ran, again (length (start .args .rooms .now)) (c .before .before .before .before .before .before .before .before .before .before .take-turns .last .1 .1 .1 .1 .0) _ (c .before .before .clear .ensures) (search needs)),
+    let at-turns-left = c .before .before .before .before in
+    let at-take-turns = at-turns-left .before .before .before .before .before .before in
+    let at-begin-blocks = at-take-turns .before .before .before .before .before in
+    let at-blocks-of = at-begin-blocks .before .before in
+    let way = at-blocks-of .before .before .before .before .before .before in
+    let start = way .before in
+    let words = start .args .words .now in
+    let starts = start .args .starts .now in
+    let turns = start .args .turns .now in
+    let rooms = start .args .rooms .now in
+    let old = start .args .old .now in
+    let new = start .args .new .now in
+    let blocks = at-blocks-of .blocks-of .ensures in
+    let begun = at-begin-blocks .begin-blocks .ensures in
+    let good = goods-begun words starts turns _ _ rooms (start .pre) _ (search needs) _ blocks begun in
+    let ran = at-take-turns .take-turns .ensures .1 starts good (start .pre .named) in (
+      run-left words starts turns _ _ rooms (start .pre) _ (search needs) _ blocks begun old new _ _ ran _ (at-turns-left .turns-left .ensures),
+      (run-new words starts turns _ _ rooms (start .pre) _ (search needs) _ blocks begun old new _ _ ran, again (length rooms) (at-take-turns .take-turns .last .1 .1 .1 .1 .0) _ (c .before .before .clear .ensures) (search needs)),
     )
 
 pub run-well-spec : {M : Type 1} → statement M

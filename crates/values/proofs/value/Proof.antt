@@ -8,7 +8,8 @@ use borrow.Author.Tests.{not-true, not-false}
 use lib.ListN.{length}
 use Rattle.plan_record.specs.Form.{roomWords, planForm}
 use Rattle.values.specs.Values.{Outcome, answerOf, bitsAfter}
-use Rattle.values.proofs.AnswerLaws.{list-good, list-bad, out-short, out-form, out-gate, out-lent, bits-kept, room-short, room-zeros, room-again, room-asked}
+use Rattle.words.proofs.FoundLaws.{item-some, item-none}
+use Rattle.values.proofs.AnswerLaws.{out-short, out-form, out-gate, out-lent, bits-kept, room-short, room-zeros, room-again, room-asked}
 use borrow.Author.Needs.{needs}
 use Rattle.values.proofs.value.Statement.{statement}
 use Rattle.values.proofs.value.Tie as tie
@@ -85,7 +86,7 @@ value-lent-requires c κs =
     let t = z .before .before in
     let o = start (t .before) .args in
     room-asked (o .plan .now) (o .room .now) (enough t) _ (z .clear .ensures) (formed (g .before))
-    (list-good _ _ (g .check-gates .ensures) (told .enum-told .given .1))
+    (item-none _ (sym (g .check-gates .ensures) ∙ told .enum-told .given .1))
 
 same-length-2 : tie.Need-same-length-2
 same-length-2 c = search needs
@@ -101,7 +102,7 @@ returns-3 c =
     let e = out-gate (o .plan .now) (o .part) (o .old .now) (o .new .now) (length (o .bits .now)) (o .pin .0) (length (o .room .now)) (enough t)
     (formed (g .before))
     _
-    (list-bad _ _ _ (g .check-gates .ensures) (n .g .given .1)) in
+    (item-some _ _ (sym (g .check-gates .ensures) ∙ n .g .given .1)) in
     let zeros = room-zeros (o .plan .now) (o .room .now) (enough t) _ (z .clear .ensures) in
     (c .refuse3 .ensures ∙ ap answerOf (sym e), (zeros, bits-kept _ 6 _ (o .bits .now) e))
 
@@ -122,7 +123,7 @@ returns-4 c =
     let o = start (t .before) .args in
     let e = out-lent (o .plan .now) (o .part) (o .old .now) (o .new .now) (length (o .bits .now)) (o .pin .0) (length (o .room .now)) (enough t)
     (formed (g .before))
-    (list-good _ _ (g .check-gates .ensures) (told .enum-told .given .1)) in
+    (item-none _ (sym (g .check-gates .ensures) ∙ told .enum-told .given .1)) in
     let zeros = room-again (o .plan .now) (o .room .now) (enough t) _ (z .clear .ensures) _ (v .value-lent .ensures .1 .0) in
     let bits = v .value-lent .ensures .1 .1 ∙ ap (λ (r : Outcome). bitsAfter r (o .bits .now)) (sym e) in
     (v .value-lent .ensures .0 ∙ ap answerOf (sym e), (zeros, bits))

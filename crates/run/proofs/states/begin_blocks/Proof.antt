@@ -59,9 +59,11 @@ loop-less c = search needs
 
 loop-again : tie.Need-loop-again Inv-loop μ-loop
 loop-again c =
-    let l = c .before .before .before .before .before .before .before .loop in
-    let start = c .before .before .before .before .before .before .before .before .before .before .before in
-    let begins = c .before .before .before .before .begins in
+    let at-begins = c .before .before .before .before in
+    let at-loop = at-begins .before .before .before in
+    let start = at-loop .before .before .before .before in
+    let l = at-loop .loop in
+    let begins = at-begins .begins in
     let next = begun-next (start .args .words .now) (start .args .starts .now) (l .room) (l .b) _ _ _ _ (l .inv .2) (omega arith) (begins .ensures .0) (begins .ensures .1) (begins .ensures .2) (c .before .before .store-state .ensures) in
     (omega arith, next .0 ∙ l .inv .1, next .1)
 

@@ -10,15 +10,18 @@ load-state-requires c κs = search needs
 
 turn-requires : tie.Need-turn-requires
 turn-requires c κs =
-    let start = c .before .before .before .before .before .before .before .before in
-    let state = c .before .before .load-state .ensures in
+    let at-load-state = c .before .before in
+    let start = at-load-state .before .before .before .before .before .before in
+    let state = at-load-state .load-state .ensures in
     (turn-ready (start .args .words .now) _ _ (start .args .room .now) (start .pre) _ _ _ (state .0) (state .1) (state .2), start .pre .long)
 
 store-state-requires : tie.Need-store-state-requires
 store-state-requires c κs =
-    let start = c .before .before .before .before .before .before .before .before .before .before .before .before .before .before in
-    let state = c .before .before .before .before .before .before .before .before .load-state .ensures in
-    (search needs, stage-small (start .args .words .now) _ _ (start .args .room .now) (start .pre) _ _ _ (state .0) (state .1) (state .2) (start .args .old .now) (start .args .new .now) _ _ _ _ (c .before .before .before .before .before .turn .ensures .0))
+    let at-turn = c .before .before .before .before .before in
+    let at-load-state = at-turn .before .before .before in
+    let start = at-load-state .before .before .before .before .before .before in
+    let state = at-load-state .load-state .ensures in
+    (search needs, stage-small (start .args .words .now) _ _ (start .args .room .now) (start .pre) _ _ _ (state .0) (state .1) (state .2) (start .args .old .now) (start .args .new .now) _ _ _ _ (at-turn .turn .ensures .0))
 
 same-length : tie.Need-same-length
 same-length c = search needs
@@ -28,11 +31,18 @@ same-length-2 c = search needs
 
 returns : tie.Need-returns
 returns c =
-    let start = c .before .before .before .before .before .before .before .before .before .before .before .before .before .before .before .before .before in
-    let state = c .before .before .before .before .before .before .before .before .before .before .before .load-state .ensures in
-    let turn = c .before .before .before .before .before .before .before .before .turn .ensures in (
-      turn-kept (start .args .words .now) _ _ (start .args .room .now) (start .pre) _ _ _ (state .0) (state .1) (state .2) (start .args .old .now) (start .args .new .now) _ _ _ _ (turn .0) _ (search needs) (c .before .before .store-state .ensures),
-      turn-wrote (start .args .words .now) _ _ (start .args .room .now) (start .pre) _ _ _ (state .0) (state .1) (state .2) (start .args .old .now) (start .args .new .now) _ _ _ _ (turn .0) _ (turn .1 .0),
+    let at-store-state = c .before .before in
+    let at-turn = at-store-state .before .before .before .before .before .before in
+    let at-load-state = at-turn .before .before .before in
+    let start = at-load-state .before .before .before .before .before .before in
+    let words = start .args .words .now in
+    let room = start .args .room .now in
+    let old = start .args .old .now in
+    let new = start .args .new .now in
+    let state = at-load-state .load-state .ensures in
+    let turn = at-turn .turn .ensures in (
+      turn-kept words _ _ room (start .pre) _ _ _ (state .0) (state .1) (state .2) old new _ _ _ _ (turn .0) _ (search needs) (at-store-state .store-state .ensures),
+      turn-wrote words _ _ room (start .pre) _ _ _ (state .0) (state .1) (state .2) old new _ _ _ _ (turn .0) _ (turn .1 .0),
     )
 
 pub one-turn-spec : {M : Type 1} → statement M

@@ -28,16 +28,28 @@ cast-b : tie.Need-cast-b Inv-loop μ-loop
 cast-b c = omega (arith, c .shared-slice-known4 .given (c .before .before .loop .i))
 
 mul-one-turn : tie.Need-mul-one-turn Inv-loop μ-loop
-mul-one-turn c = omega (arith, turn-fits (c .before .before .before .before .before .before .before .before .before .args .words .now) (c .before .before .before .before .before .before .before .before .before .args .turns .now) (c .before .before .before .before .before .before .before .before .before .args .old .now) (c .before .before .before .before .before .before .before .before .before .args .new .now) (c .before .before .before .before .before .before .before .before .before .args .room .now) _ _ _ (c .before .before .before .loop .inv .1) (omega arith) (c .before .before .before .before .before .before .before .before .before .pre .0) (c .before .before .before .before .before .before .before .before .before .pre .1) (c .before .before .before .before .before .before .before .before .before .pre .2))
+mul-one-turn c =
+    let at-loop = c .before .before .before in
+    let start = at-loop .before .before .before .before .before .before in
+    omega (arith, turn-fits (start .args .words .now) (start .args .turns .now) (start .args .old .now) (start .args .new .now) (start .args .room .now) _ _ _ (at-loop .loop .inv .1) (omega arith) (start .pre .0) (start .pre .1) (start .pre .2))
 
 mul-one-turn-2 : tie.Need-mul-one-turn-2 Inv-loop μ-loop
-mul-one-turn-2 c = omega (arith, turn-fits (c .before .before .before .before .before .before .before .before .before .args .words .now) (c .before .before .before .before .before .before .before .before .before .args .turns .now) (c .before .before .before .before .before .before .before .before .before .args .old .now) (c .before .before .before .before .before .before .before .before .before .args .new .now) (c .before .before .before .before .before .before .before .before .before .args .room .now) _ _ _ (c .before .before .before .loop .inv .1) (omega arith) (c .before .before .before .before .before .before .before .before .before .pre .0) (c .before .before .before .before .before .before .before .before .before .pre .1) (c .before .before .before .before .before .before .before .before .before .pre .2))
+mul-one-turn-2 c =
+    let at-loop = c .before .before .before in
+    let start = at-loop .before .before .before .before .before .before in
+    omega (arith, turn-fits (start .args .words .now) (start .args .turns .now) (start .args .old .now) (start .args .new .now) (start .args .room .now) _ _ _ (at-loop .loop .inv .1) (omega arith) (start .pre .0) (start .pre .1) (start .pre .2))
 
 add-one-turn : tie.Need-add-one-turn Inv-loop μ-loop
-add-one-turn c = omega (arith, turn-fits (c .before .before .before .before .before .before .before .before .before .args .words .now) (c .before .before .before .before .before .before .before .before .before .args .turns .now) (c .before .before .before .before .before .before .before .before .before .args .old .now) (c .before .before .before .before .before .before .before .before .before .args .new .now) (c .before .before .before .before .before .before .before .before .before .args .room .now) _ _ _ (c .before .before .before .loop .inv .1) (omega arith) (c .before .before .before .before .before .before .before .before .before .pre .0) (c .before .before .before .before .before .before .before .before .before .pre .1) (c .before .before .before .before .before .before .before .before .before .pre .2))
+add-one-turn c =
+    let at-loop = c .before .before .before in
+    let start = at-loop .before .before .before .before .before .before in
+    omega (arith, turn-fits (start .args .words .now) (start .args .turns .now) (start .args .old .now) (start .args .new .now) (start .args .room .now) _ _ _ (at-loop .loop .inv .1) (omega arith) (start .pre .0) (start .pre .1) (start .pre .2))
 
 mul-one-turn-3 : tie.Need-mul-one-turn-3 Inv-loop μ-loop
-mul-one-turn-3 c = omega (arith, turn-fits (c .before .before .before .before .before .before .before .before .before .args .words .now) (c .before .before .before .before .before .before .before .before .before .args .turns .now) (c .before .before .before .before .before .before .before .before .before .args .old .now) (c .before .before .before .before .before .before .before .before .before .args .new .now) (c .before .before .before .before .before .before .before .before .before .args .room .now) _ _ _ (c .before .before .before .loop .inv .1) (omega arith) (c .before .before .before .before .before .before .before .before .before .pre .0) (c .before .before .before .before .before .before .before .before .before .pre .1) (c .before .before .before .before .before .before .before .before .before .pre .2))
+mul-one-turn-3 c =
+    let at-loop = c .before .before .before in
+    let start = at-loop .before .before .before .before .before .before in
+    omega (arith, turn-fits (start .args .words .now) (start .args .turns .now) (start .args .old .now) (start .args .new .now) (start .args .room .now) _ _ _ (at-loop .loop .inv .1) (omega arith) (start .pre .0) (start .pre .1) (start .pre .2))
 
 sub-one-turn : tie.Need-sub-one-turn Inv-loop μ-loop
 sub-one-turn c = search needs
@@ -46,14 +58,19 @@ part-one-turn-start : tie.Need-part-one-turn-start Inv-loop μ-loop
 part-one-turn-start c = search needs
 
 part-one-turn-end : tie.Need-part-one-turn-end Inv-loop μ-loop
-part-one-turn-end c = omega (arith, turn-fits (c .before .before .before .before .before .before .before .before .before .args .words .now) (c .before .before .before .before .before .before .before .before .before .args .turns .now) (c .before .before .before .before .before .before .before .before .before .args .old .now) (c .before .before .before .before .before .before .before .before .before .args .new .now) (c .before .before .before .before .before .before .before .before .before .args .room .now) _ _ _ (c .before .before .before .loop .inv .1) (omega arith) (c .before .before .before .before .before .before .before .before .before .pre .0) (c .before .before .before .before .before .before .before .before .before .pre .1) (c .before .before .before .before .before .before .before .before .before .pre .2))
+part-one-turn-end c =
+    let at-loop = c .before .before .before in
+    let start = at-loop .before .before .before .before .before .before in
+    omega (arith, turn-fits (start .args .words .now) (start .args .turns .now) (start .args .old .now) (start .args .new .now) (start .args .room .now) _ _ _ (at-loop .loop .inv .1) (omega arith) (start .pre .0) (start .pre .1) (start .pre .2))
 
 one-turn-requires : tie.Need-one-turn-requires Inv-loop μ-loop
 one-turn-requires c κs =
-    let start = c .before .before .before .before .before .before .before .before .before .before in
-    let l = c .before .before .before .before .loop in
-    rw (lent-room (l .room) (getD (start .args .turns .now) (l .i) 0), l .inv .1 .long)
-    (turn-good (start .args .words .now) (start .args .turns .now) (start .args .old .now) (start .args .new .now) (start .args .room .now) _ _ _ (l .inv .1) (omega arith) (start .pre .0) (start .pre .1) (start .pre .2))
+    let at-loop = c .before .before .before .before in
+    let start = at-loop .before .before .before .before .before .before in
+    let turns = start .args .turns .now in
+    let l = at-loop .loop in
+    rw (lent-room (l .room) (getD turns (l .i) 0), l .inv .1 .long)
+    (turn-good (start .args .words .now) turns (start .args .old .now) (start .args .new .now) (start .args .room .now) _ _ _ (l .inv .1) (omega arith) (start .pre .0) (start .pre .1) (start .pre .2))
 
 add-i : tie.Need-add-i Inv-loop μ-loop
 add-i c = search needs
@@ -63,11 +80,14 @@ loop-less c = search needs
 
 loop-again : tie.Need-loop-again Inv-loop μ-loop
 loop-again c =
-    let start = c .before .before .before .before .before .before .before .before .before .before .before .before .before .before .before in
-    let l = c .before .before .before .before .before .before .before .before .before .loop in
-    let turn = c .before .before .before .before .one-turn .ensures in
-    let own = lent-room (l .room) (getD (start .args .turns .now) (l .i) 0) in
-    (omega arith, taken-next (start .args .words .now) (start .args .turns .now) (start .args .old .now) (start .args .new .now) (start .args .room .now) _ _ _ (l .inv .1) (omega arith) (start .pre .0) (start .pre .1) (start .pre .2) _ _ (search needs) (search needs) (rw own at (turn .0)) (rw own at (turn .1)))
+    let at-one-turn = c .before .before .before .before in
+    let at-loop = at-one-turn .before .before .before .before .before in
+    let start = at-loop .before .before .before .before .before .before in
+    let turns = start .args .turns .now in
+    let l = at-loop .loop in
+    let turn = at-one-turn .one-turn .ensures in
+    let own = lent-room (l .room) (getD turns (l .i) 0) in
+    (omega arith, taken-next (start .args .words .now) turns (start .args .old .now) (start .args .new .now) (start .args .room .now) _ _ _ (l .inv .1) (omega arith) (start .pre .0) (start .pre .1) (start .pre .2) _ _ (search needs) (search needs) (rw own at (turn .0)) (rw own at (turn .1)))
 
 same-length : tie.Need-same-length Inv-loop μ-loop
 same-length c = search needs
@@ -77,8 +97,9 @@ same-length-2 c = search needs
 
 returns : tie.Need-returns Inv-loop μ-loop
 returns c =
-    let start = c .before .before .before .before .before .before .before in
-    let l = c .before .loop in
+    let at-loop = c .before in
+    let start = at-loop .before .before .before .before .before .before in
+    let l = at-loop .loop in
     (l .inv .1 .good, taken-all (start .args .words .now) (start .args .turns .now) (start .args .old .now) (start .args .new .now) (start .args .room .now) _ _ _ (l .inv .1) (omega arith) (l .inv .0))
 
 pub take-turns-spec : {M : Type 1} → statement M

@@ -38,7 +38,9 @@ reads-form-requires c κs = search needs
 
 returns-4 : tie.Need-returns-4
 returns-4 c =
-    let stores = sym (c .before .before .before .before .before .before .before .stores-form .ensures) ∙ not-false _ (c .before .before .before .before .before .before .if1 .left) in
+    let at-if1 = c .before .before .before .before .before .before in
+    let at-stores-form = at-if1 .before in
+    let stores = sym (at-stores-form .stores-form .ensures) ∙ not-false _ (at-if1 .if1 .left) in
     let locations = sym (c .before .before .before .before .before .locations-form .ensures) ∙ not-false _ (c .before .before .before .before .if2 .left) in
     let lanes = sym (c .before .before .before .lanes-form .ensures) ∙ not-false _ (c .before .before .if3 .left) in
     body-reads 256 _ _ _ _ stores locations lanes (sym (c .before .reads-form .ensures) ∙ not-true _ (c .if4 .taken))
@@ -48,8 +50,11 @@ entries-form-requires c κs = search needs
 
 returns-5 : tie.Need-returns-5
 returns-5 c =
-    let stores = sym (c .before .before .before .before .before .before .before .before .stores-form .ensures) ∙ not-false _ (c .before .before .before .before .before .before .before .if1 .left) in
-    let locations = sym (c .before .before .before .before .before .before .locations-form .ensures) ∙ not-false _ (c .before .before .before .before .before .if2 .left) in
+    let at-locations-form = c .before .before .before .before .before .before in
+    let at-if1 = at-locations-form .before in
+    let at-stores-form = at-if1 .before in
+    let stores = sym (at-stores-form .stores-form .ensures) ∙ not-false _ (at-if1 .if1 .left) in
+    let locations = sym (at-locations-form .locations-form .ensures) ∙ not-false _ (c .before .before .before .before .before .if2 .left) in
     let lanes = sym (c .before .before .before .before .lanes-form .ensures) ∙ not-false _ (c .before .before .before .if3 .left) in
     let reads = sym (c .before .before .reads-form .ensures) ∙ not-false _ (c .before .if4 .left) in
     body-entries 256 _ _ _ _ stores locations lanes _ reads (c .entries-form .ensures)

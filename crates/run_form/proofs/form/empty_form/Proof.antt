@@ -44,9 +44,10 @@ last-mark-requires c κs = search needs
 
 returns-2 : tie.Need-returns-2 Inv-loop μ-loop
 returns-2 c =
-    let start = c .before .before .before .before .before .before .before in
+    let at-loop = c .before .before .before .before in
+    let start = at-loop .before .before .before in
     let long : start .args .e ≡ start .args .at + 256 = omega arith in
-    empty-as 256 _ 0 0 _ _ false long (all-fault _ 256 (c .before .before .before .before .loop .i) (omega arith) (ne-eqb _ _ (λ q. c .if2 .taken (q ∙ sym (c .before .last-mark .ensures)))))
+    empty-as 256 _ 0 0 _ _ false long (all-fault _ 256 (at-loop .loop .i) (omega arith) (ne-eqb _ _ (λ q. c .if2 .taken (q ∙ sym (c .before .last-mark .ensures)))))
 
 add-i : tie.Need-add-i Inv-loop μ-loop
 add-i c = search needs

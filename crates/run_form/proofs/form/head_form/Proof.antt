@@ -45,15 +45,21 @@ last-mark-requires c κs = search needs
 
 returns-4 : tie.Need-returns-4
 returns-4 c =
-    let start = c .before .before .before .before .before .before .before .before .before in
-    let fits : start .args .at + 256 ≤ start .args .e = omega arith in
-    head-last 256 (start .args .words .now) (start .args .e) (start .args .at) fits (omega arith) (omega arith) (c .before .before .before .before .before .part-end .result) (c .before .before .before .before .before .part-end .ensures) (omega arith) _ (c .last-mark .ensures)
+    let at-part-end = c .before .before .before .before .before in
+    let start = at-part-end .before .before .before .before in
+    let at = start .args .at in
+    let e = start .args .e in
+    let fits : at + 256 ≤ e = omega arith in
+    head-last 256 (start .args .words .now) e at fits (omega arith) (omega arith) (at-part-end .part-end .result) (at-part-end .part-end .ensures) (omega arith) _ (c .last-mark .ensures)
 
 returns-5 : tie.Need-returns-5
 returns-5 c =
-    let start = c .before .before .before .before .before .before .before in
-    let fits : start .args .at + 256 ≤ start .args .e = omega arith in
-    head-long 256 (start .args .words .now) (start .args .e) (start .args .at) fits (omega arith) (omega arith) (c .before .before .before .part-end .result) (c .before .before .before .part-end .ensures) (omega arith)
+    let at-part-end = c .before .before .before in
+    let start = at-part-end .before .before .before .before in
+    let at = start .args .at in
+    let e = start .args .e in
+    let fits : at + 256 ≤ e = omega arith in
+    head-long 256 (start .args .words .now) e at fits (omega arith) (omega arith) (at-part-end .part-end .result) (at-part-end .part-end .ensures) (omega arith)
 
 pub head-form-spec : {M : Type 1} → statement M
 head-form-spec =

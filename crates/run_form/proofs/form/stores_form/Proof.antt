@@ -46,13 +46,16 @@ wide-requires-3 c κs = search needs
 
 add-other : tie.Need-add-other
 add-other c =
-    let at = c .before .before .before .before .before .before .before .args .at in
-    omega (arith, c .before .shared-slice-known4 .given (at + 4), c .before .shared-slice-known4 .given (at + 7))
+    let at-shared-slice-known4 = c .before in
+    let start = at-shared-slice-known4 .before .before .before .before .before .before in
+    let at = start .args .at in
+    omega (arith, at-shared-slice-known4 .shared-slice-known4 .given (at + 4), at-shared-slice-known4 .shared-slice-known4 .given (at + 7))
 
 returns : tie.Need-returns
 returns c =
-    let start = c .before .before .before .before .before .before .before .before in
-    let same = stores-as 256 (start .args .s) (start .args .t) (start .args .words .now) (start .args .at) _ _ _ _ (c .before .before .before .before .before .wide .ensures) (c .before .before .before .wide2 .ensures) (c .before .wide3 .ensures) refl in
+    let at-wide = c .before .before .before .before .before in
+    let start = at-wide .before .before .before in
+    let same = stores-as 256 (start .args .s) (start .args .t) (start .args .words .now) (start .args .at) _ _ _ _ (at-wide .wide .ensures) (c .before .before .before .wide2 .ensures) (c .before .wide3 .ensures) refl in
     stores-short _ _ _ _ _ _ (c .if1 .taken) ∙ same
 
 start-requires : tie.Need-start-requires
@@ -60,31 +63,43 @@ start-requires c κs = search needs
 
 add-end : tie.Need-add-end
 add-end c =
-    let at = c .before .before .before .before .before .before .before .before .before .args .at in
-    omega (arith, c .before .before .before .shared-slice-known4 .given (at + 2), c .before .before .before .shared-slice-known4 .given (at + 3))
+    let at-shared-slice-known4 = c .before .before .before in
+    let start = at-shared-slice-known4 .before .before .before .before .before .before in
+    let at = start .args .at in
+    omega (arith, at-shared-slice-known4 .shared-slice-known4 .given (at + 2), at-shared-slice-known4 .shared-slice-known4 .given (at + 3))
 
 returns-2 : tie.Need-returns-2
 returns-2 c =
-    let start = c .before .before .before .before .before .before .before .before .before .before .before in
-    let same = stores-as 256 (start .args .s) (start .args .t) (start .args .words .now) (start .args .at) _ _ _ _ (c .before .before .before .before .before .before .before .before .wide .ensures) (c .before .before .before .before .before .before .wide2 .ensures) (c .before .before .before .before .wide3 .ensures) (c .before .before .start .ensures) in
+    let at-wide2 = c .before .before .before .before .before .before in
+    let at-wide = at-wide2 .before .before in
+    let start = at-wide .before .before .before in
+    let same = stores-as 256 (start .args .s) (start .args .t) (start .args .words .now) (start .args .at) _ _ _ _ (at-wide .wide .ensures) (at-wide2 .wide2 .ensures) (c .before .before .before .before .wide3 .ensures) (c .before .before .start .ensures) in
     stores-none _ _ _ _ _ _ (c .before .before .before .if1 .left) (c .before .if2 .taken) (c .if3 .taken) ∙ same
 
 returns-3 : tie.Need-returns-3
 returns-3 c =
-    let start = c .before .before .before .before .before .before .before .before .before .before .before .before in
-    let same = stores-as 256 (start .args .s) (start .args .t) (start .args .words .now) (start .args .at) _ _ _ _ (c .before .before .before .before .before .before .before .before .before .wide .ensures) (c .before .before .before .before .before .before .before .wide2 .ensures) (c .before .before .before .before .before .wide3 .ensures) (c .before .before .before .start .ensures) in
+    let at-wide3 = c .before .before .before .before .before in
+    let at-wide2 = at-wide3 .before .before in
+    let at-wide = at-wide2 .before .before in
+    let start = at-wide .before .before .before in
+    let same = stores-as 256 (start .args .s) (start .args .t) (start .args .words .now) (start .args .at) _ _ _ _ (at-wide .wide .ensures) (at-wide2 .wide2 .ensures) (at-wide3 .wide3 .ensures) (c .before .before .before .start .ensures) in
     stores-new _ _ _ _ _ _ (c .before .before .before .before .if1 .left) (c .before .before .if2 .taken) (c .before .if3 .left) (c .if4 .taken) ∙ same
 
 returns-4 : tie.Need-returns-4
 returns-4 c =
-    let start = c .before .before .before .before .before .before .before .before .before .before .before .before in
-    let same = stores-as 256 (start .args .s) (start .args .t) (start .args .words .now) (start .args .at) _ _ _ _ (c .before .before .before .before .before .before .before .before .before .wide .ensures) (c .before .before .before .before .before .before .before .wide2 .ensures) (c .before .before .before .before .before .wide3 .ensures) (c .before .before .before .start .ensures) in
+    let at-wide3 = c .before .before .before .before .before in
+    let at-wide2 = at-wide3 .before .before in
+    let at-wide = at-wide2 .before .before in
+    let start = at-wide .before .before .before in
+    let same = stores-as 256 (start .args .s) (start .args .t) (start .args .words .now) (start .args .at) _ _ _ _ (at-wide .wide .ensures) (at-wide2 .wide2 .ensures) (at-wide3 .wide3 .ensures) (c .before .before .before .start .ensures) in
     stores-old _ _ _ _ _ _ (c .before .before .before .before .if1 .left) (c .before .before .if2 .taken) (c .before .if3 .left) (c .if4 .left) ∙ same
 
 returns-5 : tie.Need-returns-5
 returns-5 c =
-    let start = c .before .before .before .before .before .before .before .before .before .before in
-    let same = stores-as 256 (start .args .s) (start .args .t) (start .args .words .now) (start .args .at) _ _ _ _ (c .before .before .before .before .before .before .before .wide .ensures) (c .before .before .before .before .before .wide2 .ensures) (c .before .before .before .wide3 .ensures) (c .before .start .ensures) in
+    let at-wide2 = c .before .before .before .before .before in
+    let at-wide = at-wide2 .before .before in
+    let start = at-wide .before .before .before in
+    let same = stores-as 256 (start .args .s) (start .args .t) (start .args .words .now) (start .args .at) _ _ _ _ (at-wide .wide .ensures) (at-wide2 .wide2 .ensures) (c .before .before .before .wide3 .ensures) (c .before .start .ensures) in
     stores-many _ _ _ _ _ _ (c .before .before .if1 .left) (c .if2 .left) ∙ same
 
 pub stores-form-spec : {M : Type 1} → statement M

@@ -6,7 +6,7 @@ use native.Mathlib.Omega.{arith}
 use borrow.Author.Tests.{not-true, not-false}
 use lib.ListN.{length}
 use Rattle.words.specs.Tests.{firstFrom}
-use Rattle.words.proofs.TestLaws.{first-fault, first-next, first-end}
+use Rattle.words.proofs.FoundLaws.{look-fault, look-next, look-end}
 use Rattle.run_machine.specs.Run.{badBlock}
 use Rattle.run_form.proofs.RefuseLaws.{blockGood, few-starts, first-block}
 use borrow.Author.Needs.{needs}
@@ -49,10 +49,10 @@ block-form-requires c κs = search needs
 
 returns-2 : tie.Need-returns-2 Inv-loop μ-loop
 returns-2 c =
-    let l = c .before .before .before .before .before .loop in
-    let args = c .before .before .before .before .before .before .before .before .before .args in
+    let l = c .before .before .before .before .before in
+    let args = l .before .before .before .before .args in
     let good = blockGood 256 (args .words .now) (args .starts .now) (args .s) (args .t) in
-    sym (first-fault good (length (args .starts .now) - 1) (l .i) (omega arith) (sym (c .before .block-form .ensures) ∙ not-true _ (c .if2 .taken))) ∙ l .inv .3
+    look-fault good (length (args .starts .now) - 1) (l .loop .i) _ (l .loop .inv .3) (omega arith) (sym (c .before .block-form .ensures) ∙ not-true _ (c .if2 .taken))
 
 add-i : tie.Need-add-i Inv-loop μ-loop
 add-i c = search needs
@@ -62,13 +62,14 @@ loop-less c = search needs
 
 loop-again : tie.Need-loop-again Inv-loop μ-loop
 loop-again c =
-    let l = c .before .before .before .before .before .loop in
-    let args = c .before .before .before .before .before .before .before .before .before .args in
+    let l = c .before .before .before .before .before in
+    let args = l .before .before .before .before .args in
     let good = blockGood 256 (args .words .now) (args .starts .now) (args .s) (args .t) in
-    (omega arith, refl, l .inv .2, sym (first-next good (length (args .starts .now) - 1) (l .i) (omega arith) (sym (c .before .block-form .ensures) ∙ not-false _ (c .if2 .left))) ∙ l .inv .3)
+    let next = look-next good (length (args .starts .now) - 1) (l .loop .i) _ (l .loop .inv .3) (omega arith) (sym (c .before .block-form .ensures) ∙ not-false _ (c .if2 .left)) in
+    (omega arith, refl, l .loop .inv .2, next)
 
 returns-3 : tie.Need-returns-3 Inv-loop μ-loop
-returns-3 c = sym (first-end _ _ (c .before .loop .i) (omega arith)) ∙ c .before .loop .inv .3
+returns-3 c = look-end _ _ (c .before .loop .i) _ (c .before .loop .inv .3) (omega arith)
 
 pub bad-block-spec : {M : Type 1} → statement M
 bad-block-spec =

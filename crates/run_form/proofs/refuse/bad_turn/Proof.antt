@@ -1,13 +1,12 @@
 -- `run_form::refuse::bad_turn` meets its contract. The invariant: the lowest turn from i on is the lowest of all.
 -- Assumes nothing.
-use mathlib.Core.Path.{_≡_, sym, _∙_}
-use mathlib.Core.Logic.{⊎-elim}
+use mathlib.Core.Path.{_≡_}
 use Prim.Native.Nat.{_-_, _≤_}
 use native.Mathlib.Omega.{arith}
 use borrow.Author.Tests.{lt-ltb, le-ltb}
 use lib.ListN.{length, getD}
 use Rattle.words.specs.Tests.{firstFrom}
-use Rattle.words.proofs.TestLaws.{first-fault, first-next, first-end}
+use Rattle.words.proofs.FoundLaws.{look-fault, look-next, look-end}
 use Rattle.run_machine.specs.Run.{badTurn}
 use Rattle.run_form.proofs.RefuseLaws.{turnGood, first-turn}
 use borrow.Author.Needs.{needs}
@@ -21,29 +20,29 @@ Inv-loop starts turns blocks i₀ i =
 abbrev μ-loop : tie.MeasureT-loop
 μ-loop starts turns blocks i₀ i = length turns - i
 
-sub-blocks : tie.Need-sub-blocks Inv-loop μ-loop
-sub-blocks c = search needs
+blocks-of-requires : tie.Need-blocks-of-requires Inv-loop μ-loop
+blocks-of-requires c κs = search needs
 
 loop-holds : tie.Need-loop-holds Inv-loop μ-loop
-loop-holds c =
-    let blocks : c .if1 .blocks ≡ length (c .before .args .starts .now) - 1 = ⊎-elim (λ w. omega arith) (λ w. omega arith) (c .if1 .came) in
-    (omega arith, blocks, first-turn _ _)
+loop-holds c = (omega arith, c .blocks-of .ensures, first-turn _ _)
 
-mul-if2 : tie.Need-mul-if2 Inv-loop μ-loop
-mul-if2 c = search needs
+mul-if1 : tie.Need-mul-if1 Inv-loop μ-loop
+mul-if1 c = search needs
 
-shared-slice-read-if2 : tie.Need-shared-slice-read-if2 Inv-loop μ-loop
-shared-slice-read-if2 c = search needs
+shared-slice-read-if1 : tie.Need-shared-slice-read-if1 Inv-loop μ-loop
+shared-slice-read-if1 c = search needs
 
-cast-if2 : tie.Need-cast-if2 Inv-loop μ-loop
-cast-if2 c = omega (arith, c .shared-slice-known .given (c .before .before .loop .i))
+cast-if1 : tie.Need-cast-if1 Inv-loop μ-loop
+cast-if1 c = omega (arith, c .shared-slice-known3 .given (c .before .before .loop .i))
 
 returns : tie.Need-returns Inv-loop μ-loop
 returns c =
-    let l = c .before .before .before .loop in
-    let starts = c .before .before .before .before .before .args .starts .now in
-    let turns = c .before .before .before .before .before .args .turns .now in
-    sym (first-fault (turnGood starts turns) (length turns) (l .i) (omega arith) (le-ltb (getD turns (l .i) 0) (length starts - 1) (omega arith))) ∙ l .inv .2
+    let at-loop = c .before .before .before in
+    let start = at-loop .before .before .before .before in
+    let starts = start .args .starts .now in
+    let turns = start .args .turns .now in
+    let l = at-loop .loop in
+    look-fault (turnGood starts turns) (length turns) (l .i) _ (l .inv .2) (omega arith) (le-ltb (getD turns (l .i) 0) (length starts - 1) (omega arith))
 
 add-i : tie.Need-add-i Inv-loop μ-loop
 add-i c = search needs
@@ -53,13 +52,15 @@ loop-less c = search needs
 
 loop-again : tie.Need-loop-again Inv-loop μ-loop
 loop-again c =
-    let l = c .before .before .before .loop in
-    let starts = c .before .before .before .before .before .args .starts .now in
-    let turns = c .before .before .before .before .before .args .turns .now in
-    (omega arith, l .inv .1, sym (first-next (turnGood starts turns) (length turns) (l .i) (omega arith) (lt-ltb (getD turns (l .i) 0) (length starts - 1) (omega arith))) ∙ l .inv .2)
+    let at-loop = c .before .before .before in
+    let start = at-loop .before .before .before .before in
+    let starts = start .args .starts .now in
+    let turns = start .args .turns .now in
+    let l = at-loop .loop in
+    (omega arith, l .inv .1, look-next (turnGood starts turns) (length turns) (l .i) _ (l .inv .2) (omega arith) (lt-ltb (getD turns (l .i) 0) (length starts - 1) (omega arith)))
 
 returns-2 : tie.Need-returns-2 Inv-loop μ-loop
-returns-2 c = sym (first-end _ _ (c .before .loop .i) (omega arith)) ∙ c .before .loop .inv .2
+returns-2 c = look-end _ _ (c .before .loop .i) _ (c .before .loop .inv .2) (omega arith)
 
 pub bad-turn-spec : {M : Type 1} → statement M
 bad-turn-spec =
@@ -67,11 +68,11 @@ bad-turn-spec =
     (tie.spec
     Inv-loop
     μ-loop
-    sub-blocks
+    blocks-of-requires
     loop-holds
-    mul-if2
-    shared-slice-read-if2
-    cast-if2
+    mul-if1
+    shared-slice-read-if1
+    cast-if1
     returns
     add-i
     loop-less

@@ -34,8 +34,9 @@ same-length c = search needs
 
 returns : tie.Need-returns
 returns c =
-    let start = c .before .before .before .before .before .before .before .before .before .before .before .before in
-    read-room-is _ _ (start .args .room .now) (start .pre .2) _ _ _ _ (c .before .before .before .before .before .before .read-turn .ensures) (c .before .before .clear .ensures)
+    let at-read-turn = c .before .before .before .before .before .before in
+    let start = at-read-turn .before .before .before .before .before .before in
+    read-room-is _ _ (start .args .room .now) (start .pre .2) _ _ _ _ (at-read-turn .read-turn .ensures) (c .before .before .clear .ensures)
 
 pub read-room-spec : {M : Type 1} → statement M
 read-room-spec =

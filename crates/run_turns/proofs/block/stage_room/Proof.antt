@@ -25,8 +25,9 @@ same-length c = search needs
 
 returns : tie.Need-returns
 returns c =
-    let start = c .before .before .before .before .before .before .before .before .before .before in
-    stage-room-is _ _ (start .args .room .now) (start .pre .4) _ _ _ (c .before .before .before .before .before .before .stage-turn .ensures) (c .before .before .capture .ensures)
+    let at-stage-turn = c .before .before .before .before .before .before in
+    let start = at-stage-turn .before .before .before .before in
+    stage-room-is _ _ (start .args .room .now) (start .pre .4) _ _ _ (at-stage-turn .stage-turn .ensures) (c .before .before .capture .ensures)
 
 pub stage-room-spec : {M : Type 1} → statement M
 stage-room-spec =

@@ -38,8 +38,10 @@ append-requires c κs = search needs
 
 returns : tie.Need-returns
 returns c =
-    let start = c .before .before .before .before .before .before .before .before .before in
-    let word = ap (λ (l : List ℕ). getD l 0 0) (c .before .before .window .ensures .0) ∙ window-word _ _ _ in
+    let at-window = c .before .before in
+    let way = at-window .before .before .before .before .before .before in
+    let start = way .before in
+    let word = ap (λ (l : List ℕ). getD l 0 0) (at-window .window .ensures .0) ∙ window-word _ _ _ in
     c .append .ensures ∙ ap (λ (x : ℕ). appended 32 x (getD (start .args .words .now) (start .args .pair + 1) 0) (start .args .acc)) word
 
 returns-2 : tie.Need-returns-2

@@ -40,8 +40,9 @@ loop-less c = search needs
 
 loop-again : tie.Need-loop-again Inv-loop μ-loop
 loop-again c =
-    let l = c .before .before .loop in
-    let start = c .before .before .before .before .before .before .before in
+    let at-loop = c .before .before in
+    let start = at-loop .before .before .before .before .before in
+    let l = at-loop .loop in
     (omega arith, filled-more _ 0 _ (start .args .row .now) _ _ (l .inv .1) (omega arith) (omega arith) (c .read-lane .ensures))
 
 same-length : tie.Need-same-length Inv-loop μ-loop

@@ -47,8 +47,9 @@ loop-less c = search needs
 
 loop-again : tie.Need-loop-again Inv-loop μ-loop
 loop-again c =
-    let l = c .before .before .before .loop in
-    let start = c .before .before .before .before .before .before .before in
+    let at-loop = c .before .before .before in
+    let start = at-loop .before .before .before .before in
+    let l = at-loop .loop in
     (omega arith, l .inv .1, simp length-set (l .inv .2), capture-more 256 _ _ _ (start .args .room .now) _ _ _ (l .inv .3) (omega arith) (c .capture-word .ensures))
 
 same-length : tie.Need-same-length Inv-loop μ-loop

@@ -27,12 +27,13 @@ slice-aggregate-store-words c = search needs
 
 store-words-requires : tie.Need-store-words-requires
 store-words-requires c κs =
-    let start = c .before .before .before .before .before .before .before .before .before .before in (
+    let at-normal = c .before .before .before .before in
+    let start = at-normal .before .before .before .before .before .before in (
       record {
         part = start .pre .0;
         captures = start .pre .1;
         entries = start .pre .2;
-        room = padded-length _ (listOf (λ i. getD (start .args .caps .now) i 0) (c .before .before .before .before .normal .result)) (c .before .before .before .copy-front .ensures);
+        room = padded-length _ (listOf (λ i. getD (start .args .caps .now) i 0) (at-normal .normal .result)) (c .before .before .before .copy-front .ensures);
         held = λ any. start .pre .4 any .0;
       },
       λ any. start .pre .4 any .1,
@@ -43,12 +44,14 @@ same-length c = search needs
 
 returns : tie.Need-returns
 returns c =
-    let start = c .before .before .before .before .before .before .before .before .before .before .before .before .before in
+    let at-copy-front = c .before .before .before .before .before .before in
+    let at-normal = at-copy-front .before in
+    let start = at-normal .before .before .before .before .before .before in
     let W = start .args .words .now in
     let o = start .args .at in
     let caps = start .args .caps .now in
     let few : normalAt W o ≤ 256 = start .pre .1 .few in
-    let copied = c .before .before .before .before .before .before .copy-front .ensures ∙ ap (λ (x : ℕ). sets (replicate 256 0) 0 (listOf (λ i. getD caps i 0) x)) (c .before .before .before .before .before .before .before .normal .ensures) in
+    let copied = at-copy-front .copy-front .ensures ∙ ap (λ (x : ℕ). sets (replicate 256 0) 0 (listOf (λ i. getD caps i 0) x)) (at-normal .normal .ensures) in
     c .before .before .store-words .ensures
     ∙ ap (λ (x : List ℕ). sets (start .args .new .now) (startAt W o) x) (stored-padded W o (start .args .old .now) caps _ (normalAt W o) few (omega arith) copied)
 

@@ -45,7 +45,8 @@ loop-holds c =
 store-word-requires : tie.Need-store-word-requires Inv-loop μ-loop
 store-word-requires c κs =
     let head = c .before in
-    let start = head .before .before .before .before .before .before .before in
+    let way = head .before .before .before .before .before .before in
+    let start = way .before in
     let inside = head .loop .inv .5 (omega arith) in
     (start .pre .0, omega arith, omega (arith, inside .0))
 
@@ -86,8 +87,10 @@ same-length c = c .before .loop .inv .3
 
 returns : tie.Need-returns Inv-loop μ-loop
 returns c =
-    let l = c .before .loop in
-    let start = c .before .before .before .before .before .before .before .before in
+    let at-loop = c .before in
+    let way = at-loop .before .before .before .before .before .before in
+    let start = way .before in
+    let l = at-loop .loop in
     let e : l .l ≡ normalAt (start .args .words .now) (start .args .at) = omega arith in
     rw (← l .inv .2, ← e) (l .inv .4)
 
