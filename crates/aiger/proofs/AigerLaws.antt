@@ -18,8 +18,10 @@ use Rattle.words.specs.Tests.{allBelow}
 use Rattle.words.proofs.TestLaws.{and-true, true-and, all-at, all-true, not-none, none-not}
 use Rattle.gatelist.specs.GateList.{beforeOver, rightOver, badOver}
 use Rattle.gatelist.specs.Words.{listPin, listFirst, listSecond, wholeGates, allGates, listRight, badList}
-use Rattle.aiger.specs.Reading.{Header, lastVariable, Start, startOf, Gates, found, gatesFrom, gatesOf, Reading, gates, listed, readAiger}
-use Rattle.aiger.specs.Writing.{headerText, gatesBytes, follows, gateWritable, isNone, writable, inputsOf, textOf, Writing, written, writeAiger}
+use Rattle.words.specs.Answer.{Answer, good, nowhere}
+use Rattle.words.proofs.AnswerLaws.{refused-good}
+use Rattle.aiger.specs.Reading.{Header, lastVariable, Start, startOf, Gates, found, gatesFrom, gatesOf, Read, gates, listed, readAiger}
+use Rattle.aiger.specs.Writing.{headerText, gatesBytes, follows, gateWritable, isNone, writable, inputsOf, textOf, writeAiger}
 use Rattle.aiger.proofs.StandLaws.{Stands, stands-made, stands-then, Bytes}
 use Rattle.aiger.proofs.GateLaws.{GateAs, ListAs, list-read, gates-read, gates-written}
 use Rattle.aiger.proofs.HeaderLaws.{header-read, header-written, start-read, start-written, start-fits}
@@ -149,9 +151,8 @@ record FileRead (bs : List ℕ) (h : Header) (l : List ℕ) : Type 0 where
 
 listed-parts : (k : Header) (r : Gates) (h : Header) (l : List ℕ) → listed k r ≡ gates h l → (k ≡ h) × ((next : ℕ) × (r ≡ found l next))
 listed-parts k (found m at) h l e =
-    let same : k ≡ h = cc in
-    let list : m ≡ l = cc in
-    (same, (at, ap (λ (x : List ℕ). found x at) list))
+    let is : _≡_ {A = Read} (record { header = k; list = m }) (record { header = h; list = l }) = cc in
+    (ap (λ (x : Read). x .header) is, (at, ap (λ (x : Read). found (x .list) at) is))
 listed-parts k (Gates.refused n) h l e = let z : _≡_ {A = ℕ} 0 1 = cc in absurd (omega arith)
 
 file-parts : (bs : List ℕ) (h : Header) (l : List ℕ) → readAiger bs ≡ gates h l → FileRead bs h l
@@ -160,18 +161,16 @@ file-parts bs h l e = go (startOf bs) refl
   where
     go : (o : Option Start) → startOf bs ≡ o → FileRead bs h l
     go none p =
-        let f : Reading.refused 18 ≡ gates h l = rw (p, readAiger) at e in
-        let z : _≡_ {A = ℕ} 0 1 = cc in
-        absurd (omega arith)
+        refused-good (nowhere 18) (record { header = h; list = l }) (rw (p, readAiger) at e)
     go (some s) p =
         let both = listed-parts (s .header) (gatesOf bs s) h l (sym (read-start bs s p) ∙ e) in
         record { start = s; next = both .1 .0; start-is = p; gates-are = both .1 .1; header-is = sym (both .0) }
 
-pub write-good : (l : List ℕ) → writable l ≡ true → writeAiger l ≡ written (textOf l)
+pub write-good : (l : List ℕ) → writable l ≡ true → writeAiger l ≡ good (textOf l)
 unfolding writeAiger
 write-good l e = rw (e, writeAiger)
 
-pub write-bad : (l : List ℕ) → writable l ≡ false → writeAiger l ≡ Writing.refused 33
+pub write-bad : (l : List ℕ) → writable l ≡ false → writeAiger l ≡ Answer.refused (nowhere 33)
 unfolding writeAiger
 write-bad l e = rw (e, writeAiger)
 
@@ -179,18 +178,16 @@ record ListWritten (l t : List ℕ) : Type 0 where
   good : writable l ≡ true
   is : t ≡ textOf l
 
-write-parts : (l t : List ℕ) → writeAiger l ≡ written t → ListWritten l t
+write-parts : (l t : List ℕ) → writeAiger l ≡ good t → ListWritten l t
 write-parts l t e = go (writable l) refl
   where
     go : (b : Bool) → writable l ≡ b → ListWritten l t
     go true p =
-        let f : written (textOf l) ≡ written t = sym (write-good l p) ∙ e in
+        let f : good (textOf l) ≡ good t = sym (write-good l p) ∙ e in
         let same : textOf l ≡ t = cc in
         record { good = p; is = sym same }
     go false p =
-        let f : Writing.refused 33 ≡ written t = sym (write-bad l p) ∙ e in
-        let z : _≡_ {A = ℕ} 0 1 = cc in
-        absurd (omega arith)
+        refused-good (nowhere 33) t (sym (write-bad l p) ∙ e)
 
 -- ---- read of write: a list that may be written, written, reads back as itself
 
@@ -214,7 +211,7 @@ text-read l W =
     ap (λ (v : ℕ). gatesFrom bs n v (length head)) variable ∙ gates-read l bs n (inputsOf l + 1) n 0 (list-as l W) (omega arith) (omega arith) second in
     read-start bs (record { header = ownHeader l; next = length head }) start ∙ ap (listed (ownHeader l)) list
 
-pub read-of-write : (l t : List ℕ) → writeAiger l ≡ written t → readAiger t ≡ gates (ownHeader l) l
+pub read-of-write : (l t : List ℕ) → writeAiger l ≡ good t → readAiger t ≡ gates (ownHeader l) l
 read-of-write l t e = let P = write-parts l t e in ap readAiger (P .is) ∙ text-read l (list-writable l (P .good))
 
 -- ---- read is writable: a list that was read is never refused by 33
@@ -269,7 +266,7 @@ module _ (bs : List ℕ) (s : Start) (l : List ℕ) (next : ℕ) (e : startOf bs
   gates-writable : ListWritable l
   gates-writable = as-writable _ _ l gates-as (omega arith) (omega (arith, start-fits bs s e))
 
-pub read-writable : (bs : List ℕ) (h : Header) (l : List ℕ) → readAiger bs ≡ gates h l → writeAiger l ≡ written (textOf l)
+pub read-writable : (bs : List ℕ) (h : Header) (l : List ℕ) → readAiger bs ≡ gates h l → writeAiger l ≡ good (textOf l)
 read-writable bs h l e =
     let F = file-parts bs h l e in
     write-good l (writable-list l (gates-writable bs (F .start) l (F .next) (F .start-is) (F .gates-are)))
@@ -343,15 +340,15 @@ module _ (bs : List ℕ) (s : Start) (l : List ℕ) (next : ℕ) (B : Bytes bs) 
   gates-stand : Stands (gatesBytes l (s .header .gates) 0) bs (s .next) next
   gates-stand = gates-written bs (s .header .gates) (s .header .inputs + s .header .latches + 1) (s .next) l next B f
 
-  own-written : writeAiger l ≡ written (textOf l)
+  own-written : writeAiger l ≡ good (textOf l)
   own-written = write-good l (writable-list l (gates-writable bs s l next e f))
 
   pub write-of-read : writeAiger l
-      ≡ written (headerText (lastVariable (s .header)) (s .header .inputs + s .header .latches) 0 0 (s .header .gates) ++ take (next - s .next) (drop (s .next) bs))
-  write-of-read = own-written ∙ ap written (own-text ∙ ap (λ (t : List ℕ). headerText (lastVariable (s .header)) (s .header .inputs + s .header .latches) 0 0 (s .header .gates) ++ t) (sym (stands-slice _ bs gates-stand)))
+      ≡ good (headerText (lastVariable (s .header)) (s .header .inputs + s .header .latches) 0 0 (s .header .gates) ++ take (next - s .next) (drop (s .next) bs))
+  write-of-read = own-written ∙ ap good (own-text ∙ ap (λ (t : List ℕ). headerText (lastVariable (s .header)) (s .header .inputs + s .header .latches) 0 0 (s .header .gates) ++ t) (sym (stands-slice _ bs gates-stand)))
 
   -- without latches and outputs, and with nothing behind the gates, the same file
-  pub same-file : s .header .latches ≡ 0 → s .header .outputs ≡ 0 → next ≡ length bs → writeAiger l ≡ written bs
+  pub same-file : s .header .latches ≡ 0 → s .header .outputs ≡ 0 → next ≡ length bs → writeAiger l ≡ good bs
   same-file noLatches noOutputs end =
       let h : Header = s .header in
       let head : List ℕ = headerText (lastVariable h) (h .inputs) (h .latches) (h .outputs) (h .gates) in
@@ -365,4 +362,4 @@ module _ (bs : List ℕ) (s : Start) (l : List ℕ) (next : ℕ) (B : Bytes bs) 
       ∙ ap₂ (λ (m o : ℕ). headerText (lastVariable h) (h .inputs) m o (h .gates)) (sym noLatches) (sym noOutputs) in
       let text : textOf l ≡ bs =
       own-text ∙ ap (λ (t : List ℕ). t ++ body) heads ∙ sym (all ∙ ap (λ (t : List ℕ). (head ++ body) ++ t) nothing ∙ append-nil (head ++ body)) in
-      own-written ∙ ap written text
+      own-written ∙ ap good text

@@ -4,12 +4,13 @@ use mathlib.Core.Path.{_≡_, refl}
 use mathlib.Core.List.{List, [], _∷_, _++_}
 use mathlib.Core.Option.{bind}
 use Prim.Native.Nat.{ℕ, _^_, _-_, _+_}
+use Rattle.words.specs.Answer.{Answer, good, refused}
 use Rattle.words.specs.Tests.{firstFrom, allBelow}
 use Rattle.text.specs.Text.{decimalIn}
 use Rattle.gatelist.specs.GateList.{beforeOver, rightOver}
 use Rattle.gatelist.specs.Words.{listRight, badList}
-use Rattle.aiger.specs.Reading.{Difference, whole, wrong, cut, Reading, gates, refused, differenceAt, digitsFrom, numberIn, endedBy, fieldAt, startWith, isMarked, fieldsOf, headerOf, endOf, lineAt, linesFrom, startOf, groupsIn, differenceIn, literalOf, gateAt, gatesFrom, readAiger}
-use Rattle.aiger.specs.Writing.{Writing, written, refused as unwritten, differenceBytes, groupBytes, headerText, gateBytes, gatesBytes, follows, gateWritable, writable, textOf, writeAiger}
+use Rattle.aiger.specs.Reading.{Difference, whole, wrong, cut, Read, differenceAt, digitsFrom, numberIn, endedBy, fieldAt, startWith, isMarked, fieldsOf, headerOf, endOf, lineAt, linesFrom, startOf, groupsIn, differenceIn, literalOf, gateAt, gatesFrom, readAiger}
+use Rattle.aiger.specs.Writing.{differenceBytes, groupBytes, headerText, gateBytes, gatesBytes, follows, gateWritable, writable, textOf, writeAiger}
 
 -- what the definitions give, and what is said
 pub record Example : Type 0 where
@@ -27,14 +28,14 @@ unfoldable pub coded : ℕ → List ℕ
 coded x = differenceBytes x ++ told (differenceAt (differenceBytes x) 0)
 
 -- a file: inputs, latches, outputs, gates and the list; or the refusal's number
-unfoldable pub readAs : Reading → List ℕ
-readAs (gates h l) = h .inputs ∷ h .latches ∷ h .outputs ∷ h .gates ∷ l
-readAs (refused n) = n ∷ []
+unfoldable pub readAs : Answer Read → List ℕ
+readAs (good x) = x .header .inputs ∷ x .header .latches ∷ x .header .outputs ∷ x .header .gates ∷ x .list
+readAs (refused q) = q .number ∷ []
 
 -- a text, or the refusal's number
-unfoldable pub writtenAs : Writing → List ℕ
-writtenAs (written t) = t
-writtenAs (unwritten n) = n ∷ []
+unfoldable pub writtenAs : Answer (List ℕ) → List ℕ
+writtenAs (good t) = t
+writtenAs (refused q) = q .number ∷ []
 
 -- `aig 5 2 0 2 3`, `10`, `6`, the gates, and a symbol of those that follow: `i0 x`
 unfoldable pub halfAdder : List ℕ → List ℕ

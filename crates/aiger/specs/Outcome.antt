@@ -6,24 +6,24 @@ use Prim.Native.Nat.{ℕ}
 use lib.Dec.{leb}
 use lib.ListN.{length}
 use lib.Seq.{sets}
-use Rattle.aiger.specs.Reading.{Reading, gates, refused}
-use Rattle.aiger.specs.Writing.{Writing, written, refused as unwritten}
+use Rattle.words.specs.Answer.{Answer, good, refused, nowhere}
+use Rattle.aiger.specs.Reading.{Read}
 
 -- 14: "lent result room shorter than needed"
-unfoldable pub fitting : ℕ → Reading → Reading
-fitting o (gates h l) = elim (leb (length l) o) [ true ↦ gates h l | false ↦ refused 14 ]
-fitting o (refused n) = refused n
+unfoldable pub fitting : ℕ → Answer Read → Answer Read
+fitting o (good x) = elim (leb (length (x .list)) o) [ true ↦ good x | false ↦ refused (nowhere 14) ]
+fitting o (refused q) = refused q
 
 -- the list from the start of the lent words, or what they held
-unfoldable pub listAfter : Reading → List ℕ → List ℕ
-listAfter (gates h l) out = sets out 0 l
-listAfter (refused n) out = out
+unfoldable pub listAfter : Answer Read → List ℕ → List ℕ
+listAfter (good x) out = sets out 0 (x .list)
+listAfter (refused q) out = out
 
 -- the same of a text
-unfoldable pub holding : ℕ → Writing → Writing
-holding o (written t) = elim (leb (length t) o) [ true ↦ written t | false ↦ unwritten 14 ]
-holding o (unwritten n) = unwritten n
+unfoldable pub holding : ℕ → Answer (List ℕ) → Answer (List ℕ)
+holding o (good t) = elim (leb (length t) o) [ true ↦ good t | false ↦ refused (nowhere 14) ]
+holding o (refused q) = refused q
 
-unfoldable pub textAfter : Writing → List ℕ → List ℕ
-textAfter (written t) out = sets out 0 t
-textAfter (unwritten n) out = out
+unfoldable pub textAfter : Answer (List ℕ) → List ℕ → List ℕ
+textAfter (good t) out = sets out 0 t
+textAfter (refused q) out = out

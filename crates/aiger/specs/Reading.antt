@@ -6,6 +6,7 @@ use mathlib.Core.Option.{Option, none, some, bind as _>>=_}
 use Prim.Native.Nat.{ℕ, zero, suc, _+_, _*_, _-_, _^_}
 use lib.Dec.{leb, ltb, eqb}
 use lib.ListN.{getD, drop}
+use Rattle.words.specs.Answer.{Answer, nowhere}
 
 -- ---- numbers of the header and of the lines
 
@@ -171,18 +172,21 @@ gatesFrom bs (suc n) v at = elim (gateAt bs v at) [ refused k ↦ refused k | ga
 
 -- ---- the file
 
--- the header with "a gate list in 01's form", or a refusal's number
-pub data Reading : Type 0 where
-  gates : Header → List ℕ → Reading
-  refused : ℕ → Reading
+-- the header with "a gate list in 01's form"
+pub record Read : Type 0 where
+  pub header : Header
+  pub list : List ℕ
 
-abbrev pub listed : Header → Gates → Reading
+abbrev pub gates : Header → List ℕ → Answer Read
+gates h l = Answer.good (record { header = h; list = l })
+
+abbrev pub listed : Header → Gates → Answer Read
 listed h (found l at) = gates h l
-listed h (refused n) = refused n
+listed h (refused n) = Answer.refused (nowhere n)
 
 -- the gates of a file whose header and lines are good: their variables come after the inputs and latches. "What follows the gates is skipped."
 abbrev pub gatesOf : List ℕ → Start → Gates
 gatesOf bs s = gatesFrom bs (s .header .gates) (s .header .inputs + s .header .latches + 1) (s .next)
 
-unfoldable pub readAiger : List ℕ → Reading
-readAiger bs = elim (startOf bs) [ none ↦ refused 18 | some s ↦ listed (s .header) (gatesOf bs s) ]
+unfoldable pub readAiger : List ℕ → Answer Read
+readAiger bs = elim (startOf bs) [ none ↦ Answer.refused (nowhere 18) | some s ↦ listed (s .header) (gatesOf bs s) ]

@@ -5,6 +5,7 @@ use mathlib.Core.List.{List, [], _∷_, _++_}
 use mathlib.Core.Option.{Option, none, some}
 use Prim.Native.Nat.{ℕ, zero, suc, _+_, _*_, _-_, _/_, _%_, _^_}
 use lib.Dec.{leb, ltb, eqb}
+use Rattle.words.specs.Answer.{Answer, good, refused, nowhere}
 use Rattle.words.specs.Tests.{allBelow}
 use Rattle.text.specs.Text.{decimal, field}
 use Rattle.gatelist.specs.Words.{listPin, listFirst, listSecond, wholeGates, badList}
@@ -54,10 +55,6 @@ inputsOf l = listPin l 0 - 1
 unfoldable pub textOf : List ℕ → List ℕ
 textOf l = headerText (inputsOf l + wholeGates l) (inputsOf l) 0 0 (wholeGates l) ++ gatesBytes l (wholeGates l) 0
 
-pub data Writing : Type 0 where
-  written : List ℕ → Writing
-  refused : ℕ → Writing
-
 -- "33 any other list to write"
-unfoldable pub writeAiger : List ℕ → Writing
-writeAiger l = elim (writable l) [ true ↦ written (textOf l) | false ↦ refused 33 ]
+unfoldable pub writeAiger : List ℕ → Answer (List ℕ)
+writeAiger l = elim (writable l) [ true ↦ good (textOf l) | false ↦ refused (nowhere 33) ]

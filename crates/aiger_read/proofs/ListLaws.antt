@@ -10,7 +10,8 @@ use borrow.Author.Tests.{le-leb, lt-leb}
 use lib.ListN.{length, set, length-set}
 use lib.Seq.{sets}
 use Rattle.words.specs.declared.units.PinIv.{PinIv}
-use Rattle.aiger.specs.Reading.{Header, Start, startOf, Gate, gate, gateAt, Gates, found, before, gatesFrom, Reading, gates, listed, readAiger}
+use Rattle.words.specs.Answer.{Answer, nowhere}
+use Rattle.aiger.specs.Reading.{Header, Start, startOf, Gate, gate, gateAt, Gates, found, before, gatesFrom, Read, gates, listed, readAiger}
 use Rattle.aiger.specs.Outcome.{fitting, listAfter}
 use Rattle.aiger.proofs.GateLaws.{gates-on, gates-bad, list-read}
 use Rattle.aiger.proofs.HeaderLaws.{start-fits}
@@ -21,7 +22,7 @@ use Rattle.aiger_read.specs.declared.differences.Gate.{Gate as GateRead}
 use Rattle.aiger_read.specs.declared.differences.Gate.the-variants.{At as GateIs, Refused as NoGate}
 use Rattle.aiger_read.specs.declared.lists.Judged.the-variants.{Good, Refused as BadGate}
 use Rattle.aiger_read.specs.declared.Gates.{Gates as GatesRead}
-use Rattle.aiger_read.specs.declared.Gates.the-variants.{Read, Refused as NoGates}
+use Rattle.aiger_read.specs.declared.Gates.the-variants.{Read as ReadIs, Refused as NoGates}
 
 -- ---- a gate that was told
 
@@ -134,15 +135,15 @@ start-is bs h at e = go (startOf bs) refl
 abbrev Answered : List ℕ → List ℕ → GatesRead → List ℕ → Type 0
 Answered bs out r new = (r ≡ gatesTold (fitting (length out) (readAiger bs))) × (new ≡ listAfter (fitting (length out) (readAiger bs)) out)
 
-not-read : (bs out : List ℕ) (n : ℕ) (r : GatesRead) → fitting (length out) (readAiger bs) ≡ Reading.refused n → r ≡ NoGates (record { number = n; part = 0; item = 0 }) → Answered bs out r out
+not-read : (bs out : List ℕ) (n : ℕ) (r : GatesRead) → fitting (length out) (readAiger bs) ≡ Answer.refused (nowhere n) → r ≡ NoGates (nowhere n) → Answered bs out r out
 unfolding listAfter
-not-read bs out n r e f = (f ∙ ap gatesTold (sym e), ap (λ (k : Reading). listAfter k out) (sym e))
+not-read bs out n r e f = (f ∙ ap gatesTold (sym e), ap (λ (k : Answer Read). listAfter k out) (sym e))
 
-fitting-not : (o : ℕ) (k : Reading) (n : ℕ) → k ≡ Reading.refused n → fitting o k ≡ Reading.refused n
+fitting-not : (o : ℕ) (k : Answer Read) (n : ℕ) → k ≡ Answer.refused (nowhere n) → fitting o k ≡ Answer.refused (nowhere n)
 unfolding fitting
 fitting-not o k n e = rw e
 
-fitting-short : (o : ℕ) (h : Header) (l : List ℕ) → o < length l → fitting o (gates h l) ≡ Reading.refused 14
+fitting-short : (o : ℕ) (h : Header) (l : List ℕ) → o < length l → fitting o (gates h l) ≡ Answer.refused (nowhere 14)
 unfolding fitting
 fitting-short o h l e = rw (lt-leb (length l) o e, fitting)
 
@@ -151,7 +152,7 @@ unfolding fitting
 fitting-long o h l e = rw (le-leb (length l) o e, fitting)
 
 -- refused by 18
-pub read-no-start : (bs out : List ℕ) (r : GatesRead) → startTold (startOf bs) ≡ NoStart → r ≡ NoGates (record { number = 18; part = 0; item = 0 }) → Answered bs out r out
+pub read-no-start : (bs out : List ℕ) (r : GatesRead) → startTold (startOf bs) ≡ NoStart → r ≡ NoGates (nowhere 18) → Answered bs out r out
 unfolding readAiger
 read-no-start bs out r e f = go (startOf bs) refl
   where
@@ -179,7 +180,7 @@ module _ (bs : List ℕ) (h : HeaderRead) (at : ℕ) (S : startTold (startOf bs)
 
   -- refused by 19 or 20
   pub read-bad : (out : List ℕ) (n : ℕ) (r : GatesRead) → BadGate n ≡ judgedOf (gatesFrom bs (h .gates) (h .inputs + h .latches + 1) at)
-      → r ≡ NoGates (record { number = n; part = 0; item = 0 }) → Answered bs out r out
+      → r ≡ NoGates (nowhere n) → Answered bs out r out
   unfolding own list-of
   read-bad out n r e f = go (gatesFrom bs (h .gates) (h .inputs + h .latches + 1) at) refl
     where
@@ -213,17 +214,17 @@ module _ (bs : List ℕ) (h : HeaderRead) (at : ℕ) (S : startTold (startOf bs)
     list-long = ap (λ (g : Gates). length (listIn g)) (found-list .1 .1) ∙ list-read bs (h .gates) _ at _ _ (found-list .1 .1) .long
 
     -- refused by 14
-    pub read-short : (out : List ℕ) (r : GatesRead) → length out < 3 * h .gates → r ≡ NoGates (record { number = 14; part = 0; item = 0 }) → Answered bs out r out
+    pub read-short : (out : List ℕ) (r : GatesRead) → length out < 3 * h .gates → r ≡ NoGates (nowhere 14) → Answered bs out r out
     read-short out r small f =
         let long = list-long in
         let short : length out < length (listIn (gatesFrom bs (h .gates) (h .inputs + h .latches + 1) at)) = omega arith in
         not-read bs out 14 r (ap (fitting (length out)) read-good ∙ fitting-short (length out) (own .header) _ short) f
 
-    pub read-whole : (out new : List ℕ) → 3 * h .gates ≤ length out → new ≡ sets out 0 (listIn (gatesFrom bs (h .gates) (h .inputs + h .latches + 1) at)) → Answered bs out (Read h) new
+    pub read-whole : (out new : List ℕ) → 3 * h .gates ≤ length out → new ≡ sets out 0 (listIn (gatesFrom bs (h .gates) (h .inputs + h .latches + 1) at)) → Answered bs out (ReadIs h) new
     unfolding listAfter own
     read-whole out new room is =
         let long = list-long in
         let l : List ℕ = listIn (gatesFrom bs (h .gates) (h .inputs + h .latches + 1) at) in
         let enough : length l ≤ length out = omega arith in
         let fits : fitting (length out) (readAiger bs) ≡ gates (own .header) l = ap (fitting (length out)) read-good ∙ fitting-long (length out) (own .header) l enough in
-        (ap gatesTold (sym fits), is ∙ ap (λ (k : Reading). listAfter k out) (sym fits))
+        (ap gatesTold (sym fits), is ∙ ap (λ (k : Answer Read). listAfter k out) (sym fits))

@@ -6,7 +6,8 @@ use mathlib.Core.List.{List, []}
 use mathlib.Core.Option.{Option, none, some}
 use Prim.Native.Nat.{ℕ, _+_, _*_, _-_, _^_, _≤_}
 use lib.Dec.{leb}
-use Rattle.aiger.specs.Reading.{Number, isDigit, Header, Start, Difference, whole, wrong, cut, Literal, literal, Gate, gate, Gates, found, gatesFrom, Reading, gates}
+use Rattle.words.specs.Answer.{Answer}
+use Rattle.aiger.specs.Reading.{Number, isDigit, Header, Start, Difference, whole, wrong, cut, Literal, literal, Gate, gate, Gates, found, gatesFrom, Read}
 use Rattle.aiger_read.specs.declared.fields.Field.{Field}
 use Rattle.aiger_read.specs.declared.fields.Field.the-variants.{Number as Value, Wrong}
 use Rattle.aiger_read.specs.declared.start.Header.{Header as HeaderRead}
@@ -23,7 +24,7 @@ use Rattle.aiger_read.specs.declared.differences.Gate.the-variants.{At a
 use Rattle.aiger_read.specs.declared.lists.Judged.{Judged}
 use Rattle.aiger_read.specs.declared.lists.Judged.the-variants.{Good, Refused as BadGate}
 use Rattle.aiger_read.specs.declared.Gates.{Gates as GatesRead}
-use Rattle.aiger_read.specs.declared.Gates.the-variants.{Read, Refused as NoGates}
+use Rattle.aiger_read.specs.declared.Gates.the-variants.{Read as ReadIs, Refused as NoGates}
 
 -- a digit's number, and 10 for any other byte
 unfoldable pub digitOf : ℕ → ℕ
@@ -78,6 +79,6 @@ pub record Fillable (bs : List ℕ) (o n v at : ℕ) : Type 0 where
   pub room : 3 * n ≤ o
   pub fits : v + n ≤ 2 ^ 30 + 1
 
-abbrev pub gatesTold : Reading → GatesRead
-gatesTold (gates h l) = Read (headerIs h)
-gatesTold (Reading.refused n) = NoGates (record { number = n; part = 0; item = 0 })
+abbrev pub gatesTold : Answer Read → GatesRead
+gatesTold (Answer.good x) = ReadIs (headerIs (x .header))
+gatesTold (Answer.refused q) = NoGates q

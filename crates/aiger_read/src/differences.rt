@@ -4,8 +4,8 @@ ghost use Prim.Native.Nat.{_*_, _^_, _<_, _≤_};
 ghost use lib.ListN.{drop};
 ghost use Rattle.aiger.specs.Reading.{above, groupsIn, differenceAt, literalOf, gateAt};
 ghost use Rattle.aiger_read.specs.Told.{differenceOf, literalTold, gateTold};
-use crate::numbers::CUT_GATES;
-use crate::numbers::DIFFERENCE;
+use words::refusals::CUT_GATES;
+use words::refusals::DIFFERENCE;
 use words::units::Pin;
 use words::units::PinIv;
 

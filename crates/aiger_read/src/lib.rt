@@ -2,7 +2,6 @@
 pub mod differences;
 pub mod fields;
 pub mod lists;
-pub mod numbers;
 pub mod start;
 
 ghost use mathlib.Core.Path.{_≡_};
@@ -13,10 +12,10 @@ ghost use Rattle.aiger_read.specs.Told.{gatesTold};
 use lists::Judged;
 use lists::fill;
 use lists::judge;
-use numbers::BEFORE_GATES;
 use start::Header;
 use start::Start;
 use start::start_of;
+use words::refusals::BEFORE_GATES;
 use words::refusals::RESULT_SHORT;
 use words::refusals::Refusal;
 use words::units::Pin;

@@ -14,7 +14,8 @@ use Rattle.text.specs.Text.{decimal, decimalIn}
 use Rattle.text.specs.Writing.{Put}
 use Rattle.text.proofs.WritingLaws.{Going, going-start, going-more, going-done, put-then}
 use Rattle.gatelist.specs.Words.{listPin, listFirst, listSecond, wholeGates}
-use Rattle.aiger.specs.Writing.{differenceBytes, headerText, gateBytes, gatesBytes, inputsOf, writable, textOf, Writing, written, writeAiger}
+use Rattle.words.specs.Answer.{Answer, good, nowhere}
+use Rattle.aiger.specs.Writing.{differenceBytes, headerText, gateBytes, gatesBytes, inputsOf, writable, textOf, writeAiger}
 use Rattle.aiger.specs.Outcome.{holding, textAfter}
 use Rattle.aiger.proofs.GateLaws.{GateAs, ListAs}
 use Rattle.aiger.proofs.AigerLaws.{ListWritable, list-writable, writable-list, whole-list, list-as, last-fits, as-writable, write-good, write-bad}
@@ -209,20 +210,20 @@ text-put l i {j} {k} {a} {b} {c} {q} {r} e f g =
 abbrev Answered : List ℕ → List ℕ → Text → List ℕ → Type 0
 Answered l out r new = (r ≡ textTold (holding (length out) (writeAiger l))) × (new ≡ textAfter (holding (length out) (writeAiger l)) out)
 
-not-written : (l out : List ℕ) (n : ℕ) (r : Text) → holding (length out) (writeAiger l) ≡ Writing.refused n → r ≡ NoText (record { number = n; part = 0; item = 0 }) → Answered l out r out
+not-written : (l out : List ℕ) (n : ℕ) (r : Text) → holding (length out) (writeAiger l) ≡ Answer.refused (nowhere n) → r ≡ NoText (nowhere n) → Answered l out r out
 unfolding textAfter
-not-written l out n r e f = (f ∙ ap textTold (sym e), ap (λ (k : Writing). textAfter k out) (sym e))
+not-written l out n r e f = (f ∙ ap textTold (sym e), ap (λ (k : Answer (List ℕ)). textAfter k out) (sym e))
 
-holding-short : (o : ℕ) (t : List ℕ) → o < length t → holding o (written t) ≡ Writing.refused 14
+holding-short : (o : ℕ) (t : List ℕ) → o < length t → holding o (good t) ≡ Answer.refused (nowhere 14)
 unfolding holding
 holding-short o t h = rw (lt-leb (length t) o h, holding)
 
-holding-long : (o : ℕ) (t : List ℕ) → length t ≤ o → holding o (written t) ≡ written t
+holding-long : (o : ℕ) (t : List ℕ) → length t ≤ o → holding o (good t) ≡ good t
 unfolding holding
 holding-long o t h = rw (le-leb (length t) o h, holding)
 
 -- refused by 33
-pub write-other : (l out : List ℕ) (r : Text) → judgedOf (writeAiger l) ≡ Other → r ≡ NoText (record { number = 33; part = 0; item = 0 }) → Answered l out r out
+pub write-other : (l out : List ℕ) (r : Text) → judgedOf (writeAiger l) ≡ Other → r ≡ NoText (nowhere 33) → Answered l out r out
 unfolding holding
 write-other l out r e f = go (writable l) refl
   where
@@ -252,7 +253,7 @@ measured l n e = go (writable l) refl
 
 module _ (l : List ℕ) (n : ℕ) (M : Measured l n) where
   -- refused by 14
-  pub write-short : (out : List ℕ) (r : Text) → length out < n → r ≡ NoText (record { number = 14; part = 0; item = 0 }) → Answered l out r out
+  pub write-short : (out : List ℕ) (r : Text) → length out < n → r ≡ NoText (nowhere 14) → Answered l out r out
   write-short out r small f =
       let long = M .long in
       not-written l out 14 r (ap (holding (length out)) (write-good l (M .good)) ∙ holding-short (length out) (textOf l) (omega arith)) f
@@ -262,4 +263,4 @@ module _ (l : List ℕ) (n : ℕ) (M : Measured l n) where
   write-whole out new room is =
       let long = M .long in
       let fits = ap (holding (length out)) (write-good l (M .good)) ∙ holding-long (length out) (textOf l) (omega arith) in
-      (ap TextIs long ∙ ap textTold (sym fits), is ∙ ap (λ (k : Writing). textAfter k out) (sym fits))
+      (ap TextIs long ∙ ap textTold (sym fits), is ∙ ap (λ (k : Answer (List ℕ)). textAfter k out) (sym fits))

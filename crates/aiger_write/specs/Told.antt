@@ -6,8 +6,9 @@ use mathlib.Core.List.{List}
 use Prim.Native.Nat.{ℕ, _+_, _*_, _%_, _^_, _<_, _≤_}
 use lib.Dec.{leb, ltb, eqb}
 use lib.ListN.{length}
+use Rattle.words.specs.Answer.{Answer, good, refused}
 use Rattle.gatelist.specs.Words.{wholeGates}
-use Rattle.aiger.specs.Writing.{inputsOf, Writing, written, refused}
+use Rattle.aiger.specs.Writing.{inputsOf}
 use Rattle.aiger_write.specs.declared.lists.Judged.{Judged}
 use Rattle.aiger_write.specs.declared.lists.Judged.the-variants.{Bytes, Other}
 use Rattle.aiger_write.specs.declared.Text.{Text}
@@ -29,10 +30,10 @@ pub record InRange (l : List ℕ) (inputs : ℕ) : Type 0 where
   pub whole : length l % 3 ≡ 0
   pub fits : inputs + wholeGates l ≤ 2 ^ 30
 
-abbrev pub judgedOf : Writing → Judged
-judgedOf (written t) = Bytes (length t)
-judgedOf (refused n) = Other
+abbrev pub judgedOf : Answer (List ℕ) → Judged
+judgedOf (good t) = Bytes (length t)
+judgedOf (refused q) = Other
 
-abbrev pub textTold : Writing → Text
-textTold (written t) = TextIs (length t)
-textTold (refused n) = NoText (record { number = n; part = 0; item = 0 })
+abbrev pub textTold : Answer (List ℕ) → Text
+textTold (good t) = TextIs (length t)
+textTold (refused q) = NoText q

@@ -10,11 +10,9 @@ ghost use Rattle.aiger_write.specs.Told.{textTold};
 use lists::Judged;
 use lists::judge;
 use lists::put_text;
+use words::refusals::NOT_WRITABLE;
 use words::refusals::RESULT_SHORT;
 use words::refusals::Refusal;
-
-// No list that 1/13 writes.
-pub const NOT_WRITABLE: u32 = 33;
 
 // The text's length, or the refusal.
 pub enum Text {

@@ -1,2 +1,2 @@
-pub mod PlanLaws
+pub mod ToldLaws
 pub mod PromisedLaws

@@ -1,47 +1,54 @@
--- Demand 3 of the exported run: the number 0 was no refusal, so the outcome is a run, and the promise is kept by what it leaves.
+-- Demand 3 of the exported run: the number 0 was no refusal, so the answer is a run, and the promise is kept by what it leaves.
 -- Assumes nothing.
-use mathlib.Core.Path.{_≡_, refl, sym, ap, _∙_}
+use mathlib.Core.Path.{_≡_, refl, sym, ap, ap₂, _∙_}
 use mathlib.Core.Bool.{Bool, true, false}
 use mathlib.Core.Option.{Option, none, some}
-use mathlib.Core.List.{List}
+use mathlib.Core.List.{List, [], _∷_}
 use Prim.Native.Nat.{ℕ, _*_, _-_, _<_}
 use native.Mathlib.Omega.{arith}
 use lib.Dec.{leb}
 use lib.ListN.{length}
-use Rattle.run_machine.specs.Run.{Ran, ran, refused, outcome, newAfter, allLeft, badBlock, badTurn, runTurns}
+use Rattle.words.specs.Answer.{Answer, refused, atItem, nowhere, handed}
+use Rattle.words.specs.declared.refusals.Refusal.{Refusal}
+use Rattle.words.proofs.AnswerLaws.{refused-good, handed-zero}
+use Rattle.run_machine.specs.Run.{Ran, ran, outcome, newAfter, allLeft, badBlock, badTurn, runTurns}
 use Rattle.promise.proofs.PromiseLaws.{as-run}
-use Rattle.answers.specs.Answers.{ranNumber, ranFirst}
+use Rattle.capi.specs.Exported.{turnsLeft}
 use Rattle.capi.specs.Promised.{Promised}
 
 -- refusals have a number
-numbered : (fits : Bool) (block turn : Option ℕ) (k : ℕ) (new : List ℕ) (n i : ℕ)
-    → elim fits [ false ↦ refused 32 0 | true ↦ elim block [ some i ↦ refused 15 i | none ↦ elim turn [ some i ↦ refused 16 i | none ↦ ran k new ] ] ] ≡ refused n i → 0 < n
-numbered false block turn k new n i e = let z : n ≡ 32 = cc in omega arith
-numbered true (some j) turn k new n i e = let z : n ≡ 15 = cc in omega arith
-numbered true none (some j) k new n i e = let z : n ≡ 16 = cc in omega arith
-numbered true none none k new n i e = let z : _≡_ {A = ℕ} 0 1 = cc in absurd (omega arith)
+some-number : (n i : ℕ) (q : Refusal) → _≡_ {A = Answer Ran} (refused (atItem n i)) (refused q) → 0 < n → 0 < q .number
+some-number n i q e h =
+    let s : atItem n i ≡ q = cc in
+    let m : n ≡ q .number = ap (λ (x : Refusal). x .number) s in
+    omega arith
+
+numbered : (fits : Bool) (block turn : Option ℕ) (k : ℕ) (new : List ℕ) (q : Refusal)
+    → _≡_ {A = Answer Ran} (elim fits [ false ↦ refused (nowhere 32) | true ↦ elim block [ some i ↦ refused (atItem 15 i) | none ↦ elim turn [ some i ↦ refused (atItem 16 i) | none ↦ ran k new ] ] ])
+    (refused q)
+    → 0 < q .number
+numbered false block turn k new q e = some-number 32 0 q e (omega arith)
+numbered true (some j) turn k new q e = some-number 15 j q e (omega arith)
+numbered true none (some j) k new q e = some-number 16 j q e (omega arith)
+numbered true none none k new q e = refused-good q _ (sym e)
 
 module _ (W starts turns old new : List ℕ) (room : ℕ) where
-  abbrev is : Ran
+  abbrev is : Answer Ran
   is = outcome 256 13 W starts turns old new room
 
-  refused-some : (n i : ℕ) → is ≡ refused n i → 0 < n
+  refused-some : (q : Refusal) → is ≡ refused q → 0 < q .number
   unfolding outcome
-  refused-some n i e =
+  refused-some q e =
       let x = runTurns 256 13 W starts turns old new in
-      numbered (leb (1024 * (length starts - 1)) room) (badBlock 256 W starts (length old) (length new)) (badTurn starts turns) (allLeft 256 W (x .blocks)) (x .new) n i e
+      numbered (leb (1024 * (length starts - 1)) room) (badBlock 256 W starts (length old) (length new)) (badTurn starts turns) (allLeft 256 W (x .blocks)) (x .new) q e
 
-  ran-there : (o : Ran) → is ≡ o → (after : List ℕ) → 0 ≡ ranNumber o → 0 ≡ ranFirst o → after ≡ newAfter o new → is ≡ ran 0 after
-  unfolding newAfter
-  ran-there (ran k made) e after n l s = rw (l, s) e
-  ran-there (refused m i) e after n l s = let z = refused-some m i e in absurd (omega arith)
-
-  pub promised : (number left : ℕ) (after : List ℕ) → number ≡ ranNumber is → left ≡ ranFirst is → after ≡ newAfter is new → Promised W starts old new number left after
-  unfolding Promised
-  promised number left after n l s d t accepted stage words begins old-size new-size none-refused none-left =
-      as-run d t turns old new after room accepted stage old-size new-size
-      (rw (← words, ← begins) (ran-there is refl after (sym none-refused ∙ n) (sym none-left ∙ l) s))
-
--- a last clause, from the first, the second and the fourth
-pub with-last : {A B C S R P : Type 0} → A × (B × (C × (S × R))) → (A → B → S → P) → A × (B × (C × (S × (R × P))))
-with-last x f = (x .0, (x .1 .0, (x .1 .1 .0, (x .1 .1 .1 .0, (x .1 .1 .1 .1, f (x .0) (x .1 .0) (x .1 .1 .1 .0))))))
+  pub promised : (number left second : ℕ) (after : List ℕ) → (number ∷ left ∷ second ∷ []) ≡ handed 2 turnsLeft is → after ≡ newAfter is new
+      → Promised W starts old new number left after
+  unfolding Promised newAfter
+  promised number left second after told made d t accepted stage words begins old-size new-size none-refused none-left =
+      let zeros : (0 ∷ 0 ∷ second ∷ []) ≡ handed 2 turnsLeft is = cc in
+      let (x, e) = handed-zero 2 turnsLeft is (0 ∷ second ∷ []) refused-some zeros in
+      let numbers : (0 ∷ 0 ∷ second ∷ []) ≡ 0 ∷ x .left ∷ 0 ∷ [] = rw e at zeros in
+      let finished : x .left ≡ 0 = cc in
+      let state : x .new ≡ after = sym (rw e at made) in
+      as-run d t turns old new after room accepted stage old-size new-size (rw (← words, ← begins) (e ∙ ap₂ (λ (k : ℕ) (w : List ℕ). ran k w) finished state))

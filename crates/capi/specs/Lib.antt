@@ -1,2 +1,3 @@
-pub mod Answers
+pub mod Exported
+pub mod Told
 pub mod Promised

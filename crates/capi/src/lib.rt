@@ -1,19 +1,11 @@
-// The functions that a host calls, over words, bytes and numbers. Each returns 0 or the refusal's number, and two numbers through `first` and
-// `second`: what a good answer says, or the refusal's place.
+// The functions that a host calls, over words, bytes and numbers. Each returns 0 or the refusal's number, and two or four numbers more through what is
+// lent for them: what a good answer says, or the refusal's place. Each contract is one equation: the numbers, then every slice that is written.
 ghost use mathlib.Core.Path.{_≡_};
-ghost use lib.ListN.{length};
-ghost use Rattle.reads.specs.Outcome.{outcome, resultAfter, roomAfter};
-ghost use Rattle.listing.specs.Listing.{listed, textAfter};
-ghost use Rattle.values.specs.Values.{outcome as valued, bitsAfter, roomAfter as planRoomAfter};
-ghost use Rattle.flatten.specs.Flatten.{sizing, building, startsAfter, wordsAfter, roomAfter as builtRoomAfter};
-ghost use Rattle.run_machine.specs.Run.{outcome as ranAs, newAfter, roomAfter as runRoomAfter};
-ghost use Rattle.aiger.specs.Reading.{readAiger};
-ghost use Rattle.aiger.specs.Writing.{writeAiger};
-ghost use Rattle.aiger.specs.Outcome.{fitting, listAfter as gatesAfter, holding, textAfter as aigerAfter};
-ghost use Rattle.repair_nodes.specs.Outcome.{placed, cleared, slotsAfter, listAfter, roomAfter as repairRoomAfter};
+ghost use mathlib.Core.List.{[], _∷_};
+ghost use Prim.Native.Nat.{ℕ};
+ghost use Rattle.capi.specs.Exported.{readRounds, list, value, run, planSizes, build, placeBit, purgeBit, readAiger, writeAiger};
+ghost use Rattle.capi.specs.Told.{roundsTold, listedTold, valuedTold, ranTold, flattenedTold, repairedTold, gatesTold, textTold};
 ghost use Rattle.capi.specs.Promised.{Promised};
-ghost use Rattle.answers.specs.Answers.{roundsNumber, roundsFirst, roundsSecond, listedNumber, listedFirst, listedSecond, valueNumber, valueFirst, valueSecond, ranNumber, ranFirst, ranSecond, readNumber, readFirst, readSecond, readThird, readFourth, writtenNumber, writtenFirst, writtenSecond, repairNumber, repairFirst, repairSecond};
-ghost use Rattle.capi.specs.Answers.{builtNumber, builtFirst, builtSecond, builtThird, builtFourth};
 use aiger_read::Gates;
 use aiger_write::Text;
 use flatten::Flattened;
@@ -21,8 +13,19 @@ use listing::Listed;
 use repair_settle::Repaired;
 use rounds::Rounds;
 use run::Ran;
-use values::Answer;
+use values::Valued;
+use words::answer::hand_good;
+use words::answer::hand_refusal;
 use words::units::Pin;
+
+fn tell_rounds(answer: Rounds, first: &mut u64, second: &mut u64) -> u32
+    ensures { λ r. ⌜ (r ∷ now (first .exit) ∷ now (second .exit) ∷ []) ≡ roundsTold answer ⌝ }
+{
+    match answer {
+        Rounds::Placed(n) => hand_good(n as u64, first, second),
+        Rounds::Refused(refusal) => hand_refusal(refusal, first, second),
+    }
+}
 
 // A read set's rounds: `first` is their number, or the refusal's part; `second` is 0, or its item.
 #[no_mangle]
@@ -33,23 +36,21 @@ pub extern "C" fn juolgesot_read_rounds(
     first: &mut u64,
     second: &mut u64,
 ) -> u32
-    ensures { λ r. ⌜ r ≡ roundsNumber (outcome 256 (now (set .entry)) (length (now (out .entry))) (length (now (room .entry)))) ⌝ }
-    ensures { λ r. ⌜ now (first .exit) ≡ roundsFirst (outcome 256 (now (set .entry)) (length (now (out .entry))) (length (now (room .entry)))) ⌝ }
-    ensures { λ r. ⌜ now (second .exit) ≡ roundsSecond (outcome 256 (now (set .entry)) (length (now (out .entry))) (length (now (room .entry)))) ⌝ }
-    ensures { λ r. ⌜ now (out .exit) ≡ resultAfter (outcome 256 (now (set .entry)) (length (now (out .entry))) (length (now (room .entry)))) (now (out .entry)) ⌝ }
-    ensures { λ r. ⌜ now (room .exit) ≡ roomAfter (now (room .entry)) ⌝ }
+    ensures { λ r. ⌜ ((r ∷ now (first .exit) ∷ now (second .exit) ∷ []) ∷ now (room .exit) ∷ now (out .exit) ∷ []) ≡ readRounds (now (set .entry)) (now (room .entry)) (now (out .entry)) ⌝ }
 {
-    match rounds::map_global_read_to_rounds(set, room, out) {
-        Rounds::Placed(n) => {
-            *first = n as u64;
-            *second = 0;
-            0
-        }
-        Rounds::Refused(refusal) => {
-            *first = refusal.part as u64;
-            *second = refusal.item;
-            refusal.number
-        }
+    tell_rounds(
+        rounds::map_global_read_to_rounds(set, room, out),
+        first,
+        second,
+    )
+}
+
+fn tell_listed(answer: Listed, first: &mut u64, second: &mut u64) -> u32
+    ensures { λ r. ⌜ (r ∷ now (first .exit) ∷ now (second .exit) ∷ []) ≡ listedTold answer ⌝ }
+{
+    match answer {
+        Listed::Text(n) => hand_good(n as u64, first, second),
+        Listed::Refused(refusal) => hand_refusal(refusal, first, second),
     }
 }
 
@@ -62,23 +63,17 @@ pub extern "C" fn juolgesot_list(
     first: &mut u64,
     second: &mut u64,
 ) -> u32
-    ensures { λ r. ⌜ r ≡ listedNumber (listed (now (records .entry)) (length (now (out .entry))) (length (now (room .entry)))) ⌝ }
-    ensures { λ r. ⌜ now (first .exit) ≡ listedFirst (listed (now (records .entry)) (length (now (out .entry))) (length (now (room .entry)))) ⌝ }
-    ensures { λ r. ⌜ now (second .exit) ≡ listedSecond (listed (now (records .entry)) (length (now (out .entry))) (length (now (room .entry)))) ⌝ }
-    ensures { λ r. ⌜ now (out .exit) ≡ textAfter (now (records .entry)) (length (now (room .entry))) (now (out .entry)) ⌝ }
-    ensures { λ r. ⌜ now (room .exit) ≡ roomAfter (now (room .entry)) ⌝ }
+    ensures { λ r. ⌜ ((r ∷ now (first .exit) ∷ now (second .exit) ∷ []) ∷ now (room .exit) ∷ now (out .exit) ∷ []) ≡ list (now (records .entry)) (now (room .entry)) (now (out .entry)) ⌝ }
 {
-    match listing::list(records, room, out) {
-        Listed::Text(n) => {
-            *first = n as u64;
-            *second = 0;
-            0
-        }
-        Listed::Refused(refusal) => {
-            *first = refusal.part as u64;
-            *second = refusal.item;
-            refusal.number
-        }
+    tell_listed(listing::list(records, room, out), first, second)
+}
+
+fn tell_valued(answer: Valued, first: &mut u64, second: &mut u64) -> u32
+    ensures { λ r. ⌜ (r ∷ now (first .exit) ∷ now (second .exit) ∷ []) ≡ valuedTold answer ⌝ }
+{
+    match answer {
+        Valued::Bit(b) => hand_good(b as u64, first, second),
+        Valued::Refused(refusal) => hand_refusal(refusal, first, second),
     }
 }
 
@@ -96,23 +91,21 @@ pub extern "C" fn juolgesot_value(
     first: &mut u64,
     second: &mut u64,
 ) -> u32
-    ensures { λ r. ⌜ r ≡ valueNumber (valued (now (plan .entry)) part (now (old .entry)) (now (new .entry)) (length (now (room .entry))) (length (now (bits .entry))) pin) ⌝ }
-    ensures { λ r. ⌜ now (first .exit) ≡ valueFirst (valued (now (plan .entry)) part (now (old .entry)) (now (new .entry)) (length (now (room .entry))) (length (now (bits .entry))) pin) ⌝ }
-    ensures { λ r. ⌜ now (second .exit) ≡ valueSecond (valued (now (plan .entry)) part (now (old .entry)) (now (new .entry)) (length (now (room .entry))) (length (now (bits .entry))) pin) ⌝ }
-    ensures { λ r. ⌜ now (room .exit) ≡ planRoomAfter (now (plan .entry)) (now (room .entry)) ⌝ }
-    ensures { λ r. ⌜ now (bits .exit) ≡ bitsAfter (valued (now (plan .entry)) part (now (old .entry)) (now (new .entry)) (length (now (room .entry))) (length (now (bits .entry))) pin) (now (bits .entry)) ⌝ }
+    ensures { λ r. ⌜ ((r ∷ now (first .exit) ∷ now (second .exit) ∷ []) ∷ now (room .exit) ∷ now (bits .exit) ∷ []) ≡ value (now (plan .entry)) (now (room .entry)) (now (old .entry)) (now (new .entry)) (now (bits .entry)) part pin ⌝ }
 {
-    match values::value(plan, part, old, new, room, bits, Pin(pin)) {
-        Answer::Bit(b) => {
-            *first = b as u64;
-            *second = 0;
-            0
-        }
-        Answer::Refused(refusal) => {
-            *first = refusal.part as u64;
-            *second = refusal.item;
-            refusal.number
-        }
+    tell_valued(
+        values::value(plan, part, old, new, room, bits, Pin(pin)),
+        first,
+        second,
+    )
+}
+
+fn tell_ran(answer: Ran, first: &mut u64, second: &mut u64) -> u32
+    ensures { λ r. ⌜ (r ∷ now (first .exit) ∷ now (second .exit) ∷ []) ≡ ranTold answer ⌝ }
+{
+    match answer {
+        Ran::Left(n) => hand_good(n, first, second),
+        Ran::Refused(refusal) => hand_refusal(refusal, first, second),
     }
 }
 
@@ -128,23 +121,37 @@ pub extern "C" fn juolgesot_run(
     first: &mut u64,
     second: &mut u64,
 ) -> u32
-    ensures { λ r. ⌜ r ≡ ranNumber (ranAs 256 13 (now (words .entry)) (now (starts .entry)) (now (turns .entry)) (now (old .entry)) (now (new .entry)) (length (now (room .entry)))) ⌝ }
-    ensures { λ r. ⌜ now (first .exit) ≡ ranFirst (ranAs 256 13 (now (words .entry)) (now (starts .entry)) (now (turns .entry)) (now (old .entry)) (now (new .entry)) (length (now (room .entry)))) ⌝ }
-    ensures { λ r. ⌜ now (second .exit) ≡ ranSecond (ranAs 256 13 (now (words .entry)) (now (starts .entry)) (now (turns .entry)) (now (old .entry)) (now (new .entry)) (length (now (room .entry)))) ⌝ }
-    ensures { λ r. ⌜ now (new .exit) ≡ newAfter (ranAs 256 13 (now (words .entry)) (now (starts .entry)) (now (turns .entry)) (now (old .entry)) (now (new .entry)) (length (now (room .entry)))) (now (new .entry)) ⌝ }
-    ensures { λ r. ⌜ now (room .exit) ≡ runRoomAfter (now (starts .entry)) (now (room .entry)) ⌝ }
+    ensures { λ r. ⌜ ((r ∷ now (first .exit) ∷ now (second .exit) ∷ []) ∷ now (new .exit) ∷ now (room .exit) ∷ []) ≡ run (now (words .entry)) (now (starts .entry)) (now (turns .entry)) (now (old .entry)) (now (new .entry)) (now (room .entry)) ⌝ }
     ensures promise { λ r. ⌜ Promised (now (words .entry)) (now (starts .entry)) (now (old .entry)) (now (new .entry)) r (now (first .exit)) (now (new .exit)) ⌝ }
 {
-    match run::run(words, starts, turns, old, new, room) {
-        Ran::Left(n) => {
-            *first = n;
-            *second = 0;
+    tell_ran(
+        run::run(words, starts, turns, old, new, room),
+        first,
+        second,
+    )
+}
+
+fn tell_flattened(
+    answer: Flattened,
+    first: &mut u64,
+    second: &mut u64,
+    third: &mut u64,
+    fourth: &mut u64,
+) -> u32
+    ensures { λ r. ⌜ (r ∷ now (first .exit) ∷ now (second .exit) ∷ now (third .exit) ∷ now (fourth .exit) ∷ []) ≡ flattenedTold answer ⌝ }
+{
+    match answer {
+        Flattened::Built(sizes) => {
+            *first = sizes.starts;
+            *second = sizes.words;
+            *third = sizes.state;
+            *fourth = sizes.sram;
             0
         }
-        Ran::Refused(refusal) => {
-            *first = refusal.part as u64;
-            *second = refusal.item;
-            refusal.number
+        Flattened::Refused(refusal) => {
+            *third = 0;
+            *fourth = 0;
+            hand_refusal(refusal, first, second)
         }
     }
 }
@@ -159,29 +166,15 @@ pub extern "C" fn juolgesot_plan_sizes(
     third: &mut u64,
     fourth: &mut u64,
 ) -> u32
-    ensures { λ r. ⌜ r ≡ builtNumber (sizing 256 (now (plan .entry)) (length (now (room .entry)))) ⌝ }
-    ensures { λ r. ⌜ now (first .exit) ≡ builtFirst (sizing 256 (now (plan .entry)) (length (now (room .entry)))) ⌝ }
-    ensures { λ r. ⌜ now (second .exit) ≡ builtSecond (sizing 256 (now (plan .entry)) (length (now (room .entry)))) ⌝ }
-    ensures { λ r. ⌜ now (third .exit) ≡ builtThird (sizing 256 (now (plan .entry)) (length (now (room .entry)))) ⌝ }
-    ensures { λ r. ⌜ now (fourth .exit) ≡ builtFourth (sizing 256 (now (plan .entry)) (length (now (room .entry)))) ⌝ }
-    ensures { λ r. ⌜ now (room .exit) ≡ builtRoomAfter (now (plan .entry)) (now (room .entry)) ⌝ }
+    ensures { λ r. ⌜ ((r ∷ now (first .exit) ∷ now (second .exit) ∷ now (third .exit) ∷ now (fourth .exit) ∷ []) ∷ now (room .exit) ∷ []) ≡ planSizes (now (plan .entry)) (now (room .entry)) ⌝ }
 {
-    match flatten::plan_sizes(plan, room) {
-        Flattened::Built(sizes) => {
-            *first = sizes.starts;
-            *second = sizes.words;
-            *third = sizes.state;
-            *fourth = sizes.sram;
-            0
-        }
-        Flattened::Refused(refusal) => {
-            *first = refusal.part as u64;
-            *second = refusal.item;
-            *third = 0;
-            *fourth = 0;
-            refusal.number
-        }
-    }
+    tell_flattened(
+        flatten::plan_sizes(plan, room),
+        first,
+        second,
+        third,
+        fourth,
+    )
 }
 
 // The assembled script of a plan; the four numbers are those of its sizes.
@@ -196,30 +189,23 @@ pub extern "C" fn juolgesot_build(
     third: &mut u64,
     fourth: &mut u64,
 ) -> u32
-    ensures { λ r. ⌜ r ≡ builtNumber (building 256 (now (plan .entry)) (length (now (room .entry))) (length (now (starts .entry))) (length (now (words .entry)))) ⌝ }
-    ensures { λ r. ⌜ now (first .exit) ≡ builtFirst (building 256 (now (plan .entry)) (length (now (room .entry))) (length (now (starts .entry))) (length (now (words .entry)))) ⌝ }
-    ensures { λ r. ⌜ now (second .exit) ≡ builtSecond (building 256 (now (plan .entry)) (length (now (room .entry))) (length (now (starts .entry))) (length (now (words .entry)))) ⌝ }
-    ensures { λ r. ⌜ now (third .exit) ≡ builtThird (building 256 (now (plan .entry)) (length (now (room .entry))) (length (now (starts .entry))) (length (now (words .entry)))) ⌝ }
-    ensures { λ r. ⌜ now (fourth .exit) ≡ builtFourth (building 256 (now (plan .entry)) (length (now (room .entry))) (length (now (starts .entry))) (length (now (words .entry)))) ⌝ }
-    ensures { λ r. ⌜ now (room .exit) ≡ builtRoomAfter (now (plan .entry)) (now (room .entry)) ⌝ }
-    ensures { λ r. ⌜ now (starts .exit) ≡ startsAfter 256 (now (plan .entry)) (length (now (room .entry))) (now (starts .entry)) (now (words .entry)) ⌝ }
-    ensures { λ r. ⌜ now (words .exit) ≡ wordsAfter 256 (now (plan .entry)) (length (now (room .entry))) (now (starts .entry)) (now (words .entry)) ⌝ }
+    ensures { λ r. ⌜ ((r ∷ now (first .exit) ∷ now (second .exit) ∷ now (third .exit) ∷ now (fourth .exit) ∷ []) ∷ now (room .exit) ∷ now (starts .exit) ∷ now (words .exit) ∷ []) ≡ build (now (plan .entry)) (now (room .entry)) (now (starts .entry)) (now (words .entry)) ⌝ }
 {
-    match flatten::build_flattened_script_v1(plan, room, starts, words) {
-        Flattened::Built(sizes) => {
-            *first = sizes.starts;
-            *second = sizes.words;
-            *third = sizes.state;
-            *fourth = sizes.sram;
-            0
-        }
-        Flattened::Refused(refusal) => {
-            *first = refusal.part as u64;
-            *second = refusal.item;
-            *third = 0;
-            *fourth = 0;
-            refusal.number
-        }
+    tell_flattened(
+        flatten::build_flattened_script_v1(plan, room, starts, words),
+        first,
+        second,
+        third,
+        fourth,
+    )
+}
+
+fn tell_repaired(answer: Repaired, first: &mut u64, second: &mut u64) -> u32
+    ensures { λ r. ⌜ (r ∷ now (first .exit) ∷ now (second .exit) ∷ []) ≡ repairedTold answer ⌝ }
+{
+    match answer {
+        Repaired::Listed(n) => hand_good(n as u64, first, second),
+        Repaired::Refused(refusal) => hand_refusal(refusal, first, second),
     }
 }
 
@@ -238,14 +224,9 @@ pub extern "C" fn juolgesot_place_bit(
     first: &mut u64,
     second: &mut u64,
 ) -> u32
-    ensures { λ r. ⌜ r ≡ repairNumber (placed 13 (now (gates .entry)) (now (levels .entry)) (now (counts .entry)) (now (slots .entry)) (length (now (after .entry))) (length (now (room .entry))) level slot node) ⌝ }
-    ensures { λ r. ⌜ now (first .exit) ≡ repairFirst (placed 13 (now (gates .entry)) (now (levels .entry)) (now (counts .entry)) (now (slots .entry)) (length (now (after .entry))) (length (now (room .entry))) level slot node) ⌝ }
-    ensures { λ r. ⌜ now (second .exit) ≡ repairSecond (placed 13 (now (gates .entry)) (now (levels .entry)) (now (counts .entry)) (now (slots .entry)) (length (now (after .entry))) (length (now (room .entry))) level slot node) ⌝ }
-    ensures { λ r. ⌜ now (slots .exit) ≡ slotsAfter (placed 13 (now (gates .entry)) (now (levels .entry)) (now (counts .entry)) (now (slots .entry)) (length (now (after .entry))) (length (now (room .entry))) level slot node) (now (slots .entry)) ⌝ }
-    ensures { λ r. ⌜ now (after .exit) ≡ listAfter (placed 13 (now (gates .entry)) (now (levels .entry)) (now (counts .entry)) (now (slots .entry)) (length (now (after .entry))) (length (now (room .entry))) level slot node) (now (after .entry)) ⌝ }
-    ensures { λ r. ⌜ now (room .exit) ≡ repairRoomAfter (now (counts .entry)) (now (room .entry)) ⌝ }
+    ensures { λ r. ⌜ ((r ∷ now (first .exit) ∷ now (second .exit) ∷ []) ∷ now (slots .exit) ∷ now (after .exit) ∷ now (room .exit) ∷ []) ≡ placeBit (now (gates .entry)) (now (levels .entry)) (now (counts .entry)) (now (slots .entry)) (now (after .entry)) (now (room .entry)) level slot node ⌝ }
 {
-    match repair::place_bit(
+    let answer = repair::place_bit(
         gates,
         levels,
         counts,
@@ -255,18 +236,8 @@ pub extern "C" fn juolgesot_place_bit(
         level,
         slot,
         Pin(node),
-    ) {
-        Repaired::Listed(n) => {
-            *first = n as u64;
-            *second = 0;
-            0
-        }
-        Repaired::Refused(refusal) => {
-            *first = refusal.part as u64;
-            *second = refusal.item;
-            refusal.number
-        }
-    }
+    );
+    tell_repaired(answer, first, second)
 }
 
 // A slot of a level of one stage cleared, with what stands below it: the numbers are as for a placing.
@@ -281,23 +252,36 @@ pub extern "C" fn juolgesot_purge_bit(
     first: &mut u64,
     second: &mut u64,
 ) -> u32
-    ensures { λ r. ⌜ r ≡ repairNumber (cleared 13 (now (counts .entry)) (now (slots .entry)) (length (now (after .entry))) (length (now (room .entry))) level slot) ⌝ }
-    ensures { λ r. ⌜ now (first .exit) ≡ repairFirst (cleared 13 (now (counts .entry)) (now (slots .entry)) (length (now (after .entry))) (length (now (room .entry))) level slot) ⌝ }
-    ensures { λ r. ⌜ now (second .exit) ≡ repairSecond (cleared 13 (now (counts .entry)) (now (slots .entry)) (length (now (after .entry))) (length (now (room .entry))) level slot) ⌝ }
-    ensures { λ r. ⌜ now (slots .exit) ≡ slotsAfter (cleared 13 (now (counts .entry)) (now (slots .entry)) (length (now (after .entry))) (length (now (room .entry))) level slot) (now (slots .entry)) ⌝ }
-    ensures { λ r. ⌜ now (after .exit) ≡ listAfter (cleared 13 (now (counts .entry)) (now (slots .entry)) (length (now (after .entry))) (length (now (room .entry))) level slot) (now (after .entry)) ⌝ }
-    ensures { λ r. ⌜ now (room .exit) ≡ repairRoomAfter (now (counts .entry)) (now (room .entry)) ⌝ }
+    ensures { λ r. ⌜ ((r ∷ now (first .exit) ∷ now (second .exit) ∷ []) ∷ now (slots .exit) ∷ now (after .exit) ∷ now (room .exit) ∷ []) ≡ purgeBit (now (counts .entry)) (now (slots .entry)) (now (after .entry)) (now (room .entry)) level slot ⌝ }
 {
-    match repair::purge_bit(counts, slots, after, room, level, slot) {
-        Repaired::Listed(n) => {
-            *first = n as u64;
-            *second = 0;
+    tell_repaired(
+        repair::purge_bit(counts, slots, after, room, level, slot),
+        first,
+        second,
+    )
+}
+
+fn tell_gates(
+    answer: Gates,
+    first: &mut u64,
+    second: &mut u64,
+    third: &mut u64,
+    fourth: &mut u64,
+) -> u32
+    ensures { λ r. ⌜ (r ∷ now (first .exit) ∷ now (second .exit) ∷ now (third .exit) ∷ now (fourth .exit) ∷ []) ≡ gatesTold answer ⌝ }
+{
+    match answer {
+        Gates::Read(header) => {
+            *first = header.gates;
+            *second = header.inputs;
+            *third = header.latches;
+            *fourth = header.outputs;
             0
         }
-        Repaired::Refused(refusal) => {
-            *first = refusal.part as u64;
-            *second = refusal.item;
-            refusal.number
+        Gates::Refused(refusal) => {
+            *third = 0;
+            *fourth = 0;
+            hand_refusal(refusal, first, second)
         }
     }
 }
@@ -312,28 +296,23 @@ pub extern "C" fn juolgesot_read_aiger(
     third: &mut u64,
     fourth: &mut u64,
 ) -> u32
-    ensures { λ r. ⌜ r ≡ readNumber (fitting (length (now (out .entry))) (readAiger (now (bytes .entry)))) ⌝ }
-    ensures { λ r. ⌜ now (first .exit) ≡ readFirst (fitting (length (now (out .entry))) (readAiger (now (bytes .entry)))) ⌝ }
-    ensures { λ r. ⌜ now (second .exit) ≡ readSecond (fitting (length (now (out .entry))) (readAiger (now (bytes .entry)))) ⌝ }
-    ensures { λ r. ⌜ now (third .exit) ≡ readThird (fitting (length (now (out .entry))) (readAiger (now (bytes .entry)))) ⌝ }
-    ensures { λ r. ⌜ now (fourth .exit) ≡ readFourth (fitting (length (now (out .entry))) (readAiger (now (bytes .entry)))) ⌝ }
-    ensures { λ r. ⌜ now (out .exit) ≡ gatesAfter (fitting (length (now (out .entry))) (readAiger (now (bytes .entry)))) (now (out .entry)) ⌝ }
+    ensures { λ r. ⌜ ((r ∷ now (first .exit) ∷ now (second .exit) ∷ now (third .exit) ∷ now (fourth .exit) ∷ []) ∷ now (out .exit) ∷ []) ≡ readAiger (now (bytes .entry)) (now (out .entry)) ⌝ }
 {
-    match aiger_read::read_gates(bytes, out) {
-        Gates::Read(header) => {
-            *first = header.gates;
-            *second = header.inputs;
-            *third = header.latches;
-            *fourth = header.outputs;
-            0
-        }
-        Gates::Refused(refusal) => {
-            *first = refusal.part as u64;
-            *second = refusal.item;
-            *third = 0;
-            *fourth = 0;
-            refusal.number
-        }
+    tell_gates(
+        aiger_read::read_gates(bytes, out),
+        first,
+        second,
+        third,
+        fourth,
+    )
+}
+
+fn tell_text(answer: Text, first: &mut u64, second: &mut u64) -> u32
+    ensures { λ r. ⌜ (r ∷ now (first .exit) ∷ now (second .exit) ∷ []) ≡ textTold answer ⌝ }
+{
+    match answer {
+        Text::Bytes(n) => hand_good(n as u64, first, second),
+        Text::Refused(refusal) => hand_refusal(refusal, first, second),
     }
 }
 
@@ -345,21 +324,7 @@ pub extern "C" fn juolgesot_write_aiger(
     first: &mut u64,
     second: &mut u64,
 ) -> u32
-    ensures { λ r. ⌜ r ≡ writtenNumber (holding (length (now (out .entry))) (writeAiger (now (gates .entry)))) ⌝ }
-    ensures { λ r. ⌜ now (first .exit) ≡ writtenFirst (holding (length (now (out .entry))) (writeAiger (now (gates .entry)))) ⌝ }
-    ensures { λ r. ⌜ now (second .exit) ≡ writtenSecond (holding (length (now (out .entry))) (writeAiger (now (gates .entry)))) ⌝ }
-    ensures { λ r. ⌜ now (out .exit) ≡ aigerAfter (holding (length (now (out .entry))) (writeAiger (now (gates .entry)))) (now (out .entry)) ⌝ }
+    ensures { λ r. ⌜ ((r ∷ now (first .exit) ∷ now (second .exit) ∷ []) ∷ now (out .exit) ∷ []) ≡ writeAiger (now (gates .entry)) (now (out .entry)) ⌝ }
 {
-    match aiger_write::write_gates(gates, out) {
-        Text::Bytes(n) => {
-            *first = n as u64;
-            *second = 0;
-            0
-        }
-        Text::Refused(refusal) => {
-            *first = refusal.part as u64;
-            *second = refusal.item;
-            refusal.number
-        }
-    }
+    tell_text(aiger_write::write_gates(gates, out), first, second)
 }

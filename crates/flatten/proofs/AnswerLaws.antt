@@ -10,11 +10,12 @@ use borrow.Author.Tests.{leb-true, le-leb, lt-leb}
 use lib.Dec.{leb}
 use lib.ListN.{length, replicate}
 use lib.Seq.{sets}
+use Rattle.words.specs.Answer.{Answer, good, refused, nowhere}
 use Rattle.words.specs.declared.refusals.Refusal.{Refusal}
 use Rattle.plan_record.specs.Record.{blocksOf, majorsOf}
 use Rattle.plan_record.specs.Form.{roomWords}
 use Rattle.words.proofs.TestLaws.{and-true}
-use Rattle.plan_checks.specs.Refusals.{Refused, nowhere, planRefusal, planVerdict}
+use Rattle.plan_checks.specs.Refusals.{planRefusal, planVerdict}
 use Rattle.plan_checks.specs.Ready.{Ready, readyRoom, roomLeft}
 use Rattle.plan_checks.specs.Verdicts.{verdictOf}
 use Rattle.words.proofs.TestLaws.{some-not-none}
@@ -27,54 +28,49 @@ use Rattle.flatten.specs.declared.sizes.Sizes.{Sizes}
 use Rattle.flatten.specs.declared.Flattened.{Flattened}
 use Rattle.flatten.specs.declared.Flattened.the-variants as flattened
 use Rattle.flatten.specs.Flatten as flat
-use Rattle.flatten.specs.Flatten.{Build, built, refusal, sizesOf, sizing, fits, ifFits, building, laid, roomAfter}
+use Rattle.flatten.specs.Flatten.{sizesOf, sizing, fits, ifFits, building, laid, roomAfter}
 use Rattle.flatten.specs.Answers.{sizesIn, flattenedOf}
-
--- the answer that a verdict gives, where it is a refusal
-abbrev told : Verdict → Flattened
-told verdict.Accepted = flattened.Refused (record { number = 0; part = 0; item = 0 })
-told (verdict.Refused x) = flattened.Refused x
 
 no-verdict : {A : Type 0} (x : Refusal) → verdict.Accepted ≡ verdict.Refused x → A
 no-verdict x e = let z : _≡_ {A = ℕ} 0 1 = cc in absurd (omega arith)
 
 -- ---- a refusal
 
-refused-is : (o : Option Refused) (x : Refusal) → verdict.Refused x ≡ verdictOf o → (q : Refused) × (o ≡ some q) × (flattened.Refused x ≡ flattenedOf (refusal q))
+refused-is : (o : Option Refusal) (x : Refusal) → verdict.Refused x ≡ verdictOf o → o ≡ some x
 refused-is none x e = no-verdict x (sym e)
-refused-is (some q) x e = (q, refl, ap told e)
+refused-is (some q) x e = cc
 
-pub accepted-is : (o : Option Refused) → verdict.Accepted ≡ verdictOf o → o ≡ none
+pub accepted-is : (o : Option Refusal) → verdict.Accepted ≡ verdictOf o → o ≡ none
 accepted-is none e = refl
 accepted-is (some q) e = no-verdict _ e
 
 module _ (d room : List ℕ) where
   -- what the room of a refused plan holds
-  room-refused : (b : Bool) (o : Option Refused) (z : List ℕ) (q : Refused)
-      → _≡_ {A = Option Refused} (elim b [ true ↦ o | false ↦ some (nowhere 32) ]) (some q)
+  room-refused : (b : Bool) (o : Option Refusal) (z : List ℕ) (q : Refusal)
+      → _≡_ {A = Option Refusal} (elim b [ true ↦ o | false ↦ some (nowhere 32) ]) (some q)
       → _≡_ {A = List ℕ} (elim b [ false ↦ room | true ↦ elim o [ some x ↦ replicate (length room) 0 | none ↦ z ] ])
       (elim b [ false ↦ room | true ↦ replicate (length room) 0 ])
   room-refused false o z q e = refl
   room-refused true (some x) z q e = refl
   room-refused true none z q e = absurd (some-not-none (sym e))
 
-  module _ (q : Refused) (e : planVerdict 256 d (length room) ≡ some q) where
+  module _ (q : Refusal) (e : planVerdict 256 d (length room) ≡ some q) where
     refused-room : (after : List ℕ) → after ≡ roomLeft d room → after ≡ roomAfter d room
     unfolding planVerdict roomLeft roomAfter
     refused-room after is = is ∙ room-refused (leb (roomWords d) (length room)) (planRefusal 256 d) (readyRoom d (length room)) q e
 
-    refused-sizing : refusal q ≡ sizing 256 d (length room)
+    refused-sizing : refused q ≡ sizing 256 d (length room)
     unfolding sizing
     refused-sizing = rw (e, sizing)
 
     module _ (s w : ℕ) where
-      refused-building : refusal q ≡ building 256 d (length room) s w
+      refused-building : refused q ≡ building 256 d (length room) s w
       unfolding building
       refused-building = rw (e, building)
 
   -- ---- an accepted plan
 
-  none-both : (b : Bool) (o : Option Refused) → _≡_ {A = Option Refused} (elim b [ true ↦ o | false ↦ some (nowhere 32) ]) none → (b ≡ true) × (o ≡ none)
+  none-both : (b : Bool) (o : Option Refusal) → _≡_ {A = Option Refusal} (elim b [ true ↦ o | false ↦ some (nowhere 32) ]) none → (b ≡ true) × (o ≡ none)
   none-both true o e = (refl, e)
   none-both false o e = absurd (some-not-none e)
 
@@ -90,7 +86,7 @@ module _ (d room : List ℕ) where
     unfolding roomAfter
     cleared-room after m k z = z ∙ ap (λ (n : ℕ). replicate n 0) k ∙ (rw (accepted .0, roomAfter))
 
-    pub accepted-sizing : built (sizesOf 256 d) ≡ sizing 256 d (length room)
+    pub accepted-sizing : good (sizesOf 256 d) ≡ sizing 256 d (length room)
     unfolding sizing
     accepted-sizing = rw (e, sizing)
 
@@ -105,10 +101,10 @@ module _ (d : List ℕ) (s w : ℕ) (x : Sizes) (are : x ≡ sizesIn (sizesOf 25
   unfolding fits
   fits-is = sym (test ∙ ap (λ (y : Sizes). leb (y .starts) s && leb (y .words) w) are)
 
-  pub long-enough : t ≡ true → ifFits (fits (sizesOf 256 d) s w) (sizesOf 256 d) ≡ built (sizesOf 256 d)
+  pub long-enough : t ≡ true → ifFits (fits (sizesOf 256 d) s w) (sizesOf 256 d) ≡ good (sizesOf 256 d)
   long-enough e = ap (λ (b : Bool). ifFits b (sizesOf 256 d)) (fits-is ∙ e)
 
-  pub too-short : t ≡ false → ifFits (fits (sizesOf 256 d) s w) (sizesOf 256 d) ≡ refusal (nowhere 14)
+  pub too-short : t ≡ false → ifFits (fits (sizesOf 256 d) s w) (sizesOf 256 d) ≡ refused (nowhere 14)
   too-short e = ap (λ (b : Bool). ifFits b (sizesOf 256 d)) (fits-is ∙ e)
 
   pub plan-room : (room : List ℕ) → Sound d room → t ≡ true → PlanRoom d room s w
@@ -122,11 +118,11 @@ module _ (d : List ℕ) (s w : ℕ) (x : Sizes) (are : x ≡ sizesIn (sizesOf 25
       }
 
 -- what a result slice then holds
-pub laid-built : (o : Build) (x : flat.Sizes) → o ≡ built x → (l before after : List ℕ) → after ≡ sets before 0 l → after ≡ laid o l before
+pub laid-built : (o : Answer flat.Sizes) (x : flat.Sizes) → o ≡ good x → (l before after : List ℕ) → after ≡ sets before 0 l → after ≡ laid o l before
 unfolding laid
 laid-built o x e l before after a = a ∙ rw (e, laid)
 
-pub laid-refused : (o : Build) (q : Refused) → o ≡ refusal q → (l before : List ℕ) → before ≡ laid o l before
+pub laid-refused : (o : Answer flat.Sizes) (q : Refusal) → o ≡ refused q → (l before : List ℕ) → before ≡ laid o l before
 unfolding laid
 laid-refused o q e l before = rw (e, laid)
 
@@ -135,19 +131,17 @@ laid-refused o q e l before = rw (e, laid)
 module _ (d room : List ℕ) (x : Refusal) (v : verdict.Refused x ≡ verdictOf (planVerdict 256 d (length room))) (after : List ℕ) (is : after ≡ roomLeft d room) where
   pub refused-sized : (flattened.Refused x ≡ flattenedOf (sizing 256 d (length room))) × (after ≡ roomAfter d room)
   refused-sized =
-      let (q, e, f) = refused-is (planVerdict 256 d (length room)) x v in
-      (f ∙ ap flattenedOf (refused-sizing d room q e), refused-room d room q e after is)
+      let e = refused-is (planVerdict 256 d (length room)) x v in
+      (ap flattenedOf (refused-sizing d room x e), refused-room d room x e after is)
 
   module _ (starts words : List ℕ) where
     pub refused-built : flattened.Refused x ≡ flattenedOf (building 256 d (length room) (length starts) (length words))
-    refused-built =
-        let (q, e, f) = refused-is (planVerdict 256 d (length room)) x v in
-        f ∙ ap flattenedOf (refused-building d room q e (length starts) (length words))
+    refused-built = ap flattenedOf (refused-building d room x (refused-is (planVerdict 256 d (length room)) x v) (length starts) (length words))
 
     pub refused-kept : (l before : List ℕ) → before ≡ laid (building 256 d (length room) (length starts) (length words)) l before
     refused-kept l before =
-        let (q, e, f) = refused-is (planVerdict 256 d (length room)) x v in
-        laid-refused (building 256 d (length room) (length starts) (length words)) q (sym (refused-building d room q e (length starts) (length words))) l before
+        let e = refused-is (planVerdict 256 d (length room)) x v in
+        laid-refused (building 256 d (length room) (length starts) (length words)) x (sym (refused-building d room x e (length starts) (length words))) l before
 
 -- one test, then the other
 pub test-on : (a b : ℕ) (c : Bool) → a ≤ b → c ≡ (leb a b && c)

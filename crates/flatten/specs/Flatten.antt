@@ -7,10 +7,11 @@ use Prim.Native.Nat.{ℕ, _+_, _*_}
 use lib.Dec.{leb}
 use lib.ListN.{length, replicate}
 use lib.Seq.{sets}
+use Rattle.words.specs.Answer.{Answer, good, refused, nowhere}
 use Rattle.plan_record.specs.Record.{blocksOf, majorsOf}
 use Rattle.plan_record.specs.Form.{roomWords}
 use Rattle.plan_blocks.specs.Blocks.{stateWords, sramWords}
-use Rattle.plan_checks.specs.Refusals.{Refused, nowhere, planVerdict}
+use Rattle.plan_checks.specs.Refusals.{planVerdict}
 use Rattle.script_assembly.specs.Assembly.{scriptWords, scriptStarts}
 
 -- ---- the sizes of a plan
@@ -21,10 +22,6 @@ pub record Sizes : Type 0 where
   pub state : ℕ
   pub sram : ℕ
 
-pub data Build : Type 0 where
-  built : Sizes → Build
-  refusal : Refused → Build
-
 unfoldable pub sizesOf : ℕ → List ℕ → Sizes
 sizesOf n d = record {
   starts = blocksOf d * majorsOf d + 1;
@@ -34,25 +31,25 @@ sizesOf n d = record {
 }
 
 -- "A plan: 5 to 13 .., then 3, 4", 32 before them
-unfoldable pub sizing : ℕ → List ℕ → ℕ → Build
-sizing n d r = elim (planVerdict n d r) [ some q ↦ refusal q | none ↦ built (sizesOf n d) ]
+unfoldable pub sizing : ℕ → List ℕ → ℕ → Answer Sizes
+sizing n d r = elim (planVerdict n d r) [ some q ↦ refused q | none ↦ good (sizesOf n d) ]
 
 -- ---- the build: "then 3, 4, 14". Result slices of s starts and w words
 
 unfoldable pub fits : Sizes → ℕ → ℕ → Bool
 fits x s w = leb (x .starts) s && leb (x .words) w
 
-abbrev pub ifFits : Bool → Sizes → Build
-ifFits true x = built x
-ifFits false x = refusal (nowhere 14)
+abbrev pub ifFits : Bool → Sizes → Answer Sizes
+ifFits true x = good x
+ifFits false x = refused (nowhere 14)
 
-unfoldable pub building : ℕ → List ℕ → ℕ → ℕ → ℕ → Build
-building n d r s w = elim (planVerdict n d r) [ some q ↦ refusal q | none ↦ ifFits (fits (sizesOf n d) s w) (sizesOf n d) ]
+unfoldable pub building : ℕ → List ℕ → ℕ → ℕ → ℕ → Answer Sizes
+building n d r s w = elim (planVerdict n d r) [ some q ↦ refused q | none ↦ ifFits (fits (sizesOf n d) s w) (sizesOf n d) ]
 
 -- what the two result slices then hold, and the room
-unfoldable pub laid : Build → List ℕ → List ℕ → List ℕ
-laid (built x) l before = sets before 0 l
-laid (refusal q) l before = before
+unfoldable pub laid : Answer Sizes → List ℕ → List ℕ → List ℕ
+laid (good x) l before = sets before 0 l
+laid (refused q) l before = before
 
 abbrev pub startsAfter : ℕ → List ℕ → ℕ → List ℕ → List ℕ → List ℕ
 startsAfter n d r starts words = laid (building n d r (length starts) (length words)) (scriptStarts n d) starts

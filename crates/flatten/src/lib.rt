@@ -5,9 +5,10 @@ ghost use mathlib.Core.Path.{_≡_};
 ghost use mathlib.Core.Bool.{_&&_};
 ghost use lib.Dec.{leb};
 ghost use lib.ListN.{length, replicate};
+ghost use Rattle.words.specs.Answer.{good};
 ghost use Rattle.script_assembly.specs.Assembly.{scriptWords, scriptStarts};
 ghost use Rattle.script_layout.specs.Layout.{Sound};
-ghost use Rattle.flatten.specs.Flatten.{built, sizesOf, sizing, fits, ifFits, building, laid, startsAfter, wordsAfter, roomAfter};
+ghost use Rattle.flatten.specs.Flatten.{sizesOf, sizing, fits, ifFits, building, laid, startsAfter, wordsAfter, roomAfter};
 ghost use Rattle.flatten.specs.Answers.{flattenedOf};
 use plan_checks::Verdict;
 use plan_checks::check_plan;
@@ -27,7 +28,7 @@ pub enum Flattened {
 // The sizes of an accepted plan. The room is clear afterwards.
 fn size_accepted(plan: &[u8], room: &mut [u32]) -> Flattened
     requires { ⌜ Sound (now plan) (now room) ⌝ }
-    ensures { λ r. ⌜ r ≡ flattenedOf (built (sizesOf 256 (now (plan .entry)))) ⌝ }
+    ensures { λ r. ⌜ r ≡ flattenedOf (good (sizesOf 256 (now (plan .entry)))) ⌝ }
     ensures { λ _. ⌜ now (room .exit) ≡ replicate (length (now (room .entry))) 0 ⌝ }
 {
     let sizes = sizes_of(plan, room);

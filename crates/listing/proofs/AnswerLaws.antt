@@ -9,8 +9,8 @@ use Rattle.listing.specs.Section.{places}
 use Rattle.listing.specs.Listing.{roundsWord, refusedWord, atWord}
 use Rattle.text.specs.Writing.{Put}
 use Rattle.listing.specs.Answer.{answerText}
-use Rattle.listing.specs.declared.answer.Answer.{Answer}
-use Rattle.listing.specs.declared.answer.Answer.the-variants.{Rounds, Refused, Bad}
+use Rattle.listing.specs.declared.answer.Said.{Said}
+use Rattle.listing.specs.declared.answer.Said.the-variants.{Rounds, Refused, Bad}
 use Rattle.text.proofs.WritingLaws.{put-then, put-is, put-wide}
 
 pub put-rounds : (n : ℕ) (s : List ℕ) {a b c d : List ℕ} {o p q r : ℕ}
@@ -21,7 +21,7 @@ put-rounds n s word number lines =
     put-is _ _ (ap (λ (l : List ℕ). roundsWord ++ l) (append-assoc (decimal n) (10 ∷ []) (places 256 s n 256 0)))
     (put-wide (omega arith) (put-then roundsWord _ word (put-then (decimal n ++ (10 ∷ [])) _ number lines)))
 
-module _ (x : Answer) (s : List ℕ) {a b : List ℕ} {q : ℕ} where
+module _ (x : Said) (s : List ℕ) {a b : List ℕ} {q : ℕ} where
   pub put-is-rounds : (n : ℕ) → x ≡ Rounds n → Put (2 ^ 60) (answerText (Rounds n) s) a 0 b q → Put (2 ^ 60) (answerText x s) a 0 b q
   put-is-rounds n e f = rw e f
 

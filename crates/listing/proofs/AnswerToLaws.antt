@@ -8,9 +8,10 @@ use native.Mathlib.Omega.{arith}
 use lib.ListN.{length, take, replicate, length-replicate}
 use lib.Seq.{sets, length-sets, length-take-le}
 use Rattle.words.specs.declared.refusals.Refusal.{Refusal}
-use Rattle.reads.specs.Search.{longest}
+use Rattle.reads.specs.Search.{Lane, longest}
 use Rattle.reads.specs.Asked.{readSetOf}
-use Rattle.reads.specs.Outcome.{Outcome, placed, refused, outcome, resultAfter}
+use Rattle.words.specs.Answer.{Answer, good, refused}
+use Rattle.reads.specs.Outcome.{outcome, resultAfter}
 use Rattle.reads_asked.proofs.FormLaws.{set-length-le}
 use Rattle.reads_asked.proofs.StoreLaws.{take-front}
 use Rattle.rounds.specs.Rounds.{roundsOf}
@@ -19,7 +20,7 @@ use Rattle.listing.specs.Records.{Parsed}
 use Rattle.listing.specs.Reading.{setOf, setAfter}
 use Rattle.listing.specs.Answer.{answered, found, answerTo, sectionAfter}
 use Rattle.listing.specs.declared.records.Read.the-variants.{Asked}
-use Rattle.listing.specs.declared.answer.Answer.the-variants.{Rounds, Refused, Bad}
+use Rattle.listing.specs.declared.answer.Said.the-variants.{Rounds, Refused, Bad}
 use Rattle.listing.proofs.KeyLaws.{asked-in}
 use Rattle.listing.proofs.ListLaws.{room-enough}
 
@@ -27,15 +28,15 @@ pub to-bad : (p : Parsed) (b : ℕ) (section : List ℕ) → p .fault ≡ some b
 unfolding answerTo sectionAfter
 to-bad p b section t = (rw (t, answerTo), rw (t, sectionAfter))
 
-as-rounds : (o : Outcome) (n : ℕ) → Placed n ≡ roundsOf o → Rounds n ≡ answered o
+as-rounds : (o : Answer (List Lane)) (n : ℕ) → Placed n ≡ roundsOf o → Rounds n ≡ answered o
 unfolding answered
-as-rounds (placed lanes) n e = let s : n ≡ longest lanes = cc in ap Rounds s
-as-rounds (refused m i) n e = let z : _≡_ {A = ℕ} 0 1 = cc in absurd (omega arith)
+as-rounds (good lanes) n e = let s : n ≡ longest lanes = cc in ap Rounds s
+as-rounds (refused q) n e = let z : _≡_ {A = ℕ} 0 1 = cc in absurd (omega arith)
 
-as-refused : (o : Outcome) (f : Refusal) → Denied f ≡ roundsOf o → Refused (f .number) ≡ answered o
+as-refused : (o : Answer (List Lane)) (f : Refusal) → Denied f ≡ roundsOf o → Refused (f .number) ≡ answered o
 unfolding answered
-as-refused (placed lanes) f e = let z : _≡_ {A = ℕ} 0 1 = cc in absurd (omega arith)
-as-refused (refused m i) f e = let s : f ≡ record { number = m; part = 0; item = i } = cc in ap (λ (g : Refusal). Refused (g .number)) s
+as-refused (good lanes) f e = let z : _≡_ {A = ℕ} 0 1 = cc in absurd (omega arith)
+as-refused (refused q) f e = let s : f ≡ q = cc in ap (λ (g : Refusal). Refused (g .number)) s
 
 -- the set at the front of 16384 words that held zeros
 module _ (p : Parsed) (small : length (p .keys) ≤ 8192) {set : List ℕ} (held : set ≡ setAfter p (replicate 16384 0)) (n : ℕ) (asked : Asked n ≡ setOf p) where
@@ -76,4 +77,4 @@ module _ (p : Parsed) (small : length (p .keys) ≤ 8192) {set : List ℕ} (held
 
     pub to-section : (s new : List ℕ) → new ≡ resultAfter (outcome 256 (take n set) o r) s → new ≡ sectionAfter p s
     unfolding sectionAfter
-    to-section s new e = e ∙ ap (λ (x : Outcome). resultAfter x s) same ∙ (rw (right, sectionAfter))
+    to-section s new e = e ∙ ap (λ (x : Answer (List Lane)). resultAfter x s) same ∙ (rw (right, sectionAfter))

@@ -15,7 +15,8 @@ use Rattle.reads.specs.Search.{Lane, longest}
 use Rattle.reads.specs.Words.{readSection}
 use Rattle.reads.specs.Local.{wordIn, maskIn}
 use Rattle.reads.specs.Packing.{Packing}
-use Rattle.reads.specs.Outcome.{placed, readSet, fitted}
+use Rattle.words.specs.Answer.{good}
+use Rattle.reads.specs.Outcome.{readSet, fitted}
 use Rattle.reads.proofs.SetLaws.{times-at, mask-some}
 use Rattle.reads.proofs.RoundLaws.{in-lanes, longest-ge}
 use Rattle.reads.proofs.SectionWordLaws.{section-length, section-word, section-mask}
@@ -117,7 +118,7 @@ section-stands o lanes long full j h =
       fits = longest-ge lanes j;
     }
 
-pub placed-lines : (n o : ℕ) (ws : List ℕ) (lanes : List Lane) → 0 < n → fitted n o (readSet n (pairsOf ws)) ≡ placed lanes
+pub placed-lines : (n o : ℕ) (ws : List ℕ) (lanes : List Lane) → 0 < n → fitted n o (readSet n (pairsOf ws)) ≡ good lanes
     → places n (sets (replicate o 0) 0 (readSection lanes)) (longest lanes) n 0 ≡ lines 0 lanes
 placed-lines n o ws lanes pos e =
     let f = fitted-placed n o (readSet n (pairsOf ws)) lanes e in

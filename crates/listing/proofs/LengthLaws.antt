@@ -16,18 +16,19 @@ use Rattle.reads.specs.ReadSet.{pairsOf}
 use Rattle.reads.specs.Search.{Lane, longest}
 use Rattle.reads.specs.Asked.{readSetOf}
 use Rattle.reads.specs.Packing.{Packing}
-use Rattle.reads.specs.Outcome.{Outcome, placed, refused, readSet, outcome}
+use Rattle.words.specs.Answer.{Answer, good, refused}
+use Rattle.reads.specs.Outcome.{readSet, outcome}
 use Rattle.reads.proofs.RoundLaws.{longest-ge}
 use Rattle.reads.proofs.PackingLaws.{lanes-packing}
 use Rattle.reads.proofs.OutcomeLaws.{placed-passed, fitted-placed}
 use Rattle.listing.specs.Records.{records}
 use Rattle.text.specs.Text.{decimalIn, decimal, field}
 use Rattle.listing.specs.Line.{hex, kindLetter, line}
-use Rattle.listing.specs.Listing.{laneLines, lines, refusedWord, printed, printedAt, said, listing, listed, textAfter}
+use Rattle.listing.specs.Listing.{laneLines, lines, refusedWord, printed, printedAt, said, listing, listed, listedOf, textAfter}
 use Rattle.listing.specs.declared.Listed.the-variants.{Text, Refused}
 use Rattle.text.proofs.TextLaws.{decimal-one, decimal-more, decimal-short}
 use Rattle.listing.proofs.LineLaws.{hex-length}
-use Rattle.listing.proofs.ListLaws.{after-text}
+use Rattle.listing.proofs.ListLaws.{is-text}
 
 -- a number below 10^(k+1) has at most k+1 digits
 decimal-digits : (f k n : ℕ) → n < 10 ^ suc k → length (decimalIn f n) ≤ suc k
@@ -81,11 +82,12 @@ lines-length i (l ∷ ls) a b =
       lines-length (i + 1) ls (omega arith) (λ j. b (suc j)),
     )
 
-printed-length : (ws : List ℕ) (o : Outcome) → outcome 256 ws 16384 16384 ≡ o → length (printed o) ≤ 237578
+printed-length : (ws : List ℕ) (o : Answer (List Lane)) → outcome 256 ws 16384 16384 ≡ o → length (printed o) ≤ 237578
 unfolding printed outcome
-printed-length ws (refused n i) e =
+printed-length ws (refused q) e =
+    let n = q .number in
     omega (arith, length-append refusedWord (decimal n ++ (10 ∷ [])), length-append (decimal n) (10 ∷ []), decimal-short 20 n)
-printed-length ws (placed lanes) e =
+printed-length ws (good lanes) e =
     let f = fitted-placed 256 16384 (readSet 256 (pairsOf ws)) lanes e in
     let q : Packing 256 (pairsOf ws) lanes = lanes-packing 256 (pairsOf ws) lanes (placed-passed 256 (pairsOf ws) lanes (f .0) .found) (omega arith) in
     let few : longest lanes ≤ 32 = omega (arith, f .1) in
@@ -110,24 +112,24 @@ listing-length bs = go (records bs .fault) refl
     go (some b) t = rw (t, said) (bad-length b)
 
 -- so with such bytes and enough working room `list` gives the text
-pub listed-text : (bs : List ℕ) (o r : ℕ) → 237578 ≤ o → 16384 ≤ r → listed bs o r ≡ Text (length (listing bs))
-unfolding listed
-listed-text bs o r h k = let g : length (listing bs) ≤ o = omega (arith, listing-length bs) in rw (le-leb _ _ k, le-leb _ _ g, listed)
-
 module _ (bs out : List ℕ) (r : ℕ) (h : 237578 ≤ length out) (k : 16384 ≤ r) where
-  pub text-never : (f : Refusal) → Refused f ≡ listed bs (length out) r → ⊥
+  text-listed : listed bs (length out) r ≡ good (listing bs)
+  text-listed = is-text bs out r k (omega (arith, listing-length bs))
+
+  pub text-never : (f : Refusal) → Refused f ≡ listedOf (listed bs (length out) r) → ⊥
   text-never f e =
-      let q : Refused f ≡ Text (length (listing bs)) = e ∙ listed-text bs (length out) r h k in
+      let q : Refused f ≡ Text (length (listing bs)) = e ∙ ap listedOf text-listed in
       let z : _≡_ {A = ℕ} 0 1 = cc in
       omega arith
 
   -- what a caller then holds: n bytes of text at the front
-  pub text-given : (n : ℕ) (new : List ℕ) → Text n ≡ listed bs (length out) r → new ≡ textAfter bs r out
+  pub text-given : (n : ℕ) (new : List ℕ) → Text n ≡ listedOf (listed bs (length out) r) → new ≡ textAfter (listed bs (length out) r) out
       → ((n ≤ length new) × (n ≡ length (take n new))) × ((n ≡ length (listing bs)) × (new ≡ sets out 0 (listing bs)))
+  unfolding textAfter
   text-given n new e g =
-      let q : Text n ≡ Text (length (listing bs)) = e ∙ listed-text bs (length out) r h k in
+      let q : Text n ≡ Text (length (listing bs)) = e ∙ ap listedOf text-listed in
       let s : n ≡ length (listing bs) = cc in
-      let w : new ≡ sets out 0 (listing bs) = g ∙ sym (after-text bs out r k (omega (arith, listing-length bs))) in
+      let w : new ≡ sets out 0 (listing bs) = g ∙ (rw text-listed) in
       let l : length new ≡ length out = ap length w ∙ length-sets out 0 (listing bs) in
       let m : n ≤ length new = omega (arith, listing-length bs) in
       ((m, sym (length-take-le n new m)), (s, w))

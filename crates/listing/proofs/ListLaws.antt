@@ -8,24 +8,26 @@ use native.Mathlib.Omega.{arith}
 use borrow.Author.Tests.{le-leb, lt-leb}
 use lib.ListN.{length, replicate}
 use lib.Seq.{sets}
-use Rattle.reads.specs.Search.{longest}
+use Rattle.reads.specs.Search.{Lane, longest}
 use Rattle.reads.specs.Asked.{readSetOf}
-use Rattle.reads.specs.Outcome.{Outcome, placed, refused, outcome, resultAfter, roomAfter}
+use Rattle.words.specs.Answer.{Answer, good, refused, nowhere}
+use Rattle.reads.specs.Outcome.{outcome, resultAfter, roomAfter}
 use Rattle.listing.specs.Records.{Parsed, records}
 use Rattle.text.specs.Text.{decimal}
-use Rattle.listing.specs.Listing.{roundsWord, printed, printedAt, said, listing, listed, textAfter}
+use Rattle.listing.specs.Listing.{roundsWord, printed, printedAt, said, listing, listed, listedOf, textAfter}
 use Rattle.listing.specs.Answer.{answered, found, answerTo, sectionAfter, answerText}
-use Rattle.listing.specs.declared.answer.Answer.{Answer}
-use Rattle.listing.specs.declared.answer.Answer.the-variants.{Bad}
+use Rattle.listing.specs.declared.answer.Said.{Said}
+use Rattle.listing.specs.declared.answer.Said.the-variants.{Bad}
+use Rattle.listing.specs.declared.Listed.{Listed}
 use Rattle.listing.specs.declared.Listed.the-variants.{Text, Refused}
 use Rattle.listing.proofs.LaneLaws.{placed-lines}
 
 -- ---- the answer's text
 
-text-printed : (ws : List ℕ) (o : Outcome) → outcome 256 ws 16384 16384 ≡ o → answerText (answered o) (resultAfter o (replicate 16384 0)) ≡ printed o
+text-printed : (ws : List ℕ) (o : Answer (List Lane)) → outcome 256 ws 16384 16384 ≡ o → answerText (answered o) (resultAfter o (replicate 16384 0)) ≡ printed o
 unfolding answerText answered resultAfter printed outcome
-text-printed ws (refused n i) e = refl
-text-printed ws (placed lanes) e =
+text-printed ws (refused q) e = refl
+text-printed ws (good lanes) e =
     ap (λ (l : List ℕ). roundsWord ++ (decimal (longest lanes) ++ ((10 ∷ []) ++ l))) (placed-lines 256 16384 ws lanes (omega arith) e)
 
 text-bad : (b : ℕ) → answerText (Bad b) (replicate 16384 0) ≡ printedAt b
@@ -40,35 +42,28 @@ text-said p = go (p .fault) refl
     go none e = rw (e, answerTo, sectionAfter, said) (text-printed (readSetOf (p .keys)) (found p) refl)
     go (some b) e = rw (e, answerTo, sectionAfter, said) (text-bad b)
 
--- ---- what `list` answers
-
-module _ (bs : List ℕ) (o r : ℕ) where
-  pub list-short-room : r < 16384 → Refused (record { number = 32; part = 0; item = 0 }) ≡ listed bs o r
-  unfolding listed
-  list-short-room h = rw (lt-leb _ _ h, listed)
-
-  module _ (h : 16384 ≤ r) where
-    pub list-short : o < length (listing bs) → Refused (record { number = 14; part = 0; item = 0 }) ≡ listed bs o r
-    unfolding listed
-    list-short g = rw (le-leb _ _ h, lt-leb _ _ g, listed)
-
-    pub list-text : length (listing bs) ≤ o → Text (length (listing bs)) ≡ listed bs o r
-    unfolding listed
-    list-text g = rw (le-leb _ _ h, le-leb _ _ g, listed)
+-- ---- what `list` answers, and what the lent bytes then hold
 
 module _ (bs out : List ℕ) (r : ℕ) where
-  pub after-short-room : r < 16384 → out ≡ textAfter bs r out
-  unfolding textAfter
-  after-short-room h = rw (lt-leb _ _ h, textAfter)
+  abbrev pub Listing : Listed → List ℕ → Type 0
+  Listing x new = (x ≡ listedOf (listed bs (length out) r)) × (new ≡ textAfter (listed bs (length out) r) out)
+
+  pub list-short-room : r < 16384 → Listing (Refused (nowhere 32)) out
+  unfolding listed textAfter
+  list-short-room h = (rw (lt-leb _ _ h, listed), rw (lt-leb _ _ h, listed))
 
   module _ (h : 16384 ≤ r) where
-    pub after-short : length out < length (listing bs) → out ≡ textAfter bs r out
-    unfolding textAfter
-    after-short g = rw (le-leb _ _ h, lt-leb _ _ g, textAfter)
+    list-short : length out < length (listing bs) → Listing (Refused (nowhere 14)) out
+    unfolding listed textAfter
+    list-short g = (rw (le-leb _ _ h, lt-leb _ _ g, listed), rw (le-leb _ _ h, lt-leb _ _ g, listed))
 
-    pub after-text : length (listing bs) ≤ length out → sets out 0 (listing bs) ≡ textAfter bs r out
+    pub is-text : length (listing bs) ≤ length out → listed bs (length out) r ≡ good (listing bs)
+    unfolding listed
+    is-text g = rw (le-leb _ _ h, le-leb _ _ g, listed)
+
+    list-text : length (listing bs) ≤ length out → Listing (Text (length (listing bs))) (sets out 0 (listing bs))
     unfolding textAfter
-    after-text g = rw (le-leb _ _ h, le-leb _ _ g, textAfter)
+    list-text g = rw (is-text g) (refl, refl)
 
 pub room-kept : (room : List ℕ) → length room < 16384 → room ≡ roomAfter room
 unfolding roomAfter
@@ -84,7 +79,7 @@ room-enough ws o r h = rw (le-leb _ _ h, outcome)
 
 -- ---- how `list` comes to it
 
-module _ (bs room out : List ℕ) (h : 16384 ≤ length room) {s : List ℕ} (sect : s ≡ sectionAfter (records bs) (replicate 16384 0)) {a : Answer} (ans : a ≡ answerTo (records bs)) where
+module _ (bs room out : List ℕ) (h : 16384 ≤ length room) {s : List ℕ} (sect : s ≡ sectionAfter (records bs) (replicate 16384 0)) {a : Said} (ans : a ≡ answerTo (records bs)) where
   text-is : answerText a s ≡ listing bs
   unfolding listing
   text-is = (rw (ans, sect)) ∙ text-said (records bs)
@@ -93,12 +88,10 @@ module _ (bs room out : List ℕ) (h : 16384 ≤ length room) {s : List ℕ} (se
     size : n ≡ length (listing bs)
     size = len ∙ ap length text-is
 
-    pub lists-short : length out < n → (Refused (record { number = 14; part = 0; item = 0 }) ≡ listed bs (length out) (length room)) × (out ≡ textAfter bs (length room) out)
-    lists-short g =
-        let k : length out < length (listing bs) = (rw size at g) in
-        (list-short bs (length out) (length room) h k, after-short bs out (length room) h k)
+    pub lists-short : length out < n → Listing bs out (length room) (Refused (nowhere 14)) out
+    lists-short g = list-short bs out (length room) h (rw size at g)
 
-    pub lists-text : {new : List ℕ} → n ≤ length out → new ≡ sets out 0 (answerText a s) → (Text n ≡ listed bs (length out) (length room)) × (new ≡ textAfter bs (length room) out)
+    pub lists-text : {new : List ℕ} → n ≤ length out → new ≡ sets out 0 (answerText a s) → Listing bs out (length room) (Text n) new
     lists-text g e =
-        let k : length (listing bs) ≤ length out = (rw size at g) in
-        (ap Text size ∙ list-text bs (length out) (length room) h k, e ∙ ap (sets out 0) text-is ∙ after-text bs out (length room) h k)
+        let l = list-text bs out (length room) h (rw size at g) in
+        (ap Text size ∙ l .0, e ∙ ap (sets out 0) text-is ∙ l .1)

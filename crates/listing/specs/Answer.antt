@@ -3,32 +3,33 @@
 use mathlib.Core.Option.{none, some}
 use mathlib.Core.List.{List, [], _∷_, _++_}
 use Prim.Native.Nat.{ℕ}
-use Rattle.reads.specs.Search.{longest}
+use Rattle.reads.specs.Search.{Lane, longest}
 use Rattle.reads.specs.Asked.{readSetOf}
-use Rattle.reads.specs.Outcome.{Outcome, placed, refused, outcome, resultAfter}
+use Rattle.words.specs.Answer.{Answer, good, refused}
+use Rattle.reads.specs.Outcome.{outcome, resultAfter}
 use Rattle.listing.specs.Records.{Parsed}
 use Rattle.text.specs.Text.{decimal}
 use Rattle.listing.specs.Listing.{roundsWord, refusedWord, atWord}
 use Rattle.listing.specs.Section.{places}
-use Rattle.listing.specs.declared.answer.Answer.{Answer}
-use Rattle.listing.specs.declared.answer.Answer.the-variants.{Rounds, Refused, Bad}
+use Rattle.listing.specs.declared.answer.Said.{Said}
+use Rattle.listing.specs.declared.answer.Said.the-variants.{Rounds, Refused, Bad}
 
 -- the answer to records, and the lent section then
-unfoldable pub answered : Outcome → Answer
-answered (placed lanes) = Rounds (longest lanes)
-answered (refused n i) = Refused n
+unfoldable pub answered : Answer (List Lane) → Said
+answered (good lanes) = Rounds (longest lanes)
+answered (refused q) = Refused (q .number)
 
-abbrev pub found : Parsed → Outcome
+abbrev pub found : Parsed → Answer (List Lane)
 found p = outcome 256 (readSetOf (p .keys)) 16384 16384
 
-unfoldable pub answerTo : Parsed → Answer
+unfoldable pub answerTo : Parsed → Said
 answerTo p = elim (p .fault) [ some b ↦ Bad b | none ↦ answered (found p) ]
 
 unfoldable pub sectionAfter : Parsed → List ℕ → List ℕ
 sectionAfter p s = elim (p .fault) [ some b ↦ s | none ↦ resultAfter (found p) s ]
 
 -- its text
-unfoldable pub answerText : Answer → List ℕ → List ℕ
+unfoldable pub answerText : Said → List ℕ → List ℕ
 answerText (Rounds n) s = roundsWord ++ (decimal n ++ ((10 ∷ []) ++ places 256 s n 256 0))
 answerText (Refused n) s = refusedWord ++ (decimal n ++ (10 ∷ []))
 answerText (Bad b) s = refusedWord ++ (atWord ++ (decimal b ++ (10 ∷ [])))

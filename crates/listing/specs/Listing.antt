@@ -9,7 +9,8 @@ use lib.ListN.{length}
 use lib.Seq.{sets}
 use Rattle.reads.specs.Search.{Lane, longest}
 use Rattle.reads.specs.Asked.{readSetOf}
-use Rattle.reads.specs.Outcome.{Outcome, placed, refused, outcome}
+use Rattle.words.specs.Answer.{Answer, good, refused, nowhere}
+use Rattle.reads.specs.Outcome.{outcome}
 use Rattle.listing.specs.Records.{Parsed, records}
 use Rattle.text.specs.Text.{decimal}
 use Rattle.listing.specs.Line.{line}
@@ -37,9 +38,9 @@ abbrev pub atWord : List ℕ
 atWord = 49 ∷ 55 ∷ 32 ∷ 97 ∷ 116 ∷ 32 ∷ []
 
 -- "It prints `refused N`", or the rounds and the lines; each line ends in LF
-unfoldable pub printed : Outcome → List ℕ
-printed (refused n i) = refusedWord ++ (decimal n ++ (10 ∷ []))
-printed (placed lanes) = roundsWord ++ (decimal (longest lanes) ++ ((10 ∷ []) ++ lines 0 lanes))
+unfoldable pub printed : Answer (List Lane) → List ℕ
+printed (refused q) = refusedWord ++ (decimal (q .number) ++ (10 ∷ []))
+printed (good lanes) = roundsWord ++ (decimal (longest lanes) ++ ((10 ∷ []) ++ lines 0 lanes))
 
 -- "and ` at B` for 17"
 unfoldable pub printedAt : ℕ → List ℕ
@@ -52,15 +53,20 @@ said p = elim (p .fault) [ some b ↦ printedAt b | none ↦ printed (outcome 25
 unfoldable pub listing : List ℕ → List ℕ
 listing bs = said (records bs)
 
--- What `list` answers where it is lent o bytes for the text and r words of working room: 32, then 14, else the text's length.
-unfoldable pub listed : List ℕ → ℕ → ℕ → Listed
+-- What `list` answers where it is lent o bytes for the text and r words of working room: 32, then 14, else the text.
+unfoldable pub listed : List ℕ → ℕ → ℕ → Answer (List ℕ)
 listed bs o r =
     elim (leb 16384 r) [
-      | false ↦ Refused (record { number = 32; part = 0; item = 0 })
-      | true ↦ elim (leb (length (listing bs)) o) [ false ↦ Refused (record { number = 14; part = 0; item = 0 }) | true ↦ Text (length (listing bs)) ]
+      | false ↦ refused (nowhere 32)
+      | true ↦ elim (leb (length (listing bs)) o) [ false ↦ refused (nowhere 14) | true ↦ good (listing bs) ]
     ]
 
+-- the code tells the text's length
+abbrev pub listedOf : Answer (List ℕ) → Listed
+listedOf (good t) = Text (length t)
+listedOf (refused q) = Refused q
+
 -- the lent bytes then hold the text from their start, or what they held
-unfoldable pub textAfter : List ℕ → ℕ → List ℕ → List ℕ
-textAfter bs r out =
-    elim (leb 16384 r) [ false ↦ out | true ↦ elim (leb (length (listing bs)) (length out)) [ false ↦ out | true ↦ sets out 0 (listing bs) ] ]
+unfoldable pub textAfter : Answer (List ℕ) → List ℕ → List ℕ
+textAfter (good t) out = sets out 0 t
+textAfter (refused q) out = out

@@ -10,14 +10,14 @@ use text::put_bytes;
 use text::put_number;
 
 // Rounds that a read section holds; a refusal's number; or the byte of a bad record.
-pub enum Answer {
+pub enum Said {
     Rounds(u32),
     Refused(u32),
     Bad(usize),
 }
 
 fn put_rounds(out: &mut [u8], section: &[u32], rounds: u32) -> usize
-    ensures { λ r. ⌜ Put (2 ^ 60) (answerText (Answer.Rounds rounds) (now (section .entry))) (now (out .entry)) 0 (now (out .exit)) r ⌝ }
+    ensures { λ r. ⌜ Put (2 ^ 60) (answerText (Said.Rounds rounds) (now (section .entry))) (now (out .entry)) 0 (now (out .exit)) r ⌝ }
 {
     let word_end = put_bytes(out, 0, b"rounds ");
     let line_end = put_number(out, word_end, rounds as u64, b'\n');
@@ -38,12 +38,12 @@ fn put_bad(out: &mut [u8], byte: usize) -> usize
     put_number(out, word_end, byte as u64, b'\n')
 }
 
-pub fn put_answer(out: &mut [u8], answer: Answer, section: &[u32]) -> usize
+pub fn put_answer(out: &mut [u8], answer: Said, section: &[u32]) -> usize
     ensures { λ r. ⌜ Put (2 ^ 60) (answerText answer (now (section .entry))) (now (out .entry)) 0 (now (out .exit)) r ⌝ }
 {
     match answer {
-        Answer::Rounds(rounds) => put_rounds(out, section, rounds),
-        Answer::Refused(number) => put_refused(out, number),
-        Answer::Bad(byte) => put_bad(out, byte),
+        Said::Rounds(rounds) => put_rounds(out, section, rounds),
+        Said::Refused(number) => put_refused(out, number),
+        Said::Bad(byte) => put_bad(out, byte),
     }
 }

@@ -11,8 +11,8 @@ ghost use lib.Seq.{sets};
 ghost use Rattle.reads.specs.Outcome.{roomAfter};
 ghost use Rattle.listing.specs.Records.{records};
 ghost use Rattle.listing.specs.Answer.{answerTo, sectionAfter, answerText};
-ghost use Rattle.listing.specs.Listing.{listing, listed, textAfter};
-use answer::Answer;
+ghost use Rattle.listing.specs.Listing.{listing, listed, listedOf, textAfter};
+use answer::Said;
 use answer::put_answer;
 use records::Read;
 use records::read_set_of;
@@ -29,7 +29,7 @@ pub enum Listed {
 }
 
 // The answer to records, with the read section of its rounds.
-fn answer_to(s: &[u8], room: &mut [u32], section: &mut [u32]) -> Answer
+fn answer_to(s: &[u8], room: &mut [u32], section: &mut [u32]) -> Said
     requires { ⌜ (16384 ≤ length (now room)) × (length (now section) ≡ 16384) ⌝ }
     ensures { λ r. ⌜ r ≡ answerTo (records (now (s .entry))) ⌝ }
     ensures { λ _. ⌜ now (room .exit) ≡ replicate (length (now (room .entry))) 0 ⌝ }
@@ -39,17 +39,17 @@ fn answer_to(s: &[u8], room: &mut [u32], section: &mut [u32]) -> Answer
     match read_set_of(s, &mut set) {
         Read::Refused(b) => {
             clear(room);
-            Answer::Bad(b)
+            Said::Bad(b)
         }
         Read::Asked(n) => match rounds::map_global_read_to_rounds(&set[..n], room, section) {
-            Rounds::Placed(rounds) => Answer::Rounds(rounds),
-            Rounds::Refused(refusal) => Answer::Refused(refusal.number),
+            Rounds::Placed(rounds) => Said::Rounds(rounds),
+            Rounds::Refused(refusal) => Said::Refused(refusal.number),
         },
     }
 }
 
 // How long an answer's text is: it is written past the end of no bytes.
-fn text_length(answer: Answer, section: &[u32]) -> usize
+fn text_length(answer: Said, section: &[u32]) -> usize
     ensures { λ r. ⌜ r ≡ length (answerText answer (now (section .entry))) ⌝ }
 {
     let mut nothing = [0u8; 0];
@@ -58,9 +58,9 @@ fn text_length(answer: Answer, section: &[u32]) -> usize
 
 // What the listing program prints for the bytes of its standard input.
 pub fn list(records: &[u8], room: &mut [u32], out: &mut [u8]) -> Listed
-    ensures { λ r. ⌜ r ≡ listed (now (records .entry)) (length (now (out .entry))) (length (now (room .entry))) ⌝ }
+    ensures { λ r. ⌜ r ≡ listedOf (listed (now (records .entry)) (length (now (out .entry))) (length (now (room .entry)))) ⌝ }
     ensures { λ _. ⌜ now (room .exit) ≡ roomAfter (now (room .entry)) ⌝ }
-    ensures { λ _. ⌜ now (out .exit) ≡ textAfter (now (records .entry)) (length (now (room .entry))) (now (out .entry)) ⌝ }
+    ensures { λ _. ⌜ now (out .exit) ≡ textAfter (listed (now (records .entry)) (length (now (out .entry))) (length (now (room .entry)))) (now (out .entry)) ⌝ }
 {
     if room.len() < 16384 {
         return Listed::Refused(Refusal {

@@ -5,7 +5,8 @@ use mathlib.Core.List.{List, [], _∷_, _++_}
 use Prim.Native.Nat.{ℕ, zero, suc, _+_, _^_}
 use Rattle.reads.specs.Search.{Lane, longest}
 use Rattle.reads.specs.Local.{localOf}
-use Rattle.reads.specs.Outcome.{Outcome, placed, refused, outcome}
+use Rattle.words.specs.Answer.{Answer, good, refused}
+use Rattle.reads.specs.Outcome.{outcome}
 
 -- n pairs of the mask m, from the word w on
 unfoldable pub same : ℕ → ℕ → ℕ → List ℕ
@@ -29,9 +30,9 @@ positions ls [] = []
 positions ls (b ∷ bs) = orNone (localOf ls (b .word) (b .bit)) ∷ positions ls bs
 
 -- what is seen of an outcome: the refusal's number and item after a 0; or the rounds, then the local positions of some bits
-unfoldable pub seen : Outcome → List Asked → List ℕ
-seen (refused n i) bs = 0 ∷ n ∷ i ∷ []
-seen (placed ls) bs = longest ls ∷ positions ls bs
+unfoldable pub seen : Answer (List Lane) → List Asked → List ℕ
+seen (refused q) bs = 0 ∷ q .number ∷ q .item ∷ []
+seen (good ls) bs = longest ls ∷ positions ls bs
 
 -- a read set at 256 lanes, with working room and result room enough
 abbrev pub readRounds : List ℕ → List Asked → List ℕ

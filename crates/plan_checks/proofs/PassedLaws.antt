@@ -5,7 +5,7 @@ use mathlib.Core.Bool.{Bool, true, false}
 use mathlib.Core.Option.{Option, none, some}
 use mathlib.Core.List.{List}
 use Prim.Native.Nat.{ℕ, _<_}
-use Rattle.reads.specs.Outcome.{placed}
+use Rattle.words.specs.Answer.{good}
 use Rattle.plan_record.specs.Record.{partsOf}
 use Rattle.words.specs.Tests.{Place}
 use Rattle.plan_record.specs.Form.{planForm}
@@ -17,7 +17,8 @@ use Rattle.plan_slots.specs.Slots.{refusal9, refusal10, refusal11}
 use Rattle.plan_positions.specs.Positions.{refusal12, refusal13}
 use Rattle.plan_reads.specs.PartReads.{partReads, partLanes, refusedReads}
 use Rattle.plan_reads.proofs.CheckLaws.{placed-part}
-use Rattle.plan_checks.specs.Refusals.{Refused, orElse, unless, gatePlace, planRefusal}
+use Rattle.words.specs.declared.refusals.Refusal.{Refusal}
+use Rattle.plan_checks.specs.Refusals.{orElse, unless, gatePlace, planRefusal}
 
 pub record Passed (n : ℕ) (d : List ℕ) : Type 0 where
   pub form : planForm d ≡ true
@@ -33,11 +34,11 @@ pub record Passed (n : ℕ) (d : List ℕ) : Type 0 where
   pub no-room : refusedReads n 4 d ≡ none
 
 -- a test that lets a plan pass
-pub past : (k : ℕ) (o : Option Place) (r : Option Refused) → orElse k o r ≡ none → (o ≡ none) × (r ≡ none)
+pub past : (k : ℕ) (o : Option Place) (r : Option Refusal) → orElse k o r ≡ none → (o ≡ none) × (r ≡ none)
 past k none r e = (refl, e)
 past k (some q) r e = absurd (some-not-none e)
 
-pub past-unless : (k : ℕ) (b : Bool) (r : Option Refused) → unless k b r ≡ none → (b ≡ true) × (r ≡ none)
+pub past-unless : (k : ℕ) (b : Bool) (r : Option Refusal) → unless k b r ≡ none → (b ≡ true) × (r ≡ none)
 past-unless k true r e = (refl, e)
 past-unless k false r e = absurd (some-not-none e)
 
@@ -73,7 +74,7 @@ passed n d e =
       no-room = four .0;
     }
 
-pub placed-lanes : (d : List ℕ) → planRefusal 256 d ≡ none → (p : ℕ) → p < partsOf d → partReads 256 d p ≡ placed (partLanes 256 d p)
+pub placed-lanes : (d : List ℕ) → planRefusal 256 d ≡ none → (p : ℕ) → p < partsOf d → partReads 256 d p ≡ good (partLanes 256 d p)
 unfolding refusedReads
 placed-lanes d e p h =
     let s = passed 256 d e in

@@ -7,7 +7,8 @@ use mathlib.Core.List.{List}
 use Prim.Native.Nat.{ℕ}
 use native.Mathlib.Omega.{arith}
 use lib.Dec.{eqb}
-use Rattle.reads.specs.Outcome.{Outcome, placed, refused}
+use Rattle.reads.specs.Search.{Lane}
+use Rattle.words.specs.Answer.{Answer, good, refused}
 use Rattle.plan_record.specs.Record.{partsOf}
 use Rattle.words.specs.Tests.{Place, lowest}
 use Rattle.plan_record.specs.Form.{planForm}
@@ -76,12 +77,12 @@ few-same o p e h x f = h x (sym e ∙ f)
 
 -- ---- 3 and 4 are told at item 0
 
-bad-item : (k : ℕ) (o : Outcome) (i : ℕ) → badReads k o ≡ some i → i ≡ 0
+bad-item : (k : ℕ) (o : Answer (List Lane)) (i : ℕ) → badReads k o ≡ some i → i ≡ 0
 unfolding badReads
-bad-item k (placed lanes) i e = absurd (some-not-none (sym e))
-bad-item k (refused m j) i e = go (eqb m k) refl
+bad-item k (good lanes) i e = absurd (some-not-none (sym e))
+bad-item k (refused x) i e = go (eqb (x .number) k) refl
   where
-    go : (b : Bool) → eqb m k ≡ b → i ≡ 0
+    go : (b : Bool) → eqb (x .number) k ≡ b → i ≡ 0
     go true q =
         let z : some 0 ≡ some i = rw (q, badReads) at e in
         cc

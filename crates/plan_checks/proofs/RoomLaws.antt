@@ -21,7 +21,9 @@ use Rattle.plan_positions.specs.Places.{Judgeable}
 use Rattle.plan_reads.specs.Ready.{ClearRoom, Searchable}
 use Rattle.plan_reads.specs.Answers.{roundsIn, partsUpTo, roundRows, searchedRoom}
 use Rattle.words.specs.Tests.{Place}
-use Rattle.plan_checks.specs.Refusals.{Refused, planRefusal, planVerdict, nowhere}
+use Rattle.words.specs.Answer.{nowhere}
+use Rattle.words.specs.declared.refusals.Refusal.{Refusal}
+use Rattle.plan_checks.specs.Refusals.{planRefusal, planVerdict}
 use Rattle.plan_checks.specs.Steps.{listRefusal, totalRefusal, placeRefusal}
 use Rattle.plan_checks.specs.Ready.{Ready, Cleared, readyRoom, roomLeft}
 use Rattle.plan_checks.proofs.PassedLaws.{passed}
@@ -189,7 +191,7 @@ module _ (d room : List ℕ) where
     pub refused-room : (planRefusal 256 d ≡ none → ⊥) → replicate (length room) 0 ≡ roomLeft d room
     refused-room h = go (planRefusal 256 d) refl
       where
-        go : (o : Option Refused) → planRefusal 256 d ≡ o → replicate (length room) 0 ≡ roomLeft d room
+        go : (o : Option Refusal) → planRefusal 256 d ≡ o → replicate (length room) 0 ≡ roomLeft d room
         go none e = absurd (h e)
         go (some x) e = sym (rw e at left)
 

@@ -12,7 +12,8 @@ use Rattle.plan_counts.specs.Counts.{refusal7}
 use Rattle.plan_blocks.specs.Blocks.{totalsFit}
 use Rattle.plan_slots.specs.Slots.{refusal9, refusal10, refusal11}
 use Rattle.plan_positions.specs.Positions.{refusal12, refusal13}
-use Rattle.plan_checks.specs.Refusals.{Refused, orElse, unless, gatePlace, planRefusal}
+use Rattle.words.specs.declared.refusals.Refusal.{Refusal}
+use Rattle.plan_checks.specs.Refusals.{orElse, unless, gatePlace, planRefusal}
 use Rattle.plan_checks.specs.Steps.{first, listRefusal, totalRefusal, pinRefusal, placeRefusal, readRefusal}
 use Rattle.plan_checks.specs.Verdicts.{verdictOf, isRefused}
 use Rattle.plan_checks.specs.declared.Verdict.{Verdict}
@@ -56,36 +57,36 @@ module _ (d : List ℕ) (v : Verdict) where
 
 -- ---- all groups
 
-five-to-seven : (f : Bool) (a b : Option Place) (r : Option Refused)
+five-to-seven : (f : Bool) (a b : Option Place) (r : Option Refusal)
     → unless 5 f (orElse 6 a (orElse 7 b r)) ≡ first (unless 5 f (orElse 6 a (orElse 7 b none))) r
 five-to-seven false a b r = refl
 five-to-seven true (some x) b r = refl
 five-to-seven true none (some x) r = refl
 five-to-seven true none none r = refl
 
-eight : (f : Bool) (r : Option Refused) → unless 8 f r ≡ first (unless 8 f none) r
+eight : (f : Bool) (r : Option Refusal) → unless 8 f r ≡ first (unless 8 f none) r
 eight false r = refl
 eight true r = refl
 
-nine-to-eleven : (a b c : Option Place) (r : Option Refused)
+nine-to-eleven : (a b c : Option Place) (r : Option Refusal)
     → orElse 9 a (orElse 10 b (orElse 11 c r)) ≡ first (orElse 9 a (orElse 10 b (orElse 11 c none))) r
 nine-to-eleven (some x) b c r = refl
 nine-to-eleven none (some x) c r = refl
 nine-to-eleven none none (some x) r = refl
 nine-to-eleven none none none r = refl
 
-twelve-thirteen : (a b : Option Place) (r : Option Refused) → orElse 12 a (orElse 13 b r) ≡ first (orElse 12 a (orElse 13 b none)) r
+twelve-thirteen : (a b : Option Place) (r : Option Refusal) → orElse 12 a (orElse 13 b r) ≡ first (orElse 12 a (orElse 13 b none)) r
 twelve-thirteen (some x) b r = refl
 twelve-thirteen none (some x) r = refl
 twelve-thirteen none none r = refl
 
-abbrev fromPlaces : List ℕ → Option Refused
+abbrev fromPlaces : List ℕ → Option Refusal
 fromPlaces d = first (placeRefusal d) (readRefusal 256 d)
 
-abbrev fromPins : List ℕ → Option Refused
+abbrev fromPins : List ℕ → Option Refusal
 fromPins d = first (pinRefusal d) (fromPlaces d)
 
-abbrev fromTotals : List ℕ → Option Refused
+abbrev fromTotals : List ℕ → Option Refusal
 fromTotals d = first (totalRefusal d) (fromPins d)
 
 plan-first : (d : List ℕ) → planRefusal 256 d ≡ first (listRefusal d) (fromTotals d)
@@ -106,27 +107,27 @@ module _ (d : List ℕ) (v : Verdict) where
 
   module _ (lists : listRefusal d ≡ none) where
     past-lists : v ≡ verdictOf (fromTotals d) → v ≡ verdictOf (planRefusal 256 d)
-    past-lists is = is ∙ ap verdictOf (ap (λ (o : Option Refused). first o (fromTotals d)) (sym lists) ∙ sym (plan-first d))
+    past-lists is = is ∙ ap verdictOf (ap (λ (o : Option Refusal). first o (fromTotals d)) (sym lists) ∙ sym (plan-first d))
 
     pub plan-totals : (t : Bool) → v ≡ verdictOf (totalRefusal d) → t ≡ isRefused v → t ≡ true → v ≡ verdictOf (planRefusal 256 d)
     plan-totals t is told h = past-lists (stopped (totalRefusal d) v is t told h (fromPins d))
 
     module _ (totals : totalRefusal d ≡ none) where
       past-totals : v ≡ verdictOf (fromPins d) → v ≡ verdictOf (planRefusal 256 d)
-      past-totals is = past-lists (is ∙ ap verdictOf (ap (λ (o : Option Refused). first o (fromPins d)) (sym totals)))
+      past-totals is = past-lists (is ∙ ap verdictOf (ap (λ (o : Option Refusal). first o (fromPins d)) (sym totals)))
 
       pub plan-pins : (t : Bool) → v ≡ verdictOf (pinRefusal d) → t ≡ isRefused v → t ≡ true → v ≡ verdictOf (planRefusal 256 d)
       plan-pins t is told h = past-totals (stopped (pinRefusal d) v is t told h (fromPlaces d))
 
       module _ (pins : pinRefusal d ≡ none) where
         past-pins : v ≡ verdictOf (fromPlaces d) → v ≡ verdictOf (planRefusal 256 d)
-        past-pins is = past-totals (is ∙ ap verdictOf (ap (λ (o : Option Refused). first o (fromPlaces d)) (sym pins)))
+        past-pins is = past-totals (is ∙ ap verdictOf (ap (λ (o : Option Refusal). first o (fromPlaces d)) (sym pins)))
 
         pub plan-places : (t : Bool) → v ≡ verdictOf (placeRefusal d) → t ≡ isRefused v → t ≡ true → v ≡ verdictOf (planRefusal 256 d)
         plan-places t is told h = past-pins (stopped (placeRefusal d) v is t told h (readRefusal 256 d))
 
         pub plan-reads : placeRefusal d ≡ none → v ≡ verdictOf (readRefusal 256 d) → v ≡ verdictOf (planRefusal 256 d)
-        plan-reads places is = past-pins (is ∙ ap verdictOf (ap (λ (o : Option Refused). first o (readRefusal 256 d)) (sym places)))
+        plan-reads places is = past-pins (is ∙ ap verdictOf (ap (λ (o : Option Refusal). first o (readRefusal 256 d)) (sym places)))
 
 -- ---- what a group leaves
 

@@ -6,7 +6,8 @@ use mathlib.Core.Option.{Option, none, some}
 use Prim.Native.Nat.{ℕ}
 use Rattle.words.specs.Tests.{Place}
 use Rattle.words.proofs.TestLaws.{not-both}
-use Rattle.plan_checks.specs.Refusals.{Refused, orElse, unless}
+use Rattle.words.specs.declared.refusals.Refusal.{Refusal}
+use Rattle.plan_checks.specs.Refusals.{orElse, unless}
 use Rattle.plan_checks.specs.Steps.{first}
 use Rattle.plan_checks.specs.Verdicts.{verdictOf, isRefused}
 use Rattle.plan_checks.specs.declared.Verdict.{Verdict}
@@ -14,46 +15,46 @@ use Rattle.plan_checks.proofs.PassedLaws.{past, past-unless}
 
 -- ---- the first of two
 
-or-first : (k : ℕ) (o : Option Place) (r : Option Refused) → first (orElse k o none) r ≡ orElse k o r
+or-first : (k : ℕ) (o : Option Place) (r : Option Refusal) → first (orElse k o none) r ≡ orElse k o r
 or-first k none r = refl
 or-first k (some q) r = refl
 
-unless-first : (k : ℕ) (b : Bool) (r : Option Refused) → first (unless k b none) r ≡ unless k b r
+unless-first : (k : ℕ) (b : Bool) (r : Option Refusal) → first (unless k b none) r ≡ unless k b r
 unless-first k true r = refl
 unless-first k false r = refl
 
-some-first : (o r : Option Refused) → isRefused (verdictOf o) ≡ true → verdictOf o ≡ verdictOf (first o r)
+some-first : (o r : Option Refusal) → isRefused (verdictOf o) ≡ true → verdictOf o ≡ verdictOf (first o r)
 some-first none r h = absurd (not-both (isRefused (verdictOf none)) h refl)
 some-first (some x) r h = refl
 
-none-so-far : (o : Option Refused) → isRefused (verdictOf o) ≡ false → o ≡ none
+none-so-far : (o : Option Refusal) → isRefused (verdictOf o) ≡ false → o ≡ none
 none-so-far none h = refl
 none-so-far (some x) h = absurd (not-both (isRefused (verdictOf (some x))) refl h)
 
 -- ---- a verdict and the test of it
 
-module _ (o : Option Refused) (v : Verdict) (is : v ≡ verdictOf o) (t : Bool) (told : t ≡ isRefused v) where
+module _ (o : Option Refusal) (v : Verdict) (is : v ≡ verdictOf o) (t : Bool) (told : t ≡ isRefused v) where
   tested : isRefused (verdictOf o) ≡ t
   tested = sym (ap isRefused is) ∙ sym told
 
-  pub stopped : t ≡ true → (r : Option Refused) → v ≡ verdictOf (first o r)
+  pub stopped : t ≡ true → (r : Option Refusal) → v ≡ verdictOf (first o r)
   stopped h r = is ∙ some-first o r (tested ∙ h)
 
   pub went-on : t ≡ false → o ≡ none
   went-on h = none-so-far o (tested ∙ h)
 
   pub never : {A : Type 0} → t ≡ true → o ≡ none → A
-  never h e = absurd (not-both (isRefused (verdictOf o)) (tested ∙ h) (ap (λ (x : Option Refused). isRefused (verdictOf x)) e))
+  never h e = absurd (not-both (isRefused (verdictOf o)) (tested ∙ h) (ap (λ (x : Option Refusal). isRefused (verdictOf x)) e))
 
 module _ (k : ℕ) (o : Option Place) (v : Verdict) (is : v ≡ verdictOf (orElse k o none)) (t : Bool) (told : t ≡ isRefused v) where
-  pub stopped-at : t ≡ true → (r : Option Refused) → v ≡ verdictOf (orElse k o r)
+  pub stopped-at : t ≡ true → (r : Option Refusal) → v ≡ verdictOf (orElse k o r)
   stopped-at h r = stopped (orElse k o none) v is t told h r ∙ ap verdictOf (or-first k o r)
 
   pub went-past : t ≡ false → o ≡ none
   went-past h = past k o none (went-on (orElse k o none) v is t told h) .0
 
 module _ (k : ℕ) (b : Bool) (v : Verdict) (is : v ≡ verdictOf (unless k b none)) (t : Bool) (told : t ≡ isRefused v) where
-  pub stopped-by : t ≡ true → (r : Option Refused) → v ≡ verdictOf (unless k b r)
+  pub stopped-by : t ≡ true → (r : Option Refusal) → v ≡ verdictOf (unless k b r)
   stopped-by h r = stopped (unless k b none) v is t told h r ∙ ap verdictOf (unless-first k b r)
 
   pub held : t ≡ false → b ≡ true

@@ -5,7 +5,9 @@ use mathlib.Core.Option.{Option, none, some}
 use mathlib.Core.List.{List}
 use Prim.Native.Nat.{ℕ}
 use lib.Dec.{leb}
+use Rattle.words.specs.Answer.{at, nowhere}
 use Rattle.words.specs.Tests.{Place}
+use Rattle.words.specs.declared.refusals.Refusal.{Refusal}
 use Rattle.plan_record.specs.Form.{planForm, roomWords}
 use Rattle.plan_gates.specs.Gates.{badGate}
 use Rattle.plan_counts.specs.Counts.{refusal7}
@@ -16,24 +18,12 @@ use Rattle.plan_reads.specs.PartReads.{refusedReads}
 
 -- ---- "A plan: 5 to 13, each over the whole plan before the next, then 3, 4, 14."
 
--- a refusal: its number, and its place
-pub record Refused : Type 0 where
-  pub number : ℕ
-  pub part : ℕ
-  pub item : ℕ
-
-abbrev pub at : ℕ → Place → Refused
-at k q = record { number = k; part = q .part; item = q .item }
-
-abbrev pub nowhere : ℕ → Refused
-nowhere k = record { number = k; part = 0; item = 0 }
-
 -- a refusal if a test gives a place, else what comes after it
-abbrev pub orElse : ℕ → Option Place → Option Refused → Option Refused
+abbrev pub orElse : ℕ → Option Place → Option Refusal → Option Refusal
 orElse k none r = r
 orElse k (some q) r = some (at k q)
 
-abbrev pub unless : ℕ → Bool → Option Refused → Option Refused
+abbrev pub unless : ℕ → Bool → Option Refusal → Option Refusal
 unless k true r = r
 unless k false r = some (nowhere k)
 
@@ -42,7 +32,7 @@ gatePlace none = none
 gatePlace (some g) = some (record { part = 0; item = g })
 
 -- what a plan is refused with, but for room
-unfoldable pub planRefusal : ℕ → List ℕ → Option Refused
+unfoldable pub planRefusal : ℕ → List ℕ → Option Refusal
 planRefusal n d =
     unless 5 (planForm d)
     (orElse 6 (gatePlace (badGate d))
@@ -57,5 +47,5 @@ planRefusal n d =
     (orElse 4 (refusedReads n 4 d) none))))))))))
 
 -- "working room too short; before all others": a room of r words
-unfoldable pub planVerdict : ℕ → List ℕ → ℕ → Option Refused
+unfoldable pub planVerdict : ℕ → List ℕ → ℕ → Option Refusal
 planVerdict n d r = elim (leb (roomWords d) r) [ true ↦ planRefusal n d | false ↦ some (nowhere 32) ]

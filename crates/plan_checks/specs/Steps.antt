@@ -12,31 +12,32 @@ use Rattle.plan_blocks.specs.Blocks.{totalsFit}
 use Rattle.plan_slots.specs.Slots.{refusal9, refusal10, refusal11}
 use Rattle.plan_positions.specs.Positions.{refusal12, refusal13}
 use Rattle.plan_reads.specs.PartReads.{refusedReads}
-use Rattle.plan_checks.specs.Refusals.{Refused, orElse, unless, gatePlace}
+use Rattle.words.specs.declared.refusals.Refusal.{Refusal}
+use Rattle.plan_checks.specs.Refusals.{orElse, unless, gatePlace}
 
 -- the first of two refusals
-abbrev pub first : Option Refused → Option Refused → Option Refused
+abbrev pub first : Option Refusal → Option Refusal → Option Refusal
 first none r = r
 first (some x) r = some x
 
 -- 5, 6 and 7: what the record's lists say by themselves
-unfoldable pub listRefusal : List ℕ → Option Refused
+unfoldable pub listRefusal : List ℕ → Option Refusal
 listRefusal d = unless 5 (planForm d) (orElse 6 (gatePlace (badGate d)) (orElse 7 (refusal7 d) none))
 
 -- 8
-unfoldable pub totalRefusal : List ℕ → Option Refused
+unfoldable pub totalRefusal : List ℕ → Option Refusal
 totalRefusal d = unless 8 (totalsFit d) none
 
 -- 9, 10 and 11
-unfoldable pub pinRefusal : List ℕ → Option Refused
+unfoldable pub pinRefusal : List ℕ → Option Refusal
 pinRefusal d = orElse 9 (refusal9 d) (orElse 10 (refusal10 d) (orElse 11 (refusal11 d) none))
 
 -- 12 and 13
-unfoldable pub placeRefusal : List ℕ → Option Refused
+unfoldable pub placeRefusal : List ℕ → Option Refusal
 placeRefusal d = orElse 12 (refusal12 d) (orElse 13 (refusal13 d) none)
 
 -- 3 and 4
-unfoldable pub readRefusal : ℕ → List ℕ → Option Refused
+unfoldable pub readRefusal : ℕ → List ℕ → Option Refusal
 readRefusal n d = orElse 3 (refusedReads n 3 d) (orElse 4 (refusedReads n 4 d) none)
 
 -- a place whose part is told in one word

@@ -11,11 +11,12 @@ use Rattle.plan_reads.specs.declared.check.Checked.{Checked}
 use Rattle.plan_reads.specs.declared.check.Checked.the-variants as checked
 use Rattle.plan_checks.specs.declared.Verdict.{Verdict}
 use Rattle.plan_checks.specs.declared.Verdict.the-variants as verdict
-use Rattle.plan_checks.specs.Refusals.{Refused, orElse}
+use Rattle.words.specs.declared.refusals.Refusal.{Refusal}
+use Rattle.plan_checks.specs.Refusals.{orElse}
 
-abbrev pub verdictOf : Option Refused → Verdict
+abbrev pub verdictOf : Option Refusal → Verdict
 verdictOf none = verdict.Accepted
-verdictOf (some x) = verdict.Refused (record { number = x .number; part = x .part; item = x .item })
+verdictOf (some x) = verdict.Refused x
 
 abbrev pub isRefused : Verdict → Bool
 isRefused verdict.Accepted = false
@@ -41,5 +42,5 @@ roomPlace checked.Fine = none
 roomPlace (checked.Nothing p) = none
 roomPlace (checked.NoRoom p) = some (record { part = p; item = 0 })
 
-abbrev pub checkedRefusal : Checked → Option Refused
+abbrev pub checkedRefusal : Checked → Option Refusal
 checkedRefusal c = orElse 3 (nothingPlace c) (orElse 4 (roomPlace c) none)

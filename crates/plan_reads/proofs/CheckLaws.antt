@@ -12,7 +12,8 @@ use lib.ListN.{length, set, take, drop, replicate, length-append, take-append-dr
 use lib.Seq.{sets, length-take-le, drop-at, getD-take, ext-getD}
 use Rattle.reads.specs.ReadSet.{Pair, pairsOf}
 use Rattle.reads.specs.Search.{Lane, lanesOf, longest}
-use Rattle.reads.specs.Outcome.{Outcome, placed, refused, packed}
+use Rattle.words.specs.Answer.{Answer, good, refused, nowhere}
+use Rattle.reads.specs.Outcome.{packed}
 use Rattle.reads_asked.proofs.StoreLaws.{take-front}
 use Rattle.rounds.specs.Rounds.{Solvable}
 use Rattle.plan_record.specs.Record.{partsOf, bodyAt}
@@ -51,37 +52,37 @@ part-solvable room K S K′ S′ set n r k s =
 
 -- ---- what an outcome says of 3 and 4
 
-pub nothing-bad : (o : Outcome) → isNothing (readsOf o) ≡ true → badReads 3 o ≡ some 0
+pub nothing-bad : (o : Answer (List Lane)) → isNothing (readsOf o) ≡ true → badReads 3 o ≡ some 0
 unfolding badReads
-nothing-bad (placed lanes) h =
+nothing-bad (good lanes) h =
     let z : _≡_ {A = ℕ} 0 1 = cc in
     absurd (omega arith)
-nothing-bad (refused m i) h = go (eqb m 3) refl
+nothing-bad (refused q) h = go (eqb (q .number) 3) refl
   where
-    go : (b : Bool) → eqb m 3 ≡ b → badReads 3 (refused m i) ≡ some 0
+    go : (b : Bool) → eqb (q .number) 3 ≡ b → badReads 3 (refused q) ≡ some 0
     go true e = rw (e, badReads)
     go false e =
-        let q : false ≡ true = rw (e, isNothing) at h in
+        let x : false ≡ true = rw (e, isNothing) at h in
         let z : _≡_ {A = ℕ} 0 1 = cc in
         absurd (omega arith)
 
-pub other-fine : (o : Outcome) → isNothing (readsOf o) ≡ false → badReads 3 o ≡ none
+pub other-fine : (o : Answer (List Lane)) → isNothing (readsOf o) ≡ false → badReads 3 o ≡ none
 unfolding badReads
-other-fine (placed lanes) h = refl
-other-fine (refused m i) h = go (eqb m 3) refl
+other-fine (good lanes) h = refl
+other-fine (refused q) h = go (eqb (q .number) 3) refl
   where
-    go : (b : Bool) → eqb m 3 ≡ b → badReads 3 (refused m i) ≡ none
+    go : (b : Bool) → eqb (q .number) 3 ≡ b → badReads 3 (refused q) ≡ none
     go true e =
-        let q : true ≡ false = rw (e, isNothing) at h in
+        let x : true ≡ false = rw (e, isNothing) at h in
         let z : _≡_ {A = ℕ} 0 1 = cc in
         absurd (omega arith)
     go false e = rw (e, badReads)
 
 -- the search refuses with 3 or 4
-pub data Answered (o : Outcome) : Type 0 where
-  three : o ≡ refused 3 0 → Answered o
-  four : o ≡ refused 4 0 → Answered o
-  rounds : (lanes : List Lane) → o ≡ placed lanes → Answered o
+pub data Answered (o : Answer (List Lane)) : Type 0 where
+  three : o ≡ refused (nowhere 3) → Answered o
+  four : o ≡ refused (nowhere 4) → Answered o
+  rounds : (lanes : List Lane) → o ≡ good lanes → Answered o
 
 pub answered : (n : ℕ) (ps : List Pair) → Answered (packed n ps)
 unfolding packed
@@ -93,11 +94,11 @@ answered n ps = go (ltb 0 (length ps)) refl (lanesOf n ps) refl
     go true e (some lanes) f = rounds lanes (rw (e, f, packed))
 
 -- a part that neither refuses has lanes
-pub placed-part : (n : ℕ) (d : List ℕ) (p : ℕ) → badReads 3 (partReads n d p) ≡ none → badReads 4 (partReads n d p) ≡ none → partReads n d p ≡ placed (partLanes n d p)
+pub placed-part : (n : ℕ) (d : List ℕ) (p : ℕ) → badReads 3 (partReads n d p) ≡ none → badReads 4 (partReads n d p) ≡ none → partReads n d p ≡ good (partLanes n d p)
 unfolding badReads partReads
 placed-part n d p a b = go (answered n (pairsOf (readWords d p)))
   where
-    go : Answered (partReads n d p) → partReads n d p ≡ placed (partLanes n d p)
+    go : Answered (partReads n d p) → partReads n d p ≡ good (partLanes n d p)
     go (three q) = absurd (some-not-none (rw (q, badReads) at a))
     go (four q) = absurd (some-not-none (rw (q, badReads) at b))
     go (rounds lanes q) = rw q
@@ -215,10 +216,10 @@ roomy d room c = omega (arith, c .wide)
 
 -- ---- the rounds
 
-pub rounds-are : (o : Outcome) → roundsOf (readsOf o) ≡ longest (lanesIn o)
+pub rounds-are : (o : Answer (List Lane)) → roundsOf (readsOf o) ≡ longest (lanesIn o)
 unfolding longest
-rounds-are (placed lanes) = refl
-rounds-are (refused k i) = go (eqb k 3)
+rounds-are (good lanes) = refl
+rounds-are (refused q) = go (eqb (q .number) 3)
   where
     go : (b : Bool) → roundsOf (elim b [ true ↦ Nothing | false ↦ NoRoom ]) ≡ 0
     go true = refl

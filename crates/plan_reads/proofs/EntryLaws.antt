@@ -15,7 +15,8 @@ use lib.Seq.{getD-at, getD-set-same, getD-set-other}
 use Rattle.words.proofs.BitLaws.{lt-or-ge}
 use Rattle.reads.specs.ReadSet.{Pair, pairsOf}
 use Rattle.reads.specs.Search.{Lane, lanesOf}
-use Rattle.reads.specs.Outcome.{Outcome, placed, refused, packed}
+use Rattle.words.specs.Answer.{good, refused, nowhere}
+use Rattle.reads.specs.Outcome.{packed}
 use Rattle.reads.specs.Asked.{readSetOf}
 use Rattle.reads.specs.Local.{localOf}
 use Rattle.reads.proofs.LocalLaws.{Requested}
@@ -76,21 +77,21 @@ asked-in d p (suc n) j y h full e = ⊎-elim last (earlier (λ s. asked-in d p n
 
 -- ---- a part that was searched, with its lanes in the table
 
-pub packed-found : (n : ℕ) (ps : List Pair) (lanes : List Lane) → packed n ps ≡ placed lanes → lanesOf n ps ≡ some lanes
+pub packed-found : (n : ℕ) (ps : List Pair) (lanes : List Lane) → packed n ps ≡ good lanes → lanesOf n ps ≡ some lanes
 unfolding packed
 packed-found n ps lanes h = go (ltb 0 (length ps)) refl (lanesOf n ps) refl
   where
     go : (b : Bool) → ltb 0 (length ps) ≡ b → (o : Option (List Lane)) → lanesOf n ps ≡ o → lanesOf n ps ≡ some lanes
     go false e o f =
-        let q : refused 3 0 ≡ placed lanes = rw (e, packed) at h in
+        let q : refused (nowhere 3) ≡ good lanes = rw (e, packed) at h in
         let z : _≡_ {A = ℕ} 0 1 = cc in
         absurd (omega arith)
     go true e none f =
-        let q : refused 4 0 ≡ placed lanes = rw (e, f, packed) at h in
+        let q : refused (nowhere 4) ≡ good lanes = rw (e, f, packed) at h in
         let z : _≡_ {A = ℕ} 0 1 = cc in
         absurd (omega arith)
     go true e (some ls) f =
-        let q : placed ls ≡ placed lanes = rw (e, f, packed) at h in
+        let q : good ls ≡ good lanes = rw (e, f, packed) at h in
         let g : ls ≡ lanes = cc in
         f ∙ ap some g
 
@@ -98,7 +99,7 @@ is-planned : (o : Option Planned) → (o ≡ none → ⊥) → (y : Planned) × 
 is-planned none h = absurd (h refl)
 is-planned (some y) h = (y, refl)
 
-module _ (d : List ℕ) (p : ℕ) (narrow : AllNarrow (askedTo d p 8192)) {K S n : ℕ} {t : ℕ} (s : Solvable t K S n) (lanes : List Lane) (found : partReads n d p ≡ placed lanes) where
+module _ (d : List ℕ) (p : ℕ) (narrow : AllNarrow (askedTo d p 8192)) {K S n : ℕ} {t : ℕ} (s : Solvable t K S n) (lanes : List Lane) (found : partReads n d p ≡ good lanes) where
   pub part-found : lanesOf n (pairsOf (readWords d p)) ≡ some lanes
   unfolding partReads
   part-found = packed-found n (pairsOf (readWords d p)) lanes found

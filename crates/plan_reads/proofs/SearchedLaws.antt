@@ -11,7 +11,8 @@ use lib.Dec.{ltb, eqb}
 use lib.ListN.{length, getD}
 use Rattle.reads.specs.ReadSet.{pairsOf}
 use Rattle.reads.specs.Search.{Lane, lanesOf, longest}
-use Rattle.reads.specs.Outcome.{Outcome, placed, refused, packed}
+use Rattle.words.specs.Answer.{good}
+use Rattle.reads.specs.Outcome.{packed}
 use Rattle.reads.proofs.SearchLaws.{win-none}
 use Rattle.reads.proofs.OutcomeLaws.{Sound, placed-sound}
 use Rattle.reads_try.proofs.PairLaws.{pairs-length}
@@ -50,7 +51,7 @@ module _ {ws : List ℕ} {t K S n : ℕ} (f : InForm ws) (s : Solvable t K S n) 
   pub won-sound : (lanes : List Lane) → lanesOf n (pairsOf ws) ≡ some lanes → Sound n (pairsOf ws) lanes
   won-sound lanes e = placed-sound n ws lanes (s .some-lanes) fits (is-packed n ws 0 (f .few) (f .form) (some-words lanes e) lanes e)
 
-  pub won-packed : (lanes : List Lane) → lanesOf n (pairsOf ws) ≡ some lanes → packed n (pairsOf ws) ≡ placed lanes
+  pub won-packed : (lanes : List Lane) → lanesOf n (pairsOf ws) ≡ some lanes → packed n (pairsOf ws) ≡ good lanes
   unfolding packed
   won-packed lanes e =
       let some-there : 0 < length (pairsOf ws) = omega (arith, pairs-length 0 ws, some-words lanes e) in

@@ -5,8 +5,8 @@ use mathlib.Core.Option.{Option, none, some}
 use mathlib.Core.List.{List}
 use Prim.Native.Nat.{ℕ}
 use lib.Dec.{eqb}
-use Rattle.reads.specs.Search.{longest}
-use Rattle.reads.specs.Outcome.{Outcome, placed, refused}
+use Rattle.reads.specs.Search.{Lane, longest}
+use Rattle.words.specs.Answer.{Answer, good, refused}
 use Rattle.plan_record.specs.Record.{partsOf}
 use Rattle.words.specs.Tests.{Place}
 use Rattle.plan_blocks.specs.Fill.{putCells}
@@ -17,9 +17,9 @@ use Rattle.plan_reads.specs.declared.check.Checked.{Checked}
 use Rattle.plan_reads.specs.declared.check.Checked.the-variants as checked
 
 -- the number of rounds; 3 nothing to read; 4 no room
-abbrev pub readsOf : Outcome → Reads
-readsOf (placed lanes) = Rounds (longest lanes)
-readsOf (refused k i) = elim (eqb k 3) [ true ↦ Nothing | false ↦ NoRoom ]
+abbrev pub readsOf : Answer (List Lane) → Reads
+readsOf (good lanes) = Rounds (longest lanes)
+readsOf (refused q) = elim (eqb (q .number) 3) [ true ↦ Nothing | false ↦ NoRoom ]
 
 abbrev pub isNothing : Reads → Bool
 isNothing Nothing = true

@@ -10,7 +10,8 @@ use Rattle.reads.specs.ReadSet.{pairsOf}
 use Rattle.reads.specs.Asked.{readSetOf}
 use Rattle.reads.specs.Search.{Lane}
 use Rattle.reads.specs.Local.{localOf}
-use Rattle.reads.specs.Outcome.{Outcome, placed, refused, packed}
+use Rattle.words.specs.Answer.{Answer, good, refused}
+use Rattle.reads.specs.Outcome.{packed}
 use Rattle.plan_record.specs.Record.{slotAt, partsOf}
 use Rattle.words.specs.Pins.{empty}
 use Rattle.words.specs.Tests.{lowest, Place}
@@ -34,12 +35,12 @@ askedTo d p (suc j) = askedTo d p j ++ askedBy (eqb (slotAt d p 0 (8192 + j)) em
 unfoldable pub readWords : List ℕ → ℕ → List ℕ
 readWords d p = readSetOf (askedTo d p 8192)
 
-unfoldable pub partReads : ℕ → List ℕ → ℕ → Outcome
+unfoldable pub partReads : ℕ → List ℕ → ℕ → Answer (List Lane)
 partReads n d p = packed n (pairsOf (readWords d p))
 
-abbrev pub lanesIn : Outcome → List Lane
-lanesIn (placed lanes) = lanes
-lanesIn (refused k i) = []
+abbrev pub lanesIn : Answer (List Lane) → List Lane
+lanesIn (good lanes) = lanes
+lanesIn (refused q) = []
 
 abbrev pub partLanes : ℕ → List ℕ → ℕ → List Lane
 partLanes n d p = lanesIn (partReads n d p)
@@ -54,9 +55,9 @@ localPosition lanes none = 0
 localPosition lanes (some x) = orZero (localOf lanes (bitNumber x / 32) (bitNumber x % 32))
 
 -- 3 and 4: the parts whose read set is refused with that number; "Else item 0"
-unfoldable pub badReads : ℕ → Outcome → Option ℕ
-badReads k (placed lanes) = none
-badReads k (refused m i) = elim (eqb m k) [ true ↦ some 0 | false ↦ none ]
+unfoldable pub badReads : ℕ → Answer (List Lane) → Option ℕ
+badReads k (good lanes) = none
+badReads k (refused q) = elim (eqb (q .number) k) [ true ↦ some 0 | false ↦ none ]
 
 unfoldable pub refusedReads : ℕ → ℕ → List ℕ → Option Place
 refusedReads n k d = lowest (λ p. badReads k (partReads n d p)) (partsOf d)

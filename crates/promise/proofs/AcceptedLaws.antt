@@ -4,7 +4,7 @@ use mathlib.Core.Path.{_≡_}
 use mathlib.Core.List.{List}
 use Prim.Native.Nat.{ℕ, _+_, _<_}
 use native.Mathlib.Omega.{arith}
-use Rattle.reads.specs.Outcome.{placed}
+use Rattle.words.specs.Answer.{good}
 use Rattle.plan_record.specs.Record.{blocksOf, majorsOf, countAt, partsBefore, partsOf}
 use Rattle.plan_record.proofs.FormLaws.{formed}
 use Rattle.plan_blocks.proofs.StartLaws.{parts-mono, parts-next}
@@ -26,7 +26,7 @@ module _ (d : List ℕ) (accepted : Accepted d) where
   pub some-blocks : 0 < blocksOf d
   some-blocks = formed d (tests .form) .head .some-blocks
 
-  pub lanes-found : (p : ℕ) → p < partsOf d → partReads 256 d p ≡ placed (partLanes 256 d p)
+  pub lanes-found : (p : ℕ) → p < partsOf d → partReads 256 d p ≡ good (partLanes 256 d p)
   lanes-found p h = placed-lanes d accepted p h
 
   pub able : (p : ℕ) → p < partsOf d → Decodable d p

@@ -22,7 +22,7 @@ use Rattle.script_assembly.specs.Steps.{partsIn}
 use Rattle.script_assembly.proofs.StepLaws.{mark-last, mark-more}
 use Rattle.script_assembly.proofs.PlaceLaws.{part-first}
 use Rattle.run_machine.specs.Part.{stagesAt, lastAt, endAt}
-use Rattle.run_machine.specs.Run.{Ran, ran, outcome, turnsFrom, turnsAfter, allLeft, badBlock, badTurn}
+use Rattle.run_machine.specs.Run.{ran, outcome, turnsFrom, turnsAfter, allLeft, badBlock, badTurn}
 use Rattle.promise_order.specs.Order.{blockTurns}
 use Rattle.promise_order.proofs.FormLaws.{from-last, from-more}
 use Rattle.promise_order.proofs.BlockLaws.{empty-phase, left-none, left-read}

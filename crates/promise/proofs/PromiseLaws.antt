@@ -9,6 +9,8 @@ use lib.Bits.{differ}
 use native.Mathlib.Omega.{arith}
 use lib.Dec.{leb}
 use lib.ListN.{length, getD, List·getD-eq-default}
+use Rattle.words.specs.Answer.{Answer, good, refused, atItem, nowhere}
+use Rattle.words.proofs.AnswerLaws.{refused-good}
 use Rattle.words.specs.Bit.{bit, bitAt}
 use Rattle.words.proofs.BitLaws.{bit-zero}
 use Rattle.plan_record.specs.Record.{blocksOf, countAt, partsBefore, stagesOf, locationsOf}
@@ -18,7 +20,7 @@ use Rattle.script_assembly.specs.Steps.{lastMark, partsIn, partStart}
 use Rattle.script_assembly.proofs.RankLaws.{inBefore, part-at, part-found}
 use Rattle.run_machine.specs.Part.{stagesAt, startAt, entryAt, laneWordAt}
 use Rattle.run_machine.specs.Turn.{readRow, taken, gatheredBit, dataInv, chosen, storedBit}
-use Rattle.run_machine.specs.Run.{runTurns, allLeft, badBlock, badTurn, Ran, ran, refused, outcome}
+use Rattle.run_machine.specs.Run.{runTurns, allLeft, badBlock, badTurn, Ran, ran, outcome}
 use Rattle.run_machine.proofs.StageLaws.{at-word}
 use Rattle.run_machine.proofs.TurnLaws.{taken-cleared, taken-nothing, stored-word-bit}
 use Rattle.promise_order.specs.Order.{capturedBy, oneAfterAnother}
@@ -183,15 +185,12 @@ demand3 d s turns old new done = record {
 
 -- ---- as a run answers it: an answer with turns left was not refused, and is what the turns made
 
-clash : (n i k : ℕ) (after : List ℕ) → refused n i ≡ ran k after → ⊥
-clash n i k after e = let z : _≡_ {A = ℕ} 0 1 = cc in omega arith
-
-went : (k : ℕ) (after : List ℕ) (fits : Bool) (block turn : Option ℕ) (r : Ran)
-    → elim fits [ false ↦ refused 32 0 | true ↦ elim block [ some i ↦ refused 15 i | none ↦ elim turn [ some i ↦ refused 16 i | none ↦ r ] ] ] ≡ ran k after
+went : (k : ℕ) (after : List ℕ) (fits : Bool) (block turn : Option ℕ) (r : Answer Ran)
+    → elim fits [ false ↦ refused (nowhere 32) | true ↦ elim block [ some i ↦ refused (atItem 15 i) | none ↦ elim turn [ some i ↦ refused (atItem 16 i) | none ↦ r ] ] ] ≡ ran k after
     → (turn ≡ none) × (r ≡ ran k after)
-went k after false block turn r e = absurd (clash _ _ _ _ e)
-went k after true (some i) turn r e = absurd (clash _ _ _ _ e)
-went k after true none (some i) r e = absurd (clash _ _ _ _ e)
+went k after false block turn r e = refused-good _ _ e
+went k after true (some i) turn r e = refused-good _ _ e
+went k after true none (some i) r e = refused-good _ _ e
 went k after true none none r e = (refl, e)
 
 pub as-run : AsRun
@@ -203,7 +202,8 @@ as-run d s turns old new after room accepted stage old-size new-size e =
     (badTurn (startsOf d s) turns) (ran (allLeft 256 (assembled d) (x .blocks)) (x .new)) e
     in
     let f = q .1 in
-    let none-left : allLeft 256 (assembled d) (stageRun d s turns old new .blocks) ≡ 0 = cc in
-    let is : stageRun d s turns old new .new ≡ after = cc in
+    let same : _≡_ {A = Ran} (record { left = allLeft 256 (assembled d) (x .blocks); new = x .new }) (record { left = 0; new = after }) = cc in
+    let none-left : allLeft 256 (assembled d) (stageRun d s turns old new .blocks) ≡ 0 = ap (λ (y : Ran). y .left) same in
+    let is : stageRun d s turns old new .new ≡ after = ap (λ (y : Ran). y .new) same in
     rw (← is)
     (demand3 d s turns old new (record { accepted = accepted; stage = stage; old-size = old-size; new-size = new-size; named = q .0; all = none-left }))

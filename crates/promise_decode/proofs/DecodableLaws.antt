@@ -12,7 +12,7 @@ use borrow.Author.Tests.{eq-eqb, ne-eqb}
 use lib.ListN.{length}
 use Rattle.reads.specs.ReadSet.{pairsOf}
 use Rattle.reads.specs.Search.{Lane, lanesOf}
-use Rattle.reads.specs.Outcome.{placed}
+use Rattle.words.specs.Answer.{good}
 use Rattle.reads_try.specs.Table.{tableOf}
 use Rattle.reads_try.proofs.TableLaws.{table-length}
 use Rattle.rounds.specs.Rounds.{tableAfter}
@@ -32,7 +32,7 @@ use Rattle.script.proofs.EntryLaws.{entry-small}
 use Rattle.promise_decode.specs.Decodable.{Decodable}
 use Rattle.promise_decode.proofs.InsideLaws.{solvable, narrow, part-sound}
 
-module _ (d : List ℕ) (p : ℕ) (form : planForm d ≡ true) (seven : refusal7 d ≡ none) (fit : totalsFit d ≡ true) (twelve : refusal12 d ≡ none) (thirteen : refusal13 d ≡ none) (part : p < partsOf d) (found : partReads 256 d p ≡ placed (partLanes 256 d p)) where
+module _ (d : List ℕ) (p : ℕ) (form : planForm d ≡ true) (seven : refusal7 d ≡ none) (fit : totalsFit d ≡ true) (twelve : refusal12 d ≡ none) (thirteen : refusal13 d ≡ none) (part : p < partsOf d) (found : partReads 256 d p ≡ good (partLanes 256 d p)) where
   abbrev lanes : List Lane
   lanes = partLanes 256 d p
 

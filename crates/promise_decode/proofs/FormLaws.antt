@@ -18,7 +18,7 @@ use Rattle.words.proofs.SumLaws.{sum-ext}
 use Rattle.reads.specs.ReadSet.{total}
 use Rattle.reads.specs.Search.{Lane, longest}
 use Rattle.reads.specs.Local.{wordIn, maskIn}
-use Rattle.reads.specs.Outcome.{placed}
+use Rattle.words.specs.Answer.{good}
 use Rattle.reads.proofs.RoundLaws.{longest-ge}
 use Rattle.reads.proofs.ReadTurnLaws.{sum-total}
 use Rattle.plan_record.specs.Record.{majorsOf, partsOf, stagesOf, locationsOf, locationAt}
@@ -143,7 +143,7 @@ module _ (d : List ℕ) (p last state sram : ℕ) (W : List ℕ) (o : ℕ) (able
 
 -- ---- a part of an accepted plan fits: its state start is the plan's, and both states hold the planned state
 
-module _ (d : List ℕ) (fit : totalsFit d ≡ true) (twelve : refusal12 d ≡ none) (p : ℕ) (part : p < partsOf d) (found : partReads 256 d p ≡ placed (partLanes 256 d p)) where
+module _ (d : List ℕ) (fit : totalsFit d ≡ true) (twelve : refusal12 d ≡ none) (p : ℕ) (part : p < partsOf d) (found : partReads 256 d p ≡ good (partLanes 256 d p)) where
   stored-inside : startOf d p + locationsOf d p ≤ stateWords d
   unfolding writeOuts
   stored-inside =

@@ -17,7 +17,7 @@ use Rattle.reads.specs.ReadSet.{pairsFrom, pairsOf}
 use Rattle.reads.specs.Search.{Lane}
 use Rattle.reads.specs.Packing.{times}
 use Rattle.reads.specs.Local.{wordIn, maskIn}
-use Rattle.reads.specs.Outcome.{placed}
+use Rattle.words.specs.Answer.{good}
 use Rattle.reads.proofs.PackingLaws.{times-nil, times-cons}
 use Rattle.reads.proofs.SetLaws.{times-here, times-cases}
 use Rattle.reads.proofs.RoundLaws.{in-lanes}
@@ -123,7 +123,7 @@ module _ (d : List ℕ) (fit : totalsFit d ≡ true) (twelve : refusal12 d ≡ n
 
   -- ---- the lanes
 
-  module _ (found : partReads 256 d p ≡ placed (partLanes 256 d p)) where
+  module _ (found : partReads 256 d p ≡ good (partLanes 256 d p)) where
     pub part-sound : Sound 256 (pairsOf (readWords d p)) (partLanes 256 d p)
     part-sound =
         won-sound (words-form d p narrow) solvable (words-small d p narrow) (partLanes 256 d p)

@@ -10,35 +10,35 @@ use borrow.Author.Tests.{leb-true}
 use lib.Dec.{leb}
 use lib.ListN.{length, take, drop}
 use lib.Seq.{sets, sets-eq, take-at}
+use Rattle.words.specs.Answer.{Answer, good, refused, nowhere}
+use Rattle.words.specs.declared.refusals.Refusal.{Refusal}
+use Rattle.words.proofs.AnswerLaws.{refused-good}
 use Rattle.plan_record.specs.Record.{blocksOf, majorsOf}
 use Rattle.plan_record.specs.Form.{roomWords}
 use Rattle.words.proofs.TestLaws.{and-true, not-both}
 use Rattle.plan_blocks.specs.Blocks.{stateWords}
-use Rattle.plan_checks.specs.Refusals.{Refused, nowhere, planRefusal, planVerdict}
+use Rattle.plan_checks.specs.Refusals.{planRefusal, planVerdict}
 use Rattle.script_assembly.specs.Assembly.{scriptWords, scriptStarts}
 use Rattle.script_assembly.proofs.StartLaws.{starts-length}
 use Rattle.run_machine.specs.Run.{outcome}
 use Rattle.promise.specs.Promise.{assembled, startsOf, stageRun}
 use Rattle.promise.proofs.FinishLaws.{finished}
-use Rattle.flatten.specs.Flatten.{Sizes, Build, built, refusal, sizesOf, fits, ifFits, building, laid, startsAfter, wordsAfter}
+use Rattle.flatten.specs.Flatten.{Sizes, sizesOf, fits, ifFits, building, laid, startsAfter, wordsAfter}
 use Rattle.promise_joined.specs.Joined.{BuildLeaves, BuiltRun}
 
 -- ---- an answer that is a build
 
-record Built (verdict : Option Refused) (good : Bool) (y x : Sizes) : Type 0 where
+record Built (verdict : Option Refusal) (enough : Bool) (y x : Sizes) : Type 0 where
   pub accepted : verdict ≡ none
-  pub fit : good ≡ true
+  pub fit : enough ≡ true
   pub sizes : y ≡ x
 
-other : (q : Refused) (x : Sizes) → refusal q ≡ built x → ⊥
-other q x e = let z : _≡_ {A = ℕ} 0 1 = cc in omega arith
-
-built-so : (verdict : Option Refused) (good : Bool) (y x : Sizes) → elim verdict [ some q ↦ refusal q | none ↦ ifFits good y ] ≡ built x → Built verdict good y x
-built-so (some q) good y x e = absurd (other q x e)
+built-so : (verdict : Option Refusal) (enough : Bool) (y x : Sizes) → elim verdict [ some q ↦ refused q | none ↦ ifFits enough y ] ≡ good x → Built verdict enough y x
+built-so (some q) enough y x e = refused-good q x e
 built-so none true y x e = record { accepted = refl; fit = refl; sizes = cc }
-built-so none false y x e = absurd (other (nowhere 14) x e)
+built-so none false y x e = refused-good (nowhere 14) x e
 
-accepted-so : (room : Bool) (p : Option Refused) → _≡_ {A = Option Refused} (elim room [ true ↦ p | false ↦ some (nowhere 32) ]) none → p ≡ none
+accepted-so : (room : Bool) (p : Option Refusal) → _≡_ {A = Option Refusal} (elim room [ true ↦ p | false ↦ some (nowhere 32) ]) none → p ≡ none
 accepted-so true p e = e
 accepted-so false p e = let z : _≡_ {A = ℕ} 0 1 = cc in absurd (omega arith)
 
@@ -55,10 +55,10 @@ build-leaves d r starts words x s e =
     let ss : x .starts ≡ length (scriptStarts 256 d) = ap (λ (y : Sizes). y .starts) (sym (B .sizes)) ∙ sym (starts-length 256 d) in
     record {
       accepted = accepted-so (leb (roomWords d) r) (planRefusal 256 d) (B .accepted);
-      words-are = ap (λ (y : Build). take (x .words) (laid y (scriptWords 256 d) words)) e ∙ front words (scriptWords 256 d) (x .words) (leb-true _ _ b) ws;
+      words-are = ap (λ (y : Answer Sizes). take (x .words) (laid y (scriptWords 256 d) words)) e ∙ front words (scriptWords 256 d) (x .words) (leb-true _ _ b) ws;
       starts-are =
           ap (λ (l : List ℕ). take (blocksOf d + 1) (drop (blocksOf d * s) l))
-          (ap (λ (y : Build). take (x .starts) (laid y (scriptStarts 256 d) starts)) e
+          (ap (λ (y : Answer Sizes). take (x .starts) (laid y (scriptStarts 256 d) starts)) e
           ∙ front starts (scriptStarts 256 d) (x .starts) (omega (arith, leb-true (blocksOf d * majorsOf d + 1) (length starts) a, starts-length 256 d)) ss);
     }
 

@@ -4,11 +4,12 @@ use mathlib.Core.Path.{_≡_}
 use mathlib.Core.List.{List}
 use Prim.Native.Nat.{ℕ, _+_, _*_, _≤_, _<_}
 use lib.ListN.{length, getD, take, drop}
+use Rattle.words.specs.Answer.{good}
 use Rattle.words.specs.Count.{count}
 use Rattle.plan_record.specs.Record.{blocksOf, majorsOf}
 use Rattle.run_machine.specs.Run.{ran, outcome, newAfter}
 use Rattle.promise.specs.Promise.{Accepted, assembled, startsOf, turnsOf, Kept}
-use Rattle.flatten.specs.Flatten.{Sizes, built, building, startsAfter, wordsAfter}
+use Rattle.flatten.specs.Flatten.{Sizes, building, startsAfter, wordsAfter}
 
 -- the words, and the starts of major stage s with their end, of a build with r words of room into the slices starts and words
 abbrev pub builtWords : List ℕ → ℕ → List ℕ → List ℕ → Sizes → List ℕ
@@ -24,13 +25,13 @@ pub record Left (d : List ℕ) (r : ℕ) (starts words : List ℕ) (x : Sizes) (
   pub starts-are : builtStarts d r starts words x s ≡ startsOf d s
 
 abbrev pub BuildLeaves : Type 0
-BuildLeaves = (d : List ℕ) (r : ℕ) (starts words : List ℕ) (x : Sizes) (s : ℕ) → building 256 d r (length starts) (length words) ≡ built x → Left d r starts words x s
+BuildLeaves = (d : List ℕ) (r : ℕ) (starts words : List ℕ) (x : Sizes) (s : ℕ) → building 256 d r (length starts) (length words) ≡ good x → Left d r starts words x s
 
 -- BUILD AND RUN: a run of what a build left, over states of the size that it told, every turn naming a block and each block named as often as it has
 -- turns, answers 0 turns left and keeps demand 3
 abbrev pub BuiltRun : Type 0
 BuiltRun =
-    (d : List ℕ) (r : ℕ) (starts words : List ℕ) (x : Sizes) (s : ℕ) (turns old new : List ℕ) (room : ℕ) → building 256 d r (length starts) (length words) ≡ built x
+    (d : List ℕ) (r : ℕ) (starts words : List ℕ) (x : Sizes) (s : ℕ) (turns old new : List ℕ) (room : ℕ) → building 256 d r (length starts) (length words) ≡ good x
     → s < majorsOf d → length old ≡ x .state → length new ≡ x .state → 1024 * blocksOf d ≤ room
     → ((i : ℕ) → i < length turns → getD turns i 0 < blocksOf d) → ((b : ℕ) → b < blocksOf d → turnsOf d s b ≤ count b turns)
     → (after : List ℕ) × (outcome 256 13 (builtWords d r starts words x) (builtStarts d r starts words x s) turns old new room ≡ ran 0 after) × Kept d s old new after

@@ -7,7 +7,7 @@ use mathlib.Core.Option.{none}
 use mathlib.Core.List.{List}
 use Prim.Native.Nat.{ℕ, _+_, _≤_, _<_}
 use Rattle.words.specs.Bit.{bitAt}
-use Rattle.reads.specs.Outcome.{placed}
+use Rattle.words.specs.Answer.{good}
 use Rattle.plan_record.specs.Record.{partsOf, stagesOf, locationAt, slotAt}
 use Rattle.words.specs.Pins.{empty}
 use Rattle.plan_record.specs.Form.{planForm}
@@ -30,7 +30,7 @@ pub record Sound (d : List ℕ) (p : ℕ) : Type 0 where
   pub eleven : refusal11 d ≡ none
   pub twelve : refusal12 d ≡ none
   pub part : p < partsOf d
-  pub reads : partReads 256 d p ≡ placed (partLanes 256 d p)
+  pub reads : partReads 256 d p ≡ good (partLanes 256 d p)
 
 -- where location l is captured: in a stage of the part, below word 256
 pub record LocationAt (d : List ℕ) (p l : ℕ) : Type 0 where

@@ -9,27 +9,26 @@ use native.Mathlib.Omega.{arith}
 use borrow.Author.Tests.{leb-true, ltb-true}
 use lib.Dec.{leb, ltb}
 use lib.ListN.{length, getD}
+use Rattle.words.proofs.AnswerLaws.{refused-good}
 use Rattle.reads.specs.ReadSet.{Pair, pairsOf, broken}
 use Rattle.reads.specs.Search.{Lane, lanesOf, longest}
 use Rattle.reads.specs.Packing.{times, Packing}
-use Rattle.reads.specs.Outcome.{Outcome, placed, refused, packed, readSet, fitted}
+use Rattle.words.specs.Answer.{Answer, good, refused}
+use Rattle.reads.specs.Outcome.{packed, readSet, fitted}
 use Rattle.reads.proofs.PackingLaws.{lanes-packing}
 use Rattle.reads.proofs.SetLaws.{pairs-small}
 use Rattle.reads.proofs.RoundLaws.{rounds-range}
 use Rattle.reads.proofs.LocalLaws.{OwnPositions, own-positions}
 
-refused-placed : {A : Type 0} (n i : ℕ) (lanes : List Lane) → refused n i ≡ placed lanes → A
-refused-placed n i lanes e = let z : _≡_ {A = ℕ} 0 1 = cc in absurd (omega arith)
-
-packed-placed : (n : ℕ) (ps : List Pair) (lanes : List Lane) → packed n ps ≡ placed lanes → (0 < length ps) × (lanesOf n ps ≡ some lanes)
+packed-placed : (n : ℕ) (ps : List Pair) (lanes : List Lane) → packed n ps ≡ good lanes → (0 < length ps) × (lanesOf n ps ≡ some lanes)
 unfolding packed
 packed-placed n ps lanes e = go (ltb 0 (length ps)) refl (lanesOf n ps) refl
   where
     go : (t : Bool) → ltb 0 (length ps) ≡ t → (o : Option (List Lane)) → lanesOf n ps ≡ o → (0 < length ps) × (lanesOf n ps ≡ some lanes)
-    go false t o f = refused-placed 3 0 lanes (rw (t, packed) at e)
-    go true t none f = refused-placed 4 0 lanes (rw (t, f, packed) at e)
+    go false t o f = refused-good _ lanes (rw (t, packed) at e)
+    go true t none f = refused-good _ lanes (rw (t, f, packed) at e)
     go true t (some ls) f =
-        let q : placed ls ≡ placed lanes = rw (t, f, packed) at e in
+        let q : good ls ≡ good lanes = rw (t, f, packed) at e in
         (ltb-true 0 (length ps) t, cc)
 
 -- what the refusals before it leave
@@ -39,26 +38,26 @@ pub record Passed (n : ℕ) (ps : List Pair) (lanes : List Lane) : Type 0 where
   pub nonempty : 0 < length ps
   pub found : lanesOf n ps ≡ some lanes
 
-pub placed-passed : (n : ℕ) (ps : List Pair) (lanes : List Lane) → readSet n ps ≡ placed lanes → Passed n ps lanes
+pub placed-passed : (n : ℕ) (ps : List Pair) (lanes : List Lane) → readSet n ps ≡ good lanes → Passed n ps lanes
 unfolding readSet
 placed-passed n ps lanes e = go (leb (length ps) 8192) refl (broken ps) refl
   where
     go : (t : Bool) → leb (length ps) 8192 ≡ t → (o : Option ℕ) → broken ps ≡ o → Passed n ps lanes
-    go false t o f = refused-placed 1 0 lanes (rw (t, readSet) at e)
-    go true t (some i) f = refused-placed 2 i lanes (rw (t, f, readSet) at e)
+    go false t o f = refused-good _ lanes (rw (t, readSet) at e)
+    go true t (some i) f = refused-good _ lanes (rw (t, f, readSet) at e)
     go true t none f =
         let p = packed-placed n ps lanes (rw (t, f, readSet) at e) in
         record { few = leb-true (length ps) 8192 t; form = f; nonempty = p .0; found = p .1 }
 
-pub fitted-placed : (n o : ℕ) (d : Outcome) (lanes : List Lane) → fitted n o d ≡ placed lanes → (d ≡ placed lanes) × (2 * n * longest lanes ≤ o)
+pub fitted-placed : (n o : ℕ) (d : Answer (List Lane)) (lanes : List Lane) → fitted n o d ≡ good lanes → (d ≡ good lanes) × (2 * n * longest lanes ≤ o)
 unfolding fitted
-fitted-placed n o (refused k i) lanes e = refused-placed k i lanes e
-fitted-placed n o (placed ls) lanes e = go (leb (2 * n * longest ls) o) refl
+fitted-placed n o (refused q) lanes e = refused-good q lanes e
+fitted-placed n o (good ls) lanes e = go (leb (2 * n * longest ls) o) refl
   where
-    go : (t : Bool) → leb (2 * n * longest ls) o ≡ t → (placed ls ≡ placed lanes) × (2 * n * longest lanes ≤ o)
-    go false t = refused-placed 14 0 lanes (rw (t, fitted) at e)
+    go : (t : Bool) → leb (2 * n * longest ls) o ≡ t → (good ls ≡ good lanes) × (2 * n * longest lanes ≤ o)
+    go false t = refused-good _ lanes (rw (t, fitted) at e)
     go true t =
-        let q : placed ls ≡ placed lanes = rw (t, fitted) at e in
+        let q : good ls ≡ good lanes = rw (t, fitted) at e in
         let s : ls ≡ lanes = cc in
         (q, rw (← s) (leb-true (2 * n * longest ls) o t))
 
@@ -71,7 +70,7 @@ pub record Sound (n : ℕ) (ps : List Pair) (lanes : List Lane) : Type 0 where
   pub positions : OwnPositions n ps lanes
 
 pub placed-sound : (n : ℕ) (ws : List ℕ) (lanes : List Lane)
-    → 0 < n → ((x : ℕ) → getD ws x 0 < 2 ^ 32) → readSet n (pairsOf ws) ≡ placed lanes → Sound n (pairsOf ws) lanes
+    → 0 < n → ((x : ℕ) → getD ws x 0 < 2 ^ 32) → readSet n (pairsOf ws) ≡ good lanes → Sound n (pairsOf ws) lanes
 placed-sound n ws lanes h fits e =
     let p = placed-passed n (pairsOf ws) lanes e in
     let packs = lanes-packing n (pairsOf ws) lanes (p .found) h in

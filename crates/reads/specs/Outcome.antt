@@ -8,36 +8,32 @@ use Prim.Native.Nat.{ℕ, _*_}
 use lib.Dec.{leb, ltb}
 use lib.ListN.{length, replicate}
 use lib.Seq.{sets}
+use Rattle.words.specs.Answer.{Answer, good, refused, atItem, nowhere}
 use Rattle.reads.specs.ReadSet.{Pair, pairsOf, broken}
 use Rattle.reads.specs.Search.{Lane, lanesOf, longest}
 use Rattle.reads.specs.Words.{readSection}
 
--- the lanes of the winning try, or a refusal's number and item
-pub data Outcome : Type 0 where
-  placed : List Lane → Outcome
-  refused : ℕ → ℕ → Outcome
-
--- what the search over a set's pairs gives: 3, 4 or lanes
-unfoldable pub packed : ℕ → List Pair → Outcome
-packed n ps = elim (ltb 0 (length ps)) [ false ↦ refused 3 0 | true ↦ elim (lanesOf n ps) [ none ↦ refused 4 0 | some lanes ↦ placed lanes ] ]
+-- what the search over a set's pairs gives: 3, 4 or the lanes of the winning try
+unfoldable pub packed : ℕ → List Pair → Answer (List Lane)
+packed n ps = elim (ltb 0 (length ps)) [ false ↦ refused (nowhere 3) | true ↦ elim (lanesOf n ps) [ none ↦ refused (nowhere 4) | some lanes ↦ good lanes ] ]
 
 -- 1 and 2 come before that
-unfoldable pub readSet : ℕ → List Pair → Outcome
-readSet n ps = elim (leb (length ps) 8192) [ false ↦ refused 1 0 | true ↦ elim (broken ps) [ some i ↦ refused 2 i | none ↦ packed n ps ] ]
+unfoldable pub readSet : ℕ → List Pair → Answer (List Lane)
+readSet n ps = elim (leb (length ps) 8192) [ false ↦ refused (nowhere 1) | true ↦ elim (broken ps) [ some i ↦ refused (atItem 2 i) | none ↦ packed n ps ] ]
 
 -- 14 after it: the lent result has o words
-unfoldable pub fitted : ℕ → ℕ → Outcome → Outcome
-fitted n o (refused k i) = refused k i
-fitted n o (placed lanes) = elim (leb (2 * n * longest lanes) o) [ false ↦ refused 14 0 | true ↦ placed lanes ]
+unfoldable pub fitted : ℕ → ℕ → Answer (List Lane) → Answer (List Lane)
+fitted n o (refused q) = refused q
+fitted n o (good lanes) = elim (leb (2 * n * longest lanes) o) [ false ↦ refused (nowhere 14) | true ↦ good lanes ]
 
 -- and 32 before all: the lent room has r words
-unfoldable pub outcome : ℕ → List ℕ → ℕ → ℕ → Outcome
-outcome n ws o r = elim (leb 16384 r) [ false ↦ refused 32 0 | true ↦ fitted n o (readSet n (pairsOf ws)) ]
+unfoldable pub outcome : ℕ → List ℕ → ℕ → ℕ → Answer (List Lane)
+outcome n ws o r = elim (leb 16384 r) [ false ↦ refused (nowhere 32) | true ↦ fitted n o (readSet n (pairsOf ws)) ]
 
 -- the lent result then holds the read section from its start, or what it held
-unfoldable pub resultAfter : Outcome → List ℕ → List ℕ
-resultAfter (placed lanes) out = sets out 0 (readSection lanes)
-resultAfter (refused n i) out = out
+unfoldable pub resultAfter : Answer (List Lane) → List ℕ → List ℕ
+resultAfter (good lanes) out = sets out 0 (readSection lanes)
+resultAfter (refused q) out = out
 
 -- the lent room then holds zeros; one that is too short holds what it held
 unfoldable pub roomAfter : List ℕ → List ℕ

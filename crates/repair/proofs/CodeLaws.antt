@@ -17,7 +17,8 @@ use Rattle.gatelist.specs.Words.{badList}
 use Rattle.repair_nodes.specs.Stage.{Spot, spotWords, spotsOf, width, indexOf, Rooted, emptyBelow}
 use Rattle.repair_nodes.specs.Placing.{levelAt, placing, badLevel, noGate, Judged}
 use Rattle.repair_nodes.specs.Clearing.{clearing}
-use Rattle.repair_nodes.specs.Outcome.{refused, placeRight, placedAt, clearedAt}
+use Rattle.words.specs.Answer.{refused, nowhere}
+use Rattle.repair_nodes.specs.Outcome.{placeRight, placedAt, clearedAt}
 use Rattle.repair_nodes.proofs.PairLaws.{words-length}
 use Rattle.repair_nodes.proofs.PlaceLaws.{rooted-place}
 use Rattle.repair_nodes.proofs.JudgeLaws.{placing-size, clearing-size}
@@ -102,17 +103,17 @@ module _ (gates levels counts s out : List ℕ) (h j x : ℕ) (p : Place) (d : P
   empty-is : emptyBelow s (p .level) (p .width) (p .index) ≡ emptyBelow s h (width 13 h) (indexOf 13 h j)
   empty-is = ap₂ (λ (i : ℕ) (k : ℕ). emptyBelow s i k (p .index)) (d .level) (d .width) ∙ ap (λ (k : ℕ). emptyBelow s h (width 13 h) k) (d .index)
 
-  pub at-24 : (b : Bool) → b ≡ emptyBelow s (p .level) (p .width) (p .index) → b ≡ false → placedAt 13 gates levels counts s (length out) h j x ≡ refused 24 0
+  pub at-24 : (b : Bool) → b ≡ emptyBelow s (p .level) (p .width) (p .index) → b ≡ false → placedAt 13 gates levels counts s (length out) h j x ≡ refused (nowhere 24)
   at-24 b e f = is-24 gates levels counts s (length out) h j x (sym empty-is ∙ (sym e ∙ f))
 
   module _ (b : Bool) (e : b ≡ emptyBelow s (p .level) (p .width) (p .index)) (t : b ≡ true) (r : Judgement) (k : r ≡ judgementOf (badLevel gates levels h x) (noGate gates levels h x)) where
     free : emptyBelow s h (width 13 h) (indexOf 13 h j) ≡ true
     free = sym empty-is ∙ (sym e ∙ t)
 
-    pub at-25 : r ≡ WrongLevel → placedAt 13 gates levels counts s (length out) h j x ≡ refused 25 0
+    pub at-25 : r ≡ WrongLevel → placedAt 13 gates levels counts s (length out) h j x ≡ refused (nowhere 25)
     at-25 f = is-25 gates levels counts s (length out) h j x free (judged-wrong _ _ r k f)
 
-    pub at-26 : r ≡ Gateless → placedAt 13 gates levels counts s (length out) h j x ≡ refused 26 0
+    pub at-26 : r ≡ Gateless → placedAt 13 gates levels counts s (length out) h j x ≡ refused (nowhere 26)
     at-26 f = let (u, v) = judged-gateless _ _ r k f in is-26 gates levels counts s (length out) h j x free u v
 
     pub at-judged : badList gates ≡ none → r ≡ Fine → Judged gates levels (p .level) x

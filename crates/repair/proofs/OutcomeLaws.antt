@@ -15,7 +15,8 @@ use Rattle.repair_nodes.specs.Stage.{Spot, width, indexOf, emptyBelow}
 use Rattle.repair_nodes.specs.Placing.{placing, badLevel, noGate}
 use Rattle.repair_nodes.specs.Clearing.{clearing}
 use Rattle.repair_nodes.specs.Counts.{countsRight}
-use Rattle.repair_nodes.specs.Outcome.{Outcome, refused, roomWords, placeRight, placedAt, placed, clearedAt, cleared, roomAfter}
+use Rattle.words.specs.Answer.{refused, atItem, nowhere}
+use Rattle.repair_nodes.specs.Outcome.{roomWords, placeRight, placedAt, placed, clearedAt, cleared, roomAfter}
 use Rattle.repair_settle.specs.Settle.{placedSpots, clearedSpots}
 
 -- ---- the room
@@ -52,17 +53,17 @@ module _ (gates levels counts s : List ℕ) (a h j x : ℕ) where
   abbrev P : List Spot
   P = placing gates levels h (width 13 h) (indexOf 13 h j) x
 
-  pub is-24 : emptyBelow s h (width 13 h) (indexOf 13 h j) ≡ false → placedAt 13 gates levels counts s a h j x ≡ refused 24 0
+  pub is-24 : emptyBelow s h (width 13 h) (indexOf 13 h j) ≡ false → placedAt 13 gates levels counts s a h j x ≡ refused (nowhere 24)
   unfolding placedAt
   is-24 e = rw (e, placedAt)
 
   module _ (empty : emptyBelow s h (width 13 h) (indexOf 13 h j) ≡ true) where
-    pub is-25 : badLevel gates levels h x ≡ true → placedAt 13 gates levels counts s a h j x ≡ refused 25 0
+    pub is-25 : badLevel gates levels h x ≡ true → placedAt 13 gates levels counts s a h j x ≡ refused (nowhere 25)
     unfolding placedAt
     is-25 e = rw (empty, e, placedAt)
 
     module _ (right : badLevel gates levels h x ≡ false) where
-      pub is-26 : noGate gates levels h x ≡ true → placedAt 13 gates levels counts s a h j x ≡ refused 26 0
+      pub is-26 : noGate gates levels h x ≡ true → placedAt 13 gates levels counts s a h j x ≡ refused (nowhere 26)
       unfolding placedAt
       is-26 e = rw (empty, right, e, placedAt)
 
@@ -71,17 +72,17 @@ module _ (gates levels counts s : List ℕ) (a h j x : ℕ) where
       is-placed e = rw (empty, right, e, placedAt)
 
   module _ (r : ℕ) where
-    pub place-32 : r < roomWords counts → placed 13 gates levels counts s a r h j x ≡ refused 32 0
+    pub place-32 : r < roomWords counts → placed 13 gates levels counts s a r h j x ≡ refused (nowhere 32)
     unfolding placed
     place-32 l = rw (lt-leb (roomWords counts) r l, placed)
 
     module _ (room : roomWords counts ≤ r) where
-      pub place-5 : (placeRight 13 h j && isPin x && countsRight counts) ≡ false → placed 13 gates levels counts s a r h j x ≡ refused 5 0
+      pub place-5 : (placeRight 13 h j && isPin x && countsRight counts) ≡ false → placed 13 gates levels counts s a r h j x ≡ refused (nowhere 5)
       unfolding placed
       place-5 e = rw (le-leb (roomWords counts) r room, e, placed)
 
       module _ (form : (placeRight 13 h j && isPin x && countsRight counts) ≡ true) where
-        pub place-6 : (g : ℕ) → badList gates ≡ some g → placed 13 gates levels counts s a r h j x ≡ refused 6 g
+        pub place-6 : (g : ℕ) → badList gates ≡ some g → placed 13 gates levels counts s a r h j x ≡ refused (atItem 6 g)
         unfolding placed
         place-6 g e = rw (le-leb (roomWords counts) r room, form, e, placed)
 
@@ -97,12 +98,12 @@ module _ (counts s : List ℕ) (a h j : ℕ) where
   is-cleared = refl
 
   module _ (r : ℕ) where
-    pub clear-32 : r < roomWords counts → cleared 13 counts s a r h j ≡ refused 32 0
+    pub clear-32 : r < roomWords counts → cleared 13 counts s a r h j ≡ refused (nowhere 32)
     unfolding cleared
     clear-32 l = rw (lt-leb (roomWords counts) r l, cleared)
 
     module _ (room : roomWords counts ≤ r) where
-      pub clear-5 : (placeRight 13 h j && countsRight counts) ≡ false → cleared 13 counts s a r h j ≡ refused 5 0
+      pub clear-5 : (placeRight 13 h j && countsRight counts) ≡ false → cleared 13 counts s a r h j ≡ refused (nowhere 5)
       unfolding cleared
       clear-5 e = rw (le-leb (roomWords counts) r room, e, cleared)
 

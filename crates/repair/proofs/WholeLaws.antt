@@ -13,7 +13,8 @@ use Rattle.words.specs.Pins.{isPin}
 use Rattle.words.proofs.TestLaws.{and-true}
 use Rattle.repair_nodes.specs.Stage.{width}
 use Rattle.repair_nodes.specs.Counts.{countsRight}
-use Rattle.repair_nodes.specs.Outcome.{Outcome, roomWords, placeRight, slotsAfter, listAfter, roomAfter}
+use Rattle.words.specs.Answer.{Answer}
+use Rattle.repair_nodes.specs.Outcome.{Repair, roomWords, placeRight, slotsAfter, listAfter, roomAfter}
 use Rattle.repair_settle.specs.Settle.{repairedOf, Ended}
 use Rattle.repair_settle.specs.declared.Repaired.{Repaired}
 use Rattle.repair.proofs.OutcomeLaws.{room-is, room-clear}
@@ -47,7 +48,7 @@ module _ (room room₁ : List ℕ) (e : room₁ ≡ replicate (length room) 0) w
   room-left counts room₂ room₃ h l f = f ∙ (ap (λ (n : ℕ). replicate n 0) (l ∙ zeros-length) ∙ sym (room-clear counts room h))
 
 -- the four equations of a contract
-pub whole-end : (o : Outcome) (a : Repaired) (s s₁ out out₁ room₁ : List ℕ) (counts room : List ℕ) → Ended o a s s₁ out out₁ → room₁ ≡ roomAfter counts room
+pub whole-end : (o : Answer Repair) (a : Repaired) (s s₁ out out₁ room₁ : List ℕ) (counts room : List ℕ) → Ended o a s s₁ out out₁ → room₁ ≡ roomAfter counts room
     → (a ≡ repairedOf o) × ((s₁ ≡ slotsAfter o s) × ((out₁ ≡ listAfter o out) × (room₁ ≡ roomAfter counts room)))
 whole-end o a s s₁ out out₁ room₁ counts room e f = (e .answer, (e .slots, (e .list, f)))
 

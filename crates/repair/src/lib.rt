@@ -13,7 +13,6 @@ ghost use Rattle.repair_settle.specs.Settle.{repairedOf, Ended, placedSpots, En
 ghost use Rattle.repair.specs.Repair.{Placed, Placeable};
 use gatelist::check_list;
 use repair_settle::Repaired;
-use repair_settle::numbers;
 use repair_settle::place_spots;
 use repair_settle::purge_spots;
 use repair_settle::refused;
@@ -111,12 +110,12 @@ fn place_at(
     let at = place_of(level, slot);
     if subtree_empty(slots, at) {
         return match judge(gates, levels, level, node) {
-            Judgement::WrongLevel => refused(numbers::LEVEL, 0),
-            Judgement::Gateless => refused(numbers::NO_GATE, 0),
+            Judgement::WrongLevel => refused(refusals::LEVEL, 0),
+            Judgement::Gateless => refused(refusals::NO_GATE, 0),
             Judgement::Fine => place_node(gates, levels, counts, slots, after, map, at, node),
         };
     }
-    refused(numbers::NOT_EMPTY, 0)
+    refused(refusals::NOT_EMPTY, 0)
 }
 
 // Clears a place of the stage: 34, then 14.

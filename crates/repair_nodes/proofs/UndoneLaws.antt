@@ -17,7 +17,9 @@ use Rattle.repair_nodes.specs.Stage.{Spot, spot, width, indexOf, stored,
 use Rattle.repair_nodes.specs.Placing.{placing, badLevel, noGate}
 use Rattle.repair_nodes.specs.Clearing.{clearing}
 use Rattle.repair_nodes.specs.Counts.{Count, counted, countsOf, countWords, countsRight, countedNodes, countsMore, countsLess, allCounts, short}
-use Rattle.repair_nodes.specs.Outcome.{Outcome, repaired, refused, roomWords, placeRight, fitted, placedAt, placed}
+use Rattle.words.proofs.AnswerLaws.{refused-good}
+use Rattle.words.specs.Answer.{refused, atItem, nowhere}
+use Rattle.repair_nodes.specs.Outcome.{Repair, repaired, roomWords, placeRight, fitted, placedAt, placed}
 use Rattle.repair_nodes.proofs.PairLaws.{pairs-words}
 use Rattle.repair_nodes.proofs.PlaceLaws.{rooted-place}
 use Rattle.repair_nodes.proofs.ReachLaws.{reached, placing-vacant, placed-back}
@@ -36,22 +38,19 @@ pub record Passed (H : ℕ) (gates levels counts s : List ℕ) (h j x : ℕ) (es
   pub spots : es ≡ placing gates levels h (width H h) (indexOf H h j) x
   pub list : cs ≡ countsMore (countsOf counts) (countedNodes H es)
 
--- a refusal is no repair
-refused-not : (n i : ℕ) (es : List Spot) (cs : List Count) → refused n i ≡ repaired es cs → ⊥
-refused-not n i es cs e = let z : _≡_ {A = ℕ} 0 1 = cc in omega arith
-
 fitted-passed : (H : ℕ) (s : List ℕ) (a : ℕ) (es fs : List Spot) (cs ds : List Count) → fitted H s a es cs ≡ repaired fs ds
     → (2 ^ (H + 1) - 1 ≤ length s) × ((fs ≡ es) × (ds ≡ cs))
 unfolding fitted
 fitted-passed H s a es fs cs ds = go (leb (2 ^ (H + 1) - 1) (length s) && leb (2 * length cs) a && allCounts cs) refl
   where
     go : (b : Bool) → (leb (2 ^ (H + 1) - 1) (length s) && leb (2 * length cs) a && allCounts cs) ≡ b
-        → (elim b [ false ↦ refused 14 0 | true ↦ repaired es cs ]) ≡ repaired fs ds → (2 ^ (H + 1) - 1 ≤ length s) × ((fs ≡ es) × (ds ≡ cs))
-    go false e f = absurd (refused-not 14 0 fs ds f)
+        → (elim b [ false ↦ refused (nowhere 14) | true ↦ repaired es cs ]) ≡ repaired fs ds → (2 ^ (H + 1) - 1 ≤ length s) × ((fs ≡ es) × (ds ≡ cs))
+    go false e f = refused-good _ _ f
     go true e f =
         let (ab, c) = and-true (leb (2 ^ (H + 1) - 1) (length s) && leb (2 * length cs) a) (allCounts cs) e in
         let (p, q) = and-true (leb (2 ^ (H + 1) - 1) (length s)) (leb (2 * length cs) a) ab in
-        (leb-true _ _ p, ((cc), (cc)))
+        let is : _≡_ {A = Repair} (record { spots = fs; counts = ds }) (record { spots = es; counts = cs }) = cc in
+        (leb-true _ _ p, (ap (λ (x : Repair). x .spots) is, ap (λ (x : Repair). x .counts) is))
 
 counts-formed : (ws : List ℕ) → countsRight ws ≡ true → Formed (countsOf ws)
 unfolding countsRight
@@ -75,11 +74,11 @@ module _ (H : ℕ) (gates levels counts s : List ℕ) (a h j x : ℕ) (es : List
       M = countsMore (countsOf counts) (countedNodes H P)
 
       go : (b : Bool) → emptyBelow s h (width H h) (indexOf H h j) ≡ b → (c d : Bool)
-          → (elim b [ false ↦ refused 24 0 | true ↦ elim c [ true ↦ refused 25 0 | false ↦ elim d [ true ↦ refused 26 0 | false ↦ fitted H s a P M ] ] ]) ≡ repaired es cs
+          → (elim b [ false ↦ refused (nowhere 24) | true ↦ elim c [ true ↦ refused (nowhere 25) | false ↦ elim d [ true ↦ refused (nowhere 26) | false ↦ fitted H s a P M ] ] ]) ≡ repaired es cs
           → (emptyBelow s h (width H h) (indexOf H h j) ≡ true) × ((2 ^ (H + 1) - 1 ≤ length s) × ((es ≡ P) × (cs ≡ M)))
-      go false e c d f = absurd (refused-not 24 0 es cs f)
-      go true e true d f = absurd (refused-not 25 0 es cs f)
-      go true e false true f = absurd (refused-not 26 0 es cs f)
+      go false e c d f = refused-good _ _ f
+      go true e true d f = refused-good _ _ f
+      go true e false true f = refused-good _ _ f
       go true e false false f = (e, fitted-passed H s a P es M cs f)
 
   pub passed : (r : ℕ) → placed H gates levels counts s a r h j x ≡ repaired es cs → Passed H gates levels counts s h j x es cs
@@ -87,11 +86,11 @@ module _ (H : ℕ) (gates levels counts s : List ℕ) (a h j x : ℕ) (es : List
   passed r = go (leb (roomWords counts) r) (placeRight H h j && isPin x && countsRight counts) refl (badList gates) refl
     where
       go : (b c : Bool) → (placeRight H h j && isPin x && countsRight counts) ≡ c → (o : Option ℕ) → badList gates ≡ o
-          → (elim b [ false ↦ refused 32 0 | true ↦ elim c [ false ↦ refused 5 0 | true ↦ elim o [ some g ↦ refused 6 g | none ↦ placedAt H gates levels counts s a h j x ] ] ]) ≡ repaired es cs
+          → (elim b [ false ↦ refused (nowhere 32) | true ↦ elim c [ false ↦ refused (nowhere 5) | true ↦ elim o [ some g ↦ refused (atItem 6 g) | none ↦ placedAt H gates levels counts s a h j x ] ] ]) ≡ repaired es cs
           → Passed H gates levels counts s h j x es cs
-      go false c e o k f = absurd (refused-not 32 0 es cs f)
-      go true false e o k f = absurd (refused-not 5 0 es cs f)
-      go true true e (some g) k f = absurd (refused-not 6 g es cs f)
+      go false c e o k f = refused-good _ _ f
+      go true false e o k f = refused-good _ _ f
+      go true true e (some g) k f = refused-good _ _ f
       go true true e none k f =
           let (pq, t) = and-true (placeRight H h j && isPin x) (countsRight counts) e in
           let (p, q) = and-true (placeRight H h j) (isPin x) pq in

@@ -9,6 +9,7 @@ use Prim.Native.Nat.{ℕ, _+_, _*_, _-_, _/_, _^_}
 use lib.Dec.{leb, ltb}
 use lib.ListN.{length, replicate}
 use lib.Seq.{sets}
+use Rattle.words.specs.Answer.{Answer, good, refused, atItem, nowhere}
 use Rattle.words.specs.Pins.{isPin}
 use Rattle.gatelist.specs.Words.{badList}
 use Rattle.repair_nodes.specs.Stage.{Spot, width, indexOf, stored, emptied, emptyBelow}
@@ -16,10 +17,13 @@ use Rattle.repair_nodes.specs.Placing.{placing, badLevel, noGate}
 use Rattle.repair_nodes.specs.Clearing.{clearing}
 use Rattle.repair_nodes.specs.Counts.{Count, countsOf, countsRight, countWords, countedNodes, countsMore, countsLess, allCounts, short}
 
--- the slots that change, each with what it then holds, and the new count list; or a refusal's number and item
-pub data Outcome : Type 0 where
-  repaired : List Spot → List Count → Outcome
-  refused : ℕ → ℕ → Outcome
+-- the slots that change, each with what it then holds, and the new count list
+pub record Repair : Type 0 where
+  pub spots : List Spot
+  pub counts : List Count
+
+abbrev pub repaired : List Spot → List Count → Answer Repair
+repaired es cs = good (record { spots = es; counts = cs })
 
 -- "Working room": 65536 words, and 4 for each whole or half entry of the count list
 unfoldable pub roomWords : List ℕ → ℕ
@@ -30,18 +34,18 @@ unfoldable pub placeRight : ℕ → ℕ → ℕ → Bool
 placeRight H h j = leb h H && ltb j (width H h)
 
 -- 14: the lent slots and the lent list have room, and every count is a word
-unfoldable pub fitted : ℕ → List ℕ → ℕ → List Spot → List Count → Outcome
-fitted H s a es cs = elim (leb (2 ^ (H + 1) - 1) (length s) && leb (2 * length cs) a && allCounts cs) [ false ↦ refused 14 0 | true ↦ repaired es cs ]
+unfoldable pub fitted : ℕ → List ℕ → ℕ → List Spot → List Count → Answer Repair
+fitted H s a es cs = elim (leb (2 ^ (H + 1) - 1) (length s) && leb (2 * length cs) a && allCounts cs) [ false ↦ refused (nowhere 14) | true ↦ repaired es cs ]
 
 -- placing node x at slot j of level h: 24, 25, 26, then 14
-unfoldable pub placedAt : ℕ → List ℕ → List ℕ → List ℕ → List ℕ → ℕ → ℕ → ℕ → ℕ → Outcome
+unfoldable pub placedAt : ℕ → List ℕ → List ℕ → List ℕ → List ℕ → ℕ → ℕ → ℕ → ℕ → Answer Repair
 placedAt H gates levels counts s a h j x =
     elim (emptyBelow s h (width H h) (indexOf H h j)) [
-      | false ↦ refused 24 0
+      | false ↦ refused (nowhere 24)
       | true ↦ elim (badLevel gates levels h x) [
-        | true ↦ refused 25 0
+        | true ↦ refused (nowhere 25)
         | false ↦ elim (noGate gates levels h x) [
-          | true ↦ refused 26 0
+          | true ↦ refused (nowhere 26)
           | false ↦
               fitted H s a
               (placing gates levels h (width H h) (indexOf H h j) x)
@@ -51,42 +55,42 @@ placedAt H gates levels counts s a h j x =
     ]
 
 -- 32, 5 and 6 come before: the lent list has a words, the lent room r
-unfoldable pub placed : ℕ → List ℕ → List ℕ → List ℕ → List ℕ → ℕ → ℕ → ℕ → ℕ → ℕ → Outcome
+unfoldable pub placed : ℕ → List ℕ → List ℕ → List ℕ → List ℕ → ℕ → ℕ → ℕ → ℕ → ℕ → Answer Repair
 placed H gates levels counts s a r h j x =
     elim (leb (roomWords counts) r) [
-      | false ↦ refused 32 0
+      | false ↦ refused (nowhere 32)
       | true ↦ elim (placeRight H h j && isPin x && countsRight counts) [
-        | false ↦ refused 5 0
-        | true ↦ elim (badList gates) [ some g ↦ refused 6 g | none ↦ placedAt H gates levels counts s a h j x ]
+        | false ↦ refused (nowhere 5)
+        | true ↦ elim (badList gates) [ some g ↦ refused (atItem 6 g) | none ↦ placedAt H gates levels counts s a h j x ]
       ]
     ]
 
 -- clearing slot j of level h: 34, then 14
-unfoldable pub clearedAt : ℕ → List ℕ → List ℕ → ℕ → ℕ → ℕ → Outcome
+unfoldable pub clearedAt : ℕ → List ℕ → List ℕ → ℕ → ℕ → ℕ → Answer Repair
 clearedAt H counts s a h j =
     elim (short (countsOf counts) (countedNodes H (clearing s h (width H h) (indexOf H h j)))) [
-      | true ↦ refused 34 0
+      | true ↦ refused (nowhere 34)
       | false ↦
           fitted H s a
           (emptied (clearing s h (width H h) (indexOf H h j)))
           (countsLess (countsOf counts) (countedNodes H (clearing s h (width H h) (indexOf H h j))))
     ]
 
-unfoldable pub cleared : ℕ → List ℕ → List ℕ → ℕ → ℕ → ℕ → ℕ → Outcome
+unfoldable pub cleared : ℕ → List ℕ → List ℕ → ℕ → ℕ → ℕ → ℕ → Answer Repair
 cleared H counts s a r h j =
     elim (leb (roomWords counts) r) [
-      | false ↦ refused 32 0
-      | true ↦ elim (placeRight H h j && countsRight counts) [ false ↦ refused 5 0 | true ↦ clearedAt H counts s a h j ]
+      | false ↦ refused (nowhere 32)
+      | true ↦ elim (placeRight H h j && countsRight counts) [ false ↦ refused (nowhere 5) | true ↦ clearedAt H counts s a h j ]
     ]
 
 -- what the lent slots, the lent list and the lent room then hold: a refusal changes neither of the first two, and a room that is too short stays
-unfoldable pub slotsAfter : Outcome → List ℕ → List ℕ
-slotsAfter (repaired es cs) s = stored s es
-slotsAfter (refused n i) s = s
+unfoldable pub slotsAfter : Answer Repair → List ℕ → List ℕ
+slotsAfter (good x) s = stored s (x .spots)
+slotsAfter (refused q) s = s
 
-unfoldable pub listAfter : Outcome → List ℕ → List ℕ
-listAfter (repaired es cs) out = sets out 0 (countWords cs)
-listAfter (refused n i) out = out
+unfoldable pub listAfter : Answer Repair → List ℕ → List ℕ
+listAfter (good x) out = sets out 0 (countWords (x .counts))
+listAfter (refused q) out = out
 
 unfoldable pub roomAfter : List ℕ → List ℕ → List ℕ
 roomAfter counts room = elim (leb (roomWords counts) (length room)) [ false ↦ room | true ↦ replicate (length room) 0 ]

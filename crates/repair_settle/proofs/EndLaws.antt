@@ -15,7 +15,8 @@ use Rattle.pinmap.specs.PinMap.{capacity, look}
 use Rattle.words.proofs.TestLaws.{not-both, or-cases}
 use Rattle.repair_nodes.specs.Stage.{Spot, spotsOf, emptied, stored}
 use Rattle.repair_nodes.specs.Counts.{Count, counted, countsOf, countWords, nodesOf, among, times, entriesRight, countIn, countedNodes, fresh, countsMore, countsLess, nonzero, allCounts, anyShort, short}
-use Rattle.repair_nodes.specs.Outcome.{Outcome, repaired, refused, fitted, slotsAfter, listAfter}
+use Rattle.words.specs.Answer.{Answer, refused, atItem, nowhere}
+use Rattle.repair_nodes.specs.Outcome.{Repair, repaired, fitted, slotsAfter, listAfter}
 use Rattle.repair_nodes.proofs.PairLaws.{pairs-length, words-length}
 use Rattle.repair_nodes.proofs.CountLaws.{among-head, among-tail, among-back, map-among, count-none, all-named, nodes-length}
 use Rattle.repair_tally.specs.Tally.{through, Raised, raised, raising, lowering, Held, ToldNew, Told, nodesIn, Askable}
@@ -32,11 +33,11 @@ use Rattle.repair_settle.proofs.SpotLaws.{counted-length}
 
 -- ---- answers
 
-pub refused-end : (o : Outcome) (r : Repaired) (s out : List ℕ) (n i : ℕ) → o ≡ refused n i → r ≡ repairedOf (refused n i) → Ended o r s s out out
+pub refused-end : (o : Answer Repair) (r : Repaired) (s out : List ℕ) (n i : ℕ) → o ≡ refused (atItem n i) → r ≡ repairedOf (refused (atItem n i)) → Ended o r s s out out
 unfolding slotsAfter listAfter
 refused-end o r s out n i e f = rw e (record { answer = f; slots = refl; list = refl })
 
-pub repaired-end : (o : Outcome) (n : ℕ) (s s₁ out out₁ : List ℕ) (es : List Spot) (cs : List Count) → o ≡ repaired es cs → n ≡ length cs
+pub repaired-end : (o : Answer Repair) (n : ℕ) (s s₁ out out₁ : List ℕ) (es : List Spot) (cs : List Count) → o ≡ repaired es cs → n ≡ length cs
     → s₁ ≡ stored s es → out₁ ≡ sets out 0 (countWords cs) → Ended o (Listed n) s s₁ out out₁
 unfolding slotsAfter listAfter
 repaired-end o n s s₁ out out₁ es cs e f u v = rw e (record { answer = ap Listed f; slots = u; list = v })
@@ -44,19 +45,19 @@ repaired-end o n s s₁ out out₁ es cs e f u v = rw e (record { answer = ap Li
 -- ---- 14
 
 module _ (s : List ℕ) (a : ℕ) (es : List Spot) (cs : List Count) where
-  fit-by : (b : Bool) → (leb 16383 (length s) && leb (2 * length cs) a && allCounts cs) ≡ b → fitted 13 s a es cs ≡ elim b [ false ↦ refused 14 0 | true ↦ repaired es cs ]
+  fit-by : (b : Bool) → (leb 16383 (length s) && leb (2 * length cs) a && allCounts cs) ≡ b → fitted 13 s a es cs ≡ elim b [ false ↦ refused (nowhere 14) | true ↦ repaired es cs ]
   unfolding fitted
-  fit-by b e = ap (λ (c : Bool). elim c [ false ↦ refused 14 0 | true ↦ repaired es cs ]) e
+  fit-by b e = ap (λ (c : Bool). elim c [ false ↦ refused (nowhere 14) | true ↦ repaired es cs ]) e
 
-  pub short-slots : length s < 16383 → fitted 13 s a es cs ≡ refused 14 0
+  pub short-slots : length s < 16383 → fitted 13 s a es cs ≡ refused (nowhere 14)
   short-slots h = fit-by false (ap (λ (b : Bool). b && leb (2 * length cs) a && allCounts cs) (lt-leb 16383 (length s) h))
 
-  pub short-list : a < 2 * length cs → fitted 13 s a es cs ≡ refused 14 0
+  pub short-list : a < 2 * length cs → fitted 13 s a es cs ≡ refused (nowhere 14)
   short-list h =
       fit-by false
       (ap (λ (b : Bool). b && allCounts cs) (ap (λ (b : Bool). leb 16383 (length s) && b) (lt-leb (2 * length cs) a h) ∙ and-false (leb 16383 (length s))))
 
-  pub over-full : allCounts cs ≡ false → fitted 13 s a es cs ≡ refused 14 0
+  pub over-full : allCounts cs ≡ false → fitted 13 s a es cs ≡ refused (nowhere 14)
   over-full h =
       fit-by false (ap (λ (b : Bool). leb 16383 (length s) && leb (2 * length cs) a && b) h ∙ and-false (leb 16383 (length s) && leb (2 * length cs) a))
 
@@ -191,7 +192,7 @@ module _ (counts map₀ : List ℕ) (n₀ : Entered counts map₀) (spots : List
 
 -- ---- 34, or 14 and the rest
 
-pub is-34 : (counts s : List ℕ) (a : ℕ) (es : List Spot) → short (countsOf counts) (countedNodes 13 es) ≡ true → clearedSpots counts s a es ≡ refused 34 0
+pub is-34 : (counts s : List ℕ) (a : ℕ) (es : List Spot) → short (countsOf counts) (countedNodes 13 es) ≡ true → clearedSpots counts s a es ≡ refused (nowhere 34)
 unfolding clearedSpots
 is-34 counts s a es e = rw (e, clearedSpots)
 
@@ -207,7 +208,7 @@ module _ (counts map₀ : List ℕ) (n₀ : Entered counts map₀) (spots : List
   entries = pairs-length counted counts
 
   module _ (t fresh₁ : List ℕ) (n : ℕ) (e : through raising (raised map₀ []) (nodesIn spots) ≡ some (raised t (take n fresh₁))) (l : n ≤ length fresh₁) where
-    pub place-short : length out / 2 < length counts / 2 + n → placedSpots counts s (length out) (spotsOf spots) ≡ refused 14 0
+    pub place-short : length out / 2 < length counts / 2 + n → placedSpots counts s (length out) (spotsOf spots) ≡ refused (nowhere 14)
     place-short h =
         let k = up-count counts map₀ n₀ spots few t fresh₁ n e l in
         let m = entries in
@@ -224,11 +225,11 @@ module _ (counts map₀ : List ℕ) (n₀ : Entered counts map₀) (spots : List
         (all-fit s (length out) (spotsOf spots) (countsMore (countsOf counts) (nodesIn spots)) h (omega arith) (up-words counts map₀ n₀ spots few t fresh₁ n e l))
         (omega arith) w (up-list counts map₀ n₀ spots few t fresh₁ n e l out out₁ out₂ u d)
 
-  pub place-over : through raising (raised map₀ []) (nodesIn spots) ≡ none → placedSpots counts s (length out) (spotsOf spots) ≡ refused 14 0
+  pub place-over : through raising (raised map₀ []) (nodesIn spots) ≡ none → placedSpots counts s (length out) (spotsOf spots) ≡ refused (nowhere 14)
   place-over e = over-full s (length out) (spotsOf spots) (countsMore (countsOf counts) (nodesIn spots)) (up-over counts map₀ n₀ spots few e)
 
   -- 34
-  pub purge-short : through lowering map₀ (nodesIn spots) ≡ none → clearedSpots counts s (length out) (spotsOf spots) ≡ refused 34 0
+  pub purge-short : through lowering map₀ (nodesIn spots) ≡ none → clearedSpots counts s (length out) (spotsOf spots) ≡ refused (nowhere 34)
   purge-short e = is-34 counts s (length out) (spotsOf spots) (down-short counts map₀ n₀ spots few e)
 
   module _ (t : List ℕ) (e : through lowering map₀ (nodesIn spots) ≡ some t) where
@@ -238,10 +239,10 @@ module _ (counts map₀ : List ℕ) (n₀ : Entered counts map₀) (spots : List
     pub purge-size : length (nonzero (entriesIn t counts)) ≡ length (countsLess (countsOf counts) (nodesIn spots))
     purge-size = ap length (down-list counts map₀ n₀ spots few t e)
 
-    pub purge-slots : length s < 16383 → clearedSpots counts s (length out) (spotsOf spots) ≡ refused 14 0
+    pub purge-slots : length s < 16383 → clearedSpots counts s (length out) (spotsOf spots) ≡ refused (nowhere 14)
     purge-slots h = lowered ∙ short-slots s (length out) (emptied (spotsOf spots)) (countsLess (countsOf counts) (nodesIn spots)) h
 
-    pub purge-list : (n : ℕ) → n ≡ length (nonzero (entriesIn t counts)) → length out / 2 < n → clearedSpots counts s (length out) (spotsOf spots) ≡ refused 14 0
+    pub purge-list : (n : ℕ) → n ≡ length (nonzero (entriesIn t counts)) → length out / 2 < n → clearedSpots counts s (length out) (spotsOf spots) ≡ refused (nowhere 14)
     purge-list n f h =
         let k = purge-size in
         lowered ∙ short-list s (length out) (emptied (spotsOf spots)) (countsLess (countsOf counts) (nodesIn spots)) (omega arith)

@@ -8,31 +8,32 @@ use lib.ListN.{length}
 use Rattle.pinmap.specs.PinMap.{capacity}
 use Rattle.repair_nodes.specs.Stage.{Spot, emptied}
 use Rattle.repair_nodes.specs.Counts.{countsOf, nodesOf, countIn, entriesRight, countedNodes, countsMore, countsLess, short}
-use Rattle.repair_nodes.specs.Outcome.{Outcome, repaired, refused, fitted, slotsAfter, listAfter}
+use Rattle.words.specs.Answer.{Answer, good, refused, nowhere}
+use Rattle.repair_nodes.specs.Outcome.{Repair, fitted, slotsAfter, listAfter}
 use Rattle.repair_tally.specs.Tally.{Held, Askable}
 use Rattle.repair_list.specs.Relist.{AllInside}
 use Rattle.repair_settle.specs.declared.Repaired.{Repaired}
 use Rattle.repair_settle.specs.declared.Repaired.the-variants.{Listed, Refused}
 
--- the entries of the new count list, or the refusal's number and item: the part is 0
-abbrev pub repairedOf : Outcome → Repaired
-repairedOf (repaired es cs) = Listed (length cs)
-repairedOf (refused n i) = Refused (record { number = n; part = 0; item = i })
+-- the entries of the new count list, or the refusal
+abbrev pub repairedOf : Answer Repair → Repaired
+repairedOf (good x) = Listed (length (x .counts))
+repairedOf (refused q) = Refused q
 
 -- an answer, with what the lent slots and the lent list then hold
-pub record Ended (o : Outcome) (r : Repaired) (s s₁ out out₁ : List ℕ) : Type 0 where
+pub record Ended (o : Answer Repair) (r : Repaired) (s s₁ out out₁ : List ℕ) : Type 0 where
   pub answer : r ≡ repairedOf o
   pub slots : s₁ ≡ slotsAfter o s
   pub list : out₁ ≡ listAfter o out
 
 -- the outcome of spots that are placed, and of spots that are cleared: 14; 34, then 14
-abbrev pub placedSpots : List ℕ → List ℕ → ℕ → List Spot → Outcome
+abbrev pub placedSpots : List ℕ → List ℕ → ℕ → List Spot → Answer Repair
 placedSpots counts s a es = fitted 13 s a es (countsMore (countsOf counts) (countedNodes 13 es))
 
-unfoldable pub clearedSpots : List ℕ → List ℕ → ℕ → List Spot → Outcome
+unfoldable pub clearedSpots : List ℕ → List ℕ → ℕ → List Spot → Answer Repair
 clearedSpots counts s a es =
     elim (short (countsOf counts) (countedNodes 13 es)) [
-      | true ↦ refused 34 0
+      | true ↦ refused (nowhere 34)
       | false ↦ fitted 13 s a (emptied es) (countsLess (countsOf counts) (countedNodes 13 es))
     ]
 

@@ -1,8 +1,8 @@
 // Spots placed or cleared, from the counting on: 34 and 14 before anything is written. Document 02, 7/13.
 ghost use mathlib.Core.Path.{_≡_};
 ghost use lib.ListN.{length};
+ghost use Rattle.words.specs.Answer.{refused, atItem};
 ghost use Rattle.repair_nodes.specs.Stage.{spotsOf};
-ghost use Rattle.repair_nodes.specs.Outcome.{refused};
 ghost use Rattle.repair_settle.specs.Settle.{repairedOf, Ended, placedSpots, clearedSpots, Entered, Spotted};
 use repair_list::clear_spots;
 use repair_list::left_count;
@@ -15,8 +15,6 @@ use repair_tally::tally_down;
 use repair_tally::tally_up;
 use words::refusals;
 
-pub mod numbers;
-
 // The entries of the new count list, or the refusal.
 pub enum Repaired {
     Listed(usize),
@@ -25,7 +23,7 @@ pub enum Repaired {
 
 // A refusal of a placing or a clearing: its part is 0.
 pub fn refused(number: u32, item: u64) -> Repaired
-    ensures { λ r. ⌜ r ≡ repairedOf (refused number item) ⌝ }
+    ensures { λ r. ⌜ r ≡ repairedOf (refused (atItem number item)) ⌝ }
 {
     Repaired::Refused(refusals::Refusal {
         number,
@@ -87,5 +85,5 @@ pub fn purge_spots(
         clear_spots(spots, slots);
         return Repaired::Listed(left);
     }
-    refused(numbers::COUNT_SHORT, 0)
+    refused(refusals::COUNT_SHORT, 0)
 }

@@ -14,7 +14,8 @@ use lib.Seq.{sets, length-take-le}
 use Rattle.reads.specs.ReadSet.{pairsOf, broken}
 use Rattle.reads.specs.Search.{Lane, Tried, all, lanesOf, longest}
 use Rattle.reads.specs.Words.{roundsFrom}
-use Rattle.reads.specs.Outcome.{Outcome, placed, refused, packed, readSet, fitted, outcome, resultAfter, roomAfter}
+use Rattle.words.specs.Answer.{Answer, good, refused, atItem, nowhere}
+use Rattle.reads.specs.Outcome.{packed, readSet, fitted, outcome, resultAfter, roomAfter}
 use Rattle.reads.proofs.SearchLaws.{win-first}
 use Rattle.reads_try.specs.Table.{tableOf}
 use Rattle.reads_try.specs.Tries.{lanesIn, triedOf}
@@ -33,10 +34,10 @@ use Rattle.rounds.proofs.SizeLaws.{tried-is}
 -- ---- which outcome: 1, 2, 3, 4, 14, each after those before it
 
 module _ (n : ℕ) (ws : List ℕ) (o : ℕ) where
-  abbrev pub end : Outcome
+  abbrev pub end : Answer (List Lane)
   end = fitted n o (readSet n (pairsOf ws))
 
-  pub is-many : 16384 < length ws → end ≡ refused 1 0
+  pub is-many : 16384 < length ws → end ≡ refused (nowhere 1)
   unfolding readSet fitted
   is-many h = rw (lt-leb (length (pairsOf ws)) 8192 (omega (arith, pairs-length 0 ws)), readSet)
 
@@ -44,12 +45,12 @@ module _ (n : ℕ) (ws : List ℕ) (o : ℕ) where
     pairs-few : leb (length (pairsOf ws)) 8192 ≡ true
     pairs-few = le-leb (length (pairsOf ws)) 8192 (omega (arith, pairs-length 0 ws))
 
-    pub is-bad : (i : ℕ) → broken (pairsOf ws) ≡ some i → end ≡ refused 2 i
+    pub is-bad : (i : ℕ) → broken (pairsOf ws) ≡ some i → end ≡ refused (atItem 2 i)
     unfolding readSet fitted
     is-bad i e = rw (pairs-few, e, readSet)
 
     module _ (form : broken (pairsOf ws) ≡ none) where
-      pub is-none : length ws ≡ 0 → end ≡ refused 3 0
+      pub is-none : length ws ≡ 0 → end ≡ refused (nowhere 3)
       unfolding readSet packed fitted
       is-none z = rw (pairs-few, form, le-ltb 0 (length (pairsOf ws)) (omega (arith, pairs-length 0 ws)), readSet, packed)
 
@@ -57,31 +58,31 @@ module _ (n : ℕ) (ws : List ℕ) (o : ℕ) where
         some-pairs : ltb 0 (length (pairsOf ws)) ≡ true
         some-pairs = lt-ltb 0 (length (pairsOf ws)) (omega (arith, pairs-length 0 ws))
 
-        pub is-stuck : lanesOf n (pairsOf ws) ≡ none → end ≡ refused 4 0
+        pub is-stuck : lanesOf n (pairsOf ws) ≡ none → end ≡ refused (nowhere 4)
         unfolding readSet packed fitted
         is-stuck e = rw (pairs-few, form, some-pairs, e, readSet, packed)
 
         module _ (lanes : List Lane) (e : lanesOf n (pairsOf ws) ≡ some lanes) where
-          pub is-packed : readSet n (pairsOf ws) ≡ placed lanes
+          pub is-packed : readSet n (pairsOf ws) ≡ good lanes
           unfolding readSet packed
           is-packed = rw (pairs-few, form, some-pairs, e, readSet, packed)
 
-          pub is-short : o < 2 * n * longest lanes → end ≡ refused 14 0
+          pub is-short : o < 2 * n * longest lanes → end ≡ refused (nowhere 14)
           unfolding fitted
           is-short l = rw (is-packed, lt-leb (2 * n * longest lanes) o l, fitted)
 
-          pub is-placed : 2 * n * longest lanes ≤ o → end ≡ placed lanes
+          pub is-placed : 2 * n * longest lanes ≤ o → end ≡ good lanes
           unfolding fitted
           is-placed l = rw (is-packed, le-leb (2 * n * longest lanes) o l, fitted)
 
 -- ---- the answer and the result, by the outcome
 
-module _ (D : Outcome) (r : Rounds) (out : List ℕ) where
-  pub refused-post : (n i : ℕ) → D ≡ refused n i → r ≡ roundsOf (refused n i) → (r ≡ roundsOf D) × (out ≡ resultAfter D out)
+module _ (D : Answer (List Lane)) (r : Rounds) (out : List ℕ) where
+  pub refused-post : (n i : ℕ) → D ≡ refused (atItem n i) → r ≡ roundsOf (refused (atItem n i)) → (r ≡ roundsOf D) × (out ≡ resultAfter D out)
   unfolding resultAfter
   refused-post n i e er = rw e (er, refl)
 
-pub placed-post : (D : Outcome) (lanes ls : List Lane) (n : ℕ) (out out′ : List ℕ) → D ≡ placed lanes → ls ≡ lanes → n ≡ longest ls
+pub placed-post : (D : Answer (List Lane)) (lanes ls : List Lane) (n : ℕ) (out out′ : List ℕ) → D ≡ good lanes → ls ≡ lanes → n ≡ longest ls
     → out′ ≡ sets out 0 (roundsFrom ls n 0) → (Placed n ≡ roundsOf D) × (out′ ≡ resultAfter D out)
 unfolding resultAfter
 placed-post D lanes ls n out out′ e el en eo =
@@ -157,7 +158,7 @@ abbrev pub Promised : (n : ℕ) (ws out room : List ℕ) → Rounds → (out′ 
 Promised n ws out room r out′ room′ =
     (r ≡ roundsOf (outcome n ws (length out) (length room))) × ((out′ ≡ resultAfter (outcome n ws (length out) (length room)) out) × (room′ ≡ roomAfter room))
 
-pub short-post : (n : ℕ) (ws out room : List ℕ) (r : Rounds) → length room < 16384 → r ≡ roundsOf (refused 32 0) → Promised n ws out room r out room
+pub short-post : (n : ℕ) (ws out room : List ℕ) (r : Rounds) → length room < 16384 → r ≡ roundsOf (refused (nowhere 32)) → Promised n ws out room r out room
 unfolding outcome resultAfter roomAfter
 short-post n ws out room r h e =
     let t : leb 16384 (length room) ≡ false = lt-leb 16384 (length room) h in

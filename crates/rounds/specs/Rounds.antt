@@ -8,15 +8,15 @@ use Prim.Native.Nat.{ℕ, _+_, _*_, _/_, _%_, _≤_, _<_}
 use lib.ListN.{length, getD, replicate}
 use Rattle.words.specs.Bit.{pop}
 use Rattle.reads.specs.Search.{Lane, longest}
-use Rattle.reads.specs.Outcome.{Outcome, placed, refused}
+use Rattle.words.specs.Answer.{Answer, good, refused}
 use Rattle.reads_try.specs.Table.{tableOf}
 use Rattle.rounds.specs.declared.Rounds.{Rounds}
 use Rattle.rounds.specs.declared.Rounds.the-variants.{Placed, Refused}
 
--- the number of rounds, or the refusal's number and item: the part is 0 for a read set
-abbrev pub roundsOf : Outcome → Rounds
-roundsOf (placed lanes) = Placed (longest lanes)
-roundsOf (refused n i) = Refused (record { number = n; part = 0; item = i })
+-- the number of rounds, or the refusal
+abbrev pub roundsOf : Answer (List Lane) → Rounds
+roundsOf (good lanes) = Placed (longest lanes)
+roundsOf (refused q) = Refused q
 
 -- whether a size wins, and the table then: that of its lanes, or empty
 abbrev pub isWon : Option (List Lane) → Bool

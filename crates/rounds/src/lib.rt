@@ -4,7 +4,8 @@ ghost use Prim.Native.Nat.{_*_, _/_, _≤_, _<_};
 ghost use lib.ListN.{length, replicate};
 ghost use Rattle.reads.specs.ReadSet.{pairsOf};
 ghost use Rattle.reads.specs.Search.{try, lanesOf};
-ghost use Rattle.reads.specs.Outcome.{refused, readSet, fitted, outcome, resultAfter, roomAfter};
+ghost use Rattle.words.specs.Answer.{refused, atItem};
+ghost use Rattle.reads.specs.Outcome.{readSet, fitted, outcome, resultAfter, roomAfter};
 ghost use Rattle.reads_try.specs.Table.{tableOf};
 ghost use Rattle.reads_try.specs.Tries.{isAll, lanesIn};
 ghost use Rattle.rounds.specs.Rounds.{roundsOf, isWon, tableAfter, Searchable, Solvable};
@@ -63,7 +64,7 @@ pub fn search_sizes(
 
 // A refusal of a read set: its part is 0.
 fn refused(number: u32, item: u64) -> Rounds
-    ensures { λ r. ⌜ r ≡ roundsOf (refused number item) ⌝ }
+    ensures { λ r. ⌜ r ≡ roundsOf (refused (atItem number item)) ⌝ }
 {
     Rounds::Refused(refusals::Refusal {
         number,

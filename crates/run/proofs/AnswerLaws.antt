@@ -9,10 +9,11 @@ use native.Mathlib.Omega.{arith}
 use borrow.Author.Tests.{le-leb, lt-leb, ltb-true}
 use lib.Dec.{leb}
 use lib.ListN.{length, getD, replicate}
+use Rattle.words.specs.Answer.{refused, atItem, nowhere}
 use Rattle.words.specs.Tests.{firstNot}
 use Rattle.words.proofs.TestLaws.{not-none}
 use Rattle.run_machine.specs.Turn.{Block}
-use Rattle.run_machine.specs.Run.{Running, blocksFrom, runFrom, runTurns, allLeft, badBlock, badTurn, blockForm, outcome, newAfter, roomAfter, refused}
+use Rattle.run_machine.specs.Run.{Running, blocksFrom, runFrom, runTurns, allLeft, badBlock, badTurn, blockForm, outcome, newAfter, roomAfter}
 use Rattle.run_form.proofs.RefuseLaws.{blockGood, turnGood}
 use Rattle.run.specs.declared.Ran.{Ran}
 use Rattle.run.specs.declared.Ran.the-variants.{Left}
@@ -75,7 +76,7 @@ module _ (W starts turns old new room : List ℕ) where
       (r ≡ ranOf (outcome 256 13 W starts turns old new (length room)))
       × ((new′ ≡ newAfter (outcome 256 13 W starts turns old new (length room)) new) × (room′ ≡ roomAfter starts room))
 
-  pub told-short : (m : ℕ) → m ≡ length starts - 1 → length room / 1024 < m → (r : Ran) → r ≡ ranOf (refused 32 0) → Told r new room
+  pub told-short : (m : ℕ) → m ≡ length starts - 1 → length room / 1024 < m → (r : Ran) → r ≡ ranOf (refused (nowhere 32)) → Told r new room
   unfolding outcome newAfter roomAfter
   told-short m few h r e =
       let short : leb (1024 * (length starts - 1)) (length room) ≡ false = lt-leb (1024 * (length starts - 1)) (length room) (omega arith) in
@@ -89,12 +90,12 @@ module _ (W starts turns old new room : List ℕ) where
     unfolding roomAfter
     clear = zeros ∙ rw (fits, roomAfter)
 
-    pub told-block : (i : ℕ) → badBlock 256 W starts (length old) (length new) ≡ some i → (r : Ran) → r ≡ ranOf (refused 15 i) → Told r new room′
+    pub told-block : (i : ℕ) → badBlock 256 W starts (length old) (length new) ≡ some i → (r : Ran) → r ≡ ranOf (refused (atItem 15 i)) → Told r new room′
     unfolding outcome newAfter
     told-block i b r e = (e ∙ rw (fits, b, outcome), (rw (fits, b, outcome), clear))
 
     module _ (b : badBlock 256 W starts (length old) (length new) ≡ none) where
-      pub told-turn : (i : ℕ) → badTurn starts turns ≡ some i → (r : Ran) → r ≡ ranOf (refused 16 i) → Told r new room′
+      pub told-turn : (i : ℕ) → badTurn starts turns ≡ some i → (r : Ran) → r ≡ ranOf (refused (atItem 16 i)) → Told r new room′
       unfolding outcome newAfter
       told-turn i n r e = (e ∙ rw (fits, b, n, outcome), (rw (fits, b, n, outcome), clear))
 

@@ -5,7 +5,8 @@ pub mod taking;
 
 ghost use mathlib.Core.Path.{_≡_};
 ghost use lib.ListN.{length, replicate};
-ghost use Rattle.run_machine.specs.Run.{refused, runTurns, allLeft, outcome, newAfter, roomAfter};
+ghost use Rattle.words.specs.Answer.{refused, atItem};
+ghost use Rattle.run_machine.specs.Run.{runTurns, allLeft, outcome, newAfter, roomAfter};
 ghost use Rattle.run.specs.Good.{Accepted};
 ghost use Rattle.run.specs.Answers.{ranOf};
 use left::turns_left;
@@ -51,7 +52,7 @@ fn run_well(
 
 // A refusal, which no part is told with.
 fn refuse(number: u32, item: usize) -> Ran
-    ensures { λ r. ⌜ r ≡ ranOf (refused number item) ⌝ }
+    ensures { λ r. ⌜ r ≡ ranOf (refused (atItem number item)) ⌝ }
 {
     Ran::Refused(Refusal {
         number: number,

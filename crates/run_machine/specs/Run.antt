@@ -6,6 +6,7 @@ use mathlib.Core.List.{List, [], _∷_}
 use Prim.Native.Nat.{ℕ, zero, suc, _+_, _*_, _-_, _/_, _%_, _^_}
 use lib.Dec.{leb, ltb, eqb}
 use lib.ListN.{length, getD, set, replicate}
+use Rattle.words.specs.Answer.{Answer, good, refused, atItem, nowhere}
 use Rattle.words.specs.Sum.{sumTo}
 use Rattle.words.specs.Bit.{pop}
 use Rattle.words.specs.Tests.{allBelow, firstNot}
@@ -121,32 +122,36 @@ badTurn starts turns = firstNot (λ i. ltb (getD turns i 0) (length starts - 1))
 
 -- ---- the answer: "A run: 15, 16, all before the first turn", 32 before them: "1024 a block for a run"
 
-pub data Ran : Type 0 where
-  ran : ℕ → List ℕ → Ran
-  refused : ℕ → ℕ → Ran
+-- the turns that are left, and the new state
+pub record Ran : Type 0 where
+  pub left : ℕ
+  pub new : List ℕ
 
-abbrev pub runWell : ℕ → ℕ → List ℕ → Running → Ran
+abbrev pub ran : ℕ → List ℕ → Answer Ran
+ran k new = good (record { left = k; new = new })
+
+abbrev pub runWell : ℕ → ℕ → List ℕ → Running → Answer Ran
 runWell n H W s = ran (allLeft n W (s .blocks)) (s .new)
 
-unfoldable pub outcome : ℕ → ℕ → List ℕ → List ℕ → List ℕ → List ℕ → List ℕ → ℕ → Ran
+unfoldable pub outcome : ℕ → ℕ → List ℕ → List ℕ → List ℕ → List ℕ → List ℕ → ℕ → Answer Ran
 outcome n H W starts turns old new room =
     elim (leb (1024 * (length starts - 1)) room) [
-      | false ↦ refused 32 0
+      | false ↦ refused (nowhere 32)
       | true ↦
           elim (badBlock n W starts (length old) (length new)) [
-            | some i ↦ refused 15 i
+            | some i ↦ refused (atItem 15 i)
             | none ↦
                 elim (badTurn starts turns) [
-                  | some i ↦ refused 16 i
+                  | some i ↦ refused (atItem 16 i)
                   | none ↦ runWell n H W (runTurns n H W starts turns old new)
                 ]
           ]
     ]
 
 -- what the new state then holds, and the room
-unfoldable pub newAfter : Ran → List ℕ → List ℕ
-newAfter (ran k new) before = new
-newAfter (refused k i) before = before
+unfoldable pub newAfter : Answer Ran → List ℕ → List ℕ
+newAfter (good x) before = x .new
+newAfter (refused q) before = before
 
 unfoldable pub roomAfter : List ℕ → List ℕ → List ℕ
 roomAfter starts room = elim (leb (1024 * (length starts - 1)) (length room)) [ false ↦ room | true ↦ replicate (length room) 0 ]

@@ -16,7 +16,8 @@ use Rattle.words.proofs.SectionLaws.{length-listOf, section-length}
 use Rattle.reads.specs.ReadSet.{Pair, pairsOf}
 use Rattle.reads.specs.Search.{Lane, longest, lanesOf}
 use Rattle.reads.specs.Words.{roundsFrom, readSection}
-use Rattle.reads.specs.Outcome.{Outcome, placed, refused, packed}
+use Rattle.words.specs.Answer.{Answer, good, refused, nowhere}
+use Rattle.reads.specs.Outcome.{packed}
 use Rattle.reads.proofs.PackingLaws.{lanes-packing}
 use Rattle.reads.proofs.SectionWordLaws.{section-length as reads-section}
 use Rattle.plan_record.specs.Record.{stagesOf}
@@ -33,7 +34,7 @@ unfolding packed
 packed-wide n ps h = go (ltb 0 (length ps)) (lanesOf n ps) refl
   where
     go : (t : Bool) (o : Option (List Lane)) → lanesOf n ps ≡ o
-        → let r : Outcome = elim t [ false ↦ refused 3 0 | true ↦ elim o [ none ↦ refused 4 0 | some lanes ↦ placed lanes ] ] in (lanesIn r ≡ []) ⊎ (length (lanesIn r) ≡ n)
+        → let r : Answer (List Lane) = elim t [ false ↦ refused (nowhere 3) | true ↦ elim o [ none ↦ refused (nowhere 4) | some lanes ↦ good lanes ] ] in (lanesIn r ≡ []) ⊎ (length (lanesIn r) ≡ n)
     go false o e = inl refl
     go true none e = inl refl
     go true (some lanes) e = inr (lanes-packing n ps lanes e h .wide)

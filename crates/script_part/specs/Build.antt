@@ -8,7 +8,7 @@ use Prim.Native.Nat.{ℕ, _+_, _*_, _/_, _≤_, _<_}
 use lib.ListN.{length, take, drop}
 use Rattle.reads.specs.ReadSet.{pairsOf}
 use Rattle.reads.specs.Search.{lanesOf, longest}
-use Rattle.reads.specs.Outcome.{placed}
+use Rattle.words.specs.Answer.{good}
 use Rattle.reads_try.specs.Decoded.{lanesAt}
 use Rattle.reads_section.specs.Readout.{Readable}
 use Rattle.rounds.specs.Rounds.{tableAfter}
@@ -32,7 +32,7 @@ pub record Buildable (d : List ℕ) (p : ℕ) (b : Body) : Type 0 where
   pub locations : refusal7 d ≡ none
   pub positions : refusal12 d ≡ none
   pub tables : refusal13 d ≡ none
-  pub reads : partReads 256 d p ≡ placed (partLanes 256 d p)
+  pub reads : partReads 256 d p ≡ good (partLanes 256 d p)
 
 -- the room when a part's reads are found: the winners of its pins, and behind them its lanes
 pub record FoundRoom (d : List ℕ) (p : ℕ) (room : List ℕ) : Type 0 where

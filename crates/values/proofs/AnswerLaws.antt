@@ -13,6 +13,7 @@ use Rattle.words.proofs.SectionLaws.{length-listOf}
 use Rattle.pinmap.specs.PinMap.{look}
 use Rattle.plan_record.specs.Record.{gatesOf, gatePin}
 use Rattle.words.specs.Pins.{empty}
+use Rattle.words.specs.Answer.{Answer, good, refused, atItem, nowhere}
 use Rattle.plan_record.specs.Form.{roomWords, planForm}
 use Rattle.plan_record.proofs.FormLaws.{formed}
 use Rattle.plan_gates.specs.Gates.{badGate, value}
@@ -23,7 +24,7 @@ use Rattle.plan_slots.specs.Puts.{filled}
 use Rattle.plan_slots.proofs.PutLaws.{filled-length}
 use Rattle.plan_positions.specs.Input.{input}
 use Rattle.values.specs.Known.{knownPuts, Asked}
-use Rattle.values.specs.Values.{Outcome, bit, refused, pinValue, bitWords, gateValues, lentBits, valued, outcome, bitsAfter, roomAfter}
+use Rattle.values.specs.Values.{Bits, pinValue, bitWords, gateValues, lentBits, valued, outcome, bitsAfter, roomAfter}
 use Rattle.values.proofs.KnownLaws.{known-bit, known-look}
 
 -- ---- the value over the table t of state bits
@@ -70,25 +71,25 @@ value-empty d p old new x h = rw (eq-eqb _ _ h, pinValue)
 -- ---- the ways out
 
 module _ (d : List ℕ) (p : ℕ) (old new : List ℕ) (b x : ℕ) where
-  pub lent-short : b < bitWords d → lentBits d p old new b x ≡ refused 14 0
+  pub lent-short : b < bitWords d → lentBits d p old new b x ≡ refused (nowhere 14)
   unfolding lentBits
   lent-short h = rw (lt-leb _ _ h, lentBits)
 
-  pub lent-enough : bitWords d ≤ b → lentBits d p old new b x ≡ bit (pinValue d p old new x) (gateValues d p old new)
+  pub lent-enough : bitWords d ≤ b → lentBits d p old new b x ≡ good (record { own = pinValue d p old new x; gates = gateValues d p old new })
   unfolding lentBits
   lent-enough h = rw (le-leb _ _ h, lentBits)
 
   module _ (r : ℕ) where
-    pub out-short : r < roomWords d → outcome d p old new r b x ≡ refused 32 0
+    pub out-short : r < roomWords d → outcome d p old new r b x ≡ refused (nowhere 32)
     unfolding outcome
     out-short h = rw (lt-leb _ _ h, outcome)
 
     module _ (h : roomWords d ≤ r) where
-      pub out-form : planForm d ≡ false → outcome d p old new r b x ≡ refused 5 0
+      pub out-form : planForm d ≡ false → outcome d p old new r b x ≡ refused (nowhere 5)
       unfolding outcome
       out-form f = rw (le-leb _ _ h, f, outcome)
 
-      pub out-gate : planForm d ≡ true → (g : ℕ) → badGate d ≡ some g → outcome d p old new r b x ≡ refused 6 g
+      pub out-gate : planForm d ≡ true → (g : ℕ) → badGate d ≡ some g → outcome d p old new r b x ≡ refused (atItem 6 g)
       unfolding outcome valued
       out-gate f g e = rw (le-leb _ _ h, f, e, outcome)
 
@@ -98,12 +99,12 @@ module _ (d : List ℕ) (p : ℕ) (old new : List ℕ) (b x : ℕ) where
 
 -- ---- the lent bits
 
-pub bits-kept : (o : Outcome) (n i : ℕ) (bits : List ℕ) → o ≡ refused n i → bits ≡ bitsAfter o bits
+pub bits-kept : (o : Answer Bits) (n i : ℕ) (bits : List ℕ) → o ≡ refused (atItem n i) → bits ≡ bitsAfter o bits
 unfolding bitsAfter
 bits-kept o n i bits e = rw e
 
 -- the first k words come back as ws
-pub bits-held : (o : Outcome) (v k : ℕ) (ws bits : List ℕ) → o ≡ bit v ws → length ws ≡ k → k ≤ length bits → ws ++ drop k bits ≡ bitsAfter o bits
+pub bits-held : (o : Answer Bits) (v k : ℕ) (ws bits : List ℕ) → o ≡ good (record { own = v; gates = ws }) → length ws ≡ k → k ≤ length bits → ws ++ drop k bits ≡ bitsAfter o bits
 unfolding bitsAfter
 bits-held o v k ws bits e n l = put-sets bits 0 k ws (omega arith) n ∙ rw e
 

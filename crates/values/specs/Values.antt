@@ -10,17 +10,18 @@ use lib.ListN.{length, replicate}
 use lib.Seq.{sets}
 use Rattle.plan_record.specs.Record.{gatesOf}
 use Rattle.words.specs.Pins.{empty}
+use Rattle.words.specs.Answer.{Answer, good, refused, atItem, nowhere}
 use Rattle.plan_record.specs.Form.{roomWords, planForm}
 use Rattle.plan_gates.specs.Gates.{badGate, value}
 use Rattle.plan_gates.specs.Values.{gateWords}
 use Rattle.plan_positions.specs.Input.{input}
-use Rattle.values.specs.declared.Answer.{Answer}
-use Rattle.values.specs.declared.Answer.the-variants.{Bit, Refused}
+use Rattle.values.specs.declared.Valued.{Valued}
+use Rattle.values.specs.declared.Valued.the-variants.{Bit, Refused}
 
--- a pin's value and the words with every gate's, or a refusal's number and item
-pub data Outcome : Type 0 where
-  bit : ℕ → List ℕ → Outcome
-  refused : ℕ → ℕ → Outcome
+-- a pin's value, and the words with every gate's
+pub record Bits : Type 0 where
+  pub own : ℕ
+  pub gates : List ℕ
 
 -- the value of pin x in part p, between state `old` and state `new`. The empty pin is no pin: it is neither read nor a gate's
 unfoldable pub pinValue : List ℕ → ℕ → List ℕ → List ℕ → ℕ → ℕ
@@ -35,31 +36,32 @@ unfoldable pub gateValues : List ℕ → ℕ → List ℕ → List ℕ → List 
 gateValues d p old new = gateWords d (input d p old new) (bitWords d)
 
 -- "14: lent result room shorter than needed": it has b words; else the values
-unfoldable pub lentBits : List ℕ → ℕ → List ℕ → List ℕ → ℕ → ℕ → Outcome
-lentBits d p old new b x = elim (leb (bitWords d) b) [ false ↦ refused 14 0 | true ↦ bit (pinValue d p old new x) (gateValues d p old new) ]
+unfoldable pub lentBits : List ℕ → ℕ → List ℕ → List ℕ → ℕ → ℕ → Answer Bits
+lentBits d p old new b x =
+    elim (leb (bitWords d) b) [ false ↦ refused (nowhere 14) | true ↦ good (record { own = pinValue d p old new x; gates = gateValues d p old new }) ]
 
 -- 6 at its gate comes before that
-unfoldable pub valued : Option ℕ → Outcome → Outcome
-valued (some g) o = refused 6 g
+unfoldable pub valued : Option ℕ → Answer Bits → Answer Bits
+valued (some g) o = refused (atItem 6 g)
 valued none o = o
 
 -- and before it 5, and before all 32: the lent room has r words
-unfoldable pub outcome : List ℕ → ℕ → List ℕ → List ℕ → ℕ → ℕ → ℕ → Outcome
+unfoldable pub outcome : List ℕ → ℕ → List ℕ → List ℕ → ℕ → ℕ → ℕ → Answer Bits
 outcome d p old new r b x =
     elim (leb (roomWords d) r) [
-      | false ↦ refused 32 0
-      | true ↦ elim (planForm d) [ false ↦ refused 5 0 | true ↦ valued (badGate d) (lentBits d p old new b x) ]
+      | false ↦ refused (nowhere 32)
+      | true ↦ elim (planForm d) [ false ↦ refused (nowhere 5) | true ↦ valued (badGate d) (lentBits d p old new b x) ]
     ]
 
--- the answer: refusals are told at part 0
-abbrev pub answerOf : Outcome → Answer
-answerOf (bit v ws) = Bit v
-answerOf (refused n i) = Refused (record { number = n; part = 0; item = i })
+-- the code tells the pin's value
+abbrev pub valuedOf : Answer Bits → Valued
+valuedOf (good x) = Bit (x .own)
+valuedOf (refused q) = Refused q
 
 -- the lent result then begins with the gates' values; what lies behind them, and all of it at a refusal, is what it held
-unfoldable pub bitsAfter : Outcome → List ℕ → List ℕ
-bitsAfter (bit v ws) bits = sets bits 0 ws
-bitsAfter (refused n i) bits = bits
+unfoldable pub bitsAfter : Answer Bits → List ℕ → List ℕ
+bitsAfter (good x) bits = sets bits 0 (x .gates)
+bitsAfter (refused q) bits = bits
 
 -- the lent room then holds zeros; one that is too short holds what it held
 unfoldable pub roomAfter : List ℕ → List ℕ → List ℕ

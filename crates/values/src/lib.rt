@@ -3,8 +3,9 @@ pub mod known;
 
 ghost use mathlib.Core.Path.{_≡_};
 ghost use lib.ListN.{length, replicate};
+ghost use Rattle.words.specs.Answer.{refused, atItem};
 ghost use Rattle.values.specs.Known.{Asked};
-ghost use Rattle.values.specs.Values.{bitWords, pinValue, gateValues, refused, lentBits, outcome, answerOf, bitsAfter, roomAfter};
+ghost use Rattle.values.specs.Values.{bitWords, pinValue, gateValues, lentBits, outcome, valuedOf, bitsAfter, roomAfter};
 use known::fill_known;
 use plan_gates::check_gates;
 use plan_record::form::plan_form;
@@ -21,7 +22,7 @@ use words::units::EMPTY_PIN;
 use words::units::Pin;
 
 // A pin's value, or the refusal.
-pub enum Answer {
+pub enum Valued {
     Bit(u32),
     Refused(Refusal),
 }
@@ -59,10 +60,10 @@ fn fill_bits(
 }
 
 // A refusal, which no part is told with.
-fn refuse(number: u32, item: usize) -> Answer
-    ensures { λ r. ⌜ r ≡ answerOf (refused number item) ⌝ }
+fn refuse(number: u32, item: usize) -> Valued
+    ensures { λ r. ⌜ r ≡ valuedOf (refused (atItem number item)) ⌝ }
 {
-    Answer::Refused(Refusal {
+    Valued::Refused(Refusal {
         number,
         part: 0,
         item: item as u64,
@@ -78,9 +79,9 @@ fn value_lent(
     room: &mut [u32],
     bits: &mut [u32],
     pin: Pin,
-) -> Answer
+) -> Valued
     requires { ⌜ Asked (now plan) (now room) ⌝ }
-    ensures { λ r. ⌜ r ≡ answerOf (lentBits (now (plan .entry)) part (now (old .entry)) (now (new .entry)) (length (now (bits .entry))) (pin .0)) ⌝ }
+    ensures { λ r. ⌜ r ≡ valuedOf (lentBits (now (plan .entry)) part (now (old .entry)) (now (new .entry)) (length (now (bits .entry))) (pin .0)) ⌝ }
     ensures { λ _. ⌜ now (room .exit) ≡ replicate (length (now (room .entry))) 0 ⌝ }
     ensures { λ _. ⌜ now (bits .exit) ≡ bitsAfter (lentBits (now (plan .entry)) part (now (old .entry)) (now (new .entry)) (length (now (bits .entry))) (pin .0)) (now (bits .entry)) ⌝ }
 {
@@ -88,7 +89,7 @@ fn value_lent(
     if bits.len() < words {
         return refuse(RESULT_SHORT, 0);
     }
-    Answer::Bit(fill_bits(plan, part, old, new, room, &mut bits[..words], pin))
+    Valued::Bit(fill_bits(plan, part, old, new, room, &mut bits[..words], pin))
 }
 
 // The value of a pin in a part, between the old state and the new. `bits` then begins with one bit a gate: the value of its pin.
@@ -100,8 +101,8 @@ pub fn value(
     room: &mut [u32],
     bits: &mut [u32],
     pin: Pin,
-) -> Answer
-    ensures { λ r. ⌜ r ≡ answerOf (outcome (now (plan .entry)) part (now (old .entry)) (now (new .entry)) (length (now (room .entry))) (length (now (bits .entry))) (pin .0)) ⌝ }
+) -> Valued
+    ensures { λ r. ⌜ r ≡ valuedOf (outcome (now (plan .entry)) part (now (old .entry)) (now (new .entry)) (length (now (room .entry))) (length (now (bits .entry))) (pin .0)) ⌝ }
     ensures { λ _. ⌜ now (room .exit) ≡ roomAfter (now (plan .entry)) (now (room .entry)) ⌝ }
     ensures { λ _. ⌜ now (bits .exit) ≡ bitsAfter (outcome (now (plan .entry)) part (now (old .entry)) (now (new .entry)) (length (now (room .entry))) (length (now (bits .entry))) (pin .0)) (now (bits .entry)) ⌝ }
 {

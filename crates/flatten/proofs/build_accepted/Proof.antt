@@ -4,7 +4,7 @@ use mathlib.Core.Path.{sym, ap, _∙_}
 use Prim.Native.Nat.{ℕ, _-_}
 use lib.ListN.{length}
 use lib.ListN.{replicate}
-use Rattle.plan_checks.specs.Refusals.{nowhere}
+use Rattle.words.specs.Answer.{nowhere}
 use Rattle.script_assembly.specs.Assembly.{scriptStarts, scriptWords}
 use Rattle.flatten.specs.declared.Flattened.the-variants.{Built}
 use Rattle.flatten.specs.Flatten.{sizesOf}

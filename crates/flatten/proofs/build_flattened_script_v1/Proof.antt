@@ -3,10 +3,11 @@
 use mathlib.Core.Path.{sym, ap, _∙_}
 use Prim.Native.Nat.{_-_}
 use lib.ListN.{length}
+use Rattle.words.specs.Answer.{Answer}
 use Rattle.plan_checks.specs.Refusals.{planVerdict}
 use Rattle.flatten.specs.Answers.{flattenedOf}
 use Rattle.script_assembly.specs.Assembly.{scriptStarts, scriptWords}
-use Rattle.flatten.specs.Flatten.{Build, laid}
+use Rattle.flatten.specs.Flatten.{Sizes, laid}
 use Rattle.flatten.proofs.AnswerLaws.{accepted-is, sound, refused-sized, refused-built, refused-kept, accepted-building, cleared-room}
 use borrow.Author.Needs.{needs}
 use Rattle.flatten.proofs.build_flattened_script_v1.Statement.{statement}
@@ -62,8 +63,8 @@ returns-2 c =
       (
         cleared-room (a .plan .now) (a .room .now) e _ _ (c .before .before .before .before .before .before .before .before .before .before .before .before .before .before .check-plan .kept .1 .0) (z .ensures .1 .0),
         (
-          z .ensures .1 .1 .0 ∙ ap (λ (o : Build). laid o (scriptStarts 256 (a .plan .now)) (a .starts .now)) k,
-          z .ensures .1 .1 .1 ∙ ap (λ (o : Build). laid o (scriptWords 256 (a .plan .now)) (a .words .now)) k,
+          z .ensures .1 .1 .0 ∙ ap (λ (o : Answer Sizes). laid o (scriptStarts 256 (a .plan .now)) (a .starts .now)) k,
+          z .ensures .1 .1 .1 ∙ ap (λ (o : Answer Sizes). laid o (scriptWords 256 (a .plan .now)) (a .words .now)) k,
         ),
       ),
     )

@@ -1,12 +1,14 @@
 -- `listing::list` meets its contract: the answer's text is the listing, and its length decides. Assumes nothing.
-use Rattle.listing.proofs.ListLaws.{list-short-room, after-short-room, room-kept, room-zeros, lists-short, lists-text}
+use Rattle.listing.proofs.ListLaws.{list-short-room, room-kept, room-zeros, lists-short, lists-text}
 use mathlib.Core.Path.{sym, _∙_}
 use borrow.Author.Needs.{needs}
 use Rattle.listing.proofs.list.Statement.{statement}
 use Rattle.listing.proofs.list.Tie as tie
 
 returns : tie.Need-returns
-returns c = (list-short-room _ _ _ (c .if1 .taken), (room-kept _ (c .if1 .taken), after-short-room _ _ _ (c .if1 .taken)))
+returns c =
+    let l = list-short-room _ _ _ (c .if1 .taken) in
+    (l .0, (room-kept _ (c .if1 .taken), l .1))
 
 slice-aggregate-answer-to : tie.Need-slice-aggregate-answer-to
 slice-aggregate-answer-to c = search needs

@@ -7,7 +7,8 @@ use native.Mathlib.Omega.{arith}
 use borrow.Author.Tests.{not-true, not-false}
 use lib.ListN.{length}
 use Rattle.plan_record.specs.Form.{roomWords, planForm}
-use Rattle.values.specs.Values.{Outcome, answerOf, bitsAfter}
+use Rattle.words.specs.Answer.{Answer}
+use Rattle.values.specs.Values.{Bits, valuedOf, bitsAfter}
 use Rattle.words.proofs.FoundLaws.{item-some, item-none}
 use Rattle.values.proofs.AnswerLaws.{out-short, out-form, out-gate, out-lent, bits-kept, room-short, room-zeros, room-again, room-asked}
 use borrow.Author.Needs.{needs}
@@ -40,7 +41,7 @@ returns c =
     let o = start w .args in
     let h : length (o .room .now) < roomWords (o .plan .now) = omega (arith, w .room-words .ensures .0, c .before .if1 .taken) in
     let e = out-short (o .plan .now) (o .part) (o .old .now) (o .new .now) (length (o .bits .now)) (o .pin .0) (length (o .room .now)) h in
-    (c .refuse .ensures ∙ ap answerOf (sym e), (room-short (o .plan .now) (o .room .now) h, bits-kept _ 32 0 (o .bits .now) e))
+    (c .refuse .ensures ∙ ap valuedOf (sym e), (room-short (o .plan .now) (o .room .now) h, bits-kept _ 32 0 (o .bits .now) e))
 
 clear-requires : tie.Need-clear-requires
 clear-requires c κs = search needs
@@ -63,7 +64,7 @@ returns-2 c =
     let e = out-form (o .plan .now) (o .part) (o .old .now) (o .new .now) (length (o .bits .now)) (o .pin .0) (length (o .room .now)) (enough t)
     (sym (f .plan-form .ensures) ∙ not-true _ (c .before .if2 .taken)) in
     let zeros = room-zeros (o .plan .now) (o .room .now) (enough t) _ (z .clear .ensures) in
-    (c .refuse2 .ensures ∙ ap answerOf (sym e), (zeros, bits-kept _ 5 0 (o .bits .now) e))
+    (c .refuse2 .ensures ∙ ap valuedOf (sym e), (zeros, bits-kept _ 5 0 (o .bits .now) e))
 
 check-gates-requires : tie.Need-check-gates-requires
 check-gates-requires c κs = search needs
@@ -104,7 +105,7 @@ returns-3 c =
     _
     (item-some _ _ (sym (g .check-gates .ensures) ∙ n .g .given .1)) in
     let zeros = room-zeros (o .plan .now) (o .room .now) (enough t) _ (z .clear .ensures) in
-    (c .refuse3 .ensures ∙ ap answerOf (sym e), (zeros, bits-kept _ 6 _ (o .bits .now) e))
+    (c .refuse3 .ensures ∙ ap valuedOf (sym e), (zeros, bits-kept _ 6 _ (o .bits .now) e))
 
 same-length-3 : tie.Need-same-length-3
 same-length-3 c = search needs
@@ -125,8 +126,8 @@ returns-4 c =
     (formed (g .before))
     (item-none _ (sym (g .check-gates .ensures) ∙ told .enum-told .given .1)) in
     let zeros = room-again (o .plan .now) (o .room .now) (enough t) _ (z .clear .ensures) _ (v .value-lent .ensures .1 .0) in
-    let bits = v .value-lent .ensures .1 .1 ∙ ap (λ (r : Outcome). bitsAfter r (o .bits .now)) (sym e) in
-    (v .value-lent .ensures .0 ∙ ap answerOf (sym e), (zeros, bits))
+    let bits = v .value-lent .ensures .1 .1 ∙ ap (λ (r : Answer Bits). bitsAfter r (o .bits .now)) (sym e) in
+    (v .value-lent .ensures .0 ∙ ap valuedOf (sym e), (zeros, bits))
 
 pub value-spec : {M : Type 1} → statement M
 value-spec =

@@ -6,8 +6,8 @@ use Prim.Native.Nat.{ℕ}
 use native.Mathlib.Omega.{arith}
 use lib.ListN.{length, drop}
 use lib.Seq.{length-take-le}
-use Rattle.values.specs.declared.Answer.the-variants.{Bit}
-use Rattle.values.specs.Values.{gateValues, answerOf}
+use Rattle.values.specs.declared.Valued.the-variants.{Bit}
+use Rattle.values.specs.Values.{gateValues, valuedOf}
 use Rattle.values.proofs.AnswerLaws.{lent-short, lent-enough, bits-kept, bits-held, values-length}
 use borrow.Author.Needs.{needs}
 use Rattle.values.proofs.value_lent.Statement.{statement}
@@ -25,7 +25,7 @@ returns c =
     let s = w .before .before .before .before .before .before in
     let o = s .args in
     let e = lent-short (o .plan .now) (o .part) (o .old .now) (o .new .now) (length (o .bits .now)) (o .pin .0) (omega arith) in
-    (c .refuse .ensures ∙ ap answerOf (sym e), (s .pre .clear .is, bits-kept _ 14 0 (o .bits .now) e))
+    (c .refuse .ensures ∙ ap valuedOf (sym e), (s .pre .clear .is, bits-kept _ 14 0 (o .bits .now) e))
 
 slice-relend-prefix-fill-bits : tie.Need-slice-relend-prefix-fill-bits
 slice-relend-prefix-fill-bits c = search needs
@@ -59,7 +59,7 @@ returns-2 c =
     let size = values-length (o .plan .now) (o .part) (o .old .now) (o .new .now) ∙ sym (w .bit-words .ensures) in
     let held = ap (λ (a : List ℕ). a ++ drop (w .bit-words .result) (o .bits .now)) (f .fill-bits .ensures .1 .1)
     ∙ bits-held _ _ (w .bit-words .result) values (o .bits .now) e size (omega arith) in
-    (ap Bit (f .fill-bits .ensures .0) ∙ ap answerOf (sym e), (f .fill-bits .ensures .1 .0, held))
+    (ap Bit (f .fill-bits .ensures .0) ∙ ap valuedOf (sym e), (f .fill-bits .ensures .1 .0, held))
 
 pub value-lent-spec : {M : Type 1} → statement M
 value-lent-spec =

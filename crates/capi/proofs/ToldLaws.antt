@@ -1,0 +1,56 @@
+-- What the code's answers tell is what the definitions hand out: by cases of the answer. And a list of slices is equal slice by slice.
+-- Assumes nothing.
+use mathlib.Core.Path.{_≡_, refl}
+use mathlib.Core.List.{List, _∷_}
+use Prim.Native.Nat.{ℕ}
+use Rattle.words.specs.Answer.{Answer, good, refused, handed}
+use Rattle.reads.specs.Search.{Lane}
+use Rattle.rounds.specs.Rounds.{roundsOf}
+use Rattle.listing.specs.Listing.{listedOf}
+use Rattle.values.specs.Values.{Bits, valuedOf}
+use Rattle.run_machine.specs.Run.{Ran}
+use Rattle.run.specs.Answers.{ranOf}
+use Rattle.flatten.specs.Flatten.{Sizes}
+use Rattle.flatten.specs.Answers.{flattenedOf}
+use Rattle.repair_nodes.specs.Outcome.{Repair}
+use Rattle.repair_settle.specs.Settle.{repairedOf}
+use Rattle.aiger.specs.Reading.{Read}
+use Rattle.aiger_read.specs.Told.{gatesTold as gatesOf}
+use Rattle.aiger_write.specs.Told.{textTold as textOf}
+use Rattle.capi.specs.Exported.{roundCount, textLength, ownBit, turnsLeft, planSize, entryCount, header}
+use Rattle.capi.specs.Told.{roundsTold, listedTold, valuedTold, ranTold, repairedTold, textTold, flattenedTold, gatesTold}
+
+pub also : {x y : List ℕ} {l m : List (List ℕ)} → x ≡ y → l ≡ m → x ∷ l ≡ y ∷ m
+also e f = cc
+
+pub rounds-told : (o : Answer (List Lane)) → roundsTold (roundsOf o) ≡ handed 2 roundCount o
+rounds-told (good x) = refl
+rounds-told (refused q) = refl
+
+pub listed-told : (o : Answer (List ℕ)) → listedTold (listedOf o) ≡ handed 2 textLength o
+listed-told (good x) = refl
+listed-told (refused q) = refl
+
+pub valued-told : (o : Answer Bits) → valuedTold (valuedOf o) ≡ handed 2 ownBit o
+valued-told (good x) = refl
+valued-told (refused q) = refl
+
+pub ran-told : (o : Answer Ran) → ranTold (ranOf o) ≡ handed 2 turnsLeft o
+ran-told (good x) = refl
+ran-told (refused q) = refl
+
+pub flattened-told : (o : Answer Sizes) → flattenedTold (flattenedOf o) ≡ handed 4 planSize o
+flattened-told (good x) = refl
+flattened-told (refused q) = refl
+
+pub repaired-told : (o : Answer Repair) → repairedTold (repairedOf o) ≡ handed 2 entryCount o
+repaired-told (good x) = refl
+repaired-told (refused q) = refl
+
+pub gates-told : (o : Answer Read) → gatesTold (gatesOf o) ≡ handed 4 header o
+gates-told (good x) = refl
+gates-told (refused q) = refl
+
+pub text-told : (o : Answer (List ℕ)) → textTold (textOf o) ≡ handed 2 textLength o
+text-told (good x) = refl
+text-told (refused q) = refl

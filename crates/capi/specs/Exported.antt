@@ -1,0 +1,98 @@
+-- What each exported function hands out and leaves, whatever it is given: its numbers, the one that it returns first, then what each slice that it
+-- writes holds, in the order of the parameters. Each takes the slices as they were. Document 01, "Numbered refusals": number and place, or 0.
+-- Assumes nothing.
+use mathlib.Core.List.{List, [], _∷_}
+use Prim.Native.Nat.{ℕ}
+use lib.ListN.{length}
+use Rattle.words.specs.Answer.{handed}
+use Rattle.reads.specs.Search.{Lane, longest}
+use Rattle.reads.specs.Outcome.{outcome as rounds, resultAfter, roomAfter}
+use Rattle.listing.specs.Listing.{listed, textAfter}
+use Rattle.values.specs.Values.{Bits, outcome as valued, bitsAfter, roomAfter as planRoomAfter}
+use Rattle.run_machine.specs.Run.{Ran, outcome as ranAs, newAfter, roomAfter as runRoomAfter}
+use Rattle.flatten.specs.Flatten.{Sizes, sizing, building, laid, roomAfter as builtRoomAfter}
+use Rattle.script_assembly.specs.Assembly.{scriptWords, scriptStarts}
+use Rattle.aiger.specs.Reading.{Read, readAiger as reading}
+use Rattle.aiger.specs.Writing.{writeAiger as writing}
+use Rattle.aiger.specs.Outcome.{fitting, listAfter as gatesAfter, holding, textAfter as aigerAfter}
+use Rattle.repair_nodes.specs.Outcome.{Repair, placed, cleared, slotsAfter, listAfter, roomAfter as repairRoomAfter}
+
+-- ---- the numbers of a good answer, after 0
+
+-- of a read set how many rounds
+abbrev pub roundCount : List Lane → List ℕ
+roundCount lanes = longest lanes ∷ []
+
+-- of a text its length
+abbrev pub textLength : List ℕ → List ℕ
+textLength t = length t ∷ []
+
+-- of a pin its bit
+abbrev pub ownBit : Bits → List ℕ
+ownBit x = x .own ∷ []
+
+-- of a run the turns left
+abbrev pub turnsLeft : Ran → List ℕ
+turnsLeft x = x .left ∷ []
+
+-- of a plan starts, words, state words and SRAM words
+abbrev pub planSize : Sizes → List ℕ
+planSize x = x .starts ∷ x .words ∷ x .state ∷ x .sram ∷ []
+
+-- of a repair the entries of the new count list
+abbrev pub entryCount : Repair → List ℕ
+entryCount x = length (x .counts) ∷ []
+
+-- of gates read gates, inputs, latches and outputs
+abbrev pub header : Read → List ℕ
+header x = x .header .gates ∷ x .header .inputs ∷ x .header .latches ∷ x .header .outputs ∷ []
+
+-- ---- the functions
+
+unfoldable pub readRounds : (set room out : List ℕ) → List (List ℕ)
+readRounds set room out =
+    let o = rounds 256 set (length out) (length room) in
+    handed 2 roundCount o ∷ roomAfter room ∷ resultAfter o out ∷ []
+
+unfoldable pub list : (records room out : List ℕ) → List (List ℕ)
+list records room out =
+    let o = listed records (length out) (length room) in
+    handed 2 textLength o ∷ roomAfter room ∷ textAfter o out ∷ []
+
+unfoldable pub value : (plan room old new bits : List ℕ) (part pin : ℕ) → List (List ℕ)
+value plan room old new bits part pin =
+    let o = valued plan part old new (length room) (length bits) pin in
+    handed 2 ownBit o ∷ planRoomAfter plan room ∷ bitsAfter o bits ∷ []
+
+unfoldable pub run : (words starts turns old new room : List ℕ) → List (List ℕ)
+run words starts turns old new room =
+    let o = ranAs 256 13 words starts turns old new (length room) in
+    handed 2 turnsLeft o ∷ newAfter o new ∷ runRoomAfter starts room ∷ []
+
+unfoldable pub planSizes : (plan room : List ℕ) → List (List ℕ)
+planSizes plan room = handed 4 planSize (sizing 256 plan (length room)) ∷ builtRoomAfter plan room ∷ []
+
+unfoldable pub build : (plan room starts words : List ℕ) → List (List ℕ)
+build plan room starts words =
+    let o = building 256 plan (length room) (length starts) (length words) in
+    handed 4 planSize o ∷ builtRoomAfter plan room ∷ laid o (scriptStarts 256 plan) starts ∷ laid o (scriptWords 256 plan) words ∷ []
+
+unfoldable pub placeBit : (gates levels counts slots after room : List ℕ) (level slot node : ℕ) → List (List ℕ)
+placeBit gates levels counts slots after room level slot node =
+    let o = placed 13 gates levels counts slots (length after) (length room) level slot node in
+    handed 2 entryCount o ∷ slotsAfter o slots ∷ listAfter o after ∷ repairRoomAfter counts room ∷ []
+
+unfoldable pub purgeBit : (counts slots after room : List ℕ) (level slot : ℕ) → List (List ℕ)
+purgeBit counts slots after room level slot =
+    let o = cleared 13 counts slots (length after) (length room) level slot in
+    handed 2 entryCount o ∷ slotsAfter o slots ∷ listAfter o after ∷ repairRoomAfter counts room ∷ []
+
+unfoldable pub readAiger : (bytes out : List ℕ) → List (List ℕ)
+readAiger bytes out =
+    let o = fitting (length out) (reading bytes) in
+    handed 4 header o ∷ gatesAfter o out ∷ []
+
+unfoldable pub writeAiger : (gates out : List ℕ) → List (List ℕ)
+writeAiger gates out =
+    let o = holding (length out) (writing gates) in
+    handed 2 textLength o ∷ aigerAfter o out ∷ []
