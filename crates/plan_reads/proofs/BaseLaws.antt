@@ -14,7 +14,7 @@ use Rattle.reads.specs.Search.{Lane}
 use Rattle.reads_try.specs.Decoded.{pairAt, laneOf, rowAt, lanesAt}
 use Rattle.reads_try.specs.Tries.{RowIn}
 use Rattle.reads_try.proofs.PairLaws.{total-le}
-use Rattle.reads_try.proofs.TableLaws.{row-pair, row-total-on, row-short, row-at-word, row-at-length, lane-at, filled-row}
+use Rattle.reads_try.proofs.TableLaws.{row-pair, row-total-on, row-short, row-at-word, lane-at, filled-row}
 use Rattle.reads_section.specs.Readout.{Readable}
 use Rattle.plan_reads.specs.Bases.{storeLane, storeLanes}
 
