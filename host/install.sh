@@ -1,7 +1,7 @@
-# Sourced by host/check and ./run. Finds a rustc that builds for x86-64 (the archive's only machine),
-# a linker and, on another machine, an emulator; installs what is lacking from Debian.
-# Sets RUSTC, RUSTC_FLAGS (an array), CC and RUN (an array, put before a program's path).
-# With NATIVE=yes it takes the machine's own rustc and cc as they are: enough for the model, not for the archive.
+# Sourced by host/check, host/install-lib and ./run. Finds a rustc that builds for x86-64 (the archive's only machine), the cargo
+# beside it, a linker and, on another machine, an emulator; installs what is lacking from Debian.
+# Sets RUSTC, CARGO, CARGO_FLAGS (an array), CC and RUN (an array, put before a program's path).
+# With NATIVE=yes it takes the machine's own cargo and cc as they are: enough for the model, not for the archive.
 
 TARGET=x86_64-unknown-linux-gnu
 
@@ -27,9 +27,11 @@ install_packages() {
     elif [ -z "$(find "$lists" -name '*_Packages*' -print -quit 2>/dev/null)" ]; then
         quietly apt-get update
     fi
-    quietly apt-get install -y --no-install-recommends "$@" || {
+    # Another one may be installing: it is waited for.
+    local install=(apt-get -o DPkg::Lock::Timeout=600 install -y --no-install-recommends)
+    quietly "${install[@]}" "$@" || {
         quietly apt-get update
-        quietly apt-get install -y --no-install-recommends "$@"
+        quietly "${install[@]}" "$@"
     }
 }
 
@@ -40,13 +42,15 @@ builds_for_target() {
     compgen -G "$root/lib/rustlib/$TARGET/lib/libstd-*.rlib" >/dev/null
 }
 
-# The first rustc that will do: the caller's, the one on the path, Debian's.
-find_rustc() {
+# The first rustc that will do, and the cargo beside it (a cargo of another version may not know how to call it): the caller's,
+# the one on the path, Debian's.
+find_rust() {
     local candidate
     for candidate in "${RUSTC:-}" rustc /usr/bin/rustc; do
         if [ -n "$candidate" ] && builds_for_target "$candidate"; then
-            RUSTC=$candidate
-            return 0
+            RUSTC=$(command -v "$candidate")
+            CARGO=$(dirname "$RUSTC")/cargo
+            [ -x "$CARGO" ] && return 0
         fi
     done
     return 1
@@ -55,31 +59,31 @@ find_rustc() {
 install_tools() {
     if [ "${NATIVE:-no}" = yes ]; then
         RUSTC=${RUSTC:-rustc}
+        CARGO=${CARGO:-cargo}
         TARGET="this machine"
-        RUSTC_FLAGS=()
+        CARGO_FLAGS=()
         CC=cc
         RUN=()
         return
     fi
+    CARGO_FLAGS=(--target "$TARGET")
     if [ "$(uname -m)" = x86_64 ]; then
-        find_rustc || install_packages rustc
+        find_rust || install_packages rustc cargo
         command -v cc >/dev/null || install_packages gcc libc6-dev
-        RUSTC_FLAGS=(--target "$TARGET")
         CC=cc
         RUN=()
     else
-        find_rustc || install_packages rustc libstd-rust-dev:amd64
+        find_rust || install_packages rustc cargo libstd-rust-dev:amd64
         command -v x86_64-linux-gnu-gcc >/dev/null || install_packages gcc-x86-64-linux-gnu
         [ -e /usr/lib/x86_64-linux-gnu/libc.so ] || install_packages libc6-dev:amd64
         command -v qemu-x86_64 >/dev/null || install_packages qemu-user
-        RUSTC_FLAGS=(--target "$TARGET" -C linker=x86_64-linux-gnu-gcc)
         CC=x86_64-linux-gnu-gcc
         # The C library clears and copies long stretches by `rep stosb` and `rep movsb` where the processor says that it does
         # them fast (erms). The emulator says so, and does them a byte at a time.
         RUN=(qemu-x86_64 -cpu max,erms=off)
     fi
-    find_rustc || {
-        echo "host: no rustc builds for $TARGET" >&2
+    find_rust || {
+        echo "host: no rustc and cargo build for $TARGET" >&2
         return 1
     }
 }

@@ -105,6 +105,7 @@ fn script(plan: &Plan) -> (Script, Duration) {
     let made = oracle_build_given(&aig, &stageds, &slices, plan.blocks as usize, layout, given);
     let time = start.elapsed();
     let script = Script {
+        blocks: plan.blocks as usize,
         starts: made.blocks_start.iter().map(|&start| start as u64).collect(),
         words: made.blocks_data.to_vec(),
         state_words: made.reg_io_state_size.into(),

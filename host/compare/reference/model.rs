@@ -33,7 +33,9 @@ pub fn flatten_timed(plan: &Plan) -> (Script, Duration) {
     let words = model::record::words(&record);
     let accepted = model::build::accept(record.len(), &words).expect("a plan in order");
     let model::build::Sizes { state_words, sram_words, .. } = accepted.sizes();
-    let script = Script { starts: accepted.starts(), words: accepted.words(), state_words, sram_words };
+    let blocks = plan.blocks as usize;
+    let script =
+        Script { blocks, starts: accepted.starts(), words: accepted.words(), state_words, sram_words };
     (script, start.elapsed())
 }
 

@@ -40,7 +40,8 @@ impl Case {
         let words = plan.words();
         let by_model = accept(4 * words.len(), &words).map(|accepted| {
             let Sizes { state_words, sram_words, .. } = accepted.sizes();
-            Script { starts: accepted.starts(), words: accepted.words(), state_words, sram_words }
+            let blocks = plan.blocks as usize;
+            Script { blocks, starts: accepted.starts(), words: accepted.words(), state_words, sram_words }
         });
         let answer = by_model.map(|by_model| match reference::flatten(plan) {
             Flattened::Script(script) => {

@@ -40,7 +40,8 @@ impl Expected {
         let words = record::words(record_bytes);
         let answer = accept(record_bytes.len(), &words).map(|accepted| {
             let Sizes { state_words, sram_words, .. } = accepted.sizes();
-            Script { starts: accepted.starts(), words: accepted.words(), state_words, sram_words }
+            let blocks = words[0] as usize;
+            Script { blocks, starts: accepted.starts(), words: accepted.words(), state_words, sram_words }
         });
         Expected { answer, room_words: record::room_words(&words) }
     }

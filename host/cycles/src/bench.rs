@@ -3,13 +3,13 @@
 use crate::seen::Seen;
 use from_gem::{Made, Place, What};
 use juolgesot::{finishing_turns, run_into, Pin, Script, StatePosition, BLOCK_ROOM};
+use plan::part_heads;
 use random::Random;
 use simulate::Simulator;
 
 pub struct Bench<'a> {
     made: &'a Made,
     script: Script,
-    blocks: usize,
     simulator: Simulator<'a>,
     old: Vec<u32>,
     new: Vec<u32>,
@@ -32,15 +32,13 @@ impl<'a> Bench<'a> {
                 StatePosition(position).set(&mut carried, true);
             }
         }
-        let blocks = made.plan.blocks as usize;
         Ok(Bench {
             normal: normal_words(&script),
             carried,
-            blocks,
             simulator: Simulator::new(&made.aig),
             old: vec![0; words],
             new: vec![0; words],
-            room: vec![0; BLOCK_ROOM * blocks],
+            room: vec![0; BLOCK_ROOM * script.blocks],
             odds: Vec::new(),
             seen: Seen::of(made),
             made,
@@ -96,7 +94,7 @@ impl<'a> Bench<'a> {
 
     /// All major stages, the turns of each in any order.
     fn run(&mut self, random: &mut Random) -> Result<(), String> {
-        for (stage, starts) in self.script.starts.windows(self.blocks + 1).step_by(self.blocks).enumerate() {
+        for (stage, starts) in self.script.stages().enumerate() {
             let mut turns = finishing_turns(&self.script.words, starts);
             random.shuffle(&mut turns);
             let left = run_into(&self.script.words, starts, &turns, &self.old, &mut self.new, &mut self.room)
@@ -164,7 +162,7 @@ impl<'a> Bench<'a> {
     }
 
     fn named(&self, what: What) -> String {
-        let shown = |inverted_pin: usize| juolgesot::InvertedPin(inverted_pin as u32).to_string();
+        let shown = |inverted_pin: usize| juolgesot::PinIv(inverted_pin as u32).to_string();
         match what {
             What::Output(inverted_pin) => format!("output {}", shown(inverted_pin)),
             What::Staged(pin) => format!("staged {}", Pin(pin as u32)),
@@ -193,22 +191,12 @@ fn fill(words: &mut [u32], random: &mut Random) {
     }
 }
 
-/// Which words of the state parts store: word 3 of a part is where its state begins, word 2 less words 4 and 7 how many
-/// words are normal.
+/// Which words of the state parts store.
 fn normal_words(script: &Script) -> Vec<bool> {
     let mut normal = vec![false; script.state_words as usize];
     for range in script.starts.windows(2) {
-        let (mut at, end) = (range[0] as usize, range[1] as usize);
-        while at < end {
-            let head = &script.words[at..at + 8];
-            if head[0] == 0 {
-                break;
-            }
-            let start = head[3] as usize;
-            for word in &mut normal[start..start + (head[2] - head[4] - head[7]) as usize] {
-                *word = true;
-            }
-            at += 10496 + 512 * head[6] as usize + 5120 * head[0] as usize;
+        for head in part_heads(&script.words, range[0], range[1]) {
+            normal[head.state_start as usize..][..head.normal_words() as usize].fill(true);
         }
     }
     normal

@@ -2,20 +2,25 @@
 
 use crate::ffi;
 use crate::refusal::Refusal;
-use crate::units::{InvertedPin, Pin};
+use plan::{Pin, PinIv};
 
 /// The numbers of an AIGER file's header; pins 1 to inputs + latches are no gates.
 #[derive(Debug, Clone, Copy, PartialEq, Eq)]
 pub struct AigerHeader {
+    /// Inputs: pins from 1 on.
     pub inputs: u64,
+    /// Latches: the pins behind them.
     pub latches: u64,
+    /// Outputs.
     pub outputs: u64,
+    /// AND gates: the pins behind the latches.
     pub gates: u64,
 }
 
 /// What was read of an AIGER file.
 #[derive(Debug, Clone, PartialEq, Eq)]
 pub struct Aiger {
+    /// The numbers of its header.
     pub header: AigerHeader,
     /// The gate list as a plan record has it: pin, first and second fan-in of each gate.
     pub list: Vec<u32>,
@@ -23,8 +28,8 @@ pub struct Aiger {
 
 impl Aiger {
     /// Each gate's pin and its fan-ins.
-    pub fn gates(&self) -> impl Iterator<Item = (Pin, InvertedPin, InvertedPin)> + '_ {
-        self.list.chunks_exact(3).map(|gate| (Pin(gate[0]), InvertedPin(gate[1]), InvertedPin(gate[2])))
+    pub fn gates(&self) -> impl Iterator<Item = (Pin, PinIv, PinIv)> + '_ {
+        self.list.chunks_exact(3).map(|gate| (Pin(gate[0]), PinIv(gate[1]), PinIv(gate[2])))
     }
 }
 
@@ -34,6 +39,10 @@ const HEADER_BYTES: usize = 64;
 const GATE_BYTES: usize = 10;
 
 /// Reads the header and the AND gates of a binary AIGER file.
+///
+#[doc = "```"]
+#[doc = include_str!("../examples/read_aiger.rs")]
+#[doc = "```"]
 pub fn read_aiger(bytes: &[u8]) -> Result<Aiger, Refusal> {
     // A gate has two bytes or more.
     let mut list = vec![0; 3 * (bytes.len() / 2)];
@@ -48,12 +57,16 @@ pub fn read_aiger_into(bytes: &[u8], out: &mut [u32]) -> Result<AigerHeader, Ref
     let [first, second, third, fourth] = answer.values;
     match answer.code {
         0 => Ok(AigerHeader { gates: first, inputs: second, latches: third, outputs: fourth }),
-        number => Err(Refusal { number, part: first, item: second }),
+        number => Err(Refusal::of(number, first, second)),
     }
 }
 
 /// The binary AIGER file of a gate list (pin, first and second fan-in of each gate) whose pins have no gap and in which
 /// no second fan-in is larger than the first. It has no latches and no outputs.
+///
+#[doc = "```"]
+#[doc = include_str!("../examples/write_aiger.rs")]
+#[doc = "```"]
 pub fn write_aiger(gates: &[u32]) -> Result<Vec<u8>, Refusal> {
     let mut bytes = vec![0; HEADER_BYTES + GATE_BYTES * (gates.len() / 3)];
     let length = write_aiger_into(gates, &mut bytes)?;

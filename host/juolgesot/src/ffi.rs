@@ -4,7 +4,8 @@
 //! functions are proved for all arguments (no `requires`), keep to the slices that they are
 //! lent and keep no pointer, so calling them on Rust's slices is safe.
 
-extern crate archive as _;
+#[cfg(feature = "model")]
+extern crate model_c as _;
 
 extern "C" {
     fn juolgesot_read_rounds(
@@ -147,9 +148,13 @@ extern "C" {
 
 /// What a call gives back: 0 and two results, or a refusal's number and its place (part, item).
 #[derive(Debug, Clone, Copy, PartialEq, Eq)]
+#[must_use]
 pub struct Answer {
+    /// 0, or the refusal's number.
     pub code: u32,
+    /// The first result, or the refusal's part.
     pub first: u64,
+    /// 0, or the refusal's item.
     pub second: u64,
 }
 
@@ -164,8 +169,11 @@ impl Answer {
 /// What a call on a plan gives back: 0 with the number of starts and of words, the state's words and SRAM's words; or
 /// a refusal's number, its place in the first two and 0 in the others. Of an AIGER file the four are other numbers.
 #[derive(Debug, Clone, Copy, PartialEq, Eq)]
+#[must_use]
 pub struct PlanAnswer {
+    /// 0, or the refusal's number.
     pub code: u32,
+    /// The results, or the refusal's part, its item, 0 and 0.
     pub values: [u64; 4],
 }
 
@@ -199,6 +207,7 @@ pub fn list(records: &[u8], room: &mut [u32], out: &mut [u8]) -> Answer {
     })
 }
 
+/// Code 0: the sizes.
 pub fn plan_sizes(plan: &[u8], room: &mut [u32]) -> PlanAnswer {
     PlanAnswer::of(|[first, second, third, fourth]| {
         call!(juolgesot_plan_sizes, [plan.as_ptr, room.as_mut_ptr], first, second, third, fourth)

@@ -1,25 +1,43 @@
-//! Juolgesot for Rust: safe functions over the archive `libcapi.a` that Rattle builds and proves.
+//! Juolgesot for Rust: the script builder of a GPU gate simulator and a run of its scripts, as safe functions over the archive
+//! that Rattle proves and builds (`libcapi.a`, for x86-64). With the feature `model` host/model, plain Rust, stands in for it: the
+//! same answers on any machine, but nothing of them is proved.
 //!
-//! Each function comes twice: one that owns its memory (`read_rounds`, `build` ..) and one over
-//! lent slices (`read_rounds_into`, `build_into` ..) that allocates nothing.
+//! A netlist's [`Plan`] says where its pins stand. [`build`] makes the [`Script`] of a plan's record, [`run`] runs a major stage
+//! of a script on a state, and a [`Machine`] does it cycle by cycle:
+//!
+#![doc = "```"]
+#![doc = include_str!("../examples/machine.rs")]
+#![doc = "```"]
+//!
+//! Each function comes twice: one that owns its memory (`read_rounds`, `build` ..) and one over lent slices (`read_rounds_into`,
+//! `build_into` ..) that allocates nothing. What is refused comes back as a [`Refusal`], which has a number and a place, and
+//! says both in words.
+//!
+//! In `ffi` is the C ABI itself; juolgesot.h says the same for C.
 
+#![deny(missing_docs)]
 #![deny(unsafe_op_in_unsafe_fn)]
 
 mod aiger;
 pub mod ffi;
 mod listing;
+mod machine;
 mod plan_room;
 mod plans;
 mod refusal;
 mod repair;
 mod rounds;
 mod run;
-mod units;
+pub mod stack;
 mod value;
 
 pub use aiger::{read_aiger, read_aiger_into, write_aiger, write_aiger_into, Aiger, AigerHeader};
 pub use listing::{list, list_into, LIST_ROOM, LIST_TEXT};
-pub use plan::Script;
+pub use machine::{Machine, Trouble};
+pub use plan::{
+    part_heads, part_words, script_file, Endpoint, Gate, Part, PartHead, Pin, PinIv, Plan, Position, Script,
+    Stage, StatePosition, Tables, EMPTY,
+};
 pub use plan_room::{gate_words, plan_room};
 pub use plans::{build, build_into, plan_sizes, plan_sizes_into, Sizes};
 pub use refusal::Refusal;
@@ -27,7 +45,6 @@ pub use repair::{
     levels, place_bit, place_bit_into, purge_bit, purge_bit_into, repair_room, stage_counts, Netlist, Place,
     RepairSlices, STAGE_SLOTS,
 };
-pub use rounds::{read_rounds, read_rounds_into, ReadRounds, LANES, ROUND_WORDS, SET_ROOM};
+pub use rounds::{read_rounds, read_rounds_into, ReadRounds, LANES, MOST_ROUNDS, ROUND_WORDS, SET_ROOM};
 pub use run::{finishing_turns, run, run_into, BLOCK_ROOM};
-pub use units::{InvertedPin, LocalPosition, Pin, StatePosition};
 pub use value::{value, value_into, Values};

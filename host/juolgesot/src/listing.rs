@@ -5,10 +5,14 @@ use crate::refusal::Refusal;
 
 /// Words of working room for a listing.
 pub const LIST_ROOM: usize = 16384;
-/// Bytes that no listing passes: 8192 lines of at most 28 bytes, and the first line.
-pub const LIST_TEXT: usize = 8192 * 28 + 10;
+/// Bytes that no listing passes: 8192 lines of at most 29 bytes, and the first line (crates/listing/proofs/LengthLaws.antt).
+pub const LIST_TEXT: usize = 8192 * 29 + 10;
 
 /// What the listing program prints for these records, refusals included.
+///
+#[doc = "```"]
+#[doc = include_str!("../examples/list.rs")]
+#[doc = "```"]
 pub fn list(records: &[u8]) -> Result<Vec<u8>, Refusal> {
     let mut room = vec![0; LIST_ROOM];
     let mut text = vec![0; LIST_TEXT];

@@ -1,4 +1,7 @@
-//! The working room of a plan, and the room for its gates' bits.
+//! The working room of a plan, and the room for its results.
+
+use crate::rounds::MOST_ROUNDS;
+use plan::part_words;
 
 /// Words of working room for a plan, without those of its parts.
 const PLAN_ROOM: u64 = 65536;
@@ -19,6 +22,7 @@ fn word(plan: &[u8], index: usize) -> u32 {
 }
 
 /// Words of working room for a plan, as the counts of its record say.
+#[must_use]
 pub fn plan_room(plan: &[u8]) -> u64 {
     let stages = word(plan, 1).min(64) as usize;
     let parts: u64 = (0..stages).map(|stage| u64::from(word(plan, 5 + stage))).sum();
@@ -32,6 +36,7 @@ pub(crate) fn gates(plan: &[u8]) -> usize {
 }
 
 /// Words that have a bit for each gate of a plan.
+#[must_use]
 pub fn gate_words(plan: &[u8]) -> usize {
     (gates(plan) + 31) / 32
 }
@@ -39,4 +44,48 @@ pub fn gate_words(plan: &[u8]) -> usize {
 /// The room that a plan asks for, but not more than a plan in range can: such a record is refused by 32.
 pub(crate) fn room_for(plan: &[u8]) -> Vec<u32> {
     vec![0; plan_room(plan).min(PLAN_ROOM + PART_ROOM * MOST_PARTS) as usize]
+}
+
+/// Words of a part's body at least, by its stages and endpoints: as a record has them without locations.
+fn body_words(stages: u64, endpoints: u64) -> u64 {
+    3 * endpoints + 16384 * stages + 2 * 8192 + 5 * 256
+}
+
+/// Words of an empty block, and words behind the last block.
+const EMPTY_BLOCK: u64 = 256;
+const TAIL: u64 = 2048;
+
+/// The blocks of a plan.
+pub(crate) fn blocks(plan: &[u8]) -> usize {
+    word(plan, 0) as usize
+}
+
+/// The starts of a plan's script, and how many words it has at most. Nothing for a record that is refused by its counts alone.
+pub(crate) fn most_starts_and_words(plan: &[u8]) -> (usize, usize) {
+    let [blocks, stages, gates, layout, positions] =
+        [0, 1, 2, 3, 4].map(|index| u64::from(word(plan, index)));
+    if !(1..=1024).contains(&blocks) || !(1..=64).contains(&stages) {
+        return (0, 0);
+    }
+    let parts: Vec<u64> = (0..stages).map(|stage| u64::from(word(plan, 5 + stage as usize))).collect();
+    let heads_at = 5 + stages + 3 * gates + layout + 3 * positions;
+    let bodies_at = heads_at + 2 * parts.iter().sum::<u64>();
+    let record_words = plan.len() as u64 / 4;
+    if bodies_at > record_words {
+        return (0, 0);
+    }
+    let (mut read, mut made) = (bodies_at, TAIL);
+    for head in (heads_at..bodies_at).step_by(2) {
+        let [stages, endpoints] = [head, head + 1].map(|index| u64::from(word(plan, index as usize)));
+        if stages > 255 || endpoints > 8192 {
+            return (0, 0);
+        }
+        read += body_words(stages, endpoints);
+        made += part_words(stages, MOST_ROUNDS as u64);
+    }
+    made += parts.iter().map(|&parts| EMPTY_BLOCK * blocks.saturating_sub(parts)).sum::<u64>();
+    if read > record_words {
+        return (0, 0);
+    }
+    ((blocks * stages + 1) as usize, made as usize)
 }

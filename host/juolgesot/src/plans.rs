@@ -1,16 +1,20 @@
 //! Plans to scripts.
 
 use crate::ffi::{self, PlanAnswer};
-use crate::plan_room::room_for;
+use crate::plan_room::{blocks, most_starts_and_words, room_for};
 use crate::refusal::Refusal;
 use plan::Script;
 
 /// How much result room a plan needs, and how large its state and SRAM are.
 #[derive(Debug, Clone, Copy, PartialEq, Eq)]
 pub struct Sizes {
+    /// Starts of blocks, and the end.
     pub starts: usize,
+    /// Words of the script.
     pub words: usize,
+    /// Words of a state that it runs on.
     pub state_words: u64,
+    /// Words of SRAM.
     pub sram_words: u64,
 }
 
@@ -23,22 +27,34 @@ fn sizes(answer: PlanAnswer) -> Result<Sizes, Refusal> {
             state_words: third,
             sram_words: fourth,
         }),
-        number => Err(Refusal { number, part: first, item: second }),
+        number => Err(Refusal::of(number, first, second)),
     }
 }
 
 /// The sizes of a plan's script, or what refuses the plan.
+///
+#[doc = "```"]
+#[doc = include_str!("../examples/plan_sizes.rs")]
+#[doc = "```"]
 pub fn plan_sizes(plan: &[u8]) -> Result<Sizes, Refusal> {
     plan_sizes_into(plan, &mut room_for(plan))
 }
 
-/// Builds the script of a plan record.
+/// Builds the script of a plan record (`Plan::record`).
+///
+#[doc = "```"]
+#[doc = include_str!("../examples/build.rs")]
+#[doc = "```"]
 pub fn build(plan: &[u8]) -> Result<Script, Refusal> {
-    let mut room = room_for(plan);
-    let Sizes { starts, words, state_words, sram_words } = plan_sizes_into(plan, &mut room)?;
+    // Only the rounds are not known before: room for the most of them is asked for, and given back.
+    let (starts, words) = most_starts_and_words(plan);
     let (mut starts, mut words) = (vec![0; starts], vec![0; words]);
-    build_into(plan, &mut room, &mut starts, &mut words)?;
-    Ok(Script { starts, words, state_words, sram_words })
+    let sizes = build_into(plan, &mut room_for(plan), &mut starts, &mut words)?;
+    starts.truncate(sizes.starts);
+    words.truncate(sizes.words);
+    words.shrink_to_fit();
+    let Sizes { state_words, sram_words, .. } = sizes;
+    Ok(Script { blocks: blocks(plan), starts, words, state_words, sram_words })
 }
 
 /// `plan_sizes` with a lent room of `plan_room` words or more. It holds zeros afterwards, but for refusal 32, which

@@ -2,7 +2,7 @@
 
 use crate::ffi;
 use crate::refusal::Refusal;
-use crate::units::Pin;
+use plan::Pin;
 use std::collections::HashMap;
 
 const MOST_PIN: u32 = 1 << 30;
@@ -12,6 +12,7 @@ pub const STAGE_SLOTS: usize = 16383;
 const COUNTED_SLOTS: usize = 8191;
 
 /// Words of working room where the count list has so many words.
+#[must_use]
 pub fn repair_room(count_words: usize) -> usize {
     65536 + 4 * ((count_words + 1) / 2)
 }
@@ -19,25 +20,33 @@ pub fn repair_room(count_words: usize) -> usize {
 /// A slot of a level: level 0 to 13, slot below 2^(13-level).
 #[derive(Debug, Clone, Copy, PartialEq, Eq)]
 pub struct Place {
+    /// The level.
     pub level: u32,
+    /// The slot.
     pub slot: u32,
 }
 
 /// The gates (pin, first and second fan-in of each) and the level of each pin; a pin past the end has none.
 #[derive(Debug, Clone, Copy)]
 pub struct Netlist<'a> {
+    /// The gate list, three words a gate.
     pub gates: &'a [u32],
+    /// Levels by pin.
     pub levels: &'a [u32],
 }
 
 /// What is lent to be written: the stage's slots, the new count list, and working room of `repair_room` words.
 pub struct RepairSlices<'a> {
+    /// The stage's slots, `STAGE_SLOTS` of them.
     pub slots: &'a mut [u32],
+    /// The new count list.
     pub after: &'a mut [u32],
+    /// Working room.
     pub room: &'a mut [u32],
 }
 
 /// How often each pin stands at levels 1 and up of a stage, as a count list. What is no pin is left out.
+#[must_use]
 pub fn stage_counts(slots: &[u32]) -> Vec<u32> {
     let mut counts: Vec<u32> = Vec::new();
     let mut places = HashMap::new();
@@ -53,6 +62,7 @@ pub fn stage_counts(slots: &[u32]) -> Vec<u32> {
 
 /// Levels of the pins up to a node, worked from the gates: these inputs are at level 0, any other gate is one above its
 /// higher fan-in. All others have none, which is said by a number above every place.
+#[must_use]
 pub fn levels(gates: &[u32], inputs: &[Pin], node: Pin) -> Vec<u32> {
     let known = gates.chunks_exact(3).map(|gate| gate[0]).chain(inputs.iter().map(|pin| pin.0)).max();
     let mut levels = vec![u32::MAX; known.map_or(0, |most| most.min(node.0) as usize + 1)];
@@ -73,6 +83,10 @@ pub fn levels(gates: &[u32], inputs: &[Pin], node: Pin) -> Vec<u32> {
 
 /// Places a node: above its level it is carried down the same slot, at its level the gate is split to two slots. `counts`
 /// says how often each node stands at levels 1 and up: node, count, node, count .. Gives the new list, in any order.
+///
+#[doc = "```"]
+#[doc = include_str!("../examples/place_bit.rs")]
+#[doc = "```"]
 pub fn place_bit(
     netlist: Netlist<'_>,
     counts: &[u32],
@@ -84,6 +98,10 @@ pub fn place_bit(
 }
 
 /// Clears a place and all under it, down to empty slots. Gives the new count list, in any order.
+///
+#[doc = "```"]
+#[doc = include_str!("../examples/purge_bit.rs")]
+#[doc = "```"]
 pub fn purge_bit(counts: &[u32], slots: &mut [u32], place: Place) -> Result<Vec<u32>, Refusal> {
     lending(counts, slots, |lent| purge_bit_into(counts, lent, place))
 }

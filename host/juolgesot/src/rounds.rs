@@ -2,7 +2,6 @@
 
 use crate::ffi;
 use crate::refusal::Refusal;
-use crate::units::LocalPosition;
 
 /// Lanes of 32 bits.
 pub const LANES: usize = 256;
@@ -11,7 +10,7 @@ pub const ROUND_WORDS: usize = 2 * LANES;
 /// Words of working room for a read set.
 pub const SET_ROOM: usize = 16384;
 /// Rounds of a packing, at most: 32 pairs of one bit fill a lane.
-const MOST_ROUNDS: usize = 32;
+pub const MOST_ROUNDS: usize = 32;
 
 /// A packing of a read set into lanes and rounds.
 #[derive(Debug, Clone, PartialEq, Eq)]
@@ -20,16 +19,20 @@ pub struct ReadRounds {
 }
 
 impl ReadRounds {
+    /// How many rounds there are, at most `MOST_ROUNDS`.
+    #[must_use]
     pub fn rounds(&self) -> usize {
         self.section.len() / ROUND_WORDS
     }
 
     /// The read section of a script: 512 words a round, word and mask of lane i at 2i and 2i + 1.
+    #[must_use]
     pub fn section(&self) -> &[u32] {
         &self.section
     }
 
     /// The word and mask that a lane reads in a round.
+    #[must_use]
     pub fn read(&self, lane: usize, round: usize) -> Option<(u32, u32)> {
         if lane >= LANES || round >= self.rounds() {
             return None;
@@ -40,32 +43,14 @@ impl ReadRounds {
             mask => Some((self.section[at], mask)),
         }
     }
-
-    /// The local position of bit `bit` of `word` (bit 31 of the word meaning staged), if it was asked for.
-    pub fn local_position(&self, word: u32, bit: u32) -> Option<LocalPosition> {
-        if bit >= 32 {
-            return None;
-        }
-        for lane in 0..LANES {
-            let mut later_bits = 0;
-            for round in (0..self.rounds()).rev() {
-                let (read_word, mask) = match self.read(lane, round) {
-                    Some(pair) => pair,
-                    None => continue,
-                };
-                if read_word == word && mask >> bit & 1 == 1 {
-                    let bits_above = (mask >> bit).count_ones() - 1;
-                    return Some(LocalPosition((32 * lane as u32 + later_bits + bits_above) as u16));
-                }
-                later_bits += mask.count_ones();
-            }
-        }
-        None
-    }
 }
 
 /// Packs a read set: pairs (word, mask), strictly ascending by word, masks nonzero.
 /// Bit 31 of a word means staged; the rest is below 2^27.
+///
+#[doc = "```"]
+#[doc = include_str!("../examples/read_rounds.rs")]
+#[doc = "```"]
 pub fn read_rounds(pairs: &[(u32, u32)]) -> Result<ReadRounds, Refusal> {
     let set: Vec<u32> = pairs.iter().flat_map(|&(word, mask)| [word, mask]).collect();
     let mut room = vec![0; SET_ROOM];

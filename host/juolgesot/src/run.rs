@@ -2,6 +2,7 @@
 
 use crate::ffi;
 use crate::refusal::Refusal;
+use plan::part_heads;
 
 /// Words of working room for each block of a run.
 pub const BLOCK_ROOM: usize = 1024;
@@ -9,6 +10,10 @@ pub const BLOCK_ROOM: usize = 1024;
 /// Runs one major stage: `starts` are those of its blocks and their end, `turns` names a block for each turn. Bits are
 /// read from the old state, or (staged) from the new one, and stored into the new one: where a bit is enabled, with its
 /// data inversion; where not, as the old state has it. Gives the turns left.
+///
+#[doc = "```"]
+#[doc = include_str!("../examples/run.rs")]
+#[doc = "```"]
 pub fn run(
     words: &[u32],
     starts: &[u64],
@@ -35,8 +40,9 @@ pub fn run_into(
 
 /// Turns that finish these blocks, block after block, round and round: a part takes its stages and two more. Where the
 /// words cannot be followed the turns of that block end; a run refuses such words anyway.
+#[must_use]
 pub fn finishing_turns(words: &[u32], starts: &[u64]) -> Vec<u32> {
-    let counts: Vec<usize> = starts.windows(2).map(|range| block_turns(words, range[0], range[1])).collect();
+    let counts: Vec<usize> = starts.windows(2).map(|range| block_turns(words, range)).collect();
     let most = counts.iter().copied().max().unwrap_or(0);
     let mut turns = Vec::new();
     for turn in 0..most {
@@ -45,16 +51,6 @@ pub fn finishing_turns(words: &[u32], starts: &[u64]) -> Vec<u32> {
     turns
 }
 
-/// Words 0 and 6 of a part are its stages and its rounds; an empty block has 0 stages.
-fn block_turns(words: &[u32], start: u64, end: u64) -> usize {
-    let (mut at, mut turns) = (start, 0);
-    while at < end {
-        let head = match words.get(at as usize..).and_then(|words| words.get(..7)) {
-            Some(head) if (1..=255).contains(&head[0]) => head,
-            _ => break,
-        };
-        turns += head[0] as usize + 2;
-        at += 10496 + 512 * u64::from(head[6]) + 5120 * u64::from(head[0]);
-    }
-    turns
+fn block_turns(words: &[u32], range: &[u64]) -> usize {
+    part_heads(words, range[0], range[1]).map(|head| head.stages as usize + 2).sum()
 }

@@ -3,7 +3,7 @@
 use crate::ffi;
 use crate::plan_room::{gate_words, gates, room_for};
 use crate::refusal::Refusal;
-use crate::units::Pin;
+use plan::Pin;
 
 /// What the gates say in a part: the value of the pin that was asked for, and of each gate.
 #[derive(Debug, Clone, PartialEq, Eq)]
@@ -15,16 +15,19 @@ pub struct Values {
 
 impl Values {
     /// The value of the pin that was asked for.
+    #[must_use]
     pub fn pin(&self) -> bool {
         self.pin
     }
 
     /// How many gates the plan has.
+    #[must_use]
     pub fn gates(&self) -> usize {
         self.gates
     }
 
     /// The value of a gate's pin, by the gate's place in the plan's list.
+    #[must_use]
     pub fn gate(&self, gate: usize) -> Option<bool> {
         if gate < self.gates {
             Some(self.words[gate / 32] >> (gate % 32) & 1 == 1)
@@ -36,6 +39,10 @@ impl Values {
 
 /// The values of a pin and of all gates in a part (counted on through the major stages), between the old state and the
 /// new one. A part past the plan reads nothing; what lies behind a state is 0.
+///
+#[doc = "```"]
+#[doc = include_str!("../examples/value.rs")]
+#[doc = "```"]
 pub fn value(plan: &[u8], part: u32, pin: Pin, old: &[u32], new: &[u32]) -> Result<Values, Refusal> {
     let mut words = vec![0; gate_words(plan)];
     let pin = value_into(plan, part, pin, old, new, &mut room_for(plan), &mut words)?;

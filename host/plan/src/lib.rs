@@ -1,8 +1,17 @@
-//! A plan in plain form, and its record: little-endian u32 words, as ARCHITECTURE ("The plan record") lays them.
+//! A plan in plain form, and its record: little-endian u32 words (docs/LAYOUT.md, "The plan record"). A script in plain form,
+//! and its file.
+
+#![deny(missing_docs)]
 
 pub mod packed;
+mod parts;
+mod script;
 pub mod script_file;
 pub mod stored;
+mod units;
+
+pub use script::{part_heads, part_words, PartHead, Script};
+pub use units::{Pin, PinIv, StatePosition};
 
 /// Positions 1..8191, then level 0 (slot j at 8192 + j); index 0 stands for nothing.
 pub const SLOTS: usize = 16384;
@@ -10,6 +19,7 @@ pub const SLOTS: usize = 16384;
 pub const LEVEL_0: usize = 8192;
 /// Entries of a slot table.
 pub const ENTRIES: usize = 8192;
+/// Lanes of 32 bits.
 pub const LANES: usize = 256;
 /// No pin.
 pub const EMPTY: u32 = u32::MAX;
@@ -17,61 +27,87 @@ pub const EMPTY: u32 = u32::MAX;
 /// Words before the counts of the major stages.
 pub const HEAD_WORDS: usize = 5;
 
+/// A plan: where the netlist's pins stand. Its parts are made by `Part::new`, its lists piece by piece by the methods of their
+/// names (`input`, `gate`, `position` ..).
 #[derive(Debug, Clone, Default)]
 pub struct Plan {
+    /// Blocks of the machine, 1 to 1024.
     pub blocks: u32,
+    /// The gate list, ascending by pin.
     pub gates: Vec<Gate>,
-    /// A pin, or `EMPTY`.
+    /// The input layout: what stands at each bit of the state from its beginning, a pin or `EMPTY`.
     pub layout: Vec<u32>,
+    /// Where other pins are in the state.
     pub positions: Vec<Position>,
     /// The parts of each major stage.
     pub stages: Vec<Vec<Part>>,
 }
 
-/// Fan-ins are inverted pin numbers: 2·pin, plus 1 where inverted.
+/// An AND gate. Fan-ins are inverted pin numbers: 2·pin, plus 1 where inverted.
 #[derive(Debug, Clone, Copy, PartialEq, Eq)]
 pub struct Gate {
+    /// Its own pin.
     pub pin: u32,
+    /// The fan-in at slot a.
     pub first: u32,
+    /// The fan-in at slot b.
     pub second: u32,
 }
 
+/// Where a pin is in the state.
 #[derive(Debug, Clone, Copy, PartialEq, Eq)]
 pub struct Position {
+    /// The pin.
     pub pin: u32,
+    /// Its state position.
     pub position: u32,
     /// 0 unstaged, 1 staged.
     pub staged: u32,
 }
 
+/// A part of a major stage.
 #[derive(Debug, Clone)]
 pub struct Part {
+    /// What it is for: outputs, staged pins, registers, SRAMs.
     pub endpoints: Vec<Endpoint>,
+    /// Its boomerang stages, 1 to 255.
     pub stages: Vec<Stage>,
+    /// Its SRAM and enable tables.
     pub tables: Tables,
 }
 
 /// A kind and the two words that follow it.
 #[derive(Debug, Clone, Copy, PartialEq, Eq)]
 pub struct Endpoint {
+    /// 0 output, 1 staged, 2 register, 3 SRAM.
     pub kind: u32,
+    /// An output's inverted pin number, a staged pin, a register's d (an inverted pin number).
     pub x: u32,
+    /// A register's enable, an inverted pin number.
     pub y: u32,
 }
 
 impl Endpoint {
+    /// A primary output, by its inverted pin number.
+    #[must_use]
     pub fn output(inverted_pin: u32) -> Self {
         Endpoint { kind: 0, x: inverted_pin, y: 0 }
     }
 
+    /// A pin that a later major stage reads.
+    #[must_use]
     pub fn staged(pin: u32) -> Self {
         Endpoint { kind: 1, x: pin, y: 0 }
     }
 
+    /// A register, by the inverted pin numbers of its data and its enable.
+    #[must_use]
     pub fn register(d: u32, en: u32) -> Self {
         Endpoint { kind: 2, x: d, y: en }
     }
 
+    /// An SRAM.
+    #[must_use]
     pub fn sram() -> Self {
         Endpoint { kind: 3, x: 0, y: 0 }
     }
@@ -82,10 +118,13 @@ impl Endpoint {
 pub struct Stage {
     /// A pin or `EMPTY` at each index; `SLOTS` of them, the first one unused.
     pub slots: Vec<u32>,
+    /// Write-out locations: w captures positions 32w to 32w + 31.
     pub locations: Vec<u32>,
 }
 
 impl Stage {
+    /// A stage without a pin and without locations.
+    #[must_use]
     pub fn empty() -> Self {
         Stage { slots: vec![EMPTY; SLOTS], locations: Vec::new() }
     }
@@ -94,16 +133,26 @@ impl Stage {
 /// What GEM's `make_inputs_outputs` made for a part.
 #[derive(Debug, Clone)]
 pub struct Tables {
+    /// Where each bit of the SRAM and duplicate words is taken from, likewise.
     pub sram: Vec<u32>,
+    /// Which of them are inverted, a word a lane.
     pub sram_inv: Vec<u32>,
+    /// Which of them are 0 before that.
     pub sram_set0: Vec<u32>,
+    /// Where the enable of each bit that is stored is taken from: entry 32k + b is for bit b of the part's word k, and says
+    /// 32k' + b' for a bit that the part captures.
     pub enable: Vec<u32>,
+    /// Which enables are inverted, a word for each stored word.
     pub enable_inv: Vec<u32>,
+    /// Which enables are 0 before that.
     pub enable_set0: Vec<u32>,
+    /// Which bits are stored inverted.
     pub data_inv: Vec<u32>,
 }
 
 impl Tables {
+    /// Tables of zeros: every bit is enabled where the first one that the part captures is 1.
+    #[must_use]
     pub fn zeros() -> Self {
         let (entries, lanes) = (vec![0; ENTRIES], vec![0; LANES]);
         Tables {
@@ -119,11 +168,13 @@ impl Tables {
 }
 
 impl Plan {
+    /// All parts, counted on through the major stages.
     pub fn parts(&self) -> impl Iterator<Item = &Part> {
         self.stages.iter().flatten()
     }
 
     /// The plan's words.
+    #[must_use]
     pub fn words(&self) -> Vec<u32> {
         let mut words = vec![
             self.blocks,
@@ -143,16 +194,20 @@ impl Plan {
         words
     }
 
+    /// The plan record: what `build` takes.
+    #[must_use]
     pub fn record(&self) -> Vec<u8> {
         bytes(&self.words())
     }
 
     /// The word where the part heads begin.
+    #[must_use]
     pub fn heads_at(&self) -> usize {
         HEAD_WORDS + self.stages.len() + 3 * self.gates.len() + self.layout.len() + 3 * self.positions.len()
     }
 
     /// The word where the body of a part begins.
+    #[must_use]
     pub fn body_at(&self, part: usize) -> usize {
         let bodies: usize = self.parts().take(part).map(Part::body_words).sum();
         self.heads_at() + 2 * self.parts().count() + bodies
@@ -179,26 +234,19 @@ impl Part {
     }
 
     /// Words of the part's body.
+    #[must_use]
     pub fn body_words(&self) -> usize {
         let of_stages: usize = self.stages.iter().map(|stage| SLOTS + stage.locations.len()).sum();
         3 * self.endpoints.len() + of_stages + 2 * ENTRIES + 5 * LANES
     }
 }
 
+/// Words as bytes.
+#[must_use]
 pub fn bytes(words: &[u32]) -> Vec<u8> {
     let mut bytes = Vec::with_capacity(4 * words.len());
     for word in words {
         bytes.extend_from_slice(&word.to_le_bytes());
     }
     bytes
-}
-
-/// A script in plain form.
-#[derive(Debug, Clone, PartialEq, Eq)]
-pub struct Script {
-    /// Where each block of each major stage begins, and the end.
-    pub starts: Vec<u64>,
-    pub words: Vec<u32>,
-    pub state_words: u64,
-    pub sram_words: u64,
 }

@@ -9,6 +9,7 @@
 const EQUAL: usize = 3;
 
 /// The words, packed.
+#[must_use]
 pub fn pack(words: &[u32]) -> Vec<u8> {
     let before = [0].into_iter().chain(words.iter().copied());
     let differences: Vec<u32> =
@@ -38,6 +39,7 @@ pub fn pack(words: &[u32]) -> Vec<u8> {
 }
 
 /// The words of packed bytes; none where the bytes have not the form, or are more than `most` words.
+#[must_use]
 pub fn unpack(mut bytes: &[u8], most: usize) -> Option<Vec<u32>> {
     let mut words = Vec::new();
     let mut before = 0u32;

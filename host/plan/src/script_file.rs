@@ -8,11 +8,13 @@ const MARK: &[u8; 8] = b"JUOLGES1";
 /// The mark and five numbers.
 const HEAD: usize = 48;
 
-/// The file of a script of so many blocks.
-pub fn bytes(blocks: u64, script: &Script) -> Vec<u8> {
+/// The file of a script.
+#[must_use]
+pub fn bytes(script: &Script) -> Vec<u8> {
     let mut bytes = MARK.to_vec();
-    let lengths = [script.starts.len() as u64, script.words.len() as u64];
-    for number in [blocks, lengths[0], lengths[1], script.state_words, script.sram_words] {
+    let [blocks, starts, words] =
+        [script.blocks, script.starts.len(), script.words.len()].map(|count| count as u64);
+    for number in [blocks, starts, words, script.state_words, script.sram_words] {
         bytes.extend(number.to_le_bytes());
     }
     bytes.extend(script.starts.iter().flat_map(|start| start.to_le_bytes()));
@@ -25,9 +27,9 @@ const MOST_BLOCKS: u64 = 1024;
 const MOST_STAGES: u64 = 64;
 const MOST_STATE_WORDS: u64 = 1 << 27;
 
-/// Blocks and script of a file, or what is wrong with it. There is a block or more, and the starts are those of whole major
+/// The script of a file, or what is wrong with it. There is a block or more, and the starts are those of whole major
 /// stages and the end.
-pub fn read(bytes: &[u8]) -> Result<(u64, Script), String> {
+pub fn read(bytes: &[u8]) -> Result<Script, String> {
     if !bytes.starts_with(MARK) {
         return Err("it does not begin with JUOLGES1".to_string());
     }
@@ -53,13 +55,13 @@ pub fn read(bytes: &[u8]) -> Result<(u64, Script), String> {
         return Err(format!("its state words are 0 to {}, not {}", MOST_STATE_WORDS, numbers[3]));
     }
     let (starts, words) = lists.split_at(8 * starts as usize);
-    let script = Script {
+    Ok(Script {
+        blocks: blocks as usize,
         starts: starts.chunks(8).map(number).collect(),
         words: words_of(words),
         state_words: numbers[3],
         sram_words: numbers[4],
-    };
-    Ok((blocks, script))
+    })
 }
 
 fn number(bytes: &[u8]) -> u64 {
@@ -67,6 +69,7 @@ fn number(bytes: &[u8]) -> u64 {
 }
 
 /// Whole words; what is left over is left out.
+#[must_use]
 pub fn words_of(bytes: &[u8]) -> Vec<u32> {
     bytes.chunks_exact(4).map(|word| u32::from_le_bytes([word[0], word[1], word[2], word[3]])).collect()
 }

@@ -3,14 +3,20 @@
 use crate::Script;
 use std::convert::TryInto;
 
+/// A plan and its script.
 pub struct Case {
+    /// What the design is called.
     pub name: String,
     /// A staged pin lies in a duplicate word: document 01 refuses the plan by 12.
     pub staged_duplicate: bool,
+    /// The plan record.
     pub record: Vec<u8>,
+    /// What GEM made of it.
     pub script: Script,
 }
 
+/// The file of these cases.
+#[must_use]
 pub fn write(cases: &[Case]) -> Vec<u8> {
     let mut bytes = Vec::new();
     push_number(&mut bytes, cases.len() as u64);
@@ -64,7 +70,10 @@ fn case(bytes: &mut &[u8]) -> Result<Case, String> {
     let starts = whole(list(bytes).ok_or_else(ends("its starts"))?, 8, "starts")?;
     let words = whole(list(bytes).ok_or_else(ends("its words"))?, 4, "words")?;
     let start = |bytes: &[u8]| u64::from_le_bytes(bytes.try_into().expect("eight bytes"));
+    // What is no whole word of the record is refused with the plan.
+    let blocks = record.get(..4).map_or(0, |word| u32::from_le_bytes(word.try_into().expect("four bytes")));
     let script = Script {
+        blocks: blocks as usize,
         starts: starts.chunks(8).map(start).collect(),
         words: crate::script_file::words_of(words),
         state_words,

@@ -21,12 +21,11 @@ pub fn call(words: &[String]) -> Outcome {
     let record = files::read(plan)?;
     let script = while_working("building", || juolgesot::build(&record))
         .map_err(|refusal| why::plan(&record, refusal))?;
-    let blocks = u32::from_le_bytes([record[0], record[1], record[2], record[3]]);
-    files::write(out, &plan::script_file::bytes(blocks.into(), &script))?;
+    files::write(out, &plan::script_file::bytes(&script))?;
     say!(
         "{}: {}, {}, {}, {}, {}",
         out,
-        many(blocks, "block"),
+        many(script.blocks as u64, "block"),
         many(script.starts.len() as u64, "start"),
         many(script.words.len() as u64, "word"),
         many(script.state_words, "state word"),

@@ -40,7 +40,7 @@ pub fn call(words: &[String]) -> Outcome {
     table.finish()
 }
 
-#[cfg(has_gem)]
+#[cfg(feature = "gem")]
 fn designs(table: &mut Table) -> Outcome {
     use netlists::designs;
     let mut progress = crate::progress::Progress::of("netlists through GEM");
@@ -61,7 +61,7 @@ fn designs(table: &mut Table) -> Outcome {
     Ok(())
 }
 
-#[cfg(not(has_gem))]
+#[cfg(not(feature = "gem"))]
 fn designs(_: &mut Table) -> Outcome {
     Err(Failure::Failed(
         "GEM's sources were missing when this was built, so there are no netlists: give plan records"

@@ -25,8 +25,8 @@ pub fn words(path: &str) -> Result<Vec<u32>, Failure> {
     Ok(script_file::words_of(&bytes))
 }
 
-/// Blocks and script of a file that `juolgesot build` wrote.
-pub fn script(path: &str) -> Result<(u64, plan::Script), Failure> {
+/// The script of a file that `juolgesot build` wrote.
+pub fn script(path: &str) -> Result<plan::Script, Failure> {
     script_file::read(&read(path)?)
         .map_err(|what| Failure::Failed(format!("{} is no script file: {}", path, what)))
 }

@@ -87,11 +87,12 @@ fn script(words: &crate::Words, netlist: &Netlist) -> Result<Script, Failure> {
         }
         Some(path) => path,
     };
-    let (blocks, script) = files::script(path)?;
+    let script = files::script(path)?;
     let sizes =
         juolgesot::plan_sizes(&netlist.record).map_err(|refusal| why::plan(&netlist.record, refusal))?;
     let of_plan = [netlist.blocks() as u64, sizes.starts as u64, sizes.words as u64, sizes.state_words];
-    let of_script = [blocks, script.starts.len() as u64, script.words.len() as u64, script.state_words];
+    let of_script =
+        [script.blocks as u64, script.starts.len() as u64, script.words.len() as u64, script.state_words];
     if of_plan != of_script {
         return Err(Failure::Failed(format!(
             "{} is no script of this plan: blocks, starts, words and state words are {:?}, and {:?} by the plan",

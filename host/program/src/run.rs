@@ -21,14 +21,13 @@ pub fn call(words: &[String]) -> Outcome {
         [script, old, out] => (script, old, out),
         _ => return Err(Failure::Usage("a script, an old state and an output file are needed".to_string())),
     };
-    let (blocks, built) = files::script(script_path)?;
-    let blocks = blocks as usize;
+    let built = files::script(script_path)?;
     let old = files::words(old_path)?;
     let mut new = match words.option("--new") {
         Some(path) => files::words(path)?,
         None => vec![0; (built.state_words as usize).max(old.len())],
     };
-    let stages = stages(&words, (built.starts.len() - 1) / blocks)?;
+    let stages = stages(&words, built.major_stages())?;
     let given = match words.option("--turns") {
         Some(_) if words.option("--stage").is_none() => {
             return Err(Failure::Usage("--turns needs --stage".to_string()))
@@ -39,7 +38,7 @@ pub fn call(words: &[String]) -> Outcome {
     let mut lines = Vec::new();
     let mut left_over = 0;
     for stage in stages {
-        let starts = &built.starts[stage * blocks..(stage + 1) * blocks + 1];
+        let starts = built.stage_starts(stage);
         let turns = match &given {
             Some(turns) => turns.clone(),
             None => juolgesot::finishing_turns(&built.words, starts),

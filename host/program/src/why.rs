@@ -13,8 +13,8 @@ pub fn plan(bytes: &[u8], refusal: Refusal) -> Failure {
 pub fn plan_sentence(bytes: &[u8], refusal: Refusal) -> String {
     let words = record::words(bytes);
     match record::read(bytes.len(), &words) {
-        Err(what) if refusal.number == 5 => format!("refused 5: {}", what),
-        Err(what) if refusal.number == 32 => {
+        Err(what) if refusal.number() == 5 => format!("refused 5: {}", what),
+        Err(what) if refusal.number() == 32 => {
             format!("refused 32: its counts ask for too much room: {}", what)
         }
         _ => refusal.to_string(),
@@ -24,7 +24,7 @@ pub fn plan_sentence(bytes: &[u8], refusal: Refusal) -> String {
 /// A refusal of a run; 15 with what is wrong in the block. `states` are the words of the old and the new state.
 pub fn run(words: &[u32], starts: &[u64], states: (usize, usize), refusal: Refusal) -> Failure {
     Failure::Failed(match run::fault(words, starts, states) {
-        Some((block, what)) if refusal.number == 15 => format!("refused 15: block {}: {}", block, what),
+        Some((block, what)) if refusal.number() == 15 => format!("refused 15: block {}: {}", block, what),
         _ => refusal.to_string(),
     })
 }

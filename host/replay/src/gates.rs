@@ -1,7 +1,7 @@
 //! What the gates give the registers: their data and enables, worked out from the plan's gates and an old state. So the
 //! replay knows that a register was not enabled while its data differed, and was seen to hold.
 
-use juolgesot::{InvertedPin, Pin, StatePosition};
+use juolgesot::{Pin, PinIv, StatePosition};
 use model::record;
 use std::collections::{HashMap, HashSet};
 
@@ -21,7 +21,7 @@ type Value = (usize, bool);
 
 impl Cone {
     /// The gates of a plan record that these pins need. A pin that the plan neither reads nor has a gate for is 0.
-    pub fn of(plan: &[u8], wanted: &[InvertedPin]) -> Result<Self, String> {
+    pub fn of(plan: &[u8], wanted: &[PinIv]) -> Result<Self, String> {
         let words = record::words(plan);
         let plan = record::plan(plan.len(), &words).ok_or("the plan record is not in form")?;
         let positions = positions(&plan);
@@ -29,17 +29,17 @@ impl Cone {
         let mut needed: HashSet<Pin> = wanted.iter().map(|pin| pin.pin()).collect();
         for gate in plan.gates.chunks(3).rev().filter(is_worked_out) {
             if needed.contains(&Pin(gate[0])) {
-                needed.extend(gate[1..].iter().map(|&fan_in| InvertedPin(fan_in).pin()));
+                needed.extend(gate[1..].iter().map(|&fan_in| PinIv(fan_in).pin()));
             }
         }
         let places: HashMap<Pin, usize> = needed.into_iter().zip(0..).collect();
-        let value = |pin: InvertedPin| places.get(&pin.pin()).map(|&place| (place, pin.is_inverted()));
+        let value = |pin: PinIv| places.get(&pin.pin()).map(|&place| (place, pin.is_inverted()));
         let gates: Option<Vec<_>> = plan
             .gates
             .chunks(3)
             .filter(is_worked_out)
             .filter_map(|gate| places.get(&Pin(gate[0])).map(|&place| (place, gate)))
-            .map(|(place, gate)| Some((place, value(InvertedPin(gate[1]))?, value(InvertedPin(gate[2]))?)))
+            .map(|(place, gate)| Some((place, value(PinIv(gate[1]))?, value(PinIv(gate[2]))?)))
             .collect();
         let position = |(pin, &place)| positions.get(pin).map(|&position| (place, position));
         Ok(Cone {

@@ -7,7 +7,7 @@ pub mod traffic;
 
 use filter::{Answer, Cycle, Filter, Holding};
 use gates::Cone;
-use juolgesot::{InvertedPin, Pin, Script};
+use juolgesot::{Pin, PinIv, Script};
 use machine::Machine;
 use plan::packed;
 use ports::{Place, Ports, Register};
@@ -105,7 +105,7 @@ impl Replay {
     pub fn new(netlist: &Netlist, script: Script) -> Result<Self, String> {
         let ports = Ports::read(&netlist.ports, script.state_words as usize)?;
         let pins = |register: &Register| [register.data, register.enable];
-        let wanted: Vec<InvertedPin> = ports.registers().iter().flat_map(pins).collect();
+        let wanted: Vec<PinIv> = ports.registers().iter().flat_map(pins).collect();
         let cone = Cone::of(&netlist.record, &wanted)?;
         let machine = Machine::new(script, netlist.blocks(), netlist.stages())?;
         let (filter, flash, counts) = (Filter::new(), HashSet::new(), Counts::default());

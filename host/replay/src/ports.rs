@@ -1,13 +1,13 @@
 //! Where the filter's ports and registers are in the state: what `make_filter` wrote.
 
 use filter::{Cycle, KEY_BITS, PORTS, REGISTERS};
-use juolgesot::{InvertedPin, StatePosition};
+use juolgesot::{PinIv, StatePosition};
 use std::collections::HashMap;
 
 /// A bit of the state and the pin that it carries, inverted or not.
 #[derive(Debug, Clone, Copy)]
 pub struct Place {
-    pub pin: InvertedPin,
+    pub pin: PinIv,
     pub position: StatePosition,
 }
 
@@ -22,8 +22,8 @@ impl Place {
 #[derive(Debug, Clone, Copy)]
 pub struct Register {
     pub output: Place,
-    pub data: InvertedPin,
-    pub enable: InvertedPin,
+    pub data: PinIv,
+    pub enable: PinIv,
 }
 
 struct PortPlaces {
@@ -43,7 +43,7 @@ pub struct Ports {
 /// The numbers of a line: two of a port, four of a register.
 struct Line {
     place: Place,
-    more: Option<(InvertedPin, InvertedPin)>,
+    more: Option<(PinIv, PinIv)>,
 }
 
 impl Ports {
@@ -117,11 +117,8 @@ fn read_line(line: &str) -> Option<(&str, Line)> {
         numbers.split_whitespace().map(|word| word.parse().ok()).collect::<Option<_>>()?;
     let (pin, position, more) = match numbers[..] {
         [pin, position] => (pin, position, None),
-        [pin, position, data, enable] => (pin, position, Some((InvertedPin(data), InvertedPin(enable)))),
+        [pin, position, data, enable] => (pin, position, Some((PinIv(data), PinIv(enable)))),
         _ => return None,
     };
-    Some((
-        name.trim(),
-        Line { place: Place { pin: InvertedPin(pin), position: StatePosition(position) }, more },
-    ))
+    Some((name.trim(), Line { place: Place { pin: PinIv(pin), position: StatePosition(position) }, more }))
 }

@@ -10,7 +10,7 @@ use compare::plan_damage;
 use compare::plans::{self, Size};
 use compare::run_damage::state;
 use compare::value_checker::{Question, ValueChecker, ValueRoom};
-use juolgesot::{InvertedPin, Pin};
+use juolgesot::{Pin, PinIv};
 use model::value;
 use plan::{stored, Plan, EMPTY};
 use random::Random;
@@ -213,7 +213,7 @@ fn multipliers(checker: &mut ValueChecker, random: &mut Random) {
             let inputs = x | y << bits;
             let old = [inputs as u32, (inputs >> 32) as u32];
             let mut found = 0;
-            for (bit, output) in product.iter().map(|&output| InvertedPin(output)).enumerate() {
+            for (bit, output) in product.iter().map(|&output| PinIv(output)).enumerate() {
                 let (pin, lent) = (output.pin().0, ValueRoom { room_is_zero: false, ..ValueRoom::EXACT });
                 let question = Question { record: &record, part: 0, pin, old: &old, new: &[], lent };
                 let answer = checker.check("multipliers", question).expect("a plan in order");

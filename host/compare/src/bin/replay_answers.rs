@@ -18,7 +18,7 @@ fn main() {
 
 fn check(case: &Case) -> Result<(), String> {
     match (&case.answer, read_rounds(&case.pairs)) {
-        (Stored::Refused(number), Err(refusal)) if refusal.number == *number => Ok(()),
+        (Stored::Refused(number), Err(refusal)) if refusal.number() == *number => Ok(()),
         (Stored::Refused(number), found) => Err(format!("expected refusal {}, found {:?}", number, found)),
         (Stored::Packed { .. }, Err(refusal)) => Err(refusal.to_string()),
         (Stored::Packed { rounds, places }, Ok(found)) => check_packing(case, *rounds, places, &found),

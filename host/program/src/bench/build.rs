@@ -38,6 +38,7 @@ fn times(input: &Input, time: Duration) -> Result<Times, Failure> {
         words.fill(0);
         let (sizes, took) = timed(|| juolgesot::build_into(&record, &mut room, &mut starts, &mut words));
         let made = sizes.ok().map(|sizes| Script {
+            blocks: plan.blocks as usize,
             starts: starts.clone(),
             words: words.clone(),
             state_words: sizes.state_words,

@@ -21,7 +21,7 @@ pub fn all(random: &mut Random) -> Vec<Input> {
 }
 
 /// Through GEM's staging, partitioning and flattening.
-#[cfg(has_gem)]
+#[cfg(feature = "gem")]
 fn netlists() -> Vec<Input> {
     let designs = netlists::designs::small_mid_and_large();
     let input = |(size, design): (&str, &netlists::designs::Design)| {
@@ -31,7 +31,7 @@ fn netlists() -> Vec<Input> {
     ["small", "mid", "large"].iter().copied().zip(&designs).map(input).collect()
 }
 
-#[cfg(not(has_gem))]
+#[cfg(not(feature = "gem"))]
 fn netlists() -> Vec<Input> {
     println!("\nGEM's sources were missing when this was built: there are no netlists.");
     Vec::new()

@@ -30,11 +30,10 @@ struct MajorStage<'a> {
 }
 
 fn major_stages(input: &Input) -> Vec<MajorStage<'_>> {
-    let blocks = input.plan.blocks as usize;
-    let starts = |stage: usize| &input.script.starts[stage * blocks..=(stage + 1) * blocks];
-    (0..input.plan.stages.len())
-        .map(starts)
-        .map(|starts| MajorStage { starts, turns: juolgesot::finishing_turns(&input.script.words, starts) })
+    let script = &input.script;
+    script
+        .stages()
+        .map(|starts| MajorStage { starts, turns: juolgesot::finishing_turns(&script.words, starts) })
         .collect()
 }
 

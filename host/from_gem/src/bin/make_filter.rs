@@ -49,7 +49,7 @@ fn write(made: &Made, folder: &Path, name: &str) -> usize {
     let words = made.plan.words();
     let packed = packed::pack(&words);
     assert_eq!(packed::unpack(&packed, words.len()).as_ref(), Some(&words));
-    let script = script_file::bytes(made.plan.blocks.into(), &made.script);
+    let script = script_file::bytes(&made.script);
     for (kind, bytes) in [
         ("packed", &packed[..]),
         ("ports", ports(&made.ports).as_bytes()),

@@ -147,6 +147,7 @@ fn what(aig: &AIG, staged: &StagedAIG, index: usize) -> What {
 
 fn plain_script(script: &FlattenedScriptV1) -> Script {
     Script {
+        blocks: script.num_blocks,
         starts: script.blocks_start.iter().map(|&start| start as u64).collect(),
         words: script.blocks_data.to_vec(),
         state_words: script.reg_io_state_size.into(),

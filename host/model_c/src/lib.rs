@@ -1,5 +1,5 @@
-//! The model behind the archive's C ABI: builds as the crate `archive` in the place of
-//! host/juolgesot/archive.rs (`host/check --model`), to try the host with no Rattle at hand.
+//! The model behind the archive's C ABI: what the crate juolgesot links in the place of the archive with its feature
+//! `model` (`host/check --model`), to try the host with no Rattle at hand.
 
 #![deny(unsafe_op_in_unsafe_fn)]
 

@@ -1,0 +1,176 @@
+//! Measures the stack that each function of the library takes: each is called in a thread, in a process of its own, with less and
+//! less stack, until the process ends by a signal.
+//!
+//! measure_stack          the least stack of each, in steps of 4 KiB, and whether what juolgesot::stack says is enough
+//! measure_stack NAME N   calls one function in a thread with N bytes of stack
+
+use compare::plans;
+use juolgesot::ffi;
+use juolgesot::{LIST_ROOM, LIST_TEXT, MOST_ROUNDS, ROUND_WORDS, SET_ROOM, STAGE_SLOTS};
+use plan::{Plan, EMPTY};
+use random::Random;
+use std::process::Command;
+use std::thread;
+
+const STEP: usize = 4096;
+/// More than any function takes.
+const MOST: usize = 4 << 20;
+
+fn main() {
+    let words: Vec<String> = std::env::args().skip(1).collect();
+    match &words[..] {
+        [] => measure_all(),
+        [name, bytes] => call_in_thread(name, bytes.parse().expect("a number of bytes")),
+        _ => panic!("usage: measure_stack [NAME BYTES]"),
+    }
+}
+
+fn measure_all() {
+    // What a thread takes that does nothing.
+    let thread = least("nothing");
+    println!("a thread that does nothing takes {} KiB", thread / 1024);
+    let mut short = false;
+    for &(name, told) in juolgesot::stack::ALL {
+        let own = least(name) - thread;
+        let verdict = if own <= told { "" } else { ": MORE THAN IS TOLD" };
+        println!("{:12} takes {:4} KiB, told are {:4}{}", name, own / 1024, told / 1024, verdict);
+        short |= own > told;
+    }
+    if short {
+        std::process::exit(1);
+    }
+}
+
+/// The least stack with which a call comes to its end: what is more does too.
+fn least(name: &str) -> usize {
+    assert!(ends_well(name, MOST), "{} fails with {} bytes of stack", name, MOST);
+    let (mut fails, mut works) = (0, MOST / STEP);
+    while works - fails > 1 {
+        let middle = (fails + works) / 2;
+        if ends_well(name, STEP * middle) {
+            works = middle;
+        } else {
+            fails = middle;
+        }
+    }
+    STEP * works
+}
+
+fn ends_well(name: &str, bytes: usize) -> bool {
+    let this = std::env::current_exe().expect("this program has a path");
+    // The message of a thread that ran out of its stack is expected.
+    let done =
+        Command::new(this).args([name, &bytes.to_string()]).stderr(std::process::Stdio::null()).output();
+    let done = done.expect("this program can be started");
+    done.status.success() && done.stdout == b"done\n"
+}
+
+fn call_in_thread(name: &str, bytes: usize) {
+    let call = prepared(name);
+    let thread = thread::Builder::new().stack_size(bytes).spawn(call).expect("a thread");
+    thread.join().expect("the call comes to its end");
+    println!("done");
+}
+
+/// A call of a function that goes through all of it, what it is given being ready.
+fn prepared(name: &str) -> Box<dyn FnOnce() + Send> {
+    match name {
+        "nothing" => Box::new(|| {}),
+        "read_rounds" => {
+            let set: Vec<u32> = (0..8192).flat_map(|word| [word, 1]).collect();
+            let (mut room, mut out) = (vec![0; SET_ROOM], vec![0; ROUND_WORDS * MOST_ROUNDS]);
+            Box::new(move || good(ffi::read_rounds(&set, &mut room, &mut out).code))
+        }
+        "list" => {
+            let position = |position: u32| [&[1][..], &(33 * position).to_le_bytes()].concat();
+            let records: Vec<u8> = (0..8192).rev().flat_map(position).chain([0]).collect();
+            let (mut room, mut out) = (vec![0; LIST_ROOM], vec![0; LIST_TEXT]);
+            Box::new(move || good(ffi::list(&records, &mut room, &mut out).code))
+        }
+        "plan_sizes" => {
+            let (record, mut room) = with_room(any_plan());
+            Box::new(move || good(ffi::plan_sizes(&record, &mut room).code))
+        }
+        "build" => {
+            let (record, mut room) = with_room(any_plan());
+            let sizes = juolgesot::plan_sizes(&record).expect("a plan in order");
+            let (mut starts, mut words) = (vec![0; sizes.starts], vec![0; sizes.words]);
+            Box::new(move || good(ffi::build(&record, &mut room, &mut starts, &mut words).code))
+        }
+        "run" => {
+            let script = juolgesot::build(&any_plan().record()).expect("a plan in order");
+            let starts = script.stage_starts(0).to_vec();
+            let turns = juolgesot::finishing_turns(&script.words, &starts);
+            let old = vec![0x5A5A_5A5A; script.state_words as usize];
+            let (mut new, mut room) = (old.clone(), vec![0; juolgesot::BLOCK_ROOM * script.blocks]);
+            Box::new(move || good(ffi::run(&script.words, &starts, &turns, &old, &mut new, &mut room).code))
+        }
+        "value" => {
+            let plan = any_plan();
+            let pin = plan.gates.last().map_or(0, |gate| gate.pin);
+            let mut bits = vec![0; plan.gates.len()];
+            let (record, mut room) = with_room(plan);
+            Box::new(move || good(ffi::value(&record, &mut room, &[7], &[9], &mut bits, 0, pin).code))
+        }
+        "read_aiger" => {
+            let file = juolgesot::write_aiger(&tree()).expect("a list in order");
+            let mut out = vec![0; 3 * file.len()];
+            Box::new(move || good(ffi::read_aiger(&file, &mut out).code))
+        }
+        "write_aiger" => {
+            let (gates, mut out) = (tree(), vec![0; 1000]);
+            Box::new(move || good(ffi::write_aiger(&gates, &mut out).code))
+        }
+        "place_bit" => {
+            let (gates, levels) = (tree(), tree_levels());
+            let mut slots = vec![EMPTY; STAGE_SLOTS];
+            let (mut after, mut room) = (vec![0; 2 * STAGE_SLOTS], vec![0; juolgesot::repair_room(0)]);
+            Box::new(move || {
+                good(ffi::place_bit(&gates, &levels, &[], &mut slots, &mut after, &mut room, 13, 0, 14).code)
+            })
+        }
+        "purge_bit" => {
+            let (gates, levels) = (tree(), tree_levels());
+            let mut slots = vec![EMPTY; STAGE_SLOTS];
+            let netlist = juolgesot::Netlist { gates: &gates, levels: &levels };
+            let top = juolgesot::Place { level: 13, slot: 0 };
+            let counts = juolgesot::place_bit(netlist, &[], &mut slots, top, plan::Pin(14)).expect("a tree");
+            let (mut after, mut room) =
+                (vec![0; counts.len()], vec![0; juolgesot::repair_room(counts.len())]);
+            Box::new(move || good(ffi::purge_bit(&counts, &mut slots, &mut after, &mut room, 13, 0).code))
+        }
+        other => panic!("what is '{}'?", other),
+    }
+}
+
+fn good(code: u32) {
+    assert_eq!(code, 0, "the call was refused");
+}
+
+/// Random parts of several stages on two blocks, with endpoints of every kind, that are in order.
+fn any_plan() -> Plan {
+    let mut random = Random::new(20_240_801);
+    let size = plans::Size { majors: 2, parts: 3, stages: 3, inputs: 3000, wide: false };
+    loop {
+        let plan = plans::full(&mut random, size);
+        if plan.parts().count() > 1 && juolgesot::plan_sizes(&plan.record()).is_ok() {
+            return plan;
+        }
+    }
+}
+
+fn with_room(plan: Plan) -> (Vec<u8>, Vec<u32>) {
+    let record = plan.record();
+    let room = vec![0; juolgesot::plan_room(&record) as usize];
+    (record, room)
+}
+
+/// Gates 2 to 14, each twice the one below: the last one's tree fills a stage.
+fn tree() -> Vec<u32> {
+    (2..=14).flat_map(|pin| [pin, 2 * (pin - 1) + 1, 2 * (pin - 1)]).collect()
+}
+
+/// Pin 1 is at level 0, gate n at level n - 1; the constant has none.
+fn tree_levels() -> Vec<u32> {
+    (0..=14u32).map(|pin| pin.wrapping_sub(1)).collect()
+}

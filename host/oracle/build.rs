@@ -1,0 +1,81 @@
+//! Copies GEM's files, from GEM_SRC or from ../shared/docs/src beside the repository, to where cargo builds, as they are, and
+//! puts the tails behind them. `flatten_given.rs` is flatten.rs once more with one call renamed, so that tables can be given
+//! (tails/flatten_given.rs); `one_bit.rs` is cut out of pe.rs.
+
+use std::path::{Path, PathBuf};
+use std::{env, fs, process};
+
+const FILES: [&str; 5] = ["aig", "aigpdk", "flatten", "pe", "staging"];
+/// Files that a tail is put behind, so that private functions can be called.
+const WITH_TAILS: [&str; 3] = ["flatten", "flatten_given", "one_bit"];
+/// The call that is renamed for flatten_given.rs.
+const CALL: [&str; 2] =
+    ["flattening_parts[part_id].make_inputs_outputs(", "flattening_parts[part_id].oracle_given("];
+
+fn main() {
+    let here = PathBuf::from(env::var_os("CARGO_MANIFEST_DIR").expect("cargo sets it"));
+    let out = PathBuf::from(env::var_os("OUT_DIR").expect("cargo sets it"));
+    let from = env::var_os("GEM_SRC").map_or_else(|| here.join("../../../shared/docs/src"), PathBuf::from);
+    println!("cargo:rerun-if-env-changed=GEM_SRC");
+    println!("cargo:rerun-if-changed={}", from.join("src").display());
+    println!("cargo:rerun-if-changed={}", here.join("tails").display());
+
+    for name in FILES {
+        write(&out, name, read(&from.join("src").join(name).with_extension("rs")));
+    }
+    let flatten = read(&out.join("flatten.rs"));
+    if flatten.matches(CALL[0]).count() != 1 {
+        stop("flatten.rs has not one call of make_inputs_outputs");
+    }
+    write(&out, "flatten_given", flatten.replace(CALL[0], CALL[1]));
+    write(&out, "one_bit", one_bit(&read(&out.join("pe.rs"))));
+    for name in WITH_TAILS {
+        let tail = read(&here.join("tails").join(name).with_extension("rs"));
+        write(&out, name, read(&out.join(name).with_extension("rs")) + &tail);
+    }
+    write(&out, "modules", modules(&out));
+}
+
+/// The modules, each by its whole path: an included file's own place is not looked at.
+fn modules(out: &Path) -> String {
+    let module = |name: &&str| {
+        format!(
+            "#[path = {:?}]\npub mod {};\n",
+            out.join(name).with_extension("rs").display().to_string(),
+            name
+        )
+    };
+    FILES.iter().chain(&WITH_TAILS[1..]).map(module).collect()
+}
+
+/// GEM's `place_bit` and `purge_bit` stand inside another function of pe.rs: the lines from where the one begins to where the
+/// other ends.
+fn one_bit(pe: &str) -> String {
+    let begins = |name: &str| {
+        let line = format!("    fn {}(", name);
+        let found: Vec<usize> =
+            pe.lines().enumerate().filter(|(_, text)| *text == line).map(|(at, _)| at).collect();
+        match found[..] {
+            [at] => at,
+            _ => stop(&format!("pe.rs has not one function {}", name)),
+        }
+    };
+    let (first, last) = (begins("place_bit"), begins("purge_bit"));
+    let length = pe.lines().skip(last).take_while(|line| *line != "    }").count();
+    pe.lines().take(last + length + 1).skip(first).map(|line| format!("{}\n", line)).collect()
+}
+
+fn read(path: &Path) -> String {
+    fs::read_to_string(path).unwrap_or_else(|error| {
+        stop(&format!("{}: {}: GEM_SRC says where GEM's sources are (its folder src)", path.display(), error))
+    })
+}
+
+fn write(out: &Path, name: &str, text: String) {
+    fs::write(out.join(name).with_extension("rs"), text).expect("cargo's own folder can be written");
+}
+
+fn stop(what: &str) -> ! {
+    eprintln!("host: {}", what);
+    process::exit(1)
+}

@@ -1,0 +1,91 @@
+//! A script in plain form, and how its words are followed.
+
+/// A script: what is run.
+#[derive(Debug, Clone, PartialEq, Eq)]
+pub struct Script {
+    /// Blocks of each major stage.
+    pub blocks: usize,
+    /// Where each block of each major stage begins, and the end.
+    pub starts: Vec<u64>,
+    /// All words.
+    pub words: Vec<u32>,
+    /// Words of a state that it runs on.
+    pub state_words: u64,
+    /// Words of SRAM.
+    pub sram_words: u64,
+}
+
+impl Script {
+    /// How many major stages it has.
+    #[must_use]
+    pub fn major_stages(&self) -> usize {
+        self.starts.len().saturating_sub(1).checked_div(self.blocks).unwrap_or(0)
+    }
+
+    /// The starts of a major stage's blocks and their end, as a run takes them. Panics where there is no such stage.
+    #[must_use]
+    pub fn stage_starts(&self, stage: usize) -> &[u64] {
+        &self.starts[stage * self.blocks..=(stage + 1) * self.blocks]
+    }
+
+    /// The same for each major stage in turn.
+    pub fn stages(&self) -> impl Iterator<Item = &[u64]> {
+        (0..self.major_stages()).map(move |stage| self.stage_starts(stage))
+    }
+}
+
+/// Words of a part of so many boomerang stages and rounds.
+#[must_use]
+pub const fn part_words(stages: u64, rounds: u64) -> u64 {
+    10496 + 512 * rounds + 5120 * stages
+}
+
+/// What the first words of a part say.
+#[derive(Debug, Clone, Copy, PartialEq, Eq)]
+pub struct PartHead {
+    /// Where the part begins in the script's words.
+    pub at: u64,
+    /// Boomerang stages.
+    pub stages: u32,
+    /// Words that are written out: normal ones, those of SRAMs, and duplicates.
+    pub write_outs: u32,
+    /// The state's word from which on it stores.
+    pub state_start: u32,
+    /// SRAMs.
+    pub srams: u32,
+    /// Rounds of its read section.
+    pub rounds: u32,
+    /// Duplicate words.
+    pub duplicates: u32,
+}
+
+impl PartHead {
+    /// Words of the part.
+    #[must_use]
+    pub fn words(&self) -> u64 {
+        part_words(self.stages.into(), self.rounds.into())
+    }
+
+    /// Words that the run stores, from the state start on.
+    #[must_use]
+    pub fn normal_words(&self) -> u32 {
+        self.write_outs.wrapping_sub(self.srams).wrapping_sub(self.duplicates)
+    }
+}
+
+/// The parts of a block, from its start to its end; an empty block has none. Where the words cannot be followed it ends: a run
+/// refuses such words.
+pub fn part_heads(words: &[u32], start: u64, end: u64) -> impl Iterator<Item = PartHead> + '_ {
+    let mut at = start;
+    std::iter::from_fn(move || {
+        let head = words.get(usize::try_from(at).ok()?..)?.get(..8)?;
+        if at >= end || !(1..=255).contains(&head[0]) {
+            return None;
+        }
+        let [stages, write_outs, state_start, srams, rounds, duplicates] =
+            [0, 2, 3, 4, 6, 7].map(|word| head[word]);
+        let head = PartHead { at, stages, write_outs, state_start, srams, rounds, duplicates };
+        at += head.words();
+        Some(head)
+    })
+}
