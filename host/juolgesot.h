@@ -5,6 +5,8 @@
  * a caller, and no pointer is kept. Pointers to empty slices are not read, but must not be null.
  *
  * `room` is working room. It holds zeros after every call, but for refusal 32 (it is too short), which changes nothing.
+ *
+ * Nothing is allocated and no function of the C library is called but memcpy and memset. What is needed of the stack is below.
  */
 #ifndef JUOLGESOT_H
 #define JUOLGESOT_H
@@ -24,11 +26,33 @@ extern "C" {
 #define JUOLGESOT_BLOCK_ROOM 1024
 #define JUOLGESOT_REPAIR_ROOM 65536
 #define JUOLGESOT_ENTRY_ROOM 4
-/* Slots of a stage, as a plan record has them: slot j of level h is word 2^(13-h) + j - 1. */
+/* Slots of a stage, as a plan record has them: slot j of level h is word 2^(13-h) + j - 1. Those of levels 1 and up. */
 #define JUOLGESOT_STAGE_SLOTS 16383
+#define JUOLGESOT_COUNTED_SLOTS 8191
+
+/* The largest results: rounds of a read set, and words of a round; bytes of a listing; bytes of an AIGER file before its gates, and
+ * of each gate. A placing lists at most JUOLGESOT_COUNTED_SLOTS entries more than it was given. */
+#define JUOLGESOT_MOST_ROUNDS 32
+#define JUOLGESOT_ROUND_WORDS 512
+#define JUOLGESOT_LIST_TEXT 237578
+#define JUOLGESOT_AIGER_HEADER 64
+#define JUOLGESOT_AIGER_GATE 10
+
+/* Bytes of stack: a thread of so much in all can call the function, whatever the arguments (measured: host/compare's
+ * measure_stack holds the archive to them). 592 KiB are enough for all. */
+#define JUOLGESOT_READ_ROUNDS_STACK 147456
+#define JUOLGESOT_LIST_STACK 409600
+#define JUOLGESOT_PLAN_SIZES_STACK 344064
+#define JUOLGESOT_BUILD_STACK 606208
+#define JUOLGESOT_RUN_STACK 32768
+#define JUOLGESOT_VALUE_STACK 32768
+#define JUOLGESOT_READ_AIGER_STACK 32768
+#define JUOLGESOT_WRITE_AIGER_STACK 32768
+#define JUOLGESOT_PLACE_BIT_STACK 212992
+#define JUOLGESOT_PURGE_BIT_STACK 147456
 
 /* The rounds of a read set: word, mask, word, mask ..
- * 0: *first is the number of rounds, and out begins with 512 words a round. Refused by 32, 1, 2, 3, 4, 14. */
+ * 0: *first is the number of rounds (at most 32), and out begins with 512 words a round. Refused by 32, 1, 2, 3, 4, 14. */
 uint32_t juolgesot_read_rounds(const uint32_t *set, size_t set_len, uint32_t *room, size_t room_len,
                                uint32_t *out, size_t out_len, uint64_t *first, uint64_t *second);
 

@@ -1,8 +1,8 @@
-//! Bytes of stack that each function of the archive needs. A thread of so much, and some room for its own beginning, is enough
-//! whatever the arguments: frames have a fixed size, and the only recursion, over the levels of a stage, is 13 deep.
+//! Bytes of stack: a thread of so much in all can call the function, whatever the arguments. Frames have a fixed size, and the
+//! only recursion, over the levels of a stage, is 13 deep.
 //!
-//! They are those of the archive as it is built now, and `measure_stack` (host/compare) holds it to them; with the feature `model`
-//! they say nothing.
+//! They are those of the archive as it is built now: `measure_stack` (host/compare) measures it and holds it to them. With the
+//! feature `model` they say nothing.
 
 macro_rules! stacks {
     ($($(#[$doc:meta])* $name:ident = $function:literal, $kib:literal;)*) => {
@@ -15,23 +15,23 @@ macro_rules! stacks {
 
 stacks! {
     /// `read_rounds_into`.
-    READ_ROUNDS = "read_rounds", 132;
+    READ_ROUNDS = "read_rounds", 144;
     /// `list_into`.
-    LIST = "list", 388;
+    LIST = "list", 400;
     /// `plan_sizes_into`.
-    PLAN_SIZES = "plan_sizes", 324;
+    PLAN_SIZES = "plan_sizes", 336;
     /// `build_into`.
-    BUILD = "build", 580;
+    BUILD = "build", 592;
     /// `run_into`.
-    RUN = "run", 4;
+    RUN = "run", 32;
     /// `value_into`.
-    VALUE = "value", 4;
+    VALUE = "value", 32;
     /// `read_aiger_into`.
-    READ_AIGER = "read_aiger", 4;
+    READ_AIGER = "read_aiger", 32;
     /// `write_aiger_into`.
-    WRITE_AIGER = "write_aiger", 4;
+    WRITE_AIGER = "write_aiger", 32;
     /// `place_bit_into`.
-    PLACE_BIT = "place_bit", 200;
+    PLACE_BIT = "place_bit", 208;
     /// `purge_bit_into`.
-    PURGE_BIT = "purge_bit", 132;
+    PURGE_BIT = "purge_bit", 144;
 }

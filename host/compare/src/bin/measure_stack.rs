@@ -1,40 +1,47 @@
 //! Measures the stack that each function of the library takes: each is called in a thread, in a process of its own, with less and
 //! less stack, until the process ends by a signal.
 //!
-//! measure_stack          the least stack of each, in steps of 4 KiB, and whether what juolgesot::stack says is enough
-//! measure_stack NAME N   calls one function in a thread with N bytes of stack
+//! measure_stack [by EMULATOR ..]   the least stack of each, in steps of 4 KiB, and whether what juolgesot::stack says is enough;
+//!                                  fails where it is not. The words of the emulator are put before the processes' own
+//! measure_stack NAME BYTES         calls one function in a thread with so much stack
 
 use compare::plans;
 use juolgesot::ffi;
 use juolgesot::{LIST_ROOM, LIST_TEXT, MOST_ROUNDS, ROUND_WORDS, SET_ROOM, STAGE_SLOTS};
 use plan::{Plan, EMPTY};
 use random::Random;
-use std::process::Command;
+use std::process::{Command, Stdio};
 use std::thread;
 
 const STEP: usize = 4096;
+/// The smallest stack that a thread gets, whatever is asked for.
+const LEAST: usize = 16 << 10;
 /// More than any function takes.
 const MOST: usize = 4 << 20;
 
 fn main() {
     let words: Vec<String> = std::env::args().skip(1).collect();
     match &words[..] {
-        [] => measure_all(),
+        [] => measure_all(&[]),
+        [by, emulator @ ..] if by == "by" => measure_all(emulator),
         [name, bytes] => call_in_thread(name, bytes.parse().expect("a number of bytes")),
-        _ => panic!("usage: measure_stack [NAME BYTES]"),
+        _ => panic!("usage: measure_stack [by EMULATOR ..]"),
     }
 }
 
-fn measure_all() {
-    // What a thread takes that does nothing.
-    let thread = least("nothing");
-    println!("a thread that does nothing takes {} KiB", thread / 1024);
+fn measure_all(emulator: &[String]) {
     let mut short = false;
     for &(name, told) in juolgesot::stack::ALL {
-        let own = least(name) - thread;
-        let verdict = if own <= told { "" } else { ": MORE THAN IS TOLD" };
-        println!("{:12} takes {:4} KiB, told are {:4}{}", name, own / 1024, told / 1024, verdict);
-        short |= own > told;
+        let least = least(emulator, name);
+        let verdict = if least <= told { "" } else { ": MORE THAN IS TOLD" };
+        println!(
+            "{:12} works in a thread of {:4} KiB, told are {:4}{}",
+            name,
+            least / 1024,
+            told / 1024,
+            verdict
+        );
+        short |= least > told;
     }
     if short {
         std::process::exit(1);
@@ -42,12 +49,12 @@ fn measure_all() {
 }
 
 /// The least stack with which a call comes to its end: what is more does too.
-fn least(name: &str) -> usize {
-    assert!(ends_well(name, MOST), "{} fails with {} bytes of stack", name, MOST);
-    let (mut fails, mut works) = (0, MOST / STEP);
+fn least(emulator: &[String], name: &str) -> usize {
+    assert!(ends_well(emulator, name, MOST), "{} fails with {} bytes of stack", name, MOST);
+    let (mut fails, mut works) = (LEAST / STEP - 1, MOST / STEP);
     while works - fails > 1 {
         let middle = (fails + works) / 2;
-        if ends_well(name, STEP * middle) {
+        if ends_well(emulator, name, STEP * middle) {
             works = middle;
         } else {
             fails = middle;
@@ -56,12 +63,13 @@ fn least(name: &str) -> usize {
     STEP * works
 }
 
-fn ends_well(name: &str, bytes: usize) -> bool {
-    let this = std::env::current_exe().expect("this program has a path");
+fn ends_well(emulator: &[String], name: &str, bytes: usize) -> bool {
+    let this = std::env::current_exe().expect("this program has a path").display().to_string();
+    let words: Vec<&String> = emulator.iter().chain([&this]).collect();
+    let mut command = Command::new(words[0]);
     // The message of a thread that ran out of its stack is expected.
-    let done =
-        Command::new(this).args([name, &bytes.to_string()]).stderr(std::process::Stdio::null()).output();
-    let done = done.expect("this program can be started");
+    command.args(&words[1..]).args([name, &bytes.to_string()]).stderr(Stdio::null());
+    let done = command.output().expect("this program can be started");
     done.status.success() && done.stdout == b"done\n"
 }
 
@@ -75,7 +83,6 @@ fn call_in_thread(name: &str, bytes: usize) {
 /// A call of a function that goes through all of it, what it is given being ready.
 fn prepared(name: &str) -> Box<dyn FnOnce() + Send> {
     match name {
-        "nothing" => Box::new(|| {}),
         "read_rounds" => {
             let set: Vec<u32> = (0..8192).flat_map(|word| [word, 1]).collect();
             let (mut room, mut out) = (vec![0; SET_ROOM], vec![0; ROUND_WORDS * MOST_ROUNDS]);
