@@ -18,12 +18,18 @@ all_done() {
     done
 }
 
-# cargo_host WORDS..: cargo in host/, for the machine that install.sh chose. The linker and the emulator are said by the names
-# that cargo looks for.
+# cargo_host WORDS..: cargo in host/, for the machine that install.sh chose.
 cargo_host() {
+    cargo_in "$HOST" "$OUT/cargo" "$@"
+}
+
+# cargo_in FOLDER TO WORDS..: cargo in a folder; what it makes goes to another. The linker and the emulator are said by the names
+# that cargo looks for.
+cargo_in() {
     (
-        cd "$HOST"
-        export RUSTC CARGO_TARGET_DIR=$OUT/cargo
+        cd "$1"
+        export RUSTC CARGO_TARGET_DIR=$2
+        shift 2
         export CARGO_TARGET_X86_64_UNKNOWN_LINUX_GNU_LINKER=$CC
         [ ${#RUN[@]} = 0 ] || export CARGO_TARGET_X86_64_UNKNOWN_LINUX_GNU_RUNNER="${RUN[*]}"
         "$CARGO" "$@" --offline --quiet ${CARGO_FLAGS[@]+"${CARGO_FLAGS[@]}"}
@@ -73,6 +79,42 @@ build_programs() {
     local packages=(compare juolgesot-program)
     [ "$2" != gem ] || packages+=(from_gem cycles)
     cargo_build "$1" "$2" "${packages[@]}"
+}
+
+# test_crate MAKER: the tests of the crate juolgesot, and its examples.
+test_crate() {
+    local features=() example
+    [ "$1" != model ] || features=(--features juolgesot/model)
+    cargo_host test --release -p juolgesot ${features[@]+"${features[@]}"}
+    for example in "$HOST"/juolgesot/examples/*.rs; do
+        example=$(basename "$example" .rs)
+        ${RUN[@]+"${RUN[@]}"} "$OUT/cargo/${CARGO_FLAGS[1]:+${CARGO_FLAGS[1]}/}release/examples/$example"
+        echo "example $example: as it says"
+    done
+}
+
+# try_outside: a C program and a cargo project that know nothing but the folder that host/install-lib fills.
+try_outside() {
+    local at installed
+    command -v pkg-config >/dev/null || install_packages pkg-config
+    at=$(mktemp -d)
+    JUOLGESOT_ARCHIVE=$ARCHIVE/libcapi.a JUOLGESOT_PROGRAM=$OUT/juolgesot "$HOST/install-lib" "$at/made"
+    # It may be moved.
+    installed=$at/installed
+    mv "$at/made" "$installed"
+    cp "$HOST/c/outside.c" "$at/"
+    # shellcheck disable=SC2046
+    "$CC" -std=c99 -Wall -Wextra -Werror -o "$at/outside" "$at/outside.c" \
+        $(PKG_CONFIG_PATH=$installed/lib/pkgconfig pkg-config --cflags --libs juolgesot)
+    ${RUN[@]+"${RUN[@]}"} "$at/outside"
+    mkdir -p "$at/project/src"
+    printf '[package]\nname = "outside"\nversion = "0.1.0"\nedition = "2021"\n' >"$at/project/Cargo.toml"
+    cp "$HOST/juolgesot/examples/machine.rs" "$at/project/src/main.rs"
+    (cd "$at/project" && RUSTC=$RUSTC "$CARGO" add --offline --quiet --path "$installed/rust/juolgesot")
+    cargo_in "$at/project" "$at/cargo" run
+    ${RUN[@]+"${RUN[@]}"} "$installed/bin/juolgesot" --help >/dev/null
+    rm -rf "$at"
+    echo "a C program and a cargo project outside of the repository: linked and run"
 }
 
 # build_c MAKER: the C program over the header, linked with the archive or with the model behind the same functions.
