@@ -90,5 +90,7 @@ wanted [] = []
 wanted (e ∷ es) = e .said ∷ wanted es
 
 pub examples-right : given examples ≡ wanted examples
-unfolding told coded readAs writtenAs halfAdder adderGates emptyFile examples given wanted bind firstFrom allBelow decimalIn beforeOver rightOver listRight badList digitsFrom numberIn endedBy fieldAt startWith isMarked fieldsOf headerOf endOf lineAt linesFrom startOf groupsIn differenceIn literalOf gateAt gatesFrom readAiger groupBytes headerText gateBytes gatesBytes follows gateWritable writable textOf writeAiger
+unfolding told coded readAs writtenAs halfAdder adderGates emptyFile examples given wanted bind firstFrom allBelow decimalIn beforeOver rightOver listRight badList
+    digitsFrom numberIn endedBy fieldAt startWith isMarked fieldsOf headerOf endOf lineAt linesFrom startOf groupsIn differenceIn literalOf gateAt gatesFrom readAiger
+    groupBytes headerText gateBytes gatesBytes follows gateWritable writable textOf writeAiger
 examples-right = refl

@@ -1,6 +1,6 @@
 // Differences, literals and gates.
 ghost use mathlib.Core.Path.{_≡_};
-ghost use Prim.Native.Nat.{_*_, _^_, _<_, _≤_};
+ghost use Prim.Native.Nat.{_^_, _<_, _≤_};
 ghost use lib.ListN.{drop};
 ghost use Rattle.aiger.specs.Reading.{above, groupsIn, differenceAt, literalOf, gateAt};
 ghost use Rattle.aiger_read.specs.Told.{differenceOf, literalTold, gateTold};

@@ -1,6 +1,6 @@
 // The gates of a file, judged and then written: each pass goes over their bytes once.
 ghost use mathlib.Core.Path.{_≡_};
-ghost use Prim.Native.Nat.{_+_, _*_, _^_, _≤_};
+ghost use Prim.Native.Nat.{_+_, _^_, _≤_};
 ghost use lib.ListN.{length};
 ghost use lib.Seq.{sets};
 ghost use Rattle.aiger.specs.Reading.{gatesFrom};

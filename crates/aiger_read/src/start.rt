@@ -1,6 +1,5 @@
 // What stands before the gates: the header, and the lines that are passed over.
 ghost use mathlib.Core.Path.{_≡_};
-ghost use Prim.Native.Nat.{_<_, _^_};
 ghost use lib.ListN.{length};
 ghost use Rattle.aiger.specs.Reading.{isMarked, fieldsOf, headerOf, linesFrom, startOf};
 ghost use Rattle.aiger_read.specs.Told.{headerTold, linesOf, startTold};

@@ -25,5 +25,6 @@ exactly =
     ++ (50 ∷ 32 ∷ 48 ∷ 32 ∷ 115 ∷ 32 ∷ 48 ∷ 32 ∷ 48 ∷ 48 ∷ 48 ∷ 48 ∷ 48 ∷ 48 ∷ 48 ∷ 49 ∷ 10 ∷ [])
 
 pub example-right : listing example ≡ exactly
-unfolding example exactly popIn withBit total pairsFrom pairForm brokenFrom ask readSetOf piecesIn insertPiece ordered joined firstRoom tryFrom firstWin longest packed readSet fitted outcome numberAt positionAt endAt kindAt recordAt recordsFrom decimalIn hexDigit hexIn kindLetter line laneLines lines printed printedAt said listing
+unfolding example exactly popIn withBit total pairsFrom pairForm brokenFrom ask readSetOf piecesIn insertPiece ordered joined firstRoom tryFrom firstWin longest packed
+    readSet fitted outcome numberAt positionAt endAt kindAt recordAt recordsFrom decimalIn hexDigit hexIn kindLetter line laneLines lines printed printedAt said listing
 example-right = refl

@@ -69,5 +69,10 @@ told [] = []
 told (e ∷ es) = e .said ∷ told es
 
 pub marked-right : given marked ≡ told marked
-unfolding bit bitAt wordOf placeOf halfOf appended laneWord normalAt endAt locationIn readWordAt readMaskAt sectionAt entryAt laneWordAt stateWord readRow gate gateAt levelBit positionBit stageRow captured begins ended afterRead afterStage afterStore chosenBits storedWord stored turned written blocksFrom step runFrom turnsFrom turnsAfter turnsLeft allLeft entryOf locationsIn locationsSeen entrySeen alwaysOn gateThree gateRun sumTo listOf activationsOf isIn different duplicatesIn leastTo blockFor costsAfter blockIn comesBefore takenBefore duplicateWords stagesIn blocksOfParts startsOfParts marked given told same positions seen popIn total pairsFrom pairForm brokenFrom piecesIn insertPiece ordered joined firstRoom tryFrom firstWin longest maskIn later localAt roundFrom spotFrom localOf packed readSet fitted outcome
+unfolding bit bitAt wordOf placeOf halfOf appended laneWord normalAt endAt locationIn readWordAt readMaskAt sectionAt entryAt laneWordAt stateWord readRow gate gateAt
+    levelBit positionBit stageRow captured begins ended afterRead afterStage afterStore chosenBits storedWord stored turned written blocksFrom step runFrom turnsFrom
+    turnsAfter turnsLeft allLeft entryOf locationsIn locationsSeen entrySeen alwaysOn gateThree gateRun sumTo listOf activationsOf isIn different duplicatesIn leastTo
+    blockFor costsAfter blockIn comesBefore takenBefore duplicateWords stagesIn blocksOfParts startsOfParts marked given told same positions seen popIn total pairsFrom
+    pairForm brokenFrom piecesIn insertPiece ordered joined firstRoom tryFrom firstWin longest maskIn later localAt roundFrom spotFrom localOf packed readSet fitted
+    outcome
 marked-right = refl

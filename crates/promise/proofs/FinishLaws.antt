@@ -1,7 +1,7 @@
 -- The turns of a block are those of its parts, by the plan, and the run of an accepted plan answers how many of them were not taken. So "once every
 -- block has had its turns" is a matter of how often the turn list names each block.
 -- Assumes nothing.
-use mathlib.Core.Path.{_≡_, refl, sym, ap, ap₂, _∙_, subst}
+use mathlib.Core.Path.{_≡_, refl, sym, ap, _∙_}
 use mathlib.Core.Option.{none}
 use mathlib.Core.List.{List}
 use mathlib.Core.Logic.{⊎-elim}
@@ -9,7 +9,6 @@ use Prim.Native.Nat.{ℕ, zero, suc, _+_, _*_, _-_, _≤_, _<_}
 use native.Mathlib.Nat.{add-zero, zero-add}
 use native.Mathlib.Omega.{arith}
 use borrow.Author.Tests.{le-leb}
-use lib.Dec.{leb}
 use lib.ListN.{length, getD}
 use Rattle.words.specs.Sum.{sumTo}
 use Rattle.words.proofs.SumLaws.{sum-ext}
@@ -21,14 +20,14 @@ use Rattle.script_assembly.specs.Assembly.{blockStart}
 use Rattle.script_assembly.specs.Steps.{partsIn}
 use Rattle.script_assembly.proofs.StepLaws.{mark-last, mark-more}
 use Rattle.script_assembly.proofs.PlaceLaws.{part-first}
-use Rattle.run_machine.specs.Part.{stagesAt, lastAt, endAt}
+use Rattle.run_machine.specs.Part.{stagesAt, lastAt}
 use Rattle.run_machine.specs.Run.{ran, outcome, turnsFrom, turnsAfter, allLeft, badBlock, badTurn}
 use Rattle.promise_order.specs.Order.{blockTurns}
 use Rattle.promise_order.proofs.FormLaws.{from-last, from-more}
 use Rattle.promise_order.proofs.BlockLaws.{empty-phase, left-none, left-read}
 use Rattle.promise_order.proofs.AloneLaws.{Laid}
 use Rattle.promise_order.proofs.OrderLaws.{sum-first, all-named, left-total}
-use Rattle.promise.specs.Promise.{Accepted, assembled, startsOf, stageRun, turnsOf, leftOver, Kept, Finishes, Finished}
+use Rattle.promise.specs.Promise.{Accepted, assembled, startsOf, stageRun, turnsOf, leftOver, Finishes, Finished}
 use Rattle.promise.proofs.AcceptedLaws.{able}
 use Rattle.promise.proofs.BlockLaws as Block
 use Rattle.promise.proofs.FormLaws.{never-refused}

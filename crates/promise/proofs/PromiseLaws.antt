@@ -9,7 +9,7 @@ use lib.Bits.{differ}
 use native.Mathlib.Omega.{arith}
 use lib.Dec.{leb}
 use lib.ListN.{length, getD, List·getD-eq-default}
-use Rattle.words.specs.Answer.{Answer, good, refused, atItem, nowhere}
+use Rattle.words.specs.Answer.{Answer, refused, atItem, nowhere}
 use Rattle.words.proofs.AnswerLaws.{refused-good}
 use Rattle.words.specs.Bit.{bit, bitAt}
 use Rattle.words.proofs.BitLaws.{bit-zero}

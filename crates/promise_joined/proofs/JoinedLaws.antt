@@ -1,10 +1,10 @@
 -- A build that is not refused leaves the assembled words and starts in front of what was there; a run of these keeps demand 3.
 -- Assumes nothing.
 use mathlib.Core.Path.{_≡_, refl, sym, ap, ap₂, _∙_}
-use mathlib.Core.Bool.{Bool, true, false, _&&_}
+use mathlib.Core.Bool.{Bool, true, false}
 use mathlib.Core.Option.{Option, none, some}
-use mathlib.Core.List.{List, _++_}
-use Prim.Native.Nat.{ℕ, _+_, _*_, _≤_, _<_}
+use mathlib.Core.List.{List}
+use Prim.Native.Nat.{ℕ, _+_, _*_, _≤_}
 use native.Mathlib.Omega.{arith}
 use borrow.Author.Tests.{leb-true}
 use lib.Dec.{leb}
@@ -15,15 +15,15 @@ use Rattle.words.specs.declared.refusals.Refusal.{Refusal}
 use Rattle.words.proofs.AnswerLaws.{refused-good}
 use Rattle.plan_record.specs.Record.{blocksOf, majorsOf}
 use Rattle.plan_record.specs.Form.{roomWords}
-use Rattle.words.proofs.TestLaws.{and-true, not-both}
+use Rattle.words.proofs.TestLaws.{and-true}
 use Rattle.plan_blocks.specs.Blocks.{stateWords}
 use Rattle.plan_checks.specs.Refusals.{planRefusal, planVerdict}
 use Rattle.script_assembly.specs.Assembly.{scriptWords, scriptStarts}
 use Rattle.script_assembly.proofs.StartLaws.{starts-length}
 use Rattle.run_machine.specs.Run.{outcome}
-use Rattle.promise.specs.Promise.{assembled, startsOf, stageRun}
+use Rattle.promise.specs.Promise.{stageRun}
 use Rattle.promise.proofs.FinishLaws.{finished}
-use Rattle.flatten.specs.Flatten.{Sizes, sizesOf, fits, ifFits, building, laid, startsAfter, wordsAfter}
+use Rattle.flatten.specs.Flatten.{Sizes, sizesOf, fits, ifFits, building, laid}
 use Rattle.promise_joined.specs.Joined.{BuildLeaves, BuiltRun}
 
 -- ---- an answer that is a build

@@ -7,7 +7,7 @@ use lib.ListN.{length, getD, take, drop}
 use Rattle.words.specs.Answer.{good}
 use Rattle.words.specs.Count.{count}
 use Rattle.plan_record.specs.Record.{blocksOf, majorsOf}
-use Rattle.run_machine.specs.Run.{ran, outcome, newAfter}
+use Rattle.run_machine.specs.Run.{ran, outcome}
 use Rattle.promise.specs.Promise.{Accepted, assembled, startsOf, turnsOf, Kept}
 use Rattle.flatten.specs.Flatten.{Sizes, building, startsAfter, wordsAfter}
 

@@ -14,7 +14,7 @@ use Rattle.words.proofs.BitLaws.{lt-or-ge}
 use Rattle.words.proofs.SectionLaws.{listOf-ext}
 use Rattle.reads.specs.ReadTurn.{appended, laneWord}
 use Rattle.reads.proofs.ReadTurnLaws.{appended-none}
-use Rattle.run_machine.specs.Part.{stagesAt, lastAt, startAt, roundsAt, normalAt, endAt, readWordAt, readMaskAt}
+use Rattle.run_machine.specs.Part.{stagesAt, lastAt, roundsAt, normalAt, endAt, readWordAt, readMaskAt}
 use Rattle.run_machine.specs.Turn.{stateWord, readRow, Block, begins, ended, afterRead, afterStage, afterStore, stored, turned, written}
 use Rattle.run_machine.specs.Run.{turnsAfter, turnsLeft}
 use Rattle.run_machine.proofs.TurnLaws.{captured-length}

@@ -14,7 +14,7 @@ use lib.Dec.{leb, ltb, eqb}
 use lib.ListN.{length, getD}
 use Rattle.words.specs.Tests.{allBelow, firstNot}
 use Rattle.words.proofs.TestLaws.{and-true, all-at, not-none, not-both}
-use Rattle.run_machine.specs.Part.{stagesAt, lastAt, startAt, normalAt, endAt}
+use Rattle.run_machine.specs.Part.{stagesAt, lastAt, endAt}
 use Rattle.run_machine.specs.Run.{turnsFrom, turnsAfter, partForm, partsForm, emptyBlock, blockForm, badBlock}
 use Rattle.run_form.proofs.FormLaws.{in-form}
 use Rattle.promise_order.specs.Order.{partsFrom, Stores}

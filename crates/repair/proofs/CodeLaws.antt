@@ -7,29 +7,27 @@ use mathlib.Core.List.{List, [], _∷_}
 use Prim.Native.Nat.{ℕ, zero, suc, _+_, _*_, _-_, _%_, _^_, _≤_, _<_}
 use native.Mathlib.Omega.{arith}
 use borrow.Author.Tests.{le-leb}
-use lib.Dec.{leb, ltb}
+use lib.Dec.{ltb}
 use lib.ListN.{length, getD, take}
 use lib.Pow.{pow-mono}
-use lib.Seq.{length-take-le}
 use Rattle.words.specs.Pins.{empty}
-use Rattle.words.proofs.TestLaws.{not-both}
 use Rattle.gatelist.specs.Words.{badList}
-use Rattle.repair_nodes.specs.Stage.{Spot, spotWords, spotsOf, width, indexOf, Rooted, emptyBelow}
-use Rattle.repair_nodes.specs.Placing.{levelAt, placing, badLevel, noGate, Judged}
+use Rattle.repair_nodes.specs.Stage.{Spot, spotWords, spotsOf, width, indexOf, emptyBelow}
+use Rattle.repair_nodes.specs.Placing.{placing, badLevel, noGate, Judged}
 use Rattle.repair_nodes.specs.Clearing.{clearing}
 use Rattle.words.specs.Answer.{refused, nowhere}
 use Rattle.repair_nodes.specs.Outcome.{placeRight, placedAt, clearedAt}
 use Rattle.repair_nodes.proofs.PairLaws.{words-length}
 use Rattle.repair_nodes.proofs.PlaceLaws.{rooted-place}
 use Rattle.repair_nodes.proofs.JudgeLaws.{placing-size, clearing-size}
-use Rattle.repair_subtree.specs.Subtree.{judgementOf, Added, Listable, Reachable}
+use Rattle.repair_subtree.specs.Subtree.{judgementOf, Added}
 use Rattle.repair_subtree.specs.declared.Place.{Place}
 use Rattle.repair_subtree.specs.declared.Judgement.{Judgement}
 use Rattle.repair_subtree.specs.declared.Judgement.the-variants.{Fine, WrongLevel, Gateless}
 use Rattle.repair_settle.specs.Settle.{Ended, placedSpots, clearedSpots, Spotted}
 use Rattle.repair.specs.Repair.{Placed}
 use Rattle.repair_settle.specs.declared.Repaired.{Repaired}
-use Rattle.repair_settle.proofs.SpotLaws.{Sound, placing-sound, clearing-sound, sound-askable, sound-inside, added-words, spots-back}
+use Rattle.repair_settle.proofs.SpotLaws.{Sound, sound-askable, sound-inside, added-words, spots-back}
 use Rattle.repair.proofs.OutcomeLaws.{is-24, is-25, is-26, is-placed, is-cleared}
 
 -- ---- a level's slots

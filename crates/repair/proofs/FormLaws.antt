@@ -1,14 +1,14 @@
 -- Refusal 5's count list: what entering it into an empty map shows.
 -- Assumes nothing.
-use mathlib.Core.Path.{_≡_, refl, sym, ap, ap₂, _∙_}
+use mathlib.Core.Path.{_≡_, refl, sym, ap, _∙_}
 use mathlib.Core.Bool.{Bool, true, false, _&&_}
-use mathlib.Core.Option.{Option, none, some}
+use mathlib.Core.Option.{none, some}
 use mathlib.Core.List.{List, []}
-use Prim.Native.Nat.{ℕ, _+_, _*_, _/_, _%_, _^_, _≤_, _<_}
+use Prim.Native.Nat.{ℕ, _+_, _%_, _^_, _≤_, _<_}
 use native.Mathlib.Omega.{arith}
 use borrow.Author.Tests.{eq-eqb, ne-eqb, eqb-true, eqb-false}
 use lib.Dec.{eqb}
-use lib.ListN.{length, getD, replicate, length-replicate}
+use lib.ListN.{length, getD, replicate}
 use Rattle.pinmap.specs.PinMap.{capacity}
 use Rattle.repair_nodes.specs.Counts.{Count, counted, countsOf, nodesOf, countIn, entriesRight, countsRight}
 use Rattle.repair_nodes.specs.Outcome.{roomWords}

@@ -1,13 +1,12 @@
 -- Each way through a placing or a clearing has its outcome, in the order of the refusals.
 -- Assumes nothing.
-use mathlib.Core.Path.{_≡_, refl, sym, ap, ap₂, _∙_}
-use mathlib.Core.Bool.{Bool, true, false, _&&_, and-false}
-use mathlib.Core.Option.{Option, none, some}
+use mathlib.Core.Path.{_≡_, refl, ap}
+use mathlib.Core.Bool.{Bool, true, false, _&&_}
+use mathlib.Core.Option.{none, some}
 use mathlib.Core.List.{List}
-use Prim.Native.Nat.{ℕ, _+_, _*_, _-_, _/_, _^_, _≤_, _<_}
-use native.Mathlib.Omega.{arith}
-use borrow.Author.Tests.{le-leb, lt-leb, lt-ltb, le-ltb}
-use lib.Dec.{leb, ltb}
+use Prim.Native.Nat.{ℕ, _+_, _*_, _/_, _≤_, _<_}
+use borrow.Author.Tests.{le-leb, lt-leb}
+use lib.Dec.{ltb}
 use lib.ListN.{length, replicate}
 use Rattle.words.specs.Pins.{isPin}
 use Rattle.gatelist.specs.Words.{badList}
@@ -35,17 +34,9 @@ room-is counts = refl
 
 -- ---- a place
 
-pub place-right : (h j : ℕ) → h ≤ 13 → j < width 13 h → placeRight 13 h j ≡ true
-unfolding placeRight
-place-right h j l k = ap₂ (λ (a : Bool) (b : Bool). a && b) (le-leb h 13 l) (lt-ltb j (width 13 h) k)
-
 pub place-high : (h j : ℕ) → 13 < h → placeRight 13 h j ≡ false
 unfolding placeRight
 place-high h j l = ap (λ (a : Bool). a && ltb j (width 13 h)) (lt-leb h 13 l)
-
-pub place-wide : (h j : ℕ) → width 13 h ≤ j → placeRight 13 h j ≡ false
-unfolding placeRight
-place-wide h j k = ap (λ (b : Bool). leb h 13 && b) (le-ltb j (width 13 h) k) ∙ and-false (leb h 13)
 
 -- ---- placing
 

@@ -2,9 +2,8 @@
 -- Assumes nothing.
 use mathlib.Core.Path.{_≡_, refl, sym, ap, ap₂, _∙_}
 use mathlib.Core.Bool.{Bool, true, false, _&&_, and-false}
-use mathlib.Core.Option.{Option, none, some}
 use mathlib.Core.List.{List}
-use Prim.Native.Nat.{ℕ, _+_, _*_, _-_, _/_, _%_, _^_, _≤_, _<_}
+use Prim.Native.Nat.{ℕ, _+_, _-_, _/_, _%_, _^_, _≤_, _<_}
 use native.Mathlib.Omega.{arith}
 use borrow.Author.Tests.{leb-true, leb-false, ltb-true, le-leb, lt-leb}
 use lib.Dec.{leb, ltb}
@@ -12,7 +11,6 @@ use lib.ListN.{length, replicate, length-replicate}
 use Rattle.words.specs.Pins.{isPin}
 use Rattle.words.proofs.TestLaws.{and-true}
 use Rattle.repair_nodes.specs.Stage.{width}
-use Rattle.repair_nodes.specs.Counts.{countsRight}
 use Rattle.words.specs.Answer.{Answer}
 use Rattle.repair_nodes.specs.Outcome.{Repair, roomWords, placeRight, slotsAfter, listAfter, roomAfter}
 use Rattle.repair_settle.specs.Settle.{repairedOf, Ended}

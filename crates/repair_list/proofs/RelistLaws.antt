@@ -1,25 +1,21 @@
 -- One entry or one spot more, in the code's terms.
 -- Assumes nothing.
 use mathlib.Core.Path.{_≡_, refl, sym, ap, ap₂, _∙_}
-use mathlib.Core.List.{List, [], _∷_, _++_, map}
-use mathlib.Core.Option.{Option, none, some}
-use Prim.Native.Nat.{ℕ, suc, _+_, _*_, _-_, _/_, _≤_, _<_}
+use mathlib.Core.List.{List, [], _∷_, _++_}
+use Prim.Native.Nat.{ℕ, _+_, _*_, _-_, _≤_, _<_}
 use native.Mathlib.Numerals.{add-one}
 use native.Mathlib.Omega.{arith}
 use borrow.Author.Tests.{eq-eqb, ne-eqb}
-use lib.Dec.{eqb}
 use lib.ListN.{length, getD, drop, set, length-append, drop-of-length-le}
 use lib.Seq.{sets, drop-cons}
 use Rattle.words.proofs.ListLaws.{sets-append}
-use Rattle.pinmap.specs.PinMap.{look, foundOf}
-use Rattle.pinmap.specs.declared.Found.{Found}
 use Rattle.words.specs.Pins.{empty}
 use Rattle.repair_nodes.specs.Pairs.{pairWords}
 use Rattle.repair_nodes.specs.Stage.{Spot, spot, spotsOf, stored, emptied}
 use Rattle.repair_nodes.specs.Counts.{Count, counted, countsOf, countWords, nodesOf, nonzero}
 use Rattle.repair_nodes.proofs.PairLaws.{pairs-drop, pairs-end, words-length, words-append}
 use Rattle.repair_nodes.proofs.CountLaws.{nonzero-append}
-use Rattle.repair_list.specs.Relist.{valueIn, entriesOf, entriesIn, Listed}
+use Rattle.repair_list.specs.Relist.{valueIn, entriesOf, Listed}
 
 -- ---- the entries of a count list's nodes from entry i on
 

@@ -5,7 +5,7 @@ ghost use Prim.Native.Nat.{_+_, _*_, _-_, _^_, _≤_, _<_};
 ghost use lib.ListN.{length, set};
 ghost use lib.Seq.{sets};
 ghost use Rattle.repair_nodes.specs.Stage.{spotsOf, stored, emptied};
-ghost use Rattle.repair_nodes.specs.Counts.{counted, countWords, nonzero};
+ghost use Rattle.repair_nodes.specs.Counts.{countWords, nonzero};
 ghost use Rattle.repair_list.specs.Relist.{valueIn, entriesOf, entriesIn, Listed, NodesAskable, NewAskable, AllInside};
 use pinmap::Found;
 use pinmap::look_up;

@@ -2,11 +2,11 @@
 -- gained, and new ones are at 0 and go.
 -- Assumes nothing.
 use mathlib.Core.Path.{_≡_, refl, sym, ap, ap₂, _∙_}
-use mathlib.Core.Bool.{Bool, true, false, not, _&&_, _||_, or-true, or-false, or-assoc}
+use mathlib.Core.Bool.{Bool, true, false, not, _&&_, _||_, or-true, or-assoc}
 use mathlib.Core.List.{List, [], _∷_, _++_, map, map-append, append-assoc, append-nil}
 use Prim.Native.Nat.{ℕ, suc, _+_, _-_, _^_, _≤_, _<_}
 use native.Mathlib.Omega.{arith}
-use borrow.Author.Tests.{ltb-true, leb-true, le-ltb, eq-eqb, ne-eqb, eqb-true, eqb-false, not-true}
+use borrow.Author.Tests.{ltb-true, leb-true, le-ltb, eq-eqb, ne-eqb, eqb-true, not-true}
 use lib.Dec.{eqb, ltb}
 use lib.ListN.{length}
 use Rattle.words.specs.Pins.{isPin}
@@ -56,14 +56,6 @@ times-append (x ∷ xs) ys y = go (eqb x y) (times-append xs ys y)
 pub times-nil : (y : ℕ) → times [] y ≡ 0
 unfolding times
 times-nil y = refl
-
--- a node that is not among them is there no time
-pub times-none : (xs : List ℕ) (y : ℕ) → among xs y ≡ false → times xs y ≡ 0
-unfolding among
-times-none [] y h = times-nil y
-times-none (x ∷ xs) y h =
-    let (a, b) = or-parts (eqb x y) (among xs y) h in
-    times-there xs x y (eqb-false x y a) ∙ times-none xs y b
 
 -- ---- a list made of nodes and a number for each
 

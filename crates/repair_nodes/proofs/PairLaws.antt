@@ -1,8 +1,8 @@
 -- Laws of items of two words: how many there are, item i, one item more, and that the items of their words are the items.
 -- Assumes nothing.
-use mathlib.Core.Path.{_≡_, refl, sym, ap, ap₂, _∙_}
+use mathlib.Core.Path.{_≡_, refl, ap, ap₂, _∙_}
 use mathlib.Core.List.{List, [], _∷_, _++_}
-use Prim.Native.Nat.{ℕ, zero, suc, _+_, _*_, _/_, _≤_, _<_}
+use Prim.Native.Nat.{ℕ, suc, _+_, _*_, _/_, _≤_, _<_}
 use native.Mathlib.Omega.{arith}
 use lib.ListN.{length, getD, take, drop, length-drop}
 use lib.Seq.{sets, sets-eq, take-append-seam, drop-cons}
@@ -14,17 +14,6 @@ module _ {A : Type 0} (item : ℕ → ℕ → A) where
   pairs-length [] = refl
   pairs-length (x ∷ []) = refl
   pairs-length (x ∷ (y ∷ ws)) = let e = pairs-length ws in omega arith
-
-  pub pairs-at : (ws : List ℕ) (i : ℕ) (d : A) → 2 * i + 1 < length ws → getD (pairsOf item ws) i d ≡ item (getD ws (2 * i) 0) (getD ws (2 * i + 1) 0)
-  unfolding pairsOf
-  pairs-at [] i d l = absurd (omega arith)
-  pairs-at (x ∷ []) i d l = absurd (omega arith)
-  pairs-at (x ∷ (y ∷ ws)) zero d l = refl
-  pairs-at (x ∷ (y ∷ ws)) (suc i) d l =
-      let e : suc (suc (2 * i)) ≡ 2 * suc i = omega arith in
-      let f : suc (suc (2 * i + 1)) ≡ 2 * suc i + 1 = omega arith in
-      let k : 2 * i + 1 < length ws = omega arith in
-      pairs-at ws i d k ∙ ap₂ (λ (a : ℕ) (b : ℕ). item (getD (x ∷ (y ∷ ws)) a 0) (getD (x ∷ (y ∷ ws)) b 0)) e f
 
 module _ {A : Type 0} (first second : A → ℕ) where
   pub words-length : (l : List A) → length (pairWords first second l) ≡ 2 * length l

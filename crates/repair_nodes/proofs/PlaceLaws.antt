@@ -3,20 +3,19 @@
 use mathlib.Core.Path.{_≡_, refl, sym, ap, _∙_}
 use mathlib.Core.Bool.{Bool, true, false, _&&_}
 use mathlib.Core.Option.{Option, none, some}
-use mathlib.Core.List.{List, [], _∷_, _++_}
-use Prim.Native.Nat.{ℕ, zero, suc, _+_, _*_, _-_, _/_, _%_, _^_, _≤_, _<_}
-use native.Mathlib.Nat.{pow-suc, one-le-pow, le-mul-of-pos-right, add-mul-mod-self-right}
+use mathlib.Core.List.{List, _++_}
+use Prim.Native.Nat.{ℕ, zero, suc, _+_, _*_, _-_, _/_, _^_, _≤_, _<_}
+use native.Mathlib.Nat.{pow-suc, one-le-pow, le-mul-of-pos-right}
 use native.Mathlib.Numerals.{add-one}
 use native.Mathlib.Omega.{arith}
 use borrow.Author.Tests.{eqb-true}
 use lib.Dec.{eqb}
 use lib.Pow.{pow-add}
-use lib.ListN.{length}
 use Rattle.words.specs.Pins.{empty}
 use Rattle.words.proofs.TestLaws.{and-true}
 use Rattle.gatelist.specs.Words.{listFirst, listSecond, badList, gateIn}
 use Rattle.gatelist.proofs.WordLaws.{first-under, second-under}
-use Rattle.repair_nodes.specs.Stage.{Spot, spot, Rooted, width, indexOf, slotIn, stored, emptyBelow}
+use Rattle.repair_nodes.specs.Stage.{Spot, Rooted, width, indexOf, slotIn, stored, emptyBelow}
 use Rattle.repair_nodes.specs.Placing.{levelAt, firstPin, secondPin, placing}
 use Rattle.repair_nodes.proofs.StageLaws.{Off, Along, along-none, along-more, along-append, along-a, along-b, stored-off}
 
@@ -79,12 +78,6 @@ module _ (gates levels : List ℕ) where
   -- "nothing outside the subtree changes": slots before its own, and those that leave another remainder
   pub placing-keeps : (s : List ℕ) (h m q x i : ℕ) → 0 < q → 0 < i → Off m q i → slotIn (stored s (placing gates levels h m q x)) i ≡ slotIn s i
   placing-keeps s h m q x i p r o = stored-off (placing-along h m q x) s i p r o
-
-pub off-before : (m q i : ℕ) → i < q → Off m q i
-off-before m q i h k e = omega arith
-
-pub off-remainder : (m q i : ℕ) → (i % m ≡ q % m → ⊥) → Off m q i
-off-remainder m q i h k e = h (ap (λ (n : ℕ). n % m) e ∙ add-mul-mod-self-right q k m)
 
 -- ---- fan-ins of a pin are pins, where refusal 6 is excluded
 

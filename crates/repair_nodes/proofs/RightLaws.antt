@@ -4,10 +4,9 @@ use mathlib.Core.Path.{_≡_, refl, sym, ap, ap₂, _∙_}
 use mathlib.Core.Bool.{Bool, true, false, _&&_, _||_, or-true}
 use mathlib.Core.Option.{Option, none, some}
 use mathlib.Core.List.{List, [], _∷_, _++_, append-nil}
-use Prim.Native.Nat.{ℕ, zero, suc, _+_, _*_, _-_, _/_, _^_, _≤_, _<_}
-use native.Mathlib.Omega.{arith}
+use Prim.Native.Nat.{ℕ, zero, suc, _+_, _*_, _-_, _/_, _^_, _≤_}
 use borrow.Author.Tests.{eq-eqb, le-leb}
-use lib.Dec.{eqb, leb}
+use lib.Dec.{eqb}
 use lib.ListN.{length, set}
 use Rattle.words.specs.Pins.{isPin, empty}
 use Rattle.words.proofs.TestLaws.{not-both, true-and}
@@ -15,7 +14,7 @@ use Rattle.gatelist.specs.Words.{listFirst, listSecond, badList, gateIn}
 use Rattle.repair_nodes.specs.Stage.{Spot, spot, Rooted, slotIn, stored, emptyBelow, feeds, standsRight, slotRight, rightBelow}
 use Rattle.repair_nodes.specs.Placing.{levelAt, firstPin, secondPin, placing, noGate}
 use Rattle.repair_nodes.proofs.StageLaws.{Along, along-none, agree-a, agree-b, at-start, slot-put}
-use Rattle.repair_nodes.proofs.PlaceLaws.{rooted-a, rooted-b, rooted-inside, rooted-positive, placing-along, first-is, second-is, first-pin, second-pin, empty-root, empty-a, empty-b}
+use Rattle.repair_nodes.proofs.PlaceLaws.{rooted-inside, rooted-positive, placing-along, first-is, second-is, first-pin, second-pin, empty-root, empty-a, empty-b}
 use Rattle.repair_nodes.proofs.JudgeLaws.{or-parts}
 use Rattle.repair_nodes.proofs.ReachLaws.{rootPut, aPut, bPut, stored-both, stored-one, half-root, half-a, half-empty-a, half-empty-b, root-rooted, a-rooted}
 

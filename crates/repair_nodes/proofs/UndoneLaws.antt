@@ -1,26 +1,24 @@
 -- "If the subtree was empty, placing and then clearing gives back the same slots and counts": a placing that is not refused, cleared at the same place, is not
 -- refused by 34, and gives back the slots and the count list, entry by entry.
 -- Assumes nothing.
-use mathlib.Core.Path.{_≡_, refl, sym, ap, ap₂, _∙_}
-use mathlib.Core.Bool.{Bool, true, false, not, _&&_}
+use mathlib.Core.Path.{_≡_, refl, sym, ap, _∙_}
+use mathlib.Core.Bool.{Bool, true, false, _&&_}
 use mathlib.Core.Option.{Option, none, some}
-use mathlib.Core.List.{List, [], _∷_, _++_, map}
-use Prim.Native.Nat.{ℕ, suc, _+_, _*_, _-_, _%_, _^_, _≤_, _<_}
-use native.Mathlib.Omega.{arith}
-use borrow.Author.Tests.{leb-true, ltb-true, le-leb, lt-ltb, eq-eqb}
+use mathlib.Core.List.{List}
+use Prim.Native.Nat.{ℕ, _+_, _*_, _-_, _%_, _^_, _≤_, _<_}
+use borrow.Author.Tests.{leb-true, ltb-true}
 use lib.Dec.{eqb, ltb, leb}
 use lib.ListN.{length}
 use Rattle.words.specs.Pins.{isPin}
-use Rattle.words.proofs.TestLaws.{not-both, and-true}
+use Rattle.words.proofs.TestLaws.{and-true}
 use Rattle.gatelist.specs.Words.{badList}
-use Rattle.repair_nodes.specs.Stage.{Spot, spot, width, indexOf, stored, emptied, emptyBelow, Rooted}
+use Rattle.repair_nodes.specs.Stage.{Spot, width, indexOf, stored, emptied, emptyBelow, Rooted}
 use Rattle.repair_nodes.specs.Placing.{placing, badLevel, noGate}
 use Rattle.repair_nodes.specs.Clearing.{clearing}
-use Rattle.repair_nodes.specs.Counts.{Count, counted, countsOf, countWords, countsRight, countedNodes, countsMore, countsLess, allCounts, short}
+use Rattle.repair_nodes.specs.Counts.{Count, countsOf, countsRight, countedNodes, countsMore, countsLess, allCounts, short}
 use Rattle.words.proofs.AnswerLaws.{refused-good}
 use Rattle.words.specs.Answer.{refused, atItem, nowhere}
 use Rattle.repair_nodes.specs.Outcome.{Repair, repaired, roomWords, placeRight, fitted, placedAt, placed}
-use Rattle.repair_nodes.proofs.PairLaws.{pairs-words}
 use Rattle.repair_nodes.proofs.PlaceLaws.{rooted-place}
 use Rattle.repair_nodes.proofs.ReachLaws.{reached, placing-vacant, placed-back}
 use Rattle.repair_nodes.proofs.CountLaws.{Formed, counts-back, back-not-short}

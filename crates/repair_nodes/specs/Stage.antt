@@ -1,7 +1,7 @@
 -- The slots of one stage, by index from 1 up. Document 01, "Positions and counts": with H levels above level 0, level h has 2^(H−h) slots, and slot j of it
 -- has index 2^(H−h) + j. So below the slot at index q of a level of m slots, slot a is at q + m and slot b at q + 2m, on a level of 2m slots.
 -- Assumes nothing.
-use mathlib.Core.Bool.{Bool, true, false, _&&_, _||_}
+use mathlib.Core.Bool.{Bool, false, _&&_, _||_}
 use mathlib.Core.Option.{Option, none, some}
 use mathlib.Core.List.{List, [], _∷_}
 use Prim.Native.Nat.{ℕ, zero, suc, _+_, _*_, _-_, _/_, _^_, _≤_, _<_}

@@ -2,33 +2,31 @@
 -- Assumes nothing.
 use mathlib.Core.Path.{_≡_, refl, sym, ap, ap₂, _∙_}
 use mathlib.Core.Bool.{Bool, true, false, _&&_, _||_, and-false, or-true}
-use mathlib.Core.Option.{Option, none, some}
+use mathlib.Core.Option.{none, some}
 use mathlib.Core.List.{List, [], _∷_, _++_, map, map-append}
 use mathlib.Core.Logic.{⊎-elim}
-use Prim.Native.Nat.{ℕ, _+_, _*_, _-_, _/_, _%_, _^_, _≤_, _<_}
+use Prim.Native.Nat.{ℕ, _+_, _*_, _-_, _/_, _^_, _≤_, _<_}
 use native.Mathlib.Omega.{arith}
 use borrow.Author.Tests.{lt-ltb, le-ltb, le-leb, lt-leb, eqb-true}
 use lib.Dec.{eqb, ltb, leb}
 use lib.ListN.{length, take, length-append, length-map}
 use lib.Seq.{sets, length-take-le}
-use Rattle.pinmap.specs.PinMap.{capacity, look}
+use Rattle.pinmap.specs.PinMap.{capacity}
 use Rattle.words.proofs.TestLaws.{not-both, or-cases}
 use Rattle.repair_nodes.specs.Stage.{Spot, spotsOf, emptied, stored}
-use Rattle.repair_nodes.specs.Counts.{Count, counted, countsOf, countWords, nodesOf, among, times, entriesRight, countIn, countedNodes, fresh, countsMore, countsLess, nonzero, allCounts, anyShort, short}
+use Rattle.repair_nodes.specs.Counts.{Count, counted, countsOf, countWords, nodesOf, among, times, countIn, countedNodes, fresh, countsMore, countsLess, nonzero, allCounts, anyShort, short}
 use Rattle.words.specs.Answer.{Answer, refused, atItem, nowhere}
 use Rattle.repair_nodes.specs.Outcome.{Repair, repaired, fitted, slotsAfter, listAfter}
-use Rattle.repair_nodes.proofs.PairLaws.{pairs-length, words-length}
-use Rattle.repair_nodes.proofs.CountLaws.{among-head, among-tail, among-back, map-among, count-none, all-named, nodes-length}
-use Rattle.repair_tally.specs.Tally.{through, Raised, raised, raising, lowering, Held, ToldNew, Told, nodesIn, Askable}
-use Rattle.repair_tally.specs.declared.Tallied.{Tallied}
-use Rattle.repair_tally.proofs.StepLaws.{told-new, told-over, told-true, told-false}
+use Rattle.repair_nodes.proofs.PairLaws.{pairs-length}
+use Rattle.repair_nodes.proofs.CountLaws.{map-among, count-none, all-named, nodes-length}
+use Rattle.repair_tally.specs.Tally.{through, raised, raising, lowering, Held, nodesIn}
 use Rattle.repair_tally.proofs.HeldLaws.{held-some}
 use Rattle.repair_tally.proofs.WayLaws.{RaiseEnd, raise-end, LowerEnd, lower-end}
 use Rattle.repair_list.specs.Relist.{valueIn, numberOf, entriesOf, entriesIn}
 use Rattle.repair_list.proofs.RelistLaws.{words-on}
 use Rattle.repair_settle.specs.Settle.{repairedOf, Ended, placedSpots, clearedSpots, Entered}
 use Rattle.repair_settle.specs.declared.Repaired.{Repaired}
-use Rattle.repair_settle.specs.declared.Repaired.the-variants.{Listed, Refused}
+use Rattle.repair_settle.specs.declared.Repaired.the-variants.{Listed}
 use Rattle.repair_settle.proofs.SpotLaws.{counted-length}
 
 -- ---- answers

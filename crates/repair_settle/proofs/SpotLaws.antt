@@ -5,13 +5,11 @@ use mathlib.Core.Bool.{Bool, true, false, _||_, or-true}
 use mathlib.Core.Logic.{⊎-elim}
 use mathlib.Core.Option.{none}
 use mathlib.Core.List.{List, [], _∷_, _++_}
-use Prim.Native.Nat.{ℕ, zero, suc, _+_, _*_, _-_, _%_, _/_, _^_, _≤_, _<_}
+use Prim.Native.Nat.{ℕ, zero, suc, _+_, _*_, _-_, _^_, _≤_, _<_}
 use native.Mathlib.Omega.{arith}
-use lib.Pow.{pow-mono}
-use borrow.Author.Tests.{eqb-true, eqb-false, ltb-true}
+use borrow.Author.Tests.{eqb-true, eqb-false}
 use lib.Dec.{eqb, ltb}
 use lib.ListN.{length, getD, take}
-use lib.Seq.{sets}
 use Rattle.words.specs.Pins.{empty}
 use Rattle.words.proofs.TestLaws.{or-cases, not-both}
 use Rattle.gatelist.specs.Words.{badList}
@@ -19,13 +17,12 @@ use Rattle.repair_nodes.specs.Pairs.{pairsOf, pairWords}
 use Rattle.repair_nodes.specs.Stage.{Spot, spot, spotWords, spotsOf, Rooted, slotIn}
 use Rattle.repair_nodes.specs.Placing.{levelAt, firstPin, secondPin, placing}
 use Rattle.repair_nodes.specs.Clearing.{clearing}
-use Rattle.repair_nodes.specs.Counts.{Count, counted, countsOf, nodesOf, among, entriesRight, countIn, countedNodes, fresh}
+use Rattle.repair_nodes.specs.Counts.{counted, countsOf, among, entriesRight, countIn, countedNodes, fresh}
 use Rattle.repair_nodes.proofs.PairLaws.{pairs-words, words-length, sets-front}
 use Rattle.repair_nodes.proofs.PlaceLaws.{rooted-a, rooted-b, rooted-inside, rooted-positive, first-pin, second-pin}
-use Rattle.repair_nodes.proofs.JudgeLaws.{or-parts}
-use Rattle.repair_nodes.proofs.CountLaws.{Entered, entered, among-head, among-tail, fresh-old, fresh-new, not-head}
+use Rattle.repair_nodes.proofs.CountLaws.{entered, among-head, among-tail, fresh-old, fresh-new}
 use Rattle.repair_tally.specs.Tally.{Askable, nodesIn}
-use Rattle.repair_list.specs.Relist.{Inside, AllInside, NodesAskable, NewAskable}
+use Rattle.repair_list.specs.Relist.{AllInside, NodesAskable, NewAskable}
 use Rattle.repair_subtree.specs.Subtree.{Added}
 
 -- each spot is inside a stage of L slots, and its node is a number that a map can have

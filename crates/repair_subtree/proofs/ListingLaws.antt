@@ -1,6 +1,6 @@
 -- What carrying, splitting and clearing ask of the calls one level down, and what their lists come to.
 -- Assumes nothing.
-use mathlib.Core.Path.{_≡_, refl, sym, ap, ap₂, _∙_}
+use mathlib.Core.Path.{_≡_, sym, ap, ap₂, _∙_}
 use mathlib.Core.Option.{none, some}
 use mathlib.Core.List.{List, [], _∷_, _++_}
 use Prim.Native.Nat.{ℕ, _+_, _*_, _-_, _/_, _≤_, _<_}
@@ -8,7 +8,7 @@ use native.Mathlib.Omega.{arith}
 use lib.ListN.{length, length-append}
 use Rattle.words.specs.Pins.{empty}
 use Rattle.gatelist.specs.Words.{listFirst, listSecond, gateIn}
-use Rattle.repair_nodes.specs.Stage.{Spot, spot, Rooted, slotIn}
+use Rattle.repair_nodes.specs.Stage.{Spot, spot, slotIn}
 use Rattle.repair_nodes.specs.Placing.{levelAt, firstPin, secondPin, placing, Judged}
 use Rattle.repair_nodes.specs.Clearing.{clearing}
 use Rattle.repair_nodes.proofs.PlaceLaws.{first-is, second-is}

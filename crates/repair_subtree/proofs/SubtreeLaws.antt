@@ -1,35 +1,28 @@
 -- Laws for the code over a subtree: the places below, one test more, a list that grows.
 -- Assumes nothing.
 use mathlib.Core.Path.{_≡_, refl, sym, ap, ap₂, _∙_}
-use mathlib.Core.Bool.{Bool, true, false, _&&_, _||_, and-false}
+use mathlib.Core.Bool.{Bool, true, false, _&&_, _||_}
 use mathlib.Core.Option.{Option, none, some}
 use mathlib.Core.List.{List, [], _∷_, _++_}
-use Prim.Native.Nat.{ℕ, zero, suc, _+_, _*_, _-_, _/_, _^_, _≤_, _<_}
+use Prim.Native.Nat.{ℕ, zero, suc, _+_, _*_, _-_, _/_, _≤_, _<_}
 use native.Mathlib.Nat.{not-suc-le-zero}
 use native.Mathlib.Numerals.{add-one, sub-one}
 use native.Mathlib.Omega.{arith}
 use borrow.Author.Tests.{eq-eqb, ne-eqb}
-use lib.Dec.{eqb}
 use lib.ListN.{length, getD, set, length-append, length-set, List·getD-eq-default}
-use lib.Seq.{sets, length-sets}
+use lib.Seq.{sets}
 use Rattle.words.proofs.ListLaws.{sets-append}
 use Rattle.words.specs.Pins.{empty}
-use Rattle.gatelist.specs.Words.{listFirst, listSecond, badList, gateIn, listedOf}
+use Rattle.gatelist.specs.Words.{badList, gateIn, listedOf}
 use Rattle.gatelist.proofs.WordLaws.{found-whole}
 use Rattle.gatelist.specs.declared.Listed.{Listed}
 use Rattle.gatelist.specs.declared.Listed.the-variants.{Gate, Missing}
 use Rattle.repair_nodes.specs.Stage.{Spot, spot, spotWords, Rooted, slotIn, emptyBelow}
-use Rattle.repair_nodes.specs.Placing.{levelAt, firstPin, secondPin, placing, badLevel, noGate, Judged}
-use Rattle.repair_nodes.specs.Clearing.{clearing}
 use Rattle.repair_nodes.specs.Pairs.{pairWords}
 use Rattle.repair_nodes.proofs.PairLaws.{words-length, words-append}
-use Rattle.repair_nodes.proofs.PlaceLaws.{rooted-a, rooted-b, rooted-inside, rooted-positive, first-is, second-is}
-use Rattle.repair_nodes.proofs.JudgeLaws.{bad-level, bad-last, bad-down, bad-split, bad-gateless, gate-last, gate-down, gate-split, gate-none, level-right, level-none, level-above, place-last, place-carry, place-split, judged-known, judged-carry, judged-gate, judged-first, judged-second}
-use Rattle.repair_nodes.proofs.ReachLaws.{clearing-none, clearing-last, clearing-both}
-use Rattle.repair_subtree.specs.Subtree.{judgementOf, worseOf, FirstBelow, SecondBelow, Added, Puttable, Listable, Carried, Split, Reachable}
+use Rattle.repair_nodes.proofs.PlaceLaws.{rooted-a, rooted-b, rooted-inside}
+use Rattle.repair_subtree.specs.Subtree.{judgementOf, worseOf, FirstBelow, SecondBelow, Added}
 use Rattle.repair_subtree.specs.declared.Place.{Place}
-use Rattle.repair_subtree.specs.declared.Judgement.{Judgement}
-use Rattle.repair_subtree.specs.declared.Judgement.the-variants.{Fine, WrongLevel, Gateless}
 
 -- ---- places
 

@@ -2,26 +2,21 @@
 -- a clearing, and end early just where a count would pass 2^32−1 or fall short.
 -- Assumes nothing.
 use mathlib.Core.Path.{_≡_, refl, sym, ap, ap₂, _∙_}
-use mathlib.Core.Bool.{Bool, true, false, not, _&&_, _||_, or-true, or-false, and-false}
-use mathlib.Core.Option.{Option, none, some}
-use mathlib.Core.Logic.{⊎-elim}
-use mathlib.Core.List.{List, [], _∷_, _++_, append-assoc, append-nil}
-use Prim.Native.Nat.{ℕ, zero, suc, _+_, _*_, _-_, _/_, _%_, _^_, _≤_, _<_}
+use mathlib.Core.Bool.{Bool, true, false, _||_, or-true, or-false}
+use mathlib.Core.Option.{none, some}
+use mathlib.Core.List.{List, [], _∷_, _++_}
+use Prim.Native.Nat.{ℕ, _+_, _≤_, _<_}
 use native.Mathlib.Omega.{arith}
-use borrow.Author.Tests.{lt-ltb, le-ltb, ltb-true, ltb-false, leb-true, eq-eqb, ne-eqb, eqb-true, eqb-false}
-use lib.Dec.{eqb, ltb, leb}
-use lib.ListN.{length, replicate, length-append}
-use Rattle.pinmap.specs.PinMap.{capacity, look, putIn, putAnswer, Good, used, Entry, entry, replaced}
+use borrow.Author.Tests.{eqb-true, eqb-false}
+use lib.Dec.{eqb}
+use lib.ListN.{replicate}
+use Rattle.pinmap.specs.PinMap.{capacity, look, putIn, putAnswer, entry, replaced}
 use Rattle.pinmap.specs.declared.PutAnswer.the-variants.{Stored}
-use Rattle.pinmap.proofs.PinMapLaws.{map-law, put-length, replaced-same, replaced-other, used-new, used-there, room-stored}
+use Rattle.pinmap.proofs.PinMapLaws.{map-law, replaced-same, replaced-other, used-new, used-there, room-stored}
 use Rattle.pinmap.proofs.HoldsLaws.{zeros-good, zeros-look, zeros-used}
-use Rattle.words.specs.Pins.{isPin}
-use Rattle.words.proofs.TestLaws.{not-both, and-true, or-cases}
-use Rattle.repair_nodes.specs.Counts.{Count, counted, nodesOf, among, times, entriesRight, countIn, fresh, anyShort}
-use Rattle.repair_nodes.proofs.JudgeLaws.{or-parts}
-use Rattle.repair_nodes.proofs.CountLaws.{among-append, among-head, among-tail, not-head, times-nil, times-append, times-here, times-there, fresh-old, fresh-new, Entered, entered}
-use Rattle.repair_tally.specs.Tally.{through, entering, Raised, raised, raising, lowering, heldAs, Held}
-use Rattle.repair_tally.proofs.StepLaws.{through-end, through-on, through-none, raise-there, lower-there}
+use Rattle.repair_nodes.specs.Counts.{among, times}
+use Rattle.repair_nodes.proofs.CountLaws.{among-append, among-head, not-head, times-append}
+use Rattle.repair_tally.specs.Tally.{heldAs, Held}
 
 -- ---- a map that holds names and numbers
 
@@ -88,9 +83,6 @@ module _ (t names : List ℕ) (value : ℕ → ℕ) (n : ℕ) (h : Held t names 
         }
 
 -- ---- one node among others
-
-pub times-one : (x : ℕ) → times (x ∷ []) x ≡ 1
-times-one x = times-here [] x x refl ∙ omega (arith, times-nil x)
 
 pub times-two : (x : ℕ) (xs : List ℕ) (y : ℕ) → times (x ∷ xs) y ≡ times (x ∷ []) y + times xs y
 times-two x xs y = times-append (x ∷ []) xs y

@@ -4,11 +4,11 @@ use mathlib.Core.Path.{_≡_, refl, sym, ap, ap₂, _∙_}
 use mathlib.Core.Bool.{Bool, true, false, _&&_, and-false}
 use mathlib.Core.Option.{Option, none, some}
 use mathlib.Core.List.{List, [], _∷_, _++_}
-use Prim.Native.Nat.{ℕ, zero, suc, _+_, _*_, _-_, _/_, _%_, _^_, _≤_, _<_}
+use Prim.Native.Nat.{ℕ, _+_, _*_, _-_, _%_, _^_, _≤_, _<_}
 use native.Mathlib.Numerals.{add-one}
 use native.Mathlib.Omega.{arith}
 use borrow.Author.Tests.{lt-ltb, le-ltb, le-leb, lt-leb, eq-eqb, ne-eqb}
-use lib.Dec.{eqb, ltb, leb}
+use lib.Dec.{ltb}
 use lib.ListN.{length, getD, take, drop, set, length-set, length-append}
 use lib.Seq.{take-suc-set, length-take-le}
 use Rattle.pinmap.specs.PinMap.{look, putIn, foundOf}
@@ -16,8 +16,8 @@ use Rattle.pinmap.specs.declared.Found.{Found}
 use Rattle.pinmap.specs.declared.Found.the-variants.{Value, Missing}
 use Rattle.words.specs.Pins.{isPin}
 use Rattle.words.proofs.TestLaws.{not-both}
-use Rattle.repair_nodes.specs.Stage.{Spot, spot, spotsOf}
-use Rattle.repair_nodes.specs.Counts.{Count, counted, countsOf, countedNodes}
+use Rattle.repair_nodes.specs.Stage.{spot, spotsOf}
+use Rattle.repair_nodes.specs.Counts.{counted, countsOf, countedNodes}
 use Rattle.repair_nodes.proofs.PairLaws.{pairs-drop, pairs-end}
 use Rattle.repair_tally.specs.Tally.{through, entering, enteringAll, Raised, raised, raising, lowering, Told, ToldNew}
 use Rattle.repair_tally.specs.declared.Tallied.{Tallied}

@@ -1,25 +1,25 @@
 -- How the ways end: entering ends well just where the list is in form, and the map then holds its counts; raising holds the counts after a placing, or some count
 -- passes 2^32−1; lowering holds the counts after a clearing, or some node's count is less than its times. By induction on what is gone through.
 -- Assumes nothing.
-use mathlib.Core.Path.{_≡_, refl, sym, ap, ap₂, _∙_}
-use mathlib.Core.Bool.{Bool, true, false, not, _&&_, _||_, and-false}
+use mathlib.Core.Path.{_≡_, refl, sym, ap, _∙_}
+use mathlib.Core.Bool.{Bool, true, false, _&&_, and-false}
 use mathlib.Core.Option.{Option, none, some}
 use mathlib.Core.Logic.{_⊎_, inl, inr, ⊎-elim}
 use mathlib.Core.List.{List, [], _∷_, _++_, append-assoc, append-nil}
-use Prim.Native.Nat.{ℕ, _+_, _*_, _-_, _/_, _^_, _≤_, _<_}
+use Prim.Native.Nat.{ℕ, _+_, _-_, _/_, _^_, _≤_, _<_}
 use native.Mathlib.Omega.{arith}
-use borrow.Author.Tests.{lt-ltb, le-ltb, ltb-true, ltb-false, eq-eqb, ne-eqb, eqb-true, eqb-false}
+use borrow.Author.Tests.{lt-ltb, le-ltb, ltb-true, ltb-false, eqb-true, eqb-false}
 use lib.Dec.{eqb, ltb}
 use lib.ListN.{length, length-append}
 use Rattle.pinmap.specs.PinMap.{capacity, look, putIn}
 use Rattle.pinmap.proofs.PinMapLaws.{put-length}
 use Rattle.words.specs.Pins.{isPin}
 use Rattle.words.proofs.TestLaws.{not-both}
-use Rattle.repair_nodes.specs.Counts.{Count, counted, nodesOf, among, times, entriesRight, countIn, fresh}
+use Rattle.repair_nodes.specs.Counts.{Count, nodesOf, among, times, entriesRight, countIn, fresh}
 use Rattle.repair_nodes.proofs.JudgeLaws.{or-parts}
 use Rattle.repair_nodes.proofs.CountLaws.{among-append, among-head, among-tail, times-here, times-there, times-nil, fresh-old, fresh-new, nodes-snoc, count-skip, count-head, count-other}
-use Rattle.repair_tally.specs.Tally.{through, entering, Raised, raised, raising, lowering, heldAs, Held}
-use Rattle.repair_tally.proofs.StepLaws.{through-end, through-on, through-none}
+use Rattle.repair_tally.specs.Tally.{through, entering, Raised, raised, raising, lowering, Held}
+use Rattle.repair_tally.proofs.StepLaws.{through-end, through-on, through-none, lower-missing, lower-zero, lower-there}
 use Rattle.repair_tally.proofs.HeldLaws.{held-some, held-none, held-ext, held-add, held-set, times-two}
 
 -- ---- one node's times
@@ -242,19 +242,6 @@ abbrev pub LowerEnd : Option (List ℕ) → List ℕ → (ℕ → ℕ) → List 
 LowerEnd (some t) names value xs n = Held t names (λ y. value y - times xs y) n × ((y : ℕ) → times xs y ≤ value y)
 LowerEnd none names value xs n = (y : ℕ) × (among xs y ≡ true) × (value y < times xs y)
 
-module _ (t : List ℕ) (x : ℕ) where
-  lower-free : look t x ≡ none → lowering t x ≡ none
-  unfolding lowering
-  lower-free e = rw (e, lowering)
-
-  lower-empty : (v : ℕ) → look t x ≡ some v → v ≤ 0 → lowering t x ≡ none
-  unfolding lowering
-  lower-empty v e h = rw (e, le-ltb 0 v h, lowering)
-
-  lower-on : (v : ℕ) → look t x ≡ some v → 0 < v → lowering t x ≡ some (putIn t x (v - 1))
-  unfolding lowering
-  lower-on v e h = rw (e, lt-ltb 0 v h, lowering)
-
 minus : (ℕ → ℕ) → ℕ → ℕ → ℕ
 minus value x y = value y - times (x ∷ []) y
 
@@ -301,13 +288,13 @@ lower-end (x ∷ xs) t names value n h l z = go (look-cases t names value n x h)
     go : ((among names x ≡ true) × (look t x ≡ some (value x))) ⊎ ((among names x ≡ false) × (look t x ≡ none))
         → ((u : List ℕ) → Held u names W n → n < capacity u → ((y : ℕ) → among names y ≡ false → W y ≡ 0) → LowerEnd (through lowering u xs) names W xs n)
         → LowerEnd (through lowering t (x ∷ xs)) names value (x ∷ xs) n
-    go (inr (a, k)) r = rw (through-none lowering t x xs (lower-free t x k)) (x, among-head x xs, omega (arith, z x a, times-own x xs))
+    go (inr (a, k)) r = rw (through-none lowering t x xs (lower-missing t x k)) (x, among-head x xs, omega (arith, z x a, times-own x xs))
     go (inl (a, k)) r = inner (ltb 0 (value x)) refl
       where
         inner : (c : Bool) → ltb 0 (value x) ≡ c → LowerEnd (through lowering t (x ∷ xs)) names value (x ∷ xs) n
         inner false e =
             let w : value x ≤ 0 = ltb-false _ _ e in
-            rw (through-none lowering t x xs (lower-empty t x (value x) k w)) (x, among-head x xs, omega (arith, times-own x xs))
+            rw (through-none lowering t x xs (lower-zero t x (value x) k w)) (x, among-head x xs, omega (arith, times-own x xs))
         inner true e =
             let w : 0 < value x = ltb-true _ _ e in
             let T = putIn t x (value x - 1) in
@@ -315,4 +302,4 @@ lower-end (x ∷ xs) t names value n h l z = go (look-cases t names value n x h)
             let held : Held T names W n = held-set t names value n h x (value x - 1) l W (minus-own value x) (minus-other value x) a in
             let zero-else : (y : ℕ) → among names y ≡ false → W y ≡ 0 = λ y f.
             minus-other value x y (λ (d : y ≡ x). not-both (among names y) (ap (λ (i : ℕ). among names i) d ∙ a) f) ∙ z y f in
-            rw (through-on lowering t x xs T (lower-on t x (value x) k w)) (lower-over (through lowering T xs) names value x xs n w (r T held (omega arith) zero-else))
+            rw (through-on lowering t x xs T (lower-there t x (value x) k w)) (lower-over (through lowering T xs) names value x xs n w (r T held (omega arith) zero-else))

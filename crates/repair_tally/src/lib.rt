@@ -1,7 +1,6 @@
 // Counts of nodes in a map: the count list's form, nodes placed, nodes cleared. Document 02, 7/13.
-ghost use mathlib.Core.Path.{_≡_};
 ghost use mathlib.Core.List.{[]};
-ghost use Prim.Native.Nat.{_+_, _*_, _-_, _^_, _≤_, _<_};
+ghost use Prim.Native.Nat.{_*_, _-_, _^_, _≤_, _<_};
 ghost use lib.ListN.{length, take};
 ghost use Rattle.repair_nodes.specs.Counts.{counted};
 ghost use Rattle.repair_tally.specs.Tally.{through, entering, enteringAll, raised, raising, lowering, Told, ToldNew, nodesIn, Askable};

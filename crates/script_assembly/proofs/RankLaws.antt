@@ -3,7 +3,7 @@
 -- Assumes nothing.
 use mathlib.Core.Path.{_≡_, refl, sym, ap, ap₂, _∙_}
 use mathlib.Core.Bool.{Bool, true, false}
-use mathlib.Core.Logic.{_⊎_, ⊎-elim}
+use mathlib.Core.Logic.{⊎-elim}
 use mathlib.Core.List.{List, [], _∷_, _++_, append-nil}
 use Prim.Native.Nat.{ℕ, zero, suc, _+_, _-_, _≤_, _<_}
 use native.Mathlib.Numerals.{add-one}
@@ -25,9 +25,8 @@ use Rattle.plan_blocks.proofs.TotalLaws.{same-or, sum-const}
 use Rattle.plan_blocks.proofs.OrderLaws.{rank-taken, taken-blocks}
 use Rattle.plan_blocks.proofs.BlockLaws.{in-none, in-here, in-other, in-total, in-lt, for-early}
 use Rattle.script_assembly.specs.Assembly.{blockParts}
-use Rattle.script_assembly.specs.Steps.{lastMark, partsIn, firstRank, rankedAt}
+use Rattle.script_assembly.specs.Steps.{partsIn, firstRank, rankedAt}
 use Rattle.script_assembly.proofs.GrowLaws.{grown-same}
-use Rattle.script_assembly.proofs.StepLaws.{mark-last, mark-more}
 
 -- how many of the first m parts of major stage s are in block b
 abbrev pub inBefore : List ℕ → ℕ → ℕ → ℕ → ℕ
@@ -270,14 +269,3 @@ module _ (d room : List ℕ) (t : Tabled d room) (s : ℕ) (stage : s < majorsOf
       let is : rankedAt room k ≡ partsBefore d s + i = ap (rankedAt room) (sym (r .rank)) ∙ a .ranked in
       let q : blockOf d s i ≡ b = sym (a .block) ∙ ap (blockAt room) (sym is) ∙ e in
       omega (arith, r .until, ap (λ (x : ℕ). firstRank d s (x + 1)) q)
-
-  -- the last mark: the next part is of another block, or the stage ends
-  module _ (b k : ℕ) (some : 0 < blocksOf d) (in-blocks : b < blocksOf d) (from : firstRank d s b ≤ k) (until : k < firstRank d s (b + 1)) where
-    pub mark-end : (k + 1 < partsBefore d (s + 1) → blockAt room (rankedAt room (k + 1)) ≡ b → ⊥) → lastMark (length (partsIn d s b)) (k - firstRank d s b) ≡ 1
-    mark-end h =
-        ⊎-elim (λ l. absurd (h (omega (arith, first-in d s (b + 1) (omega arith) some)) (rank-inside b (k + 1) (omega arith) l)))
-        (λ l. mark-last _ _ (omega (arith, first-more d s b)))
-        (lt-or-ge (k + 1) (firstRank d s (b + 1)))
-
-    pub mark-on : k + 1 < partsBefore d (s + 1) → blockAt room (rankedAt room (k + 1)) ≡ b → lastMark (length (partsIn d s b)) (k - firstRank d s b) ≡ 0
-    mark-on l e = mark-more _ _ (λ q. rank-outside b (k + 1) (omega (arith, first-more d s b)) l e)

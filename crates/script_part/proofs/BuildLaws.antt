@@ -121,7 +121,9 @@ entries-first d p entries e small = record {
 
 -- ---- the reads are found: their lanes, and the numbers of their pairs
 
-module _ (d : List ℕ) (p : ℕ) (b : Body) (k : Buildable d p b) (narrow : AllNarrow (askedTo d p 8192)) (room : List ℕ) (found : FoundRoom d p room) (wide : length room ≡ 40960) (set₀ set′ : List ℕ) (n : ℕ) (count : (n ≡ length (readWords d p)) × (n ≤ 16384)) (holds : set′ ≡ sets set₀ 0 (readWords d p)) (set-room : 16384 ≤ length set₀) where
+module _ (d : List ℕ) (p : ℕ) (b : Body) (k : Buildable d p b) (narrow : AllNarrow (askedTo d p 8192)) (room : List ℕ) (found : FoundRoom d p room)
+    (wide : length room ≡ 40960) (set₀ set′ : List ℕ) (n : ℕ) (count : (n ≡ length (readWords d p)) × (n ≤ 16384)) (holds : set′ ≡ sets set₀ 0 (readWords d p))
+    (set-room : 16384 ≤ length set₀) where
   abbrev table : List ℕ
   table = take (length room - 32768) (drop 32768 room)
 

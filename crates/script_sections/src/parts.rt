@@ -1,7 +1,6 @@
 // Sections joined: the head, the stages, the two tables, and a part's script.
 ghost use mathlib.Core.Path.{_≡_};
 ghost use mathlib.Core.List.{_++_};
-ghost use Prim.Native.Nat.{_+_};
 ghost use lib.ListN.{length, replicate};
 ghost use Rattle.plan_record.specs.Record.{stagesOf};
 ghost use Rattle.script.specs.Script.{locationWords, stageSections, sramSection, enableSection, partScript};

@@ -2,7 +2,7 @@
 // comes on standard input; host/README.md says its form, and `make_answers plans` of host/ makes it.
 ghost use mathlib.Core.Path.{_≡_};
 ghost use mathlib.Core.Bool.{true};
-ghost use Prim.Native.Nat.{_+_, _≤_, _<_, _^_};
+ghost use Prim.Native.Nat.{_+_, _<_, _^_};
 ghost use Rattle.stored_lists.specs.Stored.{listAt, Halves, RefusalAt, SizesAt, ListsAt};
 ghost use lib.ListN.{take};
 use flatten::Flattened;

@@ -18,18 +18,6 @@ bytes-in c = c .before .before .before .before .before .before .args .bytes .now
 start-in : (c : tie.After-known-told) → startTold (startOf (bytes-in c)) ≡ StartAt (c .before .header .given .0 .0) (c .before .header .given .0 .1 .0)
 start-in c = sym (c .before .before .before .start-of .ensures) ∙ c .before .header .given .1
 
-start-of-requires : tie.Need-start-of-requires
-start-of-requires c κs = search needs
-
-enum-told : tie.Need-enum-told
-enum-told c = search needs
-
-refused-requires : tie.Need-refused-requires
-refused-requires c κs = search needs
-
-enum-known-header : tie.Need-enum-known-header
-enum-known-header c = search needs
-
 add-t11 : tie.Need-add-t11
 add-t11 c = omega (arith, header-bound _ _ _ (start-in (c .before)))
 
@@ -42,20 +30,8 @@ cast-t13 c = omega (arith, header-bound _ _ _ (start-in (c .before)))
 judge-requires : tie.Need-judge-requires
 judge-requires c κs = omega (arith, header-bound _ _ _ (start-in (c .before)))
 
-enum-known-n : tie.Need-enum-known-n
-enum-known-n c = search needs
-
-refused-requires-2 : tie.Need-refused-requires-2
-refused-requires-2 c κs = search needs
-
-enum-told-2 : tie.Need-enum-told-2
-enum-told-2 c = search needs
-
 mul-if1 : tie.Need-mul-if1
 mul-if1 c = omega (arith, header-bound _ _ _ (start-in (c .before .before .before .before)))
-
-refused-requires-3 : tie.Need-refused-requires-3
-refused-requires-3 c κs = search needs
 
 returns : tie.Need-returns
 returns c =
@@ -86,9 +62,6 @@ returns-3 c =
     let told = judged .before .before in
     read-bad (bytes-in told) _ _ (start-in told) _ _ _ (sym (c .before .before .n .given .1) ∙ judged .judge .ensures) (c .refused2 .ensures)
 
-same-length : tie.Need-same-length
-same-length c = search needs
-
 returns-4 : tie.Need-returns-4
 returns-4 c =
     let filled = c .before .before in
@@ -100,23 +73,6 @@ returns-4 c =
 pub read-gates-spec : {M : Type 1} → statement M
 read-gates-spec =
     tie.close
-    (tie.spec
-    start-of-requires
-    enum-told
-    refused-requires
-    enum-known-header
-    add-t11
-    add-t12
-    cast-t13
-    judge-requires
-    enum-known-n
-    refused-requires-2
-    enum-told-2
-    mul-if1
-    refused-requires-3
-    returns
-    fill-requires
-    returns-2
-    returns-3
-    same-length
-    returns-4)
+    (tie.spec (λ c κs. search needs) (λ c. search needs) (λ c κs. search needs) (λ c. search needs) add-t11 add-t12 cast-t13 judge-requires
+    (λ c. search needs) (λ c κs. search needs) (λ c. search needs) mul-if1 (λ c κs. search needs) returns fill-requires returns-2 returns-3
+    (λ c. search needs) returns-4)

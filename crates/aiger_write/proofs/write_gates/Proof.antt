@@ -5,21 +5,6 @@ use Rattle.aiger_write.proofs.ListLaws.{measured, write-other, write-sh
 use Rattle.aiger_write.proofs.write_gates.Statement.{statement}
 use Rattle.aiger_write.proofs.write_gates.Tie as tie
 
-judge-requires : tie.Need-judge-requires
-judge-requires c κs = search needs
-
-enum-told : tie.Need-enum-told
-enum-told c = search needs
-
-refused-requires : tie.Need-refused-requires
-refused-requires c κs = search needs
-
-enum-known-n : tie.Need-enum-known-n
-enum-known-n c = search needs
-
-refused-requires-2 : tie.Need-refused-requires-2
-refused-requires-2 c κs = search needs
-
 returns : tie.Need-returns
 returns c =
     let value = c .before .before .before in
@@ -41,9 +26,6 @@ returns-2 c =
     let start = judged .before .before .before in
     write-other (start .args .gates .now) _ _ (sym (judged .judge .ensures) ∙ c .before .enum-told .given .1) (c .refused .ensures)
 
-same-length : tie.Need-same-length
-same-length c = search needs
-
 returns-3 : tie.Need-returns-3
 returns-3 c =
     let put = c .before .before in
@@ -57,14 +39,5 @@ returns-3 c =
 pub write-gates-spec : {M : Type 1} → statement M
 write-gates-spec =
     tie.close
-    (tie.spec
-    judge-requires
-    enum-told
-    refused-requires
-    enum-known-n
-    refused-requires-2
-    returns
-    put-text-requires
-    returns-2
-    same-length
-    returns-3)
+    (tie.spec (λ c κs. search needs) (λ c. search needs) (λ c κs. search needs) (λ c. search needs) (λ c κs. search needs) returns
+    put-text-requires returns-2 (λ c. search needs) returns-3)

@@ -12,18 +12,6 @@ use Rattle.repair.proofs.WholeLaws.{zeros-length, zeros-own, room-left,
 use borrow.Author.Needs.{needs}
 use Rattle.repair.proofs.place_bit.Statement.{statement}
 use Rattle.repair.proofs.place_bit.Tie as tie
-use Rattle.repair.proofs.place_bit.Reads as reads
-use Rattle.repair.proofs.place_bit.Lts as lts
-use Rattle.repair.proofs.place_over.Reads as place-over-reads
-use Rattle.repair_settle.proofs.refused.Reads as refused-reads
-use Rattle.repair.proofs.room_enough.Reads as room-enough-reads
-use Rattle.words.proofs.clear.clear.Reads as clear-reads
-
-room-enough-requires : tie.Need-room-enough-requires
-room-enough-requires c κs = search needs
-
-clear-requires : tie.Need-clear-requires
-clear-requires c κs = search needs
 
 place-over-requires : tie.Need-place-over-requires
 place-over-requires c κs =
@@ -32,20 +20,9 @@ place-over-requires c κs =
     let r = t1 .before in
     let b1 = r .before .before .before .before .before .before in
     let s = b1 .before .before in
-    let h : roomWords (s .args .counts .now) ≤ length (s .args .room .now) = leb-true _ _ (sym (r .room-enough .ensures) ∙ t1 .if1 .taken) in
-    (zeros-own (s .args .room .now) (e .clear .last .0) (e .clear .ensures), omega (arith, zeros-length (s .args .room .now) (e .clear .last .0) (e .clear .ensures)))
-
-clear-requires-2 : tie.Need-clear-requires-2
-clear-requires-2 c κs = search needs
-
-same-length : tie.Need-same-length
-same-length c = search needs
-
-same-length-2 : tie.Need-same-length-2
-same-length-2 c = search needs
-
-same-length-3 : tie.Need-same-length-3
-same-length-3 c = search needs
+    let room = s .args .room .now in
+    let h : roomWords (s .args .counts .now) ≤ length room = leb-true _ _ (sym (r .room-enough .ensures) ∙ t1 .if1 .taken) in
+    (zeros-own room (e .clear .last .0) (e .clear .ensures), omega (arith, zeros-length room (e .clear .last .0) (e .clear .ensures)))
 
 returns : tie.Need-returns
 returns c =
@@ -57,16 +34,12 @@ returns c =
     let r = t1 .before in
     let b2 = r .before .before .before .before .before .before in
     let s = b2 .before .before in
-    let h : roomWords (s .args .counts .now) ≤ length (s .args .room .now) = leb-true _ _ (sym (r .room-enough .ensures) ∙ t1 .if1 .taken) in
-    let l = zeros-length (s .args .room .now) (e .clear .last .0) (e .clear .ensures) in
-    whole-end _ _ _ _ _ _ _ (s .args .counts .now) (s .args .room .now) (rw l at (d .place-over .ensures))
-    (room-left (s .args .room .now) (e .clear .last .0) (e .clear .ensures) (s .args .counts .now) (d .place-over .last .1 .1 .1 .1 .1 .0) _ h (d .place-over .kept .1 .1 .1 .1 .1 .0) (g .clear2 .ensures))
-
-refused-requires : tie.Need-refused-requires
-refused-requires c κs = search needs
-
-same-length-4 : tie.Need-same-length-4
-same-length-4 c = search needs
+    let counts = s .args .counts .now in
+    let room = s .args .room .now in
+    let h : roomWords counts ≤ length room = leb-true _ _ (sym (r .room-enough .ensures) ∙ t1 .if1 .taken) in
+    let l = zeros-length room (e .clear .last .0) (e .clear .ensures) in
+    whole-end _ _ _ _ _ _ _ counts room (rw l at (d .place-over .ensures))
+    (room-left room (e .clear .last .0) (e .clear .ensures) counts (d .place-over .last .1 .1 .1 .1 .1 .0) _ h (d .place-over .kept .1 .1 .1 .1 .1 .0) (g .clear2 .ensures))
 
 returns-2 : tie.Need-returns-2
 returns-2 c =
@@ -74,23 +47,17 @@ returns-2 c =
     let r = t1 .before in
     let b1 = r .before .before .before .before .before .before in
     let s = b1 .before .before in
-    let h : length (s .args .room .now) < roomWords (s .args .counts .now) = leb-false _ _ (sym (r .room-enough .ensures) ∙ t1 .if1 .left) in
-    whole-end _ _ _ _ _ _ _ (s .args .counts .now) (s .args .room .now)
-    (refused-end _ _ (s .args .slots .now) (s .args .after .now) 32 0 (place-32 (s .args .gates .now) (s .args .levels .now) (s .args .counts .now) (s .args .slots .now) (length (s .args .after .now)) (s .args .level) (s .args .slot) (s .args .node .0) (length (s .args .room .now)) h) (c .refused .ensures))
-    (sym (room-short (s .args .counts .now) (s .args .room .now) h))
+    let room = s .args .room .now in
+    let counts = s .args .counts .now in
+    let slots = s .args .slots .now in
+    let after = s .args .after .now in
+    let h : length room < roomWords counts = leb-false _ _ (sym (r .room-enough .ensures) ∙ t1 .if1 .left) in
+    whole-end _ _ _ _ _ _ _ counts room
+    (refused-end _ _ slots after 32 0 (place-32 (s .args .gates .now) (s .args .levels .now) counts slots (length after) (s .args .level) (s .args .slot) (s .args .node .0) (length room) h) (c .refused .ensures))
+    (sym (room-short counts room h))
 
 pub place-bit-spec : {M : Type 1} → statement M
 place-bit-spec =
     tie.close
-    (tie.spec
-    room-enough-requires
-    clear-requires
-    place-over-requires
-    clear-requires-2
-    same-length
-    same-length-2
-    same-length-3
-    returns
-    refused-requires
-    same-length-4
-    returns-2)
+    (tie.spec (λ c κs. search needs) (λ c κs. search needs) place-over-requires (λ c κs. search needs) (λ c. search needs)
+    (λ c. search needs) (λ c. search needs) returns (λ c κs. search needs) (λ c. search needs) returns-2)

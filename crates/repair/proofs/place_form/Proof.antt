@@ -7,17 +7,11 @@ use Rattle.repair.proofs.CodeLaws.{place-by}
 use borrow.Author.Needs.{needs}
 use Rattle.repair.proofs.place_form.Statement.{statement}
 use Rattle.repair.proofs.place_form.Tie as tie
-use Rattle.repair.proofs.place_form.Reads as reads
-use Rattle.repair.proofs.place_form.Lts as lts
-use Rattle.repair.proofs.width_of.Reads as width-of-reads
 
 returns : tie.Need-returns
 returns c =
     let s = c .before in
     sym (place-high (s .args .level) (s .args .slot) (omega arith))
-
-width-of-requires : tie.Need-width-of-requires
-width-of-requires c κs = search needs
 
 returns-2 : tie.Need-returns-2
 returns-2 c =
@@ -25,4 +19,5 @@ returns-2 c =
     place-by (s .args .level) (s .args .slot) _ (omega arith) (c .width-of .ensures)
 
 pub place-form-spec : {M : Type 1} → statement M
-place-form-spec = tie.close (tie.spec returns width-of-requires returns-2)
+place-form-spec = tie.close
+    (tie.spec returns (λ c κs. search needs) returns-2)

@@ -11,13 +11,6 @@ use Rattle.repair.proofs.CodeLaws.{placing-few, list-size, list-spots, 
 use borrow.Author.Needs.{needs}
 use Rattle.repair.proofs.place_node.Statement.{statement}
 use Rattle.repair.proofs.place_node.Tie as tie
-use Rattle.repair.proofs.place_node.Reads as reads
-use Rattle.repair.proofs.place_node.Lts as lts
-use Rattle.repair.proofs.list_placing.Reads as list-placing-reads
-use Rattle.repair_settle.proofs.place_spots.Reads as place-spots-reads
-
-slice-aggregate-list-placing : tie.Need-slice-aggregate-list-placing
-slice-aggregate-list-placing c = search needs
 
 list-placing-requires : tie.Need-list-placing-requires
 list-placing-requires c κs =
@@ -32,40 +25,57 @@ mul-list c =
     let u = c .before .before .before .before in
     let b1 = u .before .before .before .before .before .before in
     let s = b1 .before .before in
-    omega (arith, list-size (replicate 32768 0) (u .list-placing .last .1 .1 .0) (placing (s .args .gates .now) (s .args .levels .now) (s .args .at .level) (s .args .at .width) (s .args .at .index) (s .args .node .0)) (u .list-placing .result) (u .list-placing .ensures) (length-replicate {A = ℕ} 32768 0) (placing-few (s .args .gates .now) (s .args .levels .now) (s .args .at .level) (s .args .at .width) (s .args .at .index) (s .args .node .0) (s .pre .1 .level)), u .list-placing .ensures .size, length-replicate {A = ℕ} 32768 0)
+    let gates = s .args .gates .now in
+    let levels = s .args .levels .now in
+    let node = s .args .node in
+    omega (
+      arith,
+      list-size (replicate 32768 0) (u .list-placing .last .1 .1 .0)
+          (placing gates levels (s .args .at .level) (s .args .at .width) (s .args .at .index) (node .0)) (u .list-placing .result) (u .list-placing .ensures)
+          (length-replicate {A = ℕ} 32768 0) (placing-few gates levels (s .args .at .level) (s .args .at .width) (s .args .at .index) (node .0) (s .pre .1 .level)),
+      u .list-placing .ensures .size,
+      length-replicate {A = ℕ} 32768 0,
+    )
 
 array-share-prefix-list : tie.Need-array-share-prefix-list
 array-share-prefix-list c =
     let u = c .before .before .before .before in
     let b1 = u .before .before .before .before .before .before in
     let s = b1 .before .before in
-    list-size (replicate 32768 0) (u .list-placing .last .1 .1 .0) (placing (s .args .gates .now) (s .args .levels .now) (s .args .at .level) (s .args .at .width) (s .args .at .index) (s .args .node .0)) (u .list-placing .result) (u .list-placing .ensures) (length-replicate {A = ℕ} 32768 0) (placing-few (s .args .gates .now) (s .args .levels .now) (s .args .at .level) (s .args .at .width) (s .args .at .index) (s .args .node .0) (s .pre .1 .level))
+    let gates = s .args .gates .now in
+    let levels = s .args .levels .now in
+    let node = s .args .node in
+    list-size (replicate 32768 0) (u .list-placing .last .1 .1 .0) (placing gates levels (s .args .at .level) (s .args .at .width) (s .args .at .index) (node .0))
+    (u .list-placing .result) (u .list-placing .ensures) (length-replicate {A = ℕ} 32768 0)
+    (placing-few gates levels (s .args .at .level) (s .args .at .width) (s .args .at .index) (node .0) (s .pre .1 .level))
 
 slice-aggregate-place-spots : tie.Need-slice-aggregate-place-spots
 slice-aggregate-place-spots c =
     let u = c .before .before .before .before .before in
     let b1 = u .before .before .before .before .before .before in
     let s = b1 .before .before in
-    sym (length-take-le (2 * u .list-placing .result) (u .list-placing .last .1 .1 .0) (list-size (replicate 32768 0) (u .list-placing .last .1 .1 .0) (placing (s .args .gates .now) (s .args .levels .now) (s .args .at .level) (s .args .at .width) (s .args .at .index) (s .args .node .0)) (u .list-placing .result) (u .list-placing .ensures) (length-replicate {A = ℕ} 32768 0) (placing-few (s .args .gates .now) (s .args .levels .now) (s .args .at .level) (s .args .at .width) (s .args .at .index) (s .args .node .0) (s .pre .1 .level))))
+    let gates = s .args .gates .now in
+    let levels = s .args .levels .now in
+    let node = s .args .node in
+    sym (length-take-le (2 * u .list-placing .result) (u .list-placing .last .1 .1 .0)
+    (list-size (replicate 32768 0) (u .list-placing .last .1 .1 .0) (placing gates levels (s .args .at .level) (s .args .at .width) (s .args .at .index) (node .0))
+    (u .list-placing .result) (u .list-placing .ensures) (length-replicate {A = ℕ} 32768 0)
+    (placing-few gates levels (s .args .at .level) (s .args .at .width) (s .args .at .index) (node .0) (s .pre .1 .level))))
 
 place-spots-requires : tie.Need-place-spots-requires
 place-spots-requires c κs =
     let u = c .before .before .before .before .before in
     let b1 = u .before .before .before .before .before .before in
-    let s = b1 .before .before in (
+    let s = b1 .before .before in
+    let gates = s .args .gates .now in
+    let levels = s .args .levels .now in
+    let node = s .args .node in (
       s .pre .2,
-      list-spotted (replicate 32768 0) (u .list-placing .last .1 .1 .0) (placing (s .args .gates .now) (s .args .levels .now) (s .args .at .level) (s .args .at .width) (s .args .at .index) (s .args .node .0)) (u .list-placing .result) (u .list-placing .ensures) (length-replicate {A = ℕ} 32768 0) (placing-few (s .args .gates .now) (s .args .levels .now) (s .args .at .level) (s .args .at .width) (s .args .at .index) (s .args .node .0) (s .pre .1 .level)) (s .args .slots .now)
-          (placing-sound (s .args .gates .now) (s .args .levels .now) (s .pre .0 .gates-right) 16383 (s .args .at .level) (s .args .at .width) (s .args .at .index) (s .args .node .0) (s .pre .1 .pin) (s .pre .1 .rooted)),
+      list-spotted (replicate 32768 0) (u .list-placing .last .1 .1 .0) (placing gates levels (s .args .at .level) (s .args .at .width) (s .args .at .index) (node .0))
+          (u .list-placing .result) (u .list-placing .ensures) (length-replicate {A = ℕ} 32768 0)
+          (placing-few gates levels (s .args .at .level) (s .args .at .width) (s .args .at .index) (node .0) (s .pre .1 .level)) (s .args .slots .now)
+          (placing-sound gates levels (s .pre .0 .gates-right) 16383 (s .args .at .level) (s .args .at .width) (s .args .at .index) (node .0) (s .pre .1 .pin) (s .pre .1 .rooted)),
     )
-
-same-length : tie.Need-same-length
-same-length c = search needs
-
-same-length-2 : tie.Need-same-length-2
-same-length-2 c = search needs
-
-same-length-3 : tie.Need-same-length-3
-same-length-3 c = search needs
 
 returns : tie.Need-returns
 returns c =
@@ -73,19 +83,16 @@ returns c =
     let u = d .before .before .before .before .before .before in
     let b1 = u .before .before .before .before .before .before in
     let s = b1 .before .before in
-    rw (list-spots (replicate 32768 0) (u .list-placing .last .1 .1 .0) (placing (s .args .gates .now) (s .args .levels .now) (s .args .at .level) (s .args .at .width) (s .args .at .index) (s .args .node .0)) (u .list-placing .result) (u .list-placing .ensures) (length-replicate {A = ℕ} 32768 0) (placing-few (s .args .gates .now) (s .args .levels .now) (s .args .at .level) (s .args .at .width) (s .args .at .index) (s .args .node .0) (s .pre .1 .level))) at (d .place-spots .ensures)
+    let gates = s .args .gates .now in
+    let levels = s .args .levels .now in
+    let node = s .args .node in
+    rw (list-spots (replicate 32768 0) (u .list-placing .last .1 .1 .0) (placing gates levels (s .args .at .level) (s .args .at .width) (s .args .at .index) (node .0))
+    (u .list-placing .result) (u .list-placing .ensures) (length-replicate {A = ℕ} 32768 0)
+    (placing-few gates levels (s .args .at .level) (s .args .at .width) (s .args .at .index) (node .0) (s .pre .1 .level))) at
+    (d .place-spots .ensures)
 
 pub place-node-spec : {M : Type 1} → statement M
 place-node-spec =
     tie.close
-    (tie.spec
-    slice-aggregate-list-placing
-    list-placing-requires
-    mul-list
-    array-share-prefix-list
-    slice-aggregate-place-spots
-    place-spots-requires
-    same-length
-    same-length-2
-    same-length-3
-    returns)
+    (tie.spec (λ c. search needs) list-placing-requires mul-list array-share-prefix-list slice-aggregate-place-spots place-spots-requires
+    (λ c. search needs) (λ c. search needs) (λ c. search needs) returns)

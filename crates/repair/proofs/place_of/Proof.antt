@@ -5,12 +5,6 @@ use Rattle.repair.proofs.CodeLaws.{width-small, placed-place}
 use borrow.Author.Needs.{needs}
 use Rattle.repair.proofs.place_of.Statement.{statement}
 use Rattle.repair.proofs.place_of.Tie as tie
-use Rattle.repair.proofs.place_of.Reads as reads
-use Rattle.repair.proofs.place_of.Lts as lts
-use Rattle.repair.proofs.width_of.Reads as width-of-reads
-
-width-of-requires : tie.Need-width-of-requires
-width-of-requires c κs = search needs
 
 add-t5 : tie.Need-add-t5
 add-t5 c =
@@ -23,4 +17,5 @@ returns c =
     placed-place (s .args .level) (s .args .slot) _ (s .pre .0) (s .pre .1) (c .width-of .ensures)
 
 pub place-of-spec : {M : Type 1} → statement M
-place-of-spec = tie.close (tie.spec width-of-requires add-t5 returns)
+place-of-spec = tie.close
+    (tie.spec (λ c κs. search needs) add-t5 returns)

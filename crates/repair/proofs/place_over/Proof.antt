@@ -15,40 +15,18 @@ use Rattle.words.proofs.FoundLaws.{item-some, item-none}
 use borrow.Author.Needs.{needs}
 use Rattle.repair.proofs.place_over.Statement.{statement}
 use Rattle.repair.proofs.place_over.Tie as tie
-use Rattle.repair.proofs.place_over.Reads as reads
-use Rattle.repair.proofs.place_over.Lts as lts
-use Rattle.gatelist.proofs.check_list.Reads as check-list-reads
-use Rattle.repair.proofs.place_at.Reads as place-at-reads
-use Rattle.repair.proofs.place_form.Reads as place-form-reads
-use Rattle.repair_settle.proofs.refused.Reads as refused-reads
-use Rattle.repair_tally.proofs.check_counts.Reads as check-counts-reads
-
-refused-requires : tie.Need-refused-requires
-refused-requires c κs = search needs
 
 returns : tie.Need-returns
 returns c =
     let b1 = c .before .before .before .before .before .before in
     let s = b1 .before .before .before in
-    refused-end _ _ (s .args .slots .now) (s .args .after .now) 5 0 (place-5 (s .args .gates .now) (s .args .levels .now) (s .args .counts .now) (s .args .slots .now) (length (s .args .after .now)) (s .args .level) (s .args .slot) (s .args .node .0) (length (s .args .map .now)) (s .pre .1) (form-pin (placeRight 13 (s .args .level) (s .args .slot)) (countsRight (s .args .counts .now)) (s .args .node .0) (omega arith))) (c .refused .ensures)
-
-place-form-requires : tie.Need-place-form-requires
-place-form-requires c κs = search needs
-
-check-counts-requires : tie.Need-check-counts-requires
-check-counts-requires c κs = search needs
-
-check-list-requires : tie.Need-check-list-requires
-check-list-requires c κs = search needs
-
-enum-known-g : tie.Need-enum-known-g
-enum-known-g c = search needs
-
-refused-requires-2 : tie.Need-refused-requires-2
-refused-requires-2 c κs = search needs
-
-enum-told : tie.Need-enum-told
-enum-told c = search needs
+    let slots = s .args .slots .now in
+    let after = s .args .after .now in
+    let counts = s .args .counts .now in
+    let level = s .args .level in
+    let slot = s .args .slot in
+    let node = s .args .node in
+    refused-end _ _ slots after 5 0 (place-5 (s .args .gates .now) (s .args .levels .now) counts slots (length after) level slot (node .0) (length (s .args .map .now)) (s .pre .1) (form-pin (placeRight 13 level slot) (countsRight counts) (node .0) (omega arith))) (c .refused .ensures)
 
 place-at-requires : tie.Need-place-at-requires
 place-at-requires c κs =
@@ -68,9 +46,6 @@ place-at-requires c κs =
     let (h, j) = place-parts (s .args .level) (s .args .slot) p in
     (item-none _ (sym (l .check-list .ensures) ∙ o .enum-told .given .1), h, j, n, e .1)
 
-same-length : tie.Need-same-length
-same-length c = search needs
-
 returns-2 : tie.Need-returns-2
 returns-2 c =
     let g = c .before .before in
@@ -82,21 +57,21 @@ returns-2 c =
     let x1 = f .before in
     let z = x1 .before .before .before .before .before in
     let s = z .before .before .before in
+    let counts = s .args .counts .now in
+    let map = s .args .map .now in
+    let node = s .args .node in
+    let slots = s .args .slots .now in
+    let after = s .args .after .now in
+    let level = s .args .level in
+    let slot = s .args .slot in
     let p = sym (f .place-form .ensures) ∙ t2 .if2 .taken in
     let w = told-true _ _ _ (u .check-counts .ensures) (t3 .if3 .taken) in
-    let e = entered-true (s .args .counts .now) (s .args .map .now) (s .pre .0) (s .pre .1) (u .check-counts .last .1 .0) (u .check-counts .kept .1 .0) (λ i. z .shared-slice-known3 .given i .fits) w in
-    let n : s .args .node .0 ≤ 2 ^ 30 = omega (arith, x1 .if1 .left) in
+    let e = entered-true counts map (s .pre .0) (s .pre .1) (u .check-counts .last .1 .0) (u .check-counts .kept .1 .0) (λ i. z .shared-slice-known3 .given i .fits) w in
+    let n : node .0 ≤ 2 ^ 30 = omega (arith, x1 .if1 .left) in
     let b = item-some _ _ (sym (l .check-list .ensures) ∙ g .g .given .1) in
-    refused-end _ _ (s .args .slots .now) (s .args .after .now) 6 (g .g .given .0 .0) (place-6 (s .args .gates .now) (s .args .levels .now) (s .args .counts .now) (s .args .slots .now) (length (s .args .after .now)) (s .args .level) (s .args .slot) (s .args .node .0) (length (s .args .map .now)) (s .pre .1) (form-right (placeRight 13 (s .args .level) (s .args .slot)) (countsRight (s .args .counts .now)) (s .args .node .0) p n (e .0)) (g .g .given .0 .0) b) (c .refused2 .ensures)
-
-same-length-2 : tie.Need-same-length-2
-same-length-2 c = search needs
-
-same-length-3 : tie.Need-same-length-3
-same-length-3 c = search needs
-
-same-length-4 : tie.Need-same-length-4
-same-length-4 c = search needs
+    refused-end _ _ slots after 6 (g .g .given .0 .0)
+    (place-6 (s .args .gates .now) (s .args .levels .now) counts slots (length after) level slot (node .0) (length map) (s .pre .1) (form-right (placeRight 13 level slot) (countsRight counts) (node .0) p n (e .0)) (g .g .given .0 .0) b)
+    (c .refused2 .ensures)
 
 returns-3 : tie.Need-returns-3
 returns-3 c =
@@ -110,18 +85,17 @@ returns-3 c =
     let x1 = f .before in
     let z = x1 .before .before .before .before .before in
     let s = z .before .before .before in
+    let counts = s .args .counts .now in
+    let map = s .args .map .now in
+    let node = s .args .node in
+    let level = s .args .level in
+    let slot = s .args .slot in
     let p = sym (f .place-form .ensures) ∙ t2 .if2 .taken in
     let w = told-true _ _ _ (u .check-counts .ensures) (t3 .if3 .taken) in
-    let e = entered-true (s .args .counts .now) (s .args .map .now) (s .pre .0) (s .pre .1) (u .check-counts .last .1 .0) (u .check-counts .kept .1 .0) (λ i. z .shared-slice-known3 .given i .fits) w in
-    let n : s .args .node .0 ≤ 2 ^ 30 = omega (arith, x1 .if1 .left) in
+    let e = entered-true counts map (s .pre .0) (s .pre .1) (u .check-counts .last .1 .0) (u .check-counts .kept .1 .0) (λ i. z .shared-slice-known3 .given i .fits) w in
+    let n : node .0 ≤ 2 ^ 30 = omega (arith, x1 .if1 .left) in
     let b = item-none _ (sym (l .check-list .ensures) ∙ o .enum-told .given .1) in
-    rw (place-on (s .args .gates .now) (s .args .levels .now) (s .args .counts .now) (s .args .slots .now) (length (s .args .after .now)) (s .args .level) (s .args .slot) (s .args .node .0) (length (s .args .map .now)) (s .pre .1) (form-right (placeRight 13 (s .args .level) (s .args .slot)) (countsRight (s .args .counts .now)) (s .args .node .0) p n (e .0)) b) (d .place-at .ensures)
-
-refused-requires-3 : tie.Need-refused-requires-3
-refused-requires-3 c κs = search needs
-
-same-length-5 : tie.Need-same-length-5
-same-length-5 c = search needs
+    rw (place-on (s .args .gates .now) (s .args .levels .now) counts (s .args .slots .now) (length (s .args .after .now)) level slot (node .0) (length map) (s .pre .1) (form-right (placeRight 13 level slot) (countsRight counts) (node .0) p n (e .0)) b) (d .place-at .ensures)
 
 returns-4 : tie.Need-returns-4
 returns-4 c =
@@ -129,12 +103,16 @@ returns-4 c =
     let u = t3 .before .before .before in
     let b1 = u .before .before .before .before .before .before in
     let s = b1 .before .before .before .before .before .before in
+    let counts = s .args .counts .now in
+    let map = s .args .map .now in
+    let slots = s .args .slots .now in
+    let after = s .args .after .now in
+    let level = s .args .level in
+    let slot = s .args .slot in
+    let node = s .args .node in
     let w = told-false _ _ _ (u .check-counts .ensures) (t3 .if3 .left) in
-    let e = entered-false (s .args .counts .now) (s .args .map .now) (s .pre .0) (s .pre .1) w in
-    refused-end _ _ (s .args .slots .now) (s .args .after .now) 5 0 (place-5 (s .args .gates .now) (s .args .levels .now) (s .args .counts .now) (s .args .slots .now) (length (s .args .after .now)) (s .args .level) (s .args .slot) (s .args .node .0) (length (s .args .map .now)) (s .pre .1) (form-counts (placeRight 13 (s .args .level) (s .args .slot)) (countsRight (s .args .counts .now)) (s .args .node .0) e)) (c .refused3 .ensures)
-
-refused-requires-4 : tie.Need-refused-requires-4
-refused-requires-4 c κs = search needs
+    let e = entered-false counts map (s .pre .0) (s .pre .1) w in
+    refused-end _ _ slots after 5 0 (place-5 (s .args .gates .now) (s .args .levels .now) counts slots (length after) level slot (node .0) (length map) (s .pre .1) (form-counts (placeRight 13 level slot) (countsRight counts) (node .0) e)) (c .refused3 .ensures)
 
 returns-5 : tie.Need-returns-5
 returns-5 c =
@@ -142,30 +120,18 @@ returns-5 c =
     let f = t2 .before in
     let b1 = f .before .before .before .before .before .before in
     let s = b1 .before .before .before in
+    let slots = s .args .slots .now in
+    let after = s .args .after .now in
+    let counts = s .args .counts .now in
+    let level = s .args .level in
+    let slot = s .args .slot in
+    let node = s .args .node in
     let p = sym (f .place-form .ensures) ∙ t2 .if2 .left in
-    refused-end _ _ (s .args .slots .now) (s .args .after .now) 5 0 (place-5 (s .args .gates .now) (s .args .levels .now) (s .args .counts .now) (s .args .slots .now) (length (s .args .after .now)) (s .args .level) (s .args .slot) (s .args .node .0) (length (s .args .map .now)) (s .pre .1) (form-place (placeRight 13 (s .args .level) (s .args .slot)) (countsRight (s .args .counts .now)) (s .args .node .0) p)) (c .refused4 .ensures)
+    refused-end _ _ slots after 5 0 (place-5 (s .args .gates .now) (s .args .levels .now) counts slots (length after) level slot (node .0) (length (s .args .map .now)) (s .pre .1) (form-place (placeRight 13 level slot) (countsRight counts) (node .0) p)) (c .refused4 .ensures)
 
 pub place-over-spec : {M : Type 1} → statement M
 place-over-spec =
     tie.close
-    (tie.spec
-    refused-requires
-    returns
-    place-form-requires
-    check-counts-requires
-    check-list-requires
-    enum-known-g
-    refused-requires-2
-    enum-told
-    place-at-requires
-    same-length
-    returns-2
-    same-length-2
-    same-length-3
-    same-length-4
-    returns-3
-    refused-requires-3
-    same-length-5
-    returns-4
-    refused-requires-4
-    returns-5)
+    (tie.spec (λ c κs. search needs) returns (λ c κs. search needs) (λ c κs. search needs) (λ c κs. search needs) (λ c. search needs)
+    (λ c κs. search needs) (λ c. search needs) place-at-requires (λ c. search needs) returns-2 (λ c. search needs) (λ c. search needs)
+    (λ c. search needs) returns-3 (λ c κs. search needs) (λ c. search needs) returns-4 (λ c κs. search needs) returns-5)

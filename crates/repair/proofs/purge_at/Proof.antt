@@ -12,17 +12,6 @@ use Rattle.repair.proofs.CodeLaws.{clearing-few, list-size, list-spots,
 use borrow.Author.Needs.{needs}
 use Rattle.repair.proofs.purge_at.Statement.{statement}
 use Rattle.repair.proofs.purge_at.Tie as tie
-use Rattle.repair.proofs.purge_at.Reads as reads
-use Rattle.repair.proofs.purge_at.Lts as lts
-use Rattle.repair.proofs.place_of.Reads as place-of-reads
-use Rattle.repair_settle.proofs.purge_spots.Reads as purge-spots-reads
-use Rattle.repair_subtree.proofs.list_reached.Reads as list-reached-reads
-
-slice-aggregate-list-reached : tie.Need-slice-aggregate-list-reached
-slice-aggregate-list-reached c = search needs
-
-place-of-requires : tie.Need-place-of-requires
-place-of-requires c κs = search needs
 
 list-reached-requires : tie.Need-list-reached-requires
 list-reached-requires c κs =
@@ -40,8 +29,16 @@ mul-list c =
     let p = u .before in
     let b1 = p .before .before .before .before .before .before in
     let s = b1 .before in
+    let slots = s .args .slots .now in
     let h : p .place-of .result .level ≤ 13 = omega (arith, p .place-of .ensures .level, s .pre .0) in
-    omega (arith, list-size (replicate 32768 0) (u .list-reached .last .1 .0) (clearing (s .args .slots .now) (p .place-of .result .level) (p .place-of .result .width) (p .place-of .result .index)) (u .list-reached .result) (u .list-reached .ensures) (length-replicate {A = ℕ} 32768 0) (clearing-few (s .args .slots .now) (p .place-of .result .level) (p .place-of .result .width) (p .place-of .result .index) h), u .list-reached .ensures .size, length-replicate {A = ℕ} 32768 0)
+    omega (
+      arith,
+      list-size (replicate 32768 0) (u .list-reached .last .1 .0)
+          (clearing slots (p .place-of .result .level) (p .place-of .result .width) (p .place-of .result .index)) (u .list-reached .result) (u .list-reached .ensures)
+          (length-replicate {A = ℕ} 32768 0) (clearing-few slots (p .place-of .result .level) (p .place-of .result .width) (p .place-of .result .index) h),
+      u .list-reached .ensures .size,
+      length-replicate {A = ℕ} 32768 0,
+    )
 
 array-share-prefix-list : tie.Need-array-share-prefix-list
 array-share-prefix-list c =
@@ -49,8 +46,11 @@ array-share-prefix-list c =
     let p = u .before in
     let b1 = p .before .before .before .before .before .before in
     let s = b1 .before in
+    let slots = s .args .slots .now in
     let h : p .place-of .result .level ≤ 13 = omega (arith, p .place-of .ensures .level, s .pre .0) in
-    list-size (replicate 32768 0) (u .list-reached .last .1 .0) (clearing (s .args .slots .now) (p .place-of .result .level) (p .place-of .result .width) (p .place-of .result .index)) (u .list-reached .result) (u .list-reached .ensures) (length-replicate {A = ℕ} 32768 0) (clearing-few (s .args .slots .now) (p .place-of .result .level) (p .place-of .result .width) (p .place-of .result .index) h)
+    list-size (replicate 32768 0) (u .list-reached .last .1 .0) (clearing slots (p .place-of .result .level) (p .place-of .result .width) (p .place-of .result .index))
+    (u .list-reached .result) (u .list-reached .ensures) (length-replicate {A = ℕ} 32768 0)
+    (clearing-few slots (p .place-of .result .level) (p .place-of .result .width) (p .place-of .result .index) h)
 
 slice-aggregate-purge-spots : tie.Need-slice-aggregate-purge-spots
 slice-aggregate-purge-spots c =
@@ -58,8 +58,12 @@ slice-aggregate-purge-spots c =
     let p = u .before in
     let b1 = p .before .before .before .before .before .before in
     let s = b1 .before in
+    let slots = s .args .slots .now in
     let h : p .place-of .result .level ≤ 13 = omega (arith, p .place-of .ensures .level, s .pre .0) in
-    sym (length-take-le (2 * u .list-reached .result) (u .list-reached .last .1 .0) (list-size (replicate 32768 0) (u .list-reached .last .1 .0) (clearing (s .args .slots .now) (p .place-of .result .level) (p .place-of .result .width) (p .place-of .result .index)) (u .list-reached .result) (u .list-reached .ensures) (length-replicate {A = ℕ} 32768 0) (clearing-few (s .args .slots .now) (p .place-of .result .level) (p .place-of .result .width) (p .place-of .result .index) h)))
+    sym (length-take-le (2 * u .list-reached .result) (u .list-reached .last .1 .0)
+    (list-size (replicate 32768 0) (u .list-reached .last .1 .0) (clearing slots (p .place-of .result .level) (p .place-of .result .width) (p .place-of .result .index))
+    (u .list-reached .result) (u .list-reached .ensures) (length-replicate {A = ℕ} 32768 0)
+    (clearing-few slots (p .place-of .result .level) (p .place-of .result .width) (p .place-of .result .index) h)))
 
 purge-spots-requires : tie.Need-purge-spots-requires
 purge-spots-requires c κs =
@@ -67,21 +71,15 @@ purge-spots-requires c κs =
     let p = u .before in
     let z = p .before .before .before .before .before in
     let s = z .before .before in
+    let slots = s .args .slots .now in
     let h : p .place-of .result .level ≤ 13 = omega (arith, p .place-of .ensures .level, s .pre .0) in (
       s .pre .2,
-      list-spotted (replicate 32768 0) (u .list-reached .last .1 .0) (clearing (s .args .slots .now) (p .place-of .result .level) (p .place-of .result .width) (p .place-of .result .index)) (u .list-reached .result) (u .list-reached .ensures) (length-replicate {A = ℕ} 32768 0) (clearing-few (s .args .slots .now) (p .place-of .result .level) (p .place-of .result .width) (p .place-of .result .index) h) (s .args .slots .now)
-          (clearing-sound (s .args .slots .now) 16383 (small-default (s .args .slots .now) (λ i. z .slice-known .given i .fits))
+      list-spotted (replicate 32768 0) (u .list-reached .last .1 .0)
+          (clearing slots (p .place-of .result .level) (p .place-of .result .width) (p .place-of .result .index)) (u .list-reached .result) (u .list-reached .ensures)
+          (length-replicate {A = ℕ} 32768 0) (clearing-few slots (p .place-of .result .level) (p .place-of .result .width) (p .place-of .result .index) h) slots
+          (clearing-sound slots 16383 (small-default slots (λ i. z .slice-known .given i .fits))
           (p .place-of .result .level) (p .place-of .result .width) (p .place-of .result .index) (p .place-of .ensures .rooted)),
     )
-
-same-length : tie.Need-same-length
-same-length c = search needs
-
-same-length-2 : tie.Need-same-length-2
-same-length-2 c = search needs
-
-same-length-3 : tie.Need-same-length-3
-same-length-3 c = search needs
 
 returns : tie.Need-returns
 returns c =
@@ -90,22 +88,16 @@ returns c =
     let p = u .before in
     let b1 = p .before .before .before .before .before .before in
     let s = b1 .before in
+    let slots = s .args .slots .now in
     let h : p .place-of .result .level ≤ 13 = omega (arith, p .place-of .ensures .level, s .pre .0) in
-    at-cleared [] [] (s .args .counts .now) (s .args .slots .now) (s .args .after .now) (s .args .level) (s .args .slot) 0 (p .place-of .result) (p .place-of .ensures) _ _ _
-    (rw (list-spots (replicate 32768 0) (u .list-reached .last .1 .0) (clearing (s .args .slots .now) (p .place-of .result .level) (p .place-of .result .width) (p .place-of .result .index)) (u .list-reached .result) (u .list-reached .ensures) (length-replicate {A = ℕ} 32768 0) (clearing-few (s .args .slots .now) (p .place-of .result .level) (p .place-of .result .width) (p .place-of .result .index) h)) at (d .purge-spots .ensures))
+    at-cleared [] [] (s .args .counts .now) slots (s .args .after .now) (s .args .level) (s .args .slot) 0 (p .place-of .result) (p .place-of .ensures) _ _ _
+    (rw (list-spots (replicate 32768 0) (u .list-reached .last .1 .0)
+    (clearing slots (p .place-of .result .level) (p .place-of .result .width) (p .place-of .result .index)) (u .list-reached .result) (u .list-reached .ensures)
+    (length-replicate {A = ℕ} 32768 0) (clearing-few slots (p .place-of .result .level) (p .place-of .result .width) (p .place-of .result .index) h)) at
+    (d .purge-spots .ensures))
 
 pub purge-at-spec : {M : Type 1} → statement M
 purge-at-spec =
     tie.close
-    (tie.spec
-    slice-aggregate-list-reached
-    place-of-requires
-    list-reached-requires
-    mul-list
-    array-share-prefix-list
-    slice-aggregate-purge-spots
-    purge-spots-requires
-    same-length
-    same-length-2
-    same-length-3
-    returns)
+    (tie.spec (λ c. search needs) (λ c κs. search needs) list-reached-requires mul-list array-share-prefix-list slice-aggregate-purge-spots
+    purge-spots-requires (λ c. search needs) (λ c. search needs) (λ c. search needs) returns)

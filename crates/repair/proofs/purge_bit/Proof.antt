@@ -12,18 +12,6 @@ use Rattle.repair.proofs.WholeLaws.{zeros-length, zeros-own, room-left,
 use borrow.Author.Needs.{needs}
 use Rattle.repair.proofs.purge_bit.Statement.{statement}
 use Rattle.repair.proofs.purge_bit.Tie as tie
-use Rattle.repair.proofs.purge_bit.Reads as reads
-use Rattle.repair.proofs.purge_bit.Lts as lts
-use Rattle.repair.proofs.purge_over.Reads as purge-over-reads
-use Rattle.repair_settle.proofs.refused.Reads as refused-reads
-use Rattle.repair.proofs.room_enough.Reads as room-enough-reads
-use Rattle.words.proofs.clear.clear.Reads as clear-reads
-
-room-enough-requires : tie.Need-room-enough-requires
-room-enough-requires c κs = search needs
-
-clear-requires : tie.Need-clear-requires
-clear-requires c κs = search needs
 
 purge-over-requires : tie.Need-purge-over-requires
 purge-over-requires c κs =
@@ -31,20 +19,9 @@ purge-over-requires c κs =
     let t1 = e .before .before in
     let r = t1 .before in
     let s = r .before .before .before .before .before .before in
-    let h : roomWords (s .args .counts .now) ≤ length (s .args .room .now) = leb-true _ _ (sym (r .room-enough .ensures) ∙ t1 .if1 .taken) in
-    (zeros-own (s .args .room .now) (e .clear .last .0) (e .clear .ensures), omega (arith, zeros-length (s .args .room .now) (e .clear .last .0) (e .clear .ensures)))
-
-clear-requires-2 : tie.Need-clear-requires-2
-clear-requires-2 c κs = search needs
-
-same-length : tie.Need-same-length
-same-length c = search needs
-
-same-length-2 : tie.Need-same-length-2
-same-length-2 c = search needs
-
-same-length-3 : tie.Need-same-length-3
-same-length-3 c = search needs
+    let room = s .args .room .now in
+    let h : roomWords (s .args .counts .now) ≤ length room = leb-true _ _ (sym (r .room-enough .ensures) ∙ t1 .if1 .taken) in
+    (zeros-own room (e .clear .last .0) (e .clear .ensures), omega (arith, zeros-length room (e .clear .last .0) (e .clear .ensures)))
 
 returns : tie.Need-returns
 returns c =
@@ -55,16 +32,12 @@ returns c =
     let t1 = e .before .before in
     let r = t1 .before in
     let s = r .before .before .before .before .before .before in
-    let h : roomWords (s .args .counts .now) ≤ length (s .args .room .now) = leb-true _ _ (sym (r .room-enough .ensures) ∙ t1 .if1 .taken) in
-    let l = zeros-length (s .args .room .now) (e .clear .last .0) (e .clear .ensures) in
-    whole-end _ _ _ _ _ _ _ (s .args .counts .now) (s .args .room .now) (rw l at (d .purge-over .ensures))
-    (room-left (s .args .room .now) (e .clear .last .0) (e .clear .ensures) (s .args .counts .now) (d .purge-over .last .1 .1 .1 .0) _ h (d .purge-over .kept .1 .1 .1 .0) (g .clear2 .ensures))
-
-refused-requires : tie.Need-refused-requires
-refused-requires c κs = search needs
-
-same-length-4 : tie.Need-same-length-4
-same-length-4 c = search needs
+    let counts = s .args .counts .now in
+    let room = s .args .room .now in
+    let h : roomWords counts ≤ length room = leb-true _ _ (sym (r .room-enough .ensures) ∙ t1 .if1 .taken) in
+    let l = zeros-length room (e .clear .last .0) (e .clear .ensures) in
+    whole-end _ _ _ _ _ _ _ counts room (rw l at (d .purge-over .ensures))
+    (room-left room (e .clear .last .0) (e .clear .ensures) counts (d .purge-over .last .1 .1 .1 .0) _ h (d .purge-over .kept .1 .1 .1 .0) (g .clear2 .ensures))
 
 returns-2 : tie.Need-returns-2
 returns-2 c =
@@ -79,15 +52,5 @@ returns-2 c =
 pub purge-bit-spec : {M : Type 1} → statement M
 purge-bit-spec =
     tie.close
-    (tie.spec
-    room-enough-requires
-    clear-requires
-    purge-over-requires
-    clear-requires-2
-    same-length
-    same-length-2
-    same-length-3
-    returns
-    refused-requires
-    same-length-4
-    returns-2)
+    (tie.spec (λ c κs. search needs) (λ c κs. search needs) purge-over-requires (λ c κs. search needs) (λ c. search needs)
+    (λ c. search needs) (λ c. search needs) returns (λ c κs. search needs) (λ c. search needs) returns-2)

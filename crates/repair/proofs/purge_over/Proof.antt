@@ -12,18 +12,6 @@ use Rattle.repair.proofs.WholeLaws.{place-parts, both-place, both-count
 use borrow.Author.Needs.{needs}
 use Rattle.repair.proofs.purge_over.Statement.{statement}
 use Rattle.repair.proofs.purge_over.Tie as tie
-use Rattle.repair.proofs.purge_over.Reads as reads
-use Rattle.repair.proofs.purge_over.Lts as lts
-use Rattle.repair.proofs.place_form.Reads as place-form-reads
-use Rattle.repair.proofs.purge_at.Reads as purge-at-reads
-use Rattle.repair_settle.proofs.refused.Reads as refused-reads
-use Rattle.repair_tally.proofs.check_counts.Reads as check-counts-reads
-
-place-form-requires : tie.Need-place-form-requires
-place-form-requires c κs = search needs
-
-check-counts-requires : tie.Need-check-counts-requires
-check-counts-requires c κs = search needs
 
 purge-at-requires : tie.Need-purge-at-requires
 purge-at-requires c κs =
@@ -39,15 +27,6 @@ purge-at-requires c κs =
     let (h, j) = place-parts (s .args .level) (s .args .slot) p in
     (h, j, e .1)
 
-same-length : tie.Need-same-length
-same-length c = search needs
-
-same-length-2 : tie.Need-same-length-2
-same-length-2 c = search needs
-
-same-length-3 : tie.Need-same-length-3
-same-length-3 c = search needs
-
 returns : tie.Need-returns
 returns c =
     let d = c .before .before .before .before .before .before in
@@ -57,16 +36,14 @@ returns c =
     let f = t2 .before in
     let z = f .before .before .before .before in
     let s = z .before in
+    let counts = s .args .counts .now in
+    let map = s .args .map .now in
+    let level = s .args .level in
+    let slot = s .args .slot in
     let p = sym (f .place-form .ensures) ∙ t2 .if1 .taken in
     let w = told-true _ _ _ (u .check-counts .ensures) (t3 .if2 .taken) in
-    let e = entered-true (s .args .counts .now) (s .args .map .now) (s .pre .0) (s .pre .1) (u .check-counts .last .1 .0) (u .check-counts .kept .1 .0) (λ i. z .shared-slice-known .given i .fits) w in
-    rw (clear-on (s .args .counts .now) (s .args .slots .now) (length (s .args .after .now)) (s .args .level) (s .args .slot) (length (s .args .map .now)) (s .pre .1) (both-right (placeRight 13 (s .args .level) (s .args .slot)) (countsRight (s .args .counts .now)) p (e .0))) (d .purge-at .ensures)
-
-refused-requires : tie.Need-refused-requires
-refused-requires c κs = search needs
-
-same-length-4 : tie.Need-same-length-4
-same-length-4 c = search needs
+    let e = entered-true counts map (s .pre .0) (s .pre .1) (u .check-counts .last .1 .0) (u .check-counts .kept .1 .0) (λ i. z .shared-slice-known .given i .fits) w in
+    rw (clear-on counts (s .args .slots .now) (length (s .args .after .now)) level slot (length map) (s .pre .1) (both-right (placeRight 13 level slot) (countsRight counts) p (e .0))) (d .purge-at .ensures)
 
 returns-2 : tie.Need-returns-2
 returns-2 c =
@@ -74,34 +51,31 @@ returns-2 c =
     let u = t3 .before .before .before in
     let b1 = u .before .before .before .before .before .before in
     let s = b1 .before .before in
+    let counts = s .args .counts .now in
+    let map = s .args .map .now in
+    let slots = s .args .slots .now in
+    let after = s .args .after .now in
+    let level = s .args .level in
+    let slot = s .args .slot in
     let w = told-false _ _ _ (u .check-counts .ensures) (t3 .if2 .left) in
-    let e = entered-false (s .args .counts .now) (s .args .map .now) (s .pre .0) (s .pre .1) w in
-    refused-end _ _ (s .args .slots .now) (s .args .after .now) 5 0 (clear-5 (s .args .counts .now) (s .args .slots .now) (length (s .args .after .now)) (s .args .level) (s .args .slot) (length (s .args .map .now)) (s .pre .1) (both-counts (placeRight 13 (s .args .level) (s .args .slot)) (countsRight (s .args .counts .now)) e)) (c .refused .ensures)
-
-refused-requires-2 : tie.Need-refused-requires-2
-refused-requires-2 c κs = search needs
+    let e = entered-false counts map (s .pre .0) (s .pre .1) w in
+    refused-end _ _ slots after 5 0 (clear-5 counts slots (length after) level slot (length map) (s .pre .1) (both-counts (placeRight 13 level slot) (countsRight counts) e)) (c .refused .ensures)
 
 returns-3 : tie.Need-returns-3
 returns-3 c =
     let t2 = c .before in
     let f = t2 .before in
     let s = f .before .before .before .before .before in
+    let slots = s .args .slots .now in
+    let after = s .args .after .now in
+    let counts = s .args .counts .now in
+    let level = s .args .level in
+    let slot = s .args .slot in
     let p = sym (f .place-form .ensures) ∙ t2 .if1 .left in
-    refused-end _ _ (s .args .slots .now) (s .args .after .now) 5 0 (clear-5 (s .args .counts .now) (s .args .slots .now) (length (s .args .after .now)) (s .args .level) (s .args .slot) (length (s .args .map .now)) (s .pre .1) (both-place (placeRight 13 (s .args .level) (s .args .slot)) (countsRight (s .args .counts .now)) p)) (c .refused2 .ensures)
+    refused-end _ _ slots after 5 0 (clear-5 counts slots (length after) level slot (length (s .args .map .now)) (s .pre .1) (both-place (placeRight 13 level slot) (countsRight counts) p)) (c .refused2 .ensures)
 
 pub purge-over-spec : {M : Type 1} → statement M
 purge-over-spec =
     tie.close
-    (tie.spec
-    place-form-requires
-    check-counts-requires
-    purge-at-requires
-    same-length
-    same-length-2
-    same-length-3
-    returns
-    refused-requires
-    same-length-4
-    returns-2
-    refused-requires-2
-    returns-3)
+    (tie.spec (λ c κs. search needs) (λ c κs. search needs) purge-at-requires (λ c. search needs) (λ c. search needs) (λ c. search needs)
+    returns (λ c κs. search needs) (λ c. search needs) returns-2 (λ c κs. search needs) returns-3)

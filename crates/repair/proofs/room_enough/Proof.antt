@@ -6,19 +6,11 @@ use Rattle.repair.proofs.WholeLaws.{room-under, room-by}
 use borrow.Author.Needs.{needs}
 use Rattle.repair.proofs.room_enough.Statement.{statement}
 use Rattle.repair.proofs.room_enough.Tie as tie
-use Rattle.repair.proofs.room_enough.Reads as reads
-use Rattle.repair.proofs.room_enough.Lts as lts
 
 returns : tie.Need-returns
 returns c =
     let s = c .before in
     room-under (s .args .counts .now) (length (s .args .room .now)) (omega arith)
-
-add-entries : tie.Need-add-entries
-add-entries c = search needs
-
-sub-result : tie.Need-sub-result
-sub-result c = search needs
 
 returns-2 : tie.Need-returns-2
 returns-2 c =
@@ -26,4 +18,5 @@ returns-2 c =
     room-by (s .args .counts .now) (length (s .args .room .now)) (omega arith)
 
 pub room-enough-spec : {M : Type 1} → statement M
-room-enough-spec = tie.close (tie.spec returns add-entries sub-result returns-2)
+room-enough-spec = tie.close
+    (tie.spec returns (λ c. search needs) (λ c. search needs) returns-2)

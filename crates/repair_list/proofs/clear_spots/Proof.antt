@@ -1,7 +1,7 @@
 -- `repair_list::clear_spots` meets its contract. The loop's invariant: the spots from spot k on come to the whole.
 -- Assumes nothing.
 use mathlib.Core.Path.{_≡_, refl, sym, _∙_}
-use Prim.Native.Nat.{_+_, _*_, _-_, _/_, _≤_}
+use Prim.Native.Nat.{_*_, _-_, _/_, _≤_}
 use native.Mathlib.Omega.{arith}
 use lib.ListN.{length, drop}
 use Rattle.repair_nodes.specs.Stage.{spotsOf, stored, emptied}
@@ -9,9 +9,6 @@ use Rattle.repair_list.proofs.RelistLaws.{clear-on, clear-end}
 use borrow.Author.Needs.{needs}
 use Rattle.repair_list.proofs.clear_spots.Statement.{statement}
 use Rattle.repair_list.proofs.clear_spots.Tie as tie
-use Rattle.repair_list.proofs.clear_spots.Reads as reads
-use Rattle.repair_list.proofs.clear_spots.Lts as lts
-use Rattle.repair_list.proofs.put_slot.Reads as put-slot-reads
 
 abbrev Inv-loop : tie.InvT-loop
 Inv-loop spots slots₀ count k₀ slots k =
@@ -24,15 +21,6 @@ loop-holds : tie.Need-loop-holds Inv-loop μ-loop
 loop-holds c =
     (omega arith, refl, refl)
 
-mul-put-slot : tie.Need-mul-put-slot Inv-loop μ-loop
-mul-put-slot c = search needs
-
-mul-put-slot-2 : tie.Need-mul-put-slot-2 Inv-loop μ-loop
-mul-put-slot-2 c = search needs
-
-shared-slice-read-put-slot : tie.Need-shared-slice-read-put-slot Inv-loop μ-loop
-shared-slice-read-put-slot c = search needs
-
 put-slot-requires : tie.Need-put-slot-requires Inv-loop μ-loop
 put-slot-requires c κs =
     let a = c .before .before .before in
@@ -40,21 +28,12 @@ put-slot-requires c κs =
     let i = s .pre (a .loop .k) (omega arith) in
     (i .some, omega (arith, i .most))
 
-add-k : tie.Need-add-k Inv-loop μ-loop
-add-k c = search needs
-
-loop-less : tie.Need-loop-less Inv-loop μ-loop
-loop-less c = search needs
-
 loop-again : tie.Need-loop-again Inv-loop μ-loop
 loop-again c =
     let w = c .before .before in
     let a = w .before .before .before .before in
     let s = a .before .before .before in
     (omega arith, omega arith, rw (w .put-slot .ensures) (clear-on (s .args .spots .now) (a .loop .slots) (a .loop .k) (omega arith) ∙ a .loop .inv .2))
-
-same-length : tie.Need-same-length Inv-loop μ-loop
-same-length c = search needs
 
 returns : tie.Need-returns Inv-loop μ-loop
 returns c =
@@ -65,16 +44,5 @@ returns c =
 pub clear-spots-spec : {M : Type 1} → statement M
 clear-spots-spec =
     tie.close
-    (tie.spec
-    Inv-loop
-    μ-loop
-    loop-holds
-    mul-put-slot
-    mul-put-slot-2
-    shared-slice-read-put-slot
-    put-slot-requires
-    add-k
-    loop-less
-    loop-again
-    same-length
-    returns)
+    (tie.spec Inv-loop μ-loop loop-holds (λ c. search needs) (λ c. search needs) (λ c. search needs) put-slot-requires (λ c. search needs)
+    (λ c. search needs) loop-again (λ c. search needs) returns)

@@ -11,9 +11,6 @@ use Rattle.repair_list.proofs.RelistLaws.{leftFrom, left-size, left-one
 use borrow.Author.Needs.{needs}
 use Rattle.repair_list.proofs.left_count.Statement.{statement}
 use Rattle.repair_list.proofs.left_count.Tie as tie
-use Rattle.repair_list.proofs.left_count.Reads as reads
-use Rattle.repair_list.proofs.left_count.Lts as lts
-use Rattle.repair_list.proofs.number_of.Reads as number-of-reads
 
 abbrev Inv-loop : tie.InvT-loop
 Inv-loop counts map entries n₀ i₀ n i =
@@ -26,29 +23,11 @@ loop-holds : tie.Need-loop-holds Inv-loop μ-loop
 loop-holds c =
     (omega arith, omega arith, omega arith)
 
-mul-t9 : tie.Need-mul-t9 Inv-loop μ-loop
-mul-t9 c = search needs
-
-mul-t10 : tie.Need-mul-t10 Inv-loop μ-loop
-mul-t10 c = search needs
-
-shared-slice-read-t12 : tie.Need-shared-slice-read-t12 Inv-loop μ-loop
-shared-slice-read-t12 c = search needs
-
 number-of-requires : tie.Need-number-of-requires Inv-loop μ-loop
 number-of-requires c κs =
     let a = c .before .before in
     let s = a .before .before .before in
     s .pre (a .loop .i) (omega arith)
-
-add-n : tie.Need-add-n Inv-loop μ-loop
-add-n c = search needs
-
-add-i : tie.Need-add-i Inv-loop μ-loop
-add-i c = search needs
-
-loop-less : tie.Need-loop-less Inv-loop μ-loop
-loop-less c = search needs
 
 loop-again : tie.Need-loop-again Inv-loop μ-loop
 loop-again c =
@@ -75,16 +54,5 @@ returns c =
 pub left-count-spec : {M : Type 1} → statement M
 left-count-spec =
     tie.close
-    (tie.spec
-    Inv-loop
-    μ-loop
-    loop-holds
-    mul-t9
-    mul-t10
-    shared-slice-read-t12
-    number-of-requires
-    add-n
-    add-i
-    loop-less
-    loop-again
-    returns)
+    (tie.spec Inv-loop μ-loop loop-holds (λ c. search needs) (λ c. search needs) (λ c. search needs) number-of-requires (λ c. search needs)
+    (λ c. search needs) (λ c. search needs) loop-again returns)

@@ -7,18 +7,6 @@ use Rattle.repair_list.specs.Relist.{numberOf}
 use borrow.Author.Needs.{needs}
 use Rattle.repair_list.proofs.number_of.Statement.{statement}
 use Rattle.repair_list.proofs.number_of.Tie as tie
-use Rattle.repair_list.proofs.number_of.Reads as reads
-use Rattle.repair_list.proofs.number_of.Lts as lts
-use Rattle.pinmap.proofs.look_up.Reads as look-up-reads
-
-look-up-requires : tie.Need-look-up-requires
-look-up-requires c κs = search needs
-
-enum-known-v : tie.Need-enum-known-v
-enum-known-v c = search needs
-
-enum-told : tie.Need-enum-told
-enum-told c = search needs
 
 returns : tie.Need-returns
 returns c =
@@ -34,4 +22,5 @@ returns-2 c =
     sym (ap numberOf (found-missing (look (s .args .map .now) (s .args .node .0)) _ (l .look-up .ensures) (c .enum-told .given .1)))
 
 pub number-of-spec : {M : Type 1} → statement M
-number-of-spec = tie.close (tie.spec look-up-requires enum-known-v enum-told returns returns-2)
+number-of-spec = tie.close
+    (tie.spec (λ c κs. search needs) (λ c. search needs) (λ c. search needs) returns returns-2)

@@ -11,9 +11,6 @@ use Rattle.repair_list.proofs.RelistLaws.{leftFrom, left-size, left-on,
 use borrow.Author.Needs.{needs}
 use Rattle.repair_list.proofs.write_left.Statement.{statement}
 use Rattle.repair_list.proofs.write_left.Tie as tie
-use Rattle.repair_list.proofs.write_left.Reads as reads
-use Rattle.repair_list.proofs.write_left.Lts as lts
-use Rattle.repair_list.proofs.write_left_one.Reads as write-left-one-reads
 
 abbrev Inv-loop : tie.InvT-loop
 Inv-loop counts map after₀ entries n₀ i₀ after n i =
@@ -27,27 +24,12 @@ loop-holds : tie.Need-loop-holds Inv-loop μ-loop
 loop-holds c =
     (omega arith, refl, omega arith, refl)
 
-mul-t11 : tie.Need-mul-t11 Inv-loop μ-loop
-mul-t11 c = search needs
-
-mul-t12 : tie.Need-mul-t12 Inv-loop μ-loop
-mul-t12 c = search needs
-
-shared-slice-read-t14 : tie.Need-shared-slice-read-t14 Inv-loop μ-loop
-shared-slice-read-t14 c = search needs
-
 write-left-one-requires : tie.Need-write-left-one-requires Inv-loop μ-loop
 write-left-one-requires c κs =
     let a = c .before .before .before in
     let s = a .before .before .before .before in
     let z = left-size (s .args .map .now) (s .args .counts .now) (a .loop .i) (omega arith) in
     (s .pre .0 (a .loop .i) (omega arith), omega (arith, s .pre .1, a .loop .inv .2))
-
-add-i : tie.Need-add-i Inv-loop μ-loop
-add-i c = search needs
-
-loop-less : tie.Need-loop-less Inv-loop μ-loop
-loop-less c = search needs
 
 loop-again : tie.Need-loop-again Inv-loop μ-loop
 loop-again c =
@@ -61,9 +43,6 @@ loop-again c =
       left-on (s .args .map .now) (s .args .counts .now) (a .loop .after) _ (a .loop .i) (a .loop .n) _ (omega arith) (w .write-left-one .ensures) ∙ a .loop .inv .3,
     )
 
-same-length : tie.Need-same-length Inv-loop μ-loop
-same-length c = search needs
-
 returns : tie.Need-returns Inv-loop μ-loop
 returns c =
     let a = c .before in
@@ -73,16 +52,5 @@ returns c =
 pub write-left-spec : {M : Type 1} → statement M
 write-left-spec =
     tie.close
-    (tie.spec
-    Inv-loop
-    μ-loop
-    loop-holds
-    mul-t11
-    mul-t12
-    shared-slice-read-t14
-    write-left-one-requires
-    add-i
-    loop-less
-    loop-again
-    same-length
-    returns)
+    (tie.spec Inv-loop μ-loop loop-holds (λ c. search needs) (λ c. search needs) (λ c. search needs) write-left-one-requires
+    (λ c. search needs) (λ c. search needs) loop-again (λ c. search needs) returns)

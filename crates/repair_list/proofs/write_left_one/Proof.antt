@@ -10,12 +10,6 @@ use Rattle.repair_list.proofs.RelistLaws.{left-one-size, listed-none, l
 use borrow.Author.Needs.{needs}
 use Rattle.repair_list.proofs.write_left_one.Statement.{statement}
 use Rattle.repair_list.proofs.write_left_one.Tie as tie
-use Rattle.repair_list.proofs.write_left_one.Reads as reads
-use Rattle.repair_list.proofs.write_left_one.Lts as lts
-use Rattle.repair_list.proofs.number_of.Reads as number-of-reads
-
-number-of-requires : tie.Need-number-of-requires
-number-of-requires c κs = search needs
 
 returns : tie.Need-returns
 returns c =
@@ -31,24 +25,12 @@ mul-after c =
     let k = left-one-size (s .args .map .now) (s .args .node .0) (λ (e : valueIn (s .args .map .now) (s .args .node .0) ≡ 0). omega (arith, u .number-of .ensures)) in
     omega (arith, s .pre .1)
 
-mul-after-2 : tie.Need-mul-after-2
-mul-after-2 c = search needs
-
 slice-write-after : tie.Need-slice-write-after
 slice-write-after c =
     let u = c .before in
     let s = u .before .before .before in
     let k = left-one-size (s .args .map .now) (s .args .node .0) (λ (e : valueIn (s .args .map .now) (s .args .node .0) ≡ 0). omega (arith, u .number-of .ensures)) in
     omega (arith, s .pre .1)
-
-mul-after-3 : tie.Need-mul-after-3
-mul-after-3 c = search needs
-
-add-after : tie.Need-add-after
-add-after c = search needs
-
-mul-after-4 : tie.Need-mul-after-4
-mul-after-4 c = search needs
 
 slice-write-after-2 : tie.Need-slice-write-after-2
 slice-write-after-2 c =
@@ -57,12 +39,6 @@ slice-write-after-2 c =
     let k = left-one-size (s .args .map .now) (s .args .node .0) (λ (e : valueIn (s .args .map .now) (s .args .node .0) ≡ 0). omega (arith, u .number-of .ensures)) in
     let h : 2 * s .args .n + 1 < length (s .args .after .now) = omega (arith, s .pre .1) in
     lt-length-set (s .args .after .now) (2 * s .args .n) (s .args .node .0) h
-
-add-result : tie.Need-add-result
-add-result c = search needs
-
-same-length : tie.Need-same-length
-same-length c = search needs
 
 returns-2 : tie.Need-returns-2
 returns-2 c =
@@ -73,16 +49,5 @@ returns-2 c =
 pub write-left-one-spec : {M : Type 1} → statement M
 write-left-one-spec =
     tie.close
-    (tie.spec
-    number-of-requires
-    returns
-    mul-after
-    mul-after-2
-    slice-write-after
-    mul-after-3
-    add-after
-    mul-after-4
-    slice-write-after-2
-    add-result
-    same-length
-    returns-2)
+    (tie.spec (λ c κs. search needs) returns mul-after (λ c. search needs) slice-write-after (λ c. search needs) (λ c. search needs)
+    (λ c. search needs) slice-write-after-2 (λ c. search needs) (λ c. search needs) returns-2)

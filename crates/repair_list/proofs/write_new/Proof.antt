@@ -11,9 +11,6 @@ use Rattle.repair_list.proofs.RelistLaws.{new-on, new-end}
 use borrow.Author.Needs.{needs}
 use Rattle.repair_list.proofs.write_new.Statement.{statement}
 use Rattle.repair_list.proofs.write_new.Tie as tie
-use Rattle.repair_list.proofs.write_new.Reads as reads
-use Rattle.repair_list.proofs.write_new.Lts as lts
-use Rattle.repair_list.proofs.write_entry.Reads as write-entry-reads
 
 abbrev Inv-loop : tie.InvT-loop
 Inv-loop news map after₀ at k₀ after k =
@@ -35,23 +32,11 @@ add-write-entry c =
     let s = a .before .before .before .before in
     omega (arith, s .pre .1)
 
-mul-t11 : tie.Need-mul-t11 Inv-loop μ-loop
-mul-t11 c = search needs
-
-shared-slice-read-t13 : tie.Need-shared-slice-read-t13 Inv-loop μ-loop
-shared-slice-read-t13 c = search needs
-
 write-entry-requires : tie.Need-write-entry-requires Inv-loop μ-loop
 write-entry-requires c κs =
     let a = c .before .before .before in
     let s = a .before .before .before .before in
     (s .pre .0 (a .loop .k) (omega arith), omega (arith, s .pre .1))
-
-add-k : tie.Need-add-k Inv-loop μ-loop
-add-k c = search needs
-
-loop-less : tie.Need-loop-less Inv-loop μ-loop
-loop-less c = search needs
 
 loop-again : tie.Need-loop-again Inv-loop μ-loop
 loop-again c =
@@ -59,9 +44,6 @@ loop-again c =
     let a = w .before .before .before .before in
     let s = a .before .before .before .before in
     (omega arith, omega arith, new-on (s .args .map .now) (s .args .news .now) (a .loop .after) _ (s .args .at) (a .loop .k) (omega arith) (w .write-entry .ensures) ∙ a .loop .inv .2)
-
-same-length : tie.Need-same-length Inv-loop μ-loop
-same-length c = search needs
 
 returns : tie.Need-returns Inv-loop μ-loop
 returns c =
@@ -72,16 +54,5 @@ returns c =
 pub write-new-spec : {M : Type 1} → statement M
 write-new-spec =
     tie.close
-    (tie.spec
-    Inv-loop
-    μ-loop
-    loop-holds
-    add-write-entry
-    mul-t11
-    shared-slice-read-t13
-    write-entry-requires
-    add-k
-    loop-less
-    loop-again
-    same-length
-    returns)
+    (tie.spec Inv-loop μ-loop loop-holds add-write-entry (λ c. search needs) (λ c. search needs) write-entry-requires (λ c. search needs)
+    (λ c. search needs) loop-again (λ c. search needs) returns)

@@ -1,7 +1,7 @@
 -- `repair_list::write_old` meets its contract. The loop's invariant: what is written from entry i on comes to the whole.
 -- Assumes nothing.
 use mathlib.Core.Path.{_≡_, refl, sym, _∙_}
-use Prim.Native.Nat.{_+_, _*_, _-_, _/_, _≤_}
+use Prim.Native.Nat.{_*_, _-_, _/_, _≤_}
 use native.Mathlib.Omega.{arith}
 use lib.ListN.{length}
 use lib.Seq.{sets}
@@ -11,9 +11,6 @@ use Rattle.repair_list.proofs.RelistLaws.{entriesFrom, write-on, write-
 use borrow.Author.Needs.{needs}
 use Rattle.repair_list.proofs.write_old.Statement.{statement}
 use Rattle.repair_list.proofs.write_old.Tie as tie
-use Rattle.repair_list.proofs.write_old.Reads as reads
-use Rattle.repair_list.proofs.write_old.Lts as lts
-use Rattle.repair_list.proofs.write_entry.Reads as write-entry-reads
 
 abbrev Inv-loop : tie.InvT-loop
 Inv-loop counts map after₀ entries i₀ after i =
@@ -27,26 +24,11 @@ loop-holds : tie.Need-loop-holds Inv-loop μ-loop
 loop-holds c =
     (omega arith, refl, refl)
 
-mul-t11 : tie.Need-mul-t11 Inv-loop μ-loop
-mul-t11 c = search needs
-
-mul-t12 : tie.Need-mul-t12 Inv-loop μ-loop
-mul-t12 c = search needs
-
-shared-slice-read-t14 : tie.Need-shared-slice-read-t14 Inv-loop μ-loop
-shared-slice-read-t14 c = search needs
-
 write-entry-requires : tie.Need-write-entry-requires Inv-loop μ-loop
 write-entry-requires c κs =
     let a = c .before .before .before in
     let s = a .before .before .before .before in
     (s .pre .0 (a .loop .i) (omega arith), omega (arith, s .pre .1))
-
-add-i : tie.Need-add-i Inv-loop μ-loop
-add-i c = search needs
-
-loop-less : tie.Need-loop-less Inv-loop μ-loop
-loop-less c = search needs
 
 loop-again : tie.Need-loop-again Inv-loop μ-loop
 loop-again c =
@@ -54,9 +36,6 @@ loop-again c =
     let a = w .before .before .before .before in
     let s = a .before .before .before .before in
     (omega arith, omega arith, write-on (s .args .map .now) (s .args .counts .now) (a .loop .after) _ (a .loop .i) (omega arith) (w .write-entry .ensures) ∙ a .loop .inv .2)
-
-same-length : tie.Need-same-length Inv-loop μ-loop
-same-length c = search needs
 
 returns : tie.Need-returns Inv-loop μ-loop
 returns c =
@@ -67,16 +46,5 @@ returns c =
 pub write-old-spec : {M : Type 1} → statement M
 write-old-spec =
     tie.close
-    (tie.spec
-    Inv-loop
-    μ-loop
-    loop-holds
-    mul-t11
-    mul-t12
-    shared-slice-read-t14
-    write-entry-requires
-    add-i
-    loop-less
-    loop-again
-    same-length
-    returns)
+    (tie.spec Inv-loop μ-loop loop-holds (λ c. search needs) (λ c. search needs) (λ c. search needs) write-entry-requires
+    (λ c. search needs) (λ c. search needs) loop-again (λ c. search needs) returns)

@@ -11,35 +11,14 @@ use Rattle.repair_settle.proofs.EndLaws.{refused-end, short-slots, up-n
 use borrow.Author.Needs.{needs}
 use Rattle.repair_settle.proofs.place_spots.Statement.{statement}
 use Rattle.repair_settle.proofs.place_spots.Tie as tie
-use Rattle.repair_settle.proofs.place_spots.Reads as reads
-use Rattle.repair_settle.proofs.place_spots.Lts as lts
-use Rattle.repair_list.proofs.store_spots.Reads as store-spots-reads
-use Rattle.repair_list.proofs.write_new.Reads as write-new-reads
-use Rattle.repair_list.proofs.write_old.Reads as write-old-reads
-use Rattle.repair_settle.proofs.refused.Reads as refused-reads
-use Rattle.repair_tally.proofs.tally_up.Reads as tally-up-reads
-
-slice-aggregate-tally-up : tie.Need-slice-aggregate-tally-up
-slice-aggregate-tally-up c = search needs
-
-tally-up-requires : tie.Need-tally-up-requires
-tally-up-requires c κs = search needs
-
-enum-known-n : tie.Need-enum-known-n
-enum-known-n c = search needs
-
-refused-requires : tie.Need-refused-requires
-refused-requires c κs = search needs
-
-same-length : tie.Need-same-length
-same-length c = search needs
 
 returns : tie.Need-returns
 returns c =
     let b1 = c .before .before .before .before .before .before in
     let b2 = b1 .before .before .before .before .before .before in
     let s = b2 .before .before .before .before in
-    refused-end _ _ (s .args .slots .now) (s .args .after .now) 14 0 (short-slots (s .args .slots .now) _ _ _ (omega arith)) (c .refused .ensures)
+    let slots = s .args .slots .now in
+    refused-end _ _ slots (s .args .after .now) 14 0 (short-slots slots _ _ _ (omega arith)) (c .refused .ensures)
 
 add-if2 : tie.Need-add-if2
 add-if2 c =
@@ -50,20 +29,16 @@ add-if2 c =
     let k = told-new _ _ _ _ _ (u .tally-up .ensures) (n .n .given .1) in
     omega (arith, k .1, u .tally-up .kept .1 .1 .0)
 
-refused-requires-2 : tie.Need-refused-requires-2
-refused-requires-2 c κs = search needs
-
-same-length-2 : tie.Need-same-length-2
-same-length-2 c = search needs
-
 returns-2 : tie.Need-returns-2
 returns-2 c =
     let n = c .before .before .before .before in
     let u = n .before .before .before .before .before in
     let b1 = u .before .before .before .before .before .before in
     let s = b1 .before .before in
+    let slots = s .args .slots .now in
+    let after = s .args .after .now in
     let k = told-new _ _ _ _ _ (u .tally-up .ensures) (n .n .given .1) in
-    refused-end _ _ (s .args .slots .now) (s .args .after .now) 14 0 (place-short (s .args .counts .now) (s .args .map .now) (s .pre .0) (s .args .spots .now) (s .pre .1 .few) (s .args .slots .now) (s .args .after .now) (u .tally-up .last .1 .0) (u .tally-up .last .1 .1 .0) (n .n .given .0 .0) (k .0) (k .1) (omega arith)) (c .refused2 .ensures)
+    refused-end _ _ slots after 14 0 (place-short (s .args .counts .now) (s .args .map .now) (s .pre .0) (s .args .spots .now) (s .pre .1 .few) slots after (u .tally-up .last .1 .0) (u .tally-up .last .1 .1 .0) (n .n .given .0 .0) (k .0) (k .1) (omega arith)) (c .refused2 .ensures)
 
 write-old-requires : tie.Need-write-old-requires
 write-old-requires c κs =
@@ -99,9 +74,11 @@ write-new-requires c κs =
     let u = n .before .before .before .before .before in
     let b2 = u .before .before .before .before .before .before in
     let s = b2 .before .before in
+    let counts = s .args .counts .now in
+    let spots = s .args .spots .now in
     let k = told-new _ _ _ _ _ (u .tally-up .ensures) (n .n .given .1) in
     let m = length-take-le (n .n .given .0 .0) (u .tally-up .last .1 .1 .0) (k .1) in
-    (new-askable (nodesOf (countsOf (s .args .counts .now))) (s .args .spots .now) _ (s .pre .1 .askable) (up-new (s .args .counts .now) (s .args .map .now) (s .pre .0) (s .args .spots .now) (s .pre .1 .few) (u .tally-up .last .1 .0) (u .tally-up .last .1 .1 .0) (n .n .given .0 .0) (k .0) (k .1)), omega arith)
+    (new-askable (nodesOf (countsOf counts)) spots _ (s .pre .1 .askable) (up-new counts (s .args .map .now) (s .pre .0) spots (s .pre .1 .few) (u .tally-up .last .1 .0) (u .tally-up .last .1 .1 .0) (n .n .given .0 .0) (k .0) (k .1)), omega arith)
 
 store-spots-requires : tie.Need-store-spots-requires
 store-spots-requires c κs =
@@ -123,21 +100,6 @@ add-t15 c =
     let k = told-new _ _ _ _ _ (u .tally-up .ensures) (n .n .given .1) in
     omega (arith, k .1, u .tally-up .kept .1 .1 .0)
 
-enum-told : tie.Need-enum-told
-enum-told c = search needs
-
-refused-requires-3 : tie.Need-refused-requires-3
-refused-requires-3 c κs = search needs
-
-same-length-3 : tie.Need-same-length-3
-same-length-3 c = search needs
-
-same-length-4 : tie.Need-same-length-4
-same-length-4 c = search needs
-
-same-length-5 : tie.Need-same-length-5
-same-length-5 c = search needs
-
 returns-3 : tie.Need-returns-3
 returns-3 c =
     let d = c .before .before in
@@ -153,42 +115,20 @@ returns-3 c =
     place-end (s .args .counts .now) (s .args .map .now) (s .pre .0) (s .args .spots .now) (s .pre .1 .few) (s .args .slots .now) (s .args .after .now) (u .tally-up .last .1 .0) (u .tally-up .last .1 .1 .0) (n .n .given .0 .0) (k .0) (k .1)
     (d .store-spots .last .1 .0) (v .write-old .last .1 .1 .0) (w .write-new .last .1 .1 .0) (omega (arith, x1 .if1 .left)) (omega (arith, x2 .if2 .left)) (v .write-old .ensures) (w .write-new .ensures) (d .store-spots .ensures)
 
-same-length-6 : tie.Need-same-length-6
-same-length-6 c = search needs
-
 returns-4 : tie.Need-returns-4
 returns-4 c =
     let o = c .before in
     let u = o .before .before .before .before .before in
     let b1 = u .before .before .before .before .before .before in
     let s = b1 .before .before in
-    refused-end _ _ (s .args .slots .now) (s .args .after .now) 14 0 (place-over (s .args .counts .now) (s .args .map .now) (s .pre .0) (s .args .spots .now) (s .pre .1 .few) (s .args .slots .now) (s .args .after .now) (told-over _ _ _ _ (u .tally-up .ensures) (o .enum-told .given .1))) (c .refused3 .ensures)
+    let slots = s .args .slots .now in
+    let after = s .args .after .now in
+    refused-end _ _ slots after 14 0 (place-over (s .args .counts .now) (s .args .map .now) (s .pre .0) (s .args .spots .now) (s .pre .1 .few) slots after (told-over _ _ _ _ (u .tally-up .ensures) (o .enum-told .given .1))) (c .refused3 .ensures)
 
 pub place-spots-spec : {M : Type 1} → statement M
 place-spots-spec =
     tie.close
-    (tie.spec
-    slice-aggregate-tally-up
-    tally-up-requires
-    enum-known-n
-    refused-requires
-    same-length
-    returns
-    add-if2
-    refused-requires-2
-    same-length-2
-    returns-2
-    write-old-requires
-    array-share-prefix-fresh
-    slice-aggregate-write-new
-    write-new-requires
-    store-spots-requires
-    add-t15
-    enum-told
-    refused-requires-3
-    same-length-3
-    same-length-4
-    same-length-5
-    returns-3
-    same-length-6
-    returns-4)
+    (tie.spec (λ c. search needs) (λ c κs. search needs) (λ c. search needs) (λ c κs. search needs) (λ c. search needs) returns add-if2
+    (λ c κs. search needs) (λ c. search needs) returns-2 write-old-requires array-share-prefix-fresh slice-aggregate-write-new
+    write-new-requires store-spots-requires add-t15 (λ c. search needs) (λ c κs. search needs) (λ c. search needs) (λ c. search needs)
+    (λ c. search needs) returns-3 (λ c. search needs) returns-4)

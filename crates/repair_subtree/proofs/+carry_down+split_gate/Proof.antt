@@ -89,12 +89,18 @@ carry-down-split-gate-requires t c κs =
     let f = v .before in
     let p = f .before .before .before in
     let s = p .before .before .before .before .before in
+    let levels = s .args .levels .now in
+    let node = s .args .node in
     let e : f .first .result .level ≡ s .args .at .level - 1 = f .first .ensures .level in
-    let u : levelAt (s .args .levels .now) (s .args .node .0) < s .args .at .level = s .pre .1 .under in
-    (omega arith, record { listable = carry-listable (s .args .gates .now) (s .args .levels .now) (s .args .list .now) (s .args .n) (s .args .at .level) (s .args .at .width) (s .args .at .index) (s .args .node .0) (s .pre .1) (p .put-spot .last .0) (p .put-spot .result) (p .put-spot .ensures) (f .first .result) (f .first .ensures); level = omega (arith, v .level-of .ensures) })
-
-carry-down-same-length : (t : ℕ) → carry-down-lts.Need-same-length (calls-carry-down t) (carry-down-at t) carry-down.Post
-carry-down-same-length t c = search needs
+    let u : levelAt levels (node .0) < s .args .at .level = s .pre .1 .under in (
+      omega arith,
+      record {
+        listable = carry-listable (s .args .gates .now) levels (s .args .list .now) (s .args .n) (s .args .at .level) (s .args .at .width)
+            (s .args .at .index) (node .0) (s .pre .1) (p .put-spot .last .0) (p .put-spot .result) (p .put-spot .ensures) (f .first .result) (f .first .ensures);
+        level = omega
+            (arith, v .level-of .ensures);
+      },
+    )
 
 carry-down-returns : (t : ℕ) → carry-down-lts.Need-returns (calls-carry-down t) (carry-down-at t) carry-down.Post
 carry-down-returns t c =
@@ -111,12 +117,18 @@ carry-down-carry-down-requires t c κs =
     let f = v .before in
     let p = f .before .before .before in
     let s = p .before .before .before .before .before in
+    let levels = s .args .levels .now in
+    let node = s .args .node in
     let e : f .first .result .level ≡ s .args .at .level - 1 = f .first .ensures .level in
-    let u : levelAt (s .args .levels .now) (s .args .node .0) < s .args .at .level = s .pre .1 .under in
-    (omega arith, record { listable = carry-listable (s .args .gates .now) (s .args .levels .now) (s .args .list .now) (s .args .n) (s .args .at .level) (s .args .at .width) (s .args .at .index) (s .args .node .0) (s .pre .1) (p .put-spot .last .0) (p .put-spot .result) (p .put-spot .ensures) (f .first .result) (f .first .ensures); under = omega (arith, v .level-of .ensures) })
-
-carry-down-same-length-2 : (t : ℕ) → carry-down-lts.Need-same-length-2 (calls-carry-down t) (carry-down-at t) carry-down.Post
-carry-down-same-length-2 t c = search needs
+    let u : levelAt levels (node .0) < s .args .at .level = s .pre .1 .under in (
+      omega arith,
+      record {
+        listable = carry-listable (s .args .gates .now) levels (s .args .list .now) (s .args .n) (s .args .at .level) (s .args .at .width)
+            (s .args .at .index) (node .0) (s .pre .1) (p .put-spot .last .0) (p .put-spot .result) (p .put-spot .ensures) (f .first .result) (f .first .ensures);
+        under = omega
+            (arith, v .level-of .ensures);
+      },
+    )
 
 carry-down-returns-2 : (t : ℕ) → carry-down-lts.Need-returns-2 (calls-carry-down t) (carry-down-at t) carry-down.Post
 carry-down-returns-2 t c =
@@ -186,9 +198,6 @@ split-gate-put-spot-requires t c κs =
     let s = c .before .before .before .before in
     listable-puttable (s .args .gates .now) (s .args .levels .now) (s .args .list .now) (s .args .n) (s .args .at .level) (s .args .at .width) (s .args .at .index) (s .args .node .0) (s .pre .1 .listable)
 
-split-gate-same-length : (t : ℕ) → split-gate-lts.Need-same-length (calls-split-gate t) (split-gate-at t) split-gate.Post
-split-gate-same-length t c = search needs
-
 split-gate-returns : (t : ℕ) → split-gate-lts.Need-returns (calls-split-gate t) (split-gate-at t) split-gate.Post
 split-gate-returns t c =
     let p = c .before .before .before .before in
@@ -200,9 +209,6 @@ split-gate-find-in-requires t c κs =
     let b1 = c .before .before .before .before .before .before in
     let s = b1 .before .before .before in
     s .pre .1 .listable .judged .gates-right
-
-split-gate-enum-known-g : (t : ℕ) → split-gate-lts.Need-enum-known-g (calls-split-gate t) (split-gate-at t) split-gate.Post
-split-gate-enum-known-g t c = search needs
 
 split-gate-first-requires : (t : ℕ) → split-gate-lts.Need-first-requires (calls-split-gate t) (split-gate-at t) split-gate.Post
 split-gate-first-requires t c κs =
@@ -226,9 +232,6 @@ split-gate-first-of-requires t c κs =
     let s = b1 .before .before .before .before in
     gate-whole (s .args .gates .now) (s .args .node .0) _ (i .find-in .result) (s .pre .1 .listable .judged .gates-right) (i .find-in .ensures) (g .g .given .1)
 
-split-gate-pin-requires : (t : ℕ) → split-gate-lts.Need-pin-requires (calls-split-gate t) (split-gate-at t) split-gate.Post
-split-gate-pin-requires t c κs = search needs
-
 split-gate-second-of-requires : (t : ℕ) → split-gate-lts.Need-second-of-requires (calls-split-gate t) (split-gate-at t) split-gate.Post
 split-gate-second-of-requires t c κs =
     let g = c .before .before .before .before .before in
@@ -237,11 +240,10 @@ split-gate-second-of-requires t c κs =
     let s = b1 .before .before .before .before in
     gate-whole (s .args .gates .now) (s .args .node .0) _ (i .find-in .result) (s .pre .1 .listable .judged .gates-right) (i .find-in .ensures) (g .g .given .1)
 
-split-gate-pin-requires-2 : (t : ℕ) → split-gate-lts.Need-pin-requires-2 (calls-split-gate t) (split-gate-at t) split-gate.Post
-split-gate-pin-requires-2 t c κs = search needs
-
 split-gate-level-of-requires : (t : ℕ) → split-gate-lts.Need-level-of-requires (calls-split-gate t) (split-gate-at t) split-gate.Post
 split-gate-level-of-requires t c κs =
+    let gates = s .args .gates .now in
+    let node = s .args .node in
     let pb = c in
     let so = pb .before in
     let pa = so .before in
@@ -250,11 +252,11 @@ split-gate-level-of-requires t c κs =
     let i = g .before .before in
     let b1 = i .before .before .before .before .before .before in
     let s = b1 .before .before .before .before in
-    let o = listed-gate (s .args .gates .now) (s .args .node .0) _ (i .find-in .result) (i .find-in .ensures) (g .g .given .1) in
-    let u : pa .pin .result .0 ≡ listFirst (s .args .gates .now) (g .g .given .0 .0) / 2 = omega (arith, pa .pin .ensures, fo .first-of .ensures) in
-    let v : pb .pin2 .result .0 ≡ listSecond (s .args .gates .now) (g .g .given .0 .0) / 2 = omega (arith, pb .pin2 .ensures, so .second-of .ensures) in
+    let o = listed-gate gates (node .0) _ (i .find-in .result) (i .find-in .ensures) (g .g .given .1) in
+    let u : pa .pin .result .0 ≡ listFirst gates (g .g .given .0 .0) / 2 = omega (arith, pa .pin .ensures, fo .first-of .ensures) in
+    let v : pb .pin2 .result .0 ≡ listSecond gates (g .g .given .0 .0) / 2 = omega (arith, pb .pin2 .ensures, so .second-of .ensures) in
     let q : 0 < s .args .at .level = omega arith in
-    first-known (s .args .gates .now) (s .args .levels .now) (s .args .list .now) (s .args .n) (s .args .at .level) (s .args .at .width) (s .args .at .index) (s .args .node .0) (s .pre .1) q (g .g .given .0 .0) o (pa .pin .result .0) (pb .pin2 .result .0) u v .0
+    first-known gates (s .args .levels .now) (s .args .list .now) (s .args .n) (s .args .at .level) (s .args .at .width) (s .args .at .index) (node .0) (s .pre .1) q (g .g .given .0 .0) o (pa .pin .result .0) (pb .pin2 .result .0) u v .0
 
 split-gate-split-gate-requires : (t : ℕ) → split-gate-lts.Need-split-gate-requires (calls-split-gate t) (split-gate-at t) split-gate.Post
 split-gate-split-gate-requires t c κs =
@@ -269,15 +271,19 @@ split-gate-split-gate-requires t c κs =
     let i = g .before .before in
     let p = i .before .before .before .before .before in
     let s = p .before .before .before .before .before in
-    let o = listed-gate (s .args .gates .now) (s .args .node .0) _ (i .find-in .result) (i .find-in .ensures) (g .g .given .1) in
-    let u : pa .pin .result .0 ≡ listFirst (s .args .gates .now) (g .g .given .0 .0) / 2 = omega (arith, pa .pin .ensures, fo .first-of .ensures) in
-    let v : pb .pin2 .result .0 ≡ listSecond (s .args .gates .now) (g .g .given .0 .0) / 2 = omega (arith, pb .pin2 .ensures, so .second-of .ensures) in
+    let gates = s .args .gates .now in
+    let node = s .args .node in
+    let levels = s .args .levels .now in
+    let list = s .args .list .now in
+    let o = listed-gate gates (node .0) _ (i .find-in .result) (i .find-in .ensures) (g .g .given .1) in
+    let u : pa .pin .result .0 ≡ listFirst gates (g .g .given .0 .0) / 2 = omega (arith, pa .pin .ensures, fo .first-of .ensures) in
+    let v : pb .pin2 .result .0 ≡ listSecond gates (g .g .given .0 .0) / 2 = omega (arith, pb .pin2 .ensures, so .second-of .ensures) in
     let q : 0 < s .args .at .level = omega arith in
     let e : f .first .result .level ≡ s .args .at .level - 1 = f .first .ensures .level in
-    let k = first-known (s .args .gates .now) (s .args .levels .now) (s .args .list .now) (s .args .n) (s .args .at .level) (s .args .at .width) (s .args .at .index) (s .args .node .0) (s .pre .1) q (g .g .given .0 .0) o (pa .pin .result .0) (pb .pin2 .result .0) u v .1 in (
+    let k = first-known gates levels list (s .args .n) (s .args .at .level) (s .args .at .width) (s .args .at .index) (node .0) (s .pre .1) q (g .g .given .0 .0) o (pa .pin .result .0) (pb .pin2 .result .0) u v .1 in (
       omega arith,
       record {
-        listable = first-listable (s .args .gates .now) (s .args .levels .now) (s .args .list .now) (s .args .n) (s .args .at .level) (s .args .at .width) (s .args .at .index) (s .args .node .0) (s .pre .1) q (g .g .given .0 .0) o (pa .pin .result .0) (pb .pin2 .result .0) u v
+        listable = first-listable gates levels list (s .args .n) (s .args .at .level) (s .args .at .width) (s .args .at .index) (node .0) (s .pre .1) q (g .g .given .0 .0) o (pa .pin .result .0) (pb .pin2 .result .0) u v
             (p .put-spot .last .0) (p .put-spot .result) (p .put-spot .ensures) (f .first .result) (n .second .result) (f .first .ensures) (n .second .ensures);
         level = omega (arith, w .level-of .ensures);
       },
@@ -296,15 +302,19 @@ split-gate-carry-down-requires t c κs =
     let i = g .before .before in
     let p = i .before .before .before .before .before in
     let s = p .before .before .before .before .before in
-    let o = listed-gate (s .args .gates .now) (s .args .node .0) _ (i .find-in .result) (i .find-in .ensures) (g .g .given .1) in
-    let u : pa .pin .result .0 ≡ listFirst (s .args .gates .now) (g .g .given .0 .0) / 2 = omega (arith, pa .pin .ensures, fo .first-of .ensures) in
-    let v : pb .pin2 .result .0 ≡ listSecond (s .args .gates .now) (g .g .given .0 .0) / 2 = omega (arith, pb .pin2 .ensures, so .second-of .ensures) in
+    let gates = s .args .gates .now in
+    let node = s .args .node in
+    let levels = s .args .levels .now in
+    let list = s .args .list .now in
+    let o = listed-gate gates (node .0) _ (i .find-in .result) (i .find-in .ensures) (g .g .given .1) in
+    let u : pa .pin .result .0 ≡ listFirst gates (g .g .given .0 .0) / 2 = omega (arith, pa .pin .ensures, fo .first-of .ensures) in
+    let v : pb .pin2 .result .0 ≡ listSecond gates (g .g .given .0 .0) / 2 = omega (arith, pb .pin2 .ensures, so .second-of .ensures) in
     let q : 0 < s .args .at .level = omega arith in
     let e : f .first .result .level ≡ s .args .at .level - 1 = f .first .ensures .level in
-    let k = first-known (s .args .gates .now) (s .args .levels .now) (s .args .list .now) (s .args .n) (s .args .at .level) (s .args .at .width) (s .args .at .index) (s .args .node .0) (s .pre .1) q (g .g .given .0 .0) o (pa .pin .result .0) (pb .pin2 .result .0) u v .1 in (
+    let k = first-known gates levels list (s .args .n) (s .args .at .level) (s .args .at .width) (s .args .at .index) (node .0) (s .pre .1) q (g .g .given .0 .0) o (pa .pin .result .0) (pb .pin2 .result .0) u v .1 in (
       omega arith,
       record {
-        listable = first-listable (s .args .gates .now) (s .args .levels .now) (s .args .list .now) (s .args .n) (s .args .at .level) (s .args .at .width) (s .args .at .index) (s .args .node .0) (s .pre .1) q (g .g .given .0 .0) o (pa .pin .result .0) (pb .pin2 .result .0) u v
+        listable = first-listable gates levels list (s .args .n) (s .args .at .level) (s .args .at .width) (s .args .at .index) (node .0) (s .pre .1) q (g .g .given .0 .0) o (pa .pin .result .0) (pb .pin2 .result .0) u v
             (p .put-spot .last .0) (p .put-spot .result) (p .put-spot .ensures) (f .first .result) (n .second .result) (f .first .ensures) (n .second .ensures);
         under = omega (arith, w .level-of .ensures);
       },
@@ -320,11 +330,13 @@ split-gate-level-of-requires-2 t c κs =
     let i = g .before .before in
     let b1 = i .before .before .before .before .before .before in
     let s = b1 .before .before .before .before in
-    let o = listed-gate (s .args .gates .now) (s .args .node .0) _ (i .find-in .result) (i .find-in .ensures) (g .g .given .1) in
-    let u : pa .pin .result .0 ≡ listFirst (s .args .gates .now) (g .g .given .0 .0) / 2 = omega (arith, pa .pin .ensures, fo .first-of .ensures) in
-    let v : pb .pin2 .result .0 ≡ listSecond (s .args .gates .now) (g .g .given .0 .0) / 2 = omega (arith, pb .pin2 .ensures, so .second-of .ensures) in
+    let gates = s .args .gates .now in
+    let node = s .args .node in
+    let o = listed-gate gates (node .0) _ (i .find-in .result) (i .find-in .ensures) (g .g .given .1) in
+    let u : pa .pin .result .0 ≡ listFirst gates (g .g .given .0 .0) / 2 = omega (arith, pa .pin .ensures, fo .first-of .ensures) in
+    let v : pb .pin2 .result .0 ≡ listSecond gates (g .g .given .0 .0) / 2 = omega (arith, pb .pin2 .ensures, so .second-of .ensures) in
     let q : 0 < s .args .at .level = omega arith in
-    second-known (s .args .gates .now) (s .args .levels .now) (s .args .list .now) (s .args .n) (s .args .at .level) (s .args .at .width) (s .args .at .index) (s .args .node .0) (s .pre .1) q (g .g .given .0 .0) o (pa .pin .result .0) (pb .pin2 .result .0) u v .0
+    second-known gates (s .args .levels .now) (s .args .list .now) (s .args .n) (s .args .at .level) (s .args .at .width) (s .args .at .index) (node .0) (s .pre .1) q (g .g .given .0 .0) o (pa .pin .result .0) (pb .pin2 .result .0) u v .0
 
 split-gate-split-gate-requires-2 : (t : ℕ) → split-gate-lts.Need-split-gate-requires-2 (calls-split-gate t) (split-gate-at t) split-gate.Post
 split-gate-split-gate-requires-2 t c κs =
@@ -340,15 +352,19 @@ split-gate-split-gate-requires-2 t c κs =
     let i = g .before .before in
     let p = i .before .before .before .before .before in
     let s = p .before .before .before .before .before in
-    let o = listed-gate (s .args .gates .now) (s .args .node .0) _ (i .find-in .result) (i .find-in .ensures) (g .g .given .1) in
-    let u : pa .pin .result .0 ≡ listFirst (s .args .gates .now) (g .g .given .0 .0) / 2 = omega (arith, pa .pin .ensures, fo .first-of .ensures) in
-    let v : pb .pin2 .result .0 ≡ listSecond (s .args .gates .now) (g .g .given .0 .0) / 2 = omega (arith, pb .pin2 .ensures, so .second-of .ensures) in
+    let gates = s .args .gates .now in
+    let node = s .args .node in
+    let levels = s .args .levels .now in
+    let list = s .args .list .now in
+    let o = listed-gate gates (node .0) _ (i .find-in .result) (i .find-in .ensures) (g .g .given .1) in
+    let u : pa .pin .result .0 ≡ listFirst gates (g .g .given .0 .0) / 2 = omega (arith, pa .pin .ensures, fo .first-of .ensures) in
+    let v : pb .pin2 .result .0 ≡ listSecond gates (g .g .given .0 .0) / 2 = omega (arith, pb .pin2 .ensures, so .second-of .ensures) in
     let q : 0 < s .args .at .level = omega arith in
     let e : n .second .result .level ≡ s .args .at .level - 1 = n .second .ensures .level in
-    let k = second-known (s .args .gates .now) (s .args .levels .now) (s .args .list .now) (s .args .n) (s .args .at .level) (s .args .at .width) (s .args .at .index) (s .args .node .0) (s .pre .1) q (g .g .given .0 .0) o (pa .pin .result .0) (pb .pin2 .result .0) u v .1 in (
+    let k = second-known gates levels list (s .args .n) (s .args .at .level) (s .args .at .width) (s .args .at .index) (node .0) (s .pre .1) q (g .g .given .0 .0) o (pa .pin .result .0) (pb .pin2 .result .0) u v .1 in (
       omega arith,
       record {
-        listable = second-listable (s .args .gates .now) (s .args .levels .now) (s .args .list .now) (s .args .n) (s .args .at .level) (s .args .at .width) (s .args .at .index) (s .args .node .0) (s .pre .1) q (g .g .given .0 .0) o (pa .pin .result .0) (pb .pin2 .result .0) u v
+        listable = second-listable gates levels list (s .args .n) (s .args .at .level) (s .args .at .width) (s .args .at .index) (node .0) (s .pre .1) q (g .g .given .0 .0) o (pa .pin .result .0) (pb .pin2 .result .0) u v
             (p .put-spot .last .0) (p .put-spot .result) (p .put-spot .ensures) (f .first .result) (n .second .result) (f .first .ensures) (n .second .ensures)
             (j .if2 .list) (j .if2 .k) (first-added t j);
         level = omega (arith, w .level-of2 .ensures);
@@ -378,11 +394,13 @@ split-gate-returns-2 t c =
     let i = g .before .before in
     let p = i .before .before .before .before .before in
     let s = p .before .before .before .before .before in
-    let o = listed-gate (s .args .gates .now) (s .args .node .0) _ (i .find-in .result) (i .find-in .ensures) (g .g .given .1) in
-    let u : pa .pin .result .0 ≡ listFirst (s .args .gates .now) (g .g .given .0 .0) / 2 = omega (arith, pa .pin .ensures, fo .first-of .ensures) in
-    let v : pb .pin2 .result .0 ≡ listSecond (s .args .gates .now) (g .g .given .0 .0) / 2 = omega (arith, pb .pin2 .ensures, so .second-of .ensures) in
+    let gates = s .args .gates .now in
+    let node = s .args .node in
+    let o = listed-gate gates (node .0) _ (i .find-in .result) (i .find-in .ensures) (g .g .given .1) in
+    let u : pa .pin .result .0 ≡ listFirst gates (g .g .given .0 .0) / 2 = omega (arith, pa .pin .ensures, fo .first-of .ensures) in
+    let v : pb .pin2 .result .0 ≡ listSecond gates (g .g .given .0 .0) / 2 = omega (arith, pb .pin2 .ensures, so .second-of .ensures) in
     let q : 0 < s .args .at .level = omega arith in
-    split-done (s .args .gates .now) (s .args .levels .now) (s .args .list .now) (s .args .n) (s .args .at .level) (s .args .at .width) (s .args .at .index) (s .args .node .0) (s .pre .1) q (g .g .given .0 .0) o (pa .pin .result .0) (pb .pin2 .result .0) u v
+    split-done gates (s .args .levels .now) (s .args .list .now) (s .args .n) (s .args .at .level) (s .args .at .width) (s .args .at .index) (node .0) (s .pre .1) q (g .g .given .0 .0) o (pa .pin .result .0) (pb .pin2 .result .0) u v
     (p .put-spot .last .0) (p .put-spot .result) (p .put-spot .ensures) (f .first .result) (n .second .result) (f .first .ensures) (n .second .ensures)
     (j .if2 .list) (j .if2 .k) (first-added t j)
     (d .split-gate2 .last .1 .1 .0) (d .split-gate2 .result) (d .split-gate2 .ensures)
@@ -401,23 +419,24 @@ split-gate-carry-down-requires-2 t c κs =
     let i = g .before .before in
     let p = i .before .before .before .before .before in
     let s = p .before .before .before .before .before in
-    let o = listed-gate (s .args .gates .now) (s .args .node .0) _ (i .find-in .result) (i .find-in .ensures) (g .g .given .1) in
-    let u : pa .pin .result .0 ≡ listFirst (s .args .gates .now) (g .g .given .0 .0) / 2 = omega (arith, pa .pin .ensures, fo .first-of .ensures) in
-    let v : pb .pin2 .result .0 ≡ listSecond (s .args .gates .now) (g .g .given .0 .0) / 2 = omega (arith, pb .pin2 .ensures, so .second-of .ensures) in
+    let gates = s .args .gates .now in
+    let node = s .args .node in
+    let levels = s .args .levels .now in
+    let list = s .args .list .now in
+    let o = listed-gate gates (node .0) _ (i .find-in .result) (i .find-in .ensures) (g .g .given .1) in
+    let u : pa .pin .result .0 ≡ listFirst gates (g .g .given .0 .0) / 2 = omega (arith, pa .pin .ensures, fo .first-of .ensures) in
+    let v : pb .pin2 .result .0 ≡ listSecond gates (g .g .given .0 .0) / 2 = omega (arith, pb .pin2 .ensures, so .second-of .ensures) in
     let q : 0 < s .args .at .level = omega arith in
     let e : n .second .result .level ≡ s .args .at .level - 1 = n .second .ensures .level in
-    let k = second-known (s .args .gates .now) (s .args .levels .now) (s .args .list .now) (s .args .n) (s .args .at .level) (s .args .at .width) (s .args .at .index) (s .args .node .0) (s .pre .1) q (g .g .given .0 .0) o (pa .pin .result .0) (pb .pin2 .result .0) u v .1 in (
+    let k = second-known gates levels list (s .args .n) (s .args .at .level) (s .args .at .width) (s .args .at .index) (node .0) (s .pre .1) q (g .g .given .0 .0) o (pa .pin .result .0) (pb .pin2 .result .0) u v .1 in (
       omega arith,
       record {
-        listable = second-listable (s .args .gates .now) (s .args .levels .now) (s .args .list .now) (s .args .n) (s .args .at .level) (s .args .at .width) (s .args .at .index) (s .args .node .0) (s .pre .1) q (g .g .given .0 .0) o (pa .pin .result .0) (pb .pin2 .result .0) u v
+        listable = second-listable gates levels list (s .args .n) (s .args .at .level) (s .args .at .width) (s .args .at .index) (node .0) (s .pre .1) q (g .g .given .0 .0) o (pa .pin .result .0) (pb .pin2 .result .0) u v
             (p .put-spot .last .0) (p .put-spot .result) (p .put-spot .ensures) (f .first .result) (n .second .result) (f .first .ensures) (n .second .ensures)
             (j .if2 .list) (j .if2 .k) (first-added t j);
         under = omega (arith, w .level-of2 .ensures);
       },
     )
-
-split-gate-enum-told : (t : ℕ) → split-gate-lts.Need-enum-told (calls-split-gate t) (split-gate-at t) split-gate.Post
-split-gate-enum-told t c = search needs
 
 split-gate-same-length-3 : (t : ℕ) → split-gate-lts.Need-same-length-3 (calls-split-gate t) (split-gate-at t) split-gate.Post
 split-gate-same-length-3 t c =
@@ -442,26 +461,27 @@ split-gate-returns-3 t c =
     let i = g .before .before in
     let p = i .before .before .before .before .before in
     let s = p .before .before .before .before .before in
-    let o = listed-gate (s .args .gates .now) (s .args .node .0) _ (i .find-in .result) (i .find-in .ensures) (g .g .given .1) in
-    let u : pa .pin .result .0 ≡ listFirst (s .args .gates .now) (g .g .given .0 .0) / 2 = omega (arith, pa .pin .ensures, fo .first-of .ensures) in
-    let v : pb .pin2 .result .0 ≡ listSecond (s .args .gates .now) (g .g .given .0 .0) / 2 = omega (arith, pb .pin2 .ensures, so .second-of .ensures) in
+    let gates = s .args .gates .now in
+    let node = s .args .node in
+    let o = listed-gate gates (node .0) _ (i .find-in .result) (i .find-in .ensures) (g .g .given .1) in
+    let u : pa .pin .result .0 ≡ listFirst gates (g .g .given .0 .0) / 2 = omega (arith, pa .pin .ensures, fo .first-of .ensures) in
+    let v : pb .pin2 .result .0 ≡ listSecond gates (g .g .given .0 .0) / 2 = omega (arith, pb .pin2 .ensures, so .second-of .ensures) in
     let q : 0 < s .args .at .level = omega arith in
-    split-done (s .args .gates .now) (s .args .levels .now) (s .args .list .now) (s .args .n) (s .args .at .level) (s .args .at .width) (s .args .at .index) (s .args .node .0) (s .pre .1) q (g .g .given .0 .0) o (pa .pin .result .0) (pb .pin2 .result .0) u v
+    split-done gates (s .args .levels .now) (s .args .list .now) (s .args .n) (s .args .at .level) (s .args .at .width) (s .args .at .index) (node .0) (s .pre .1) q (g .g .given .0 .0) o (pa .pin .result .0) (pb .pin2 .result .0) u v
     (p .put-spot .last .0) (p .put-spot .result) (p .put-spot .ensures) (f .first .result) (n .second .result) (f .first .ensures) (n .second .ensures)
     (j .if2 .list) (j .if2 .k) (first-added t j)
     (d .carry-down2 .last .1 .1 .0) (d .carry-down2 .result) (d .carry-down2 .ensures)
-
-split-gate-same-length-4 : (t : ℕ) → split-gate-lts.Need-same-length-4 (calls-split-gate t) (split-gate-at t) split-gate.Post
-split-gate-same-length-4 t c = search needs
 
 split-gate-returns-4 : (t : ℕ) → split-gate-lts.Need-returns-4 (calls-split-gate t) (split-gate-at t) split-gate.Post
 split-gate-returns-4 t c =
     let i = c .before .before in
     let b1 = i .before .before .before .before .before .before in
     let s = b1 .before .before .before .before in
-    let o = listed-none (s .args .gates .now) (s .args .node .0) (i .find-in .result) (i .find-in .ensures) (c .enum-told .given .1) in
+    let gates = s .args .gates .now in
+    let node = s .args .node in
+    let o = listed-none gates (node .0) (i .find-in .result) (i .find-in .ensures) (c .enum-told .given .1) in
     let q : 0 < s .args .at .level = omega arith in
-    absurd (split-missing (s .args .gates .now) (s .args .levels .now) (s .args .list .now) (s .args .n) (s .args .at .level) (s .args .at .width) (s .args .at .index) (s .args .node .0) (s .pre .1) q o)
+    absurd (split-missing gates (s .args .levels .now) (s .args .list .now) (s .args .n) (s .args .at .level) (s .args .at .width) (s .args .at .index) (node .0) (s .pre .1) q o)
 
 pub +carry-down+split-gate-spec : {M : Type 1} → statement M
 +carry-down+split-gate-spec = close μ-carry-down μ-split-gate (λ t. carry-down-lts.spec (calls-carry-down t)
@@ -471,25 +491,25 @@ pub +carry-down+split-gate-spec : {M : Type 1} → statement M
     (carry-down-first-requires t)
     (carry-down-level-of-requires t)
     (carry-down-split-gate-requires t)
-    (carry-down-same-length t)
+    (λ c. search needs)
     (carry-down-returns t)
     (carry-down-carry-down-requires t)
-    (carry-down-same-length-2 t)
+    (λ c. search needs)
     (carry-down-returns-2 t))
     λ t. split-gate-lts.spec (calls-split-gate t)
     (split-gate-at t)
     split-gate.Post
     (split-gate-put-spot-requires t)
-    (split-gate-same-length t)
+    (λ c. search needs)
     (split-gate-returns t)
     (split-gate-find-in-requires t)
-    (split-gate-enum-known-g t)
+    (λ c. search needs)
     (split-gate-first-requires t)
     (split-gate-second-requires t)
     (split-gate-first-of-requires t)
-    (split-gate-pin-requires t)
+    (λ c κs. search needs)
     (split-gate-second-of-requires t)
-    (split-gate-pin-requires-2 t)
+    (λ c κs. search needs)
     (split-gate-level-of-requires t)
     (split-gate-split-gate-requires t)
     (split-gate-carry-down-requires t)
@@ -498,8 +518,8 @@ pub +carry-down+split-gate-spec : {M : Type 1} → statement M
     (split-gate-same-length-2 t)
     (split-gate-returns-2 t)
     (split-gate-carry-down-requires-2 t)
-    (split-gate-enum-told t)
+    (λ c. search needs)
     (split-gate-same-length-3 t)
     (split-gate-returns-3 t)
-    (split-gate-same-length-4 t)
+    (λ c. search needs)
     (split-gate-returns-4 t)

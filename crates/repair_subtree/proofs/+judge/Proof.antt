@@ -51,16 +51,10 @@ calls t = (
   worse-reads.Learnt,
 )
 
-judge-cast-if1 : (t : ℕ) → judge-lts.Need-cast-if1 (calls t) (judge-at t) judge.Post
-judge-cast-if1 t c = search needs
-
 judge-returns : (t : ℕ) → judge-lts.Need-returns (calls t) (judge-at t) judge.Post
 judge-returns t c =
     let s = c .before .before .before .before in
     judge-none (s .args .gates .now) (s .args .levels .now) (s .args .h) (s .args .node .0) (omega arith)
-
-judge-level-of-requires : (t : ℕ) → judge-lts.Need-level-of-requires (calls t) (judge-at t) judge.Post
-judge-level-of-requires t c κs = search needs
 
 judge-returns-2 : (t : ℕ) → judge-lts.Need-returns-2 (calls t) (judge-at t) judge.Post
 judge-returns-2 t c =
@@ -75,24 +69,12 @@ judge-returns-3 t c =
     let i : s .args .node .0 < length (s .args .levels .now) = omega arith in
     judge-last (s .args .gates .now) (s .args .levels .now) (s .args .h) (s .args .node .0) i (omega arith) (omega arith)
 
-judge-sub-below : (t : ℕ) → judge-lts.Need-sub-below (calls t) (judge-at t) judge.Post
-judge-sub-below t c = search needs
-
-judge-judge-requires : (t : ℕ) → judge-lts.Need-judge-requires (calls t) (judge-at t) judge.Post
-judge-judge-requires t c κs = search needs
-
 judge-returns-4 : (t : ℕ) → judge-lts.Need-returns-4 (calls t) (judge-at t) judge.Post
 judge-returns-4 t c =
     let b1 = c .before .before .before .before .before .before in
     let s = b1 .before .before .before in
     let i : s .args .node .0 < length (s .args .levels .now) = omega arith in
     judge-down (s .args .gates .now) (s .args .levels .now) (s .args .h) (s .args .node .0) i (omega arith) (omega arith) (c .judge .result) (omega arith) (c .judge .ensures)
-
-judge-find-in-requires : (t : ℕ) → judge-lts.Need-find-in-requires (calls t) (judge-at t) judge.Post
-judge-find-in-requires t c κs = search needs
-
-judge-enum-known-g : (t : ℕ) → judge-lts.Need-enum-known-g (calls t) (judge-at t) judge.Post
-judge-enum-known-g t c = search needs
 
 judge-first-of-requires : (t : ℕ) → judge-lts.Need-first-of-requires (calls t) (judge-at t) judge.Post
 judge-first-of-requires t c κs =
@@ -102,12 +84,6 @@ judge-first-of-requires t c κs =
     let s = b1 .before .before .before in
     gate-whole (s .args .gates .now) (s .args .node .0) _ (f .find-in .result) (s .pre .1) (f .find-in .ensures) (g .g .given .1)
 
-judge-pin-requires : (t : ℕ) → judge-lts.Need-pin-requires (calls t) (judge-at t) judge.Post
-judge-pin-requires t c κs = search needs
-
-judge-judge-requires-2 : (t : ℕ) → judge-lts.Need-judge-requires-2 (calls t) (judge-at t) judge.Post
-judge-judge-requires-2 t c κs = search needs
-
 judge-second-of-requires : (t : ℕ) → judge-lts.Need-second-of-requires (calls t) (judge-at t) judge.Post
 judge-second-of-requires t c κs =
     let g = c .before .before .before .before in
@@ -115,18 +91,6 @@ judge-second-of-requires t c κs =
     let b1 = f .before .before .before .before .before .before in
     let s = b1 .before .before .before in
     gate-whole (s .args .gates .now) (s .args .node .0) _ (f .find-in .result) (s .pre .1) (f .find-in .ensures) (g .g .given .1)
-
-judge-pin-requires-2 : (t : ℕ) → judge-lts.Need-pin-requires-2 (calls t) (judge-at t) judge.Post
-judge-pin-requires-2 t c κs = search needs
-
-judge-judge-requires-3 : (t : ℕ) → judge-lts.Need-judge-requires-3 (calls t) (judge-at t) judge.Post
-judge-judge-requires-3 t c κs = search needs
-
-judge-worse-requires : (t : ℕ) → judge-lts.Need-worse-requires (calls t) (judge-at t) judge.Post
-judge-worse-requires t c κs = search needs
-
-judge-enum-told : (t : ℕ) → judge-lts.Need-enum-told (calls t) (judge-at t) judge.Post
-judge-enum-told t c = search needs
 
 judge-returns-5 : (t : ℕ) → judge-lts.Need-returns-5 (calls t) (judge-at t) judge.Post
 judge-returns-5 t c =
@@ -144,13 +108,17 @@ judge-returns-5 t c =
     let lv = x2 .before in
     let x1 = lv .before in
     let s = x1 .before .before .before .before in
-    let i : s .args .node .0 < length (s .args .levels .now) = omega (arith, x1 .if1 .left) in
-    let w : 0 < s .args .h = omega (arith, x3 .if3 .left) in
-    let k : levelAt (s .args .levels .now) (s .args .node .0) ≡ s .args .h = omega (arith, lv .level-of .ensures, x2 .if2 .left, x4 .if4 .left) in
-    let o = listed-gate (s .args .gates .now) (s .args .node .0) _ (f .find-in .result) (f .find-in .ensures) (g .g .given .1) in
-    let u : pa .pin .result .0 ≡ listFirst (s .args .gates .now) (g .g .given .0 .0) / 2 = omega (arith, pa .pin .ensures, fo .first-of .ensures) in
-    let v : pb .pin2 .result .0 ≡ listSecond (s .args .gates .now) (g .g .given .0 .0) / 2 = omega (arith, pb .pin2 .ensures, so .second-of .ensures) in
-    judge-split (s .args .gates .now) (s .args .levels .now) (s .args .h) (s .args .node .0) i w (omega arith) (g .g .given .0 .0) (pa .pin .result .0) (pb .pin2 .result .0)
+    let node = s .args .node in
+    let levels = s .args .levels .now in
+    let h = s .args .h in
+    let gates = s .args .gates .now in
+    let i : node .0 < length levels = omega (arith, x1 .if1 .left) in
+    let w : 0 < h = omega (arith, x3 .if3 .left) in
+    let k : levelAt levels (node .0) ≡ h = omega (arith, lv .level-of .ensures, x2 .if2 .left, x4 .if4 .left) in
+    let o = listed-gate gates (node .0) _ (f .find-in .result) (f .find-in .ensures) (g .g .given .1) in
+    let u : pa .pin .result .0 ≡ listFirst gates (g .g .given .0 .0) / 2 = omega (arith, pa .pin .ensures, fo .first-of .ensures) in
+    let v : pb .pin2 .result .0 ≡ listSecond gates (g .g .given .0 .0) / 2 = omega (arith, pb .pin2 .ensures, so .second-of .ensures) in
+    judge-split gates levels h (node .0) i w (omega arith) (g .g .given .0 .0) (pa .pin .result .0) (pb .pin2 .result .0)
     (ja .judge2 .result) (jb .judge3 .result) (c .worse .result) k o u v (ja .judge2 .ensures) (jb .judge3 .ensures) (c .worse .ensures)
 
 judge-returns-6 : (t : ℕ) → judge-lts.Need-returns-6 (calls t) (judge-at t) judge.Post
@@ -158,32 +126,36 @@ judge-returns-6 t c =
     let f = c .before .before in
     let b1 = f .before .before .before .before .before .before in
     let s = b1 .before .before .before in
-    let i : s .args .node .0 < length (s .args .levels .now) = omega arith in
-    let k : levelAt (s .args .levels .now) (s .args .node .0) ≡ s .args .h = omega arith in
-    let o = listed-none (s .args .gates .now) (s .args .node .0) (f .find-in .result) (f .find-in .ensures) (c .enum-told .given .1) in
-    judge-missing (s .args .gates .now) (s .args .levels .now) (s .args .h) (s .args .node .0) i (omega arith) (omega arith) k o
+    let node = s .args .node in
+    let levels = s .args .levels .now in
+    let h = s .args .h in
+    let gates = s .args .gates .now in
+    let i : node .0 < length levels = omega arith in
+    let k : levelAt levels (node .0) ≡ h = omega arith in
+    let o = listed-none gates (node .0) (f .find-in .result) (f .find-in .ensures) (c .enum-told .given .1) in
+    judge-missing gates levels h (node .0) i (omega arith) (omega arith) k o
 
 pub +judge-spec : {M : Type 1} → statement M
 +judge-spec = close μ-judge λ t. judge-lts.spec (calls t)
     (judge-at t)
     judge.Post
-    (judge-cast-if1 t)
+    (λ c. search needs)
     (judge-returns t)
-    (judge-level-of-requires t)
+    (λ c κs. search needs)
     (judge-returns-2 t)
     (judge-returns-3 t)
-    (judge-sub-below t)
-    (judge-judge-requires t)
+    (λ c. search needs)
+    (λ c κs. search needs)
     (judge-returns-4 t)
-    (judge-find-in-requires t)
-    (judge-enum-known-g t)
+    (λ c κs. search needs)
+    (λ c. search needs)
     (judge-first-of-requires t)
-    (judge-pin-requires t)
-    (judge-judge-requires-2 t)
+    (λ c κs. search needs)
+    (λ c κs. search needs)
     (judge-second-of-requires t)
-    (judge-pin-requires-2 t)
-    (judge-judge-requires-3 t)
-    (judge-worse-requires t)
-    (judge-enum-told t)
+    (λ c κs. search needs)
+    (λ c κs. search needs)
+    (λ c κs. search needs)
+    (λ c. search needs)
     (judge-returns-5 t)
     (judge-returns-6 t)

@@ -69,15 +69,13 @@ list-reached-put-spot-requires t c κs =
     let s = v .before .before .before in
     reach-puttable (s .args .slots .now) (s .args .list .now) (s .args .n) (s .args .at .level) (s .args .at .width) (s .args .at .index) (v .slot-at .result) (s .pre .1) (v .slot-at .ensures) (λ (e : v .slot-at .result ≡ empty). omega arith)
 
-list-reached-same-length : (t : ℕ) → list-reached-lts.Need-same-length (calls t) (list-reached-at t) list-reached.Post
-list-reached-same-length t c = search needs
-
 list-reached-returns-2 : (t : ℕ) → list-reached-lts.Need-returns-2 (calls t) (list-reached-at t) list-reached.Post
 list-reached-returns-2 t c =
     let p = c .before .before .before .before in
     let v = p .before .before .before in
     let s = v .before .before .before in
-    reach-last (s .args .slots .now) (s .args .list .now) (s .args .n) (s .args .at .level) (s .args .at .width) (s .args .at .index) (v .slot-at .result) (s .pre .1) (v .slot-at .ensures) (λ (e : v .slot-at .result ≡ empty). omega arith) (p .put-spot .last .0) (p .put-spot .result) (omega arith) (p .put-spot .ensures)
+    reach-last (s .args .slots .now) (s .args .list .now) (s .args .n) (s .args .at .level) (s .args .at .width) (s .args .at .index) (v .slot-at .result) (s .pre .1)
+    (v .slot-at .ensures) (λ (e : v .slot-at .result ≡ empty). omega arith) (p .put-spot .last .0) (p .put-spot .result) (omega arith) (p .put-spot .ensures)
 
 list-reached-first-requires : (t : ℕ) → list-reached-lts.Need-first-requires (calls t) (list-reached-at t) list-reached.Post
 list-reached-first-requires t c κs =
@@ -99,7 +97,9 @@ list-reached-list-reached-requires t c κs =
     let v = p .before .before .before in
     let s = v .before .before .before in (
       omega (arith, f .first .ensures .level),
-      reach-first (s .args .slots .now) (s .args .list .now) (s .args .n) (s .args .at .level) (s .args .at .width) (s .args .at .index) (v .slot-at .result) (s .pre .1) (v .slot-at .ensures) (λ (e : v .slot-at .result ≡ empty). omega arith) (omega arith) (p .put-spot .last .0) (p .put-spot .result) (p .put-spot .ensures) (f .first .result) (n .second .result) (f .first .ensures) (n .second .ensures),
+      reach-first (s .args .slots .now) (s .args .list .now) (s .args .n) (s .args .at .level) (s .args .at .width) (s .args .at .index) (v .slot-at .result) (s .pre .1)
+          (v .slot-at .ensures) (λ (e : v .slot-at .result ≡ empty). omega arith) (omega arith) (p .put-spot .last .0) (p .put-spot .result) (p .put-spot .ensures)
+          (f .first .result) (n .second .result) (f .first .ensures) (n .second .ensures),
     )
 
 list-reached-list-reached-requires-2 : (t : ℕ) → list-reached-lts.Need-list-reached-requires-2 (calls t) (list-reached-at t) list-reached.Post
@@ -111,12 +111,11 @@ list-reached-list-reached-requires-2 t c κs =
     let v = p .before .before .before in
     let s = v .before .before .before in (
       omega (arith, n .second .ensures .level),
-      reach-second (s .args .slots .now) (s .args .list .now) (s .args .n) (s .args .at .level) (s .args .at .width) (s .args .at .index) (v .slot-at .result) (s .pre .1) (v .slot-at .ensures) (λ (e : v .slot-at .result ≡ empty). omega arith) (omega arith) (p .put-spot .last .0) (p .put-spot .result) (p .put-spot .ensures) (f .first .result) (n .second .result) (f .first .ensures) (n .second .ensures)
+      reach-second (s .args .slots .now) (s .args .list .now) (s .args .n) (s .args .at .level) (s .args .at .width) (s .args .at .index) (v .slot-at .result) (s .pre .1)
+          (v .slot-at .ensures) (λ (e : v .slot-at .result ≡ empty). omega arith) (omega arith) (p .put-spot .last .0) (p .put-spot .result) (p .put-spot .ensures)
+          (f .first .result) (n .second .result) (f .first .ensures) (n .second .ensures)
           (l .list-reached .last .1 .0) (l .list-reached .result) (l .list-reached .ensures),
     )
-
-list-reached-same-length-2 : (t : ℕ) → list-reached-lts.Need-same-length-2 (calls t) (list-reached-at t) list-reached.Post
-list-reached-same-length-2 t c = search needs
 
 list-reached-returns-3 : (t : ℕ) → list-reached-lts.Need-returns-3 (calls t) (list-reached-at t) list-reached.Post
 list-reached-returns-3 t c =
@@ -127,7 +126,9 @@ list-reached-returns-3 t c =
     let p = f .before .before .before .before .before in
     let v = p .before .before .before in
     let s = v .before .before .before in
-    reach-done (s .args .slots .now) (s .args .list .now) (s .args .n) (s .args .at .level) (s .args .at .width) (s .args .at .index) (v .slot-at .result) (s .pre .1) (v .slot-at .ensures) (λ (e : v .slot-at .result ≡ empty). omega arith) (omega arith) (p .put-spot .last .0) (p .put-spot .result) (p .put-spot .ensures) (f .first .result) (n .second .result) (f .first .ensures) (n .second .ensures)
+    reach-done (s .args .slots .now) (s .args .list .now) (s .args .n) (s .args .at .level) (s .args .at .width) (s .args .at .index) (v .slot-at .result) (s .pre .1)
+    (v .slot-at .ensures) (λ (e : v .slot-at .result ≡ empty). omega arith) (omega arith) (p .put-spot .last .0) (p .put-spot .result) (p .put-spot .ensures)
+    (f .first .result) (n .second .result) (f .first .ensures) (n .second .ensures)
     (l .list-reached .last .1 .0) (l .list-reached .result) (l .list-reached .ensures)
     (m .list-reached2 .last .1 .0) (m .list-reached2 .result) (m .list-reached2 .ensures)
 
@@ -138,11 +139,11 @@ pub +list-reached-spec : {M : Type 1} → statement M
     (list-reached-slot-at-requires t)
     (list-reached-returns t)
     (list-reached-put-spot-requires t)
-    (list-reached-same-length t)
+    (λ c. search needs)
     (list-reached-returns-2 t)
     (list-reached-first-requires t)
     (list-reached-second-requires t)
     (list-reached-list-reached-requires t)
     (list-reached-list-reached-requires-2 t)
-    (list-reached-same-length-2 t)
+    (λ c. search needs)
     (list-reached-returns-3 t)

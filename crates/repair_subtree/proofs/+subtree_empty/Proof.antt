@@ -63,15 +63,9 @@ subtree-empty-returns-2 t c =
     let e : slotIn (s .args .slots .now) (s .args .at .index) ≡ empty = omega arith in
     sym (empty-last (s .args .slots .now) (s .args .at .level) (s .args .at .width) (s .args .at .index) (omega arith) e)
 
-subtree-empty-first-requires : (t : ℕ) → subtree-empty-lts.Need-first-requires (calls t) (subtree-empty-at t) subtree-empty.Post
-subtree-empty-first-requires t c κs = search needs
-
 subtree-empty-subtree-empty-requires : (t : ℕ) → subtree-empty-lts.Need-subtree-empty-requires (calls t) (subtree-empty-at t) subtree-empty.Post
 subtree-empty-subtree-empty-requires t c κs =
     (omega (arith, c .first .ensures .level), c .first .ensures .rooted)
-
-subtree-empty-second-requires : (t : ℕ) → subtree-empty-lts.Need-second-requires (calls t) (subtree-empty-at t) subtree-empty.Post
-subtree-empty-second-requires t c κs = search needs
 
 subtree-empty-subtree-empty-requires-2 : (t : ℕ) → subtree-empty-lts.Need-subtree-empty-requires-2 (calls t) (subtree-empty-at t) subtree-empty.Post
 subtree-empty-subtree-empty-requires-2 t c κs =
@@ -103,9 +97,9 @@ pub +subtree-empty-spec : {M : Type 1} → statement M
     (subtree-empty-slot-at-requires t)
     (subtree-empty-returns t)
     (subtree-empty-returns-2 t)
-    (subtree-empty-first-requires t)
+    (λ c κs. search needs)
     (subtree-empty-subtree-empty-requires t)
-    (subtree-empty-second-requires t)
+    (λ c κs. search needs)
     (subtree-empty-subtree-empty-requires-2 t)
     (subtree-empty-returns-3 t)
     (subtree-empty-returns-4 t)

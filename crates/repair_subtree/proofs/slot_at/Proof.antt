@@ -5,22 +5,11 @@ use Rattle.repair_subtree.proofs.SubtreeLaws.{slot-past, slot-here}
 use borrow.Author.Needs.{needs}
 use Rattle.repair_subtree.proofs.slot_at.Statement.{statement}
 use Rattle.repair_subtree.proofs.slot_at.Tie as tie
-use Rattle.repair_subtree.proofs.slot_at.Reads as reads
-use Rattle.repair_subtree.proofs.slot_at.Lts as lts
 
 returns : tie.Need-returns
 returns c =
     let s = c .before in
     slot-past (s .args .slots .now) (s .args .q) (omega arith)
-
-sub-result : tie.Need-sub-result
-sub-result c = search needs
-
-mul-result : tie.Need-mul-result
-mul-result c = search needs
-
-shared-slice-read-result : tie.Need-shared-slice-read-result
-shared-slice-read-result c = search needs
 
 returns-2 : tie.Need-returns-2
 returns-2 c =
@@ -29,4 +18,5 @@ returns-2 c =
 
 pub slot-at-spec : {M : Type 1} → statement M
 slot-at-spec =
-    tie.close (tie.spec returns sub-result mul-result shared-slice-read-result returns-2)
+    tie.close
+    (tie.spec returns (λ c. search needs) (λ c. search needs) (λ c. search needs) returns-2)

@@ -7,10 +7,6 @@ use Rattle.repair_tally.proofs.StepLaws.{found-value, found-missing, en
 use borrow.Author.Needs.{needs}
 use Rattle.repair_tally.proofs.enter.Statement.{statement}
 use Rattle.repair_tally.proofs.enter.Tie as tie
-use Rattle.repair_tally.proofs.enter.Reads as reads
-use Rattle.repair_tally.proofs.enter.Lts as lts
-use Rattle.pinmap.proofs.look_up.Reads as look-up-reads
-use Rattle.pinmap.proofs.put.Reads as put-reads
 
 returns : tie.Need-returns
 returns c =
@@ -22,29 +18,11 @@ returns-2 c =
     let s = c .before .before .before .before in
     enter-zero (s .args .map .now) (s .args .node .0) (s .args .count) (omega arith)
 
-look-up-requires : tie.Need-look-up-requires
-look-up-requires c κs = search needs
-
-enum-told : tie.Need-enum-told
-enum-told c = search needs
-
-enum-told-2 : tie.Need-enum-told-2
-enum-told-2 c = search needs
-
-put-requires : tie.Need-put-requires
-put-requires c κs = search needs
-
-same-length : tie.Need-same-length
-same-length c = search needs
-
 returns-3 : tie.Need-returns-3
 returns-3 c =
     let l = c .before .before in
     let s = l .before .before .before .before .before .before in
     enter-twice (s .args .map .now) (s .args .node .0) (s .args .count) _ (omega arith) (omega arith) (found-value _ _ _ (l .look-up .ensures) (c .enum-told .given .1))
-
-same-length-2 : tie.Need-same-length-2
-same-length-2 c = search needs
 
 returns-4 : tie.Need-returns-4
 returns-4 c =
@@ -58,14 +36,5 @@ returns-4 c =
 pub enter-spec : {M : Type 1} → statement M
 enter-spec =
     tie.close
-    (tie.spec
-    returns
-    returns-2
-    look-up-requires
-    enum-told
-    enum-told-2
-    put-requires
-    same-length
-    returns-3
-    same-length-2
-    returns-4)
+    (tie.spec returns returns-2 (λ c κs. search needs) (λ c. search needs) (λ c. search needs) (λ c κs. search needs) (λ c. search needs)
+    returns-3 (λ c. search needs) returns-4)

@@ -7,25 +7,6 @@ use Rattle.repair_tally.proofs.StepLaws.{found-value, found-missing, lo
 use borrow.Author.Needs.{needs}
 use Rattle.repair_tally.proofs.lower.Statement.{statement}
 use Rattle.repair_tally.proofs.lower.Tie as tie
-use Rattle.repair_tally.proofs.lower.Reads as reads
-use Rattle.repair_tally.proofs.lower.Lts as lts
-use Rattle.pinmap.proofs.look_up.Reads as look-up-reads
-use Rattle.pinmap.proofs.put.Reads as put-reads
-
-look-up-requires : tie.Need-look-up-requires
-look-up-requires c κs = search needs
-
-enum-known-v : tie.Need-enum-known-v
-enum-known-v c = search needs
-
-sub-put : tie.Need-sub-put
-sub-put c = search needs
-
-put-requires : tie.Need-put-requires
-put-requires c κs = search needs
-
-same-length : tie.Need-same-length
-same-length c = search needs
 
 returns : tie.Need-returns
 returns c =
@@ -35,21 +16,12 @@ returns c =
     let s = l .before .before .before in
     lower-there (s .args .map .now) (s .args .node .0) _ (found-value _ _ _ (l .look-up .ensures) (v .v .given .1)) (omega arith) ∙ ap some (sym (p .put .ensures .1))
 
-enum-told : tie.Need-enum-told
-enum-told c = search needs
-
-same-length-2 : tie.Need-same-length-2
-same-length-2 c = search needs
-
 returns-2 : tie.Need-returns-2
 returns-2 c =
     let v = c .before .before in
     let l = v .before .before in
     let s = l .before .before .before in
     lower-zero (s .args .map .now) (s .args .node .0) _ (found-value _ _ _ (l .look-up .ensures) (v .v .given .1)) (omega arith)
-
-same-length-3 : tie.Need-same-length-3
-same-length-3 c = search needs
 
 returns-3 : tie.Need-returns-3
 returns-3 c =
@@ -60,15 +32,5 @@ returns-3 c =
 pub lower-spec : {M : Type 1} → statement M
 lower-spec =
     tie.close
-    (tie.spec
-    look-up-requires
-    enum-known-v
-    sub-put
-    put-requires
-    same-length
-    returns
-    enum-told
-    same-length-2
-    returns-2
-    same-length-3
-    returns-3)
+    (tie.spec (λ c κs. search needs) (λ c. search needs) (λ c. search needs) (λ c κs. search needs) (λ c. search needs) returns
+    (λ c. search needs) (λ c. search needs) returns-2 (λ c. search needs) returns-3)

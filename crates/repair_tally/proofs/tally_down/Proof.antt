@@ -9,9 +9,6 @@ use Rattle.repair_tally.proofs.StepLaws.{nodesFrom, told-true, told-fal
 use borrow.Author.Needs.{needs}
 use Rattle.repair_tally.proofs.tally_down.Statement.{statement}
 use Rattle.repair_tally.proofs.tally_down.Tie as tie
-use Rattle.repair_tally.proofs.tally_down.Reads as reads
-use Rattle.repair_tally.proofs.tally_down.Lts as lts
-use Rattle.repair_tally.proofs.lower.Reads as lower-reads
 
 abbrev Inv-loop : tie.InvT-loop
 Inv-loop spots map₀ count k₀ map k =
@@ -24,43 +21,16 @@ loop-holds : tie.Need-loop-holds Inv-loop μ-loop
 loop-holds c =
     (omega arith, refl, refl)
 
-mul-if1 : tie.Need-mul-if1 Inv-loop μ-loop
-mul-if1 c = search needs
-
-mul-if1-2 : tie.Need-mul-if1-2 Inv-loop μ-loop
-mul-if1-2 c = search needs
-
-shared-slice-read-if1 : tie.Need-shared-slice-read-if1 Inv-loop μ-loop
-shared-slice-read-if1 c = search needs
-
 cast-if1 : tie.Need-cast-if1 Inv-loop μ-loop
 cast-if1 c =
     let a = c .before .before in
     omega (arith, c .shared-slice-known2 .given (2 * a .loop .k))
-
-mul-t15 : tie.Need-mul-t15 Inv-loop μ-loop
-mul-t15 c = search needs
-
-add-t16 : tie.Need-add-t16 Inv-loop μ-loop
-add-t16 c = search needs
-
-mul-t17 : tie.Need-mul-t17 Inv-loop μ-loop
-mul-t17 c = search needs
-
-shared-slice-read-t19 : tie.Need-shared-slice-read-t19 Inv-loop μ-loop
-shared-slice-read-t19 c = search needs
 
 lower-requires : tie.Need-lower-requires Inv-loop μ-loop
 lower-requires c κs =
     let a = c .before .before .before .before .before in
     let s = a .before .before .before in
     s .pre (a .loop .k) (omega arith)
-
-add-k : tie.Need-add-k Inv-loop μ-loop
-add-k c = search needs
-
-loop-less : tie.Need-loop-less Inv-loop μ-loop
-loop-less c = search needs
 
 loop-again : tie.Need-loop-again Inv-loop μ-loop
 loop-again c =
@@ -70,9 +40,6 @@ loop-again c =
     let k = told-true _ _ _ (e .lower .ensures) (c .if2 .taken) in
     (omega arith, omega arith, sym (way-on lowering (a .loop .map) (s .args .spots .now) (a .loop .k) (omega arith) (e .lower .last .0) (omega arith) k) ∙ a .loop .inv .2)
 
-same-length : tie.Need-same-length Inv-loop μ-loop
-same-length c = search needs
-
 returns : tie.Need-returns Inv-loop μ-loop
 returns c =
     let e = c .before .before .before in
@@ -81,20 +48,11 @@ returns c =
     let k = told-false _ _ _ (e .lower .ensures) (c .if2 .left) in
     sym (a .loop .inv .2) ∙ way-stop lowering (a .loop .map) (s .args .spots .now) (a .loop .k) (omega arith) (omega arith) k
 
-add-k-2 : tie.Need-add-k-2 Inv-loop μ-loop
-add-k-2 c = search needs
-
-loop-less-2 : tie.Need-loop-less-2 Inv-loop μ-loop
-loop-less-2 c = search needs
-
 loop-again-2 : tie.Need-loop-again-2 Inv-loop μ-loop
 loop-again-2 c =
     let a = c .before .before .before in
     let s = a .before .before .before in
     (omega arith, a .loop .inv .1, sym (way-skip lowering (a .loop .map) (s .args .spots .now) (a .loop .k) (omega arith) (omega arith)) ∙ a .loop .inv .2)
-
-same-length-2 : tie.Need-same-length-2 Inv-loop μ-loop
-same-length-2 c = search needs
 
 returns-2 : tie.Need-returns-2 Inv-loop μ-loop
 returns-2 c =
@@ -105,26 +63,6 @@ returns-2 c =
 pub tally-down-spec : {M : Type 1} → statement M
 tally-down-spec =
     tie.close
-    (tie.spec
-    Inv-loop
-    μ-loop
-    loop-holds
-    mul-if1
-    mul-if1-2
-    shared-slice-read-if1
-    cast-if1
-    mul-t15
-    add-t16
-    mul-t17
-    shared-slice-read-t19
-    lower-requires
-    add-k
-    loop-less
-    loop-again
-    same-length
-    returns
-    add-k-2
-    loop-less-2
-    loop-again-2
-    same-length-2
-    returns-2)
+    (tie.spec Inv-loop μ-loop loop-holds (λ c. search needs) (λ c. search needs) (λ c. search needs) cast-if1 (λ c. search needs)
+    (λ c. search needs) (λ c. search needs) (λ c. search needs) lower-requires (λ c. search needs) (λ c. search needs) loop-again
+    (λ c. search needs) returns (λ c. search needs) (λ c. search needs) loop-again-2 (λ c. search needs) returns-2)

@@ -10,9 +10,6 @@ use Rattle.repair_tally.proofs.StepLaws.{nodesFrom, told-new, told-over
 use borrow.Author.Needs.{needs}
 use Rattle.repair_tally.proofs.tally_up.Statement.{statement}
 use Rattle.repair_tally.proofs.tally_up.Tie as tie
-use Rattle.repair_tally.proofs.tally_up.Reads as reads
-use Rattle.repair_tally.proofs.tally_up.Lts as lts
-use Rattle.repair_tally.proofs.raise.Reads as raise-reads
 
 abbrev Inv-loop : tie.InvT-loop
 Inv-loop spots map₀ fresh₀ count n₀ k₀ map fresh n k =
@@ -26,46 +23,16 @@ loop-holds : tie.Need-loop-holds Inv-loop μ-loop
 loop-holds c =
     (omega arith, omega arith, omega arith, refl, refl, refl)
 
-mul-if1 : tie.Need-mul-if1 Inv-loop μ-loop
-mul-if1 c = search needs
-
-mul-if1-2 : tie.Need-mul-if1-2 Inv-loop μ-loop
-mul-if1-2 c = search needs
-
-shared-slice-read-if1 : tie.Need-shared-slice-read-if1 Inv-loop μ-loop
-shared-slice-read-if1 c = search needs
-
 cast-if1 : tie.Need-cast-if1 Inv-loop μ-loop
 cast-if1 c =
     let a = c .before .before in
     omega (arith, c .shared-slice-known2 .given (2 * a .loop .k))
-
-mul-t20 : tie.Need-mul-t20 Inv-loop μ-loop
-mul-t20 c = search needs
-
-add-t21 : tie.Need-add-t21 Inv-loop μ-loop
-add-t21 c = search needs
-
-mul-t22 : tie.Need-mul-t22 Inv-loop μ-loop
-mul-t22 c = search needs
-
-shared-slice-read-t24 : tie.Need-shared-slice-read-t24 Inv-loop μ-loop
-shared-slice-read-t24 c = search needs
 
 raise-requires : tie.Need-raise-requires Inv-loop μ-loop
 raise-requires c κs =
     let a = c .before .before .before .before .before .before in
     let s = a .before .before .before .before in
     (s .pre .0 (a .loop .k) (omega arith), omega (arith, s .pre .1))
-
-enum-known-more : tie.Need-enum-known-more Inv-loop μ-loop
-enum-known-more c = search needs
-
-add-k : tie.Need-add-k Inv-loop μ-loop
-add-k c = search needs
-
-loop-less : tie.Need-loop-less Inv-loop μ-loop
-loop-less c = search needs
 
 loop-again : tie.Need-loop-again Inv-loop μ-loop
 loop-again c =
@@ -84,15 +51,6 @@ loop-again c =
       sym (way-on raising (raised (a .loop .map) (take (a .loop .n) (a .loop .fresh))) (s .args .spots .now) (a .loop .k) (omega arith) (raised (e .raise .last .0) (take (m .more .given .0 .0) (e .raise .last .1 .0))) (omega arith) (k .0)) ∙ a .loop .inv .5,
     )
 
-enum-told : tie.Need-enum-told Inv-loop μ-loop
-enum-told c = search needs
-
-same-length : tie.Need-same-length Inv-loop μ-loop
-same-length c = search needs
-
-same-length-2 : tie.Need-same-length-2 Inv-loop μ-loop
-same-length-2 c = search needs
-
 returns : tie.Need-returns Inv-loop μ-loop
 returns c =
     let e = c .before .before .before .before .before .before in
@@ -102,23 +60,11 @@ returns c =
     let k = told-over _ _ _ _ (e .raise .ensures) (c .enum-told .given .1) in
     sym (a .loop .inv .5) ∙ way-stop raising (raised (a .loop .map) (take (a .loop .n) (a .loop .fresh))) (s .args .spots .now) (a .loop .k) (omega arith) (omega arith) k
 
-add-k-2 : tie.Need-add-k-2 Inv-loop μ-loop
-add-k-2 c = search needs
-
-loop-less-2 : tie.Need-loop-less-2 Inv-loop μ-loop
-loop-less-2 c = search needs
-
 loop-again-2 : tie.Need-loop-again-2 Inv-loop μ-loop
 loop-again-2 c =
     let a = c .before .before .before in
     let s = a .before .before .before .before in
     (omega arith, omega arith, a .loop .inv .2, a .loop .inv .3, a .loop .inv .4, sym (way-skip raising (raised (a .loop .map) (take (a .loop .n) (a .loop .fresh))) (s .args .spots .now) (a .loop .k) (omega arith) (omega arith)) ∙ a .loop .inv .5)
-
-same-length-3 : tie.Need-same-length-3 Inv-loop μ-loop
-same-length-3 c = search needs
-
-same-length-4 : tie.Need-same-length-4 Inv-loop μ-loop
-same-length-4 c = search needs
 
 returns-2 : tie.Need-returns-2 Inv-loop μ-loop
 returns-2 c =
@@ -129,30 +75,7 @@ returns-2 c =
 pub tally-up-spec : {M : Type 1} → statement M
 tally-up-spec =
     tie.close
-    (tie.spec
-    Inv-loop
-    μ-loop
-    loop-holds
-    mul-if1
-    mul-if1-2
-    shared-slice-read-if1
-    cast-if1
-    mul-t20
-    add-t21
-    mul-t22
-    shared-slice-read-t24
-    raise-requires
-    enum-known-more
-    add-k
-    loop-less
-    loop-again
-    enum-told
-    same-length
-    same-length-2
-    returns
-    add-k-2
-    loop-less-2
-    loop-again-2
-    same-length-3
-    same-length-4
-    returns-2)
+    (tie.spec Inv-loop μ-loop loop-holds (λ c. search needs) (λ c. search needs) (λ c. search needs) cast-if1 (λ c. search needs)
+    (λ c. search needs) (λ c. search needs) (λ c. search needs) raise-requires (λ c. search needs) (λ c. search needs) (λ c. search needs)
+    loop-again (λ c. search needs) (λ c. search needs) (λ c. search needs) returns (λ c. search needs) (λ c. search needs) loop-again-2
+    (λ c. search needs) (λ c. search needs) returns-2)

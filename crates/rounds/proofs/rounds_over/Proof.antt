@@ -16,17 +16,37 @@ use Rattle.rounds.proofs.rounds_over.Statement.{statement}
 use Rattle.rounds.proofs.rounds_over.Tie as tie
 
 -- the set has the form
-form-in : (c : tie.After-enum-told) → broken (pairsOf (c .before .before .before .before .before .before .before .before .before .args .set .now)) ≡ none
+form-in : (c : tie.After-enum-told)
+    → let way = c .before .before .before .before .before in
+    let start = way .before .before .before .before in
+    broken (pairsOf (start .args .set .now)) ≡ none
 form-in c = item-none _ (sym (c .before .before .check-form .ensures) ∙ c .enum-told .given .1)
 
-search-in : (c : tie.Else2) → Searchable (c .before .before .before .before .before .before .before .before .before .before .args .set .now) (length (c .before .before .before .before .before .before .before .before .before .before .args .table .now)) (length (c .before .before .before .before .before .before .before .before .before .before .args .keys .now)) (length (c .before .before .before .before .before .before .before .before .before .before .args .scratch .now)) (c .before .before .before .before .before .before .before .before .before .before .args .lanes)
-search-in c = searchable (c .before .before .before .before .before .before .before .before .before .before .pre) (c .before .before .before .before .if1 .left) (form-in (c .before)) (λ x. c .before .before .before .before .before .before .before .before .before .shared-slice-known .given x .fits)
+search-in : (c : tie.Else2)
+    → let way = c .before .before .before .before .before in
+    let start = way .before .before .before .before .before in
+    Searchable (start .args .set .now) (length (start .args .table .now)) (length (start .args .keys .now)) (length (start .args .scratch .now)) (start .args .lanes)
+search-in c =
+    let at-if1 = c .before .before .before .before in
+    let at-shared-slice-known = at-if1 .before .before .before .before .before in
+    searchable (at-shared-slice-known .before .pre) (at-if1 .if1 .left) (form-in (c .before)) (λ x. at-shared-slice-known .shared-slice-known .given x .fits)
 
 -- a size won
-win-in : (c : tie.Then3) → Win (c .before .before .before .before .before .before .before .before .before .before .before .before .before .before .before .before .before .before .before .before .before .args .set .now) (c .before .before .before .before .before .before .before .search-sizes .last .1 .0) (c .before .before .before .before .before .before .before .before .before .before .before .before .before .before .before .before .before .before .before .before .before .args .lanes)
+win-in : (c : tie.Then3)
+    → let way = c .before .before .before .before in
+    let at-search-sizes = way .before .before .before in
+    let way-2 = at-search-sizes .before .before .before .before .before in
+    let way-3 = way-2 .before .before .before .before .before in
+    let start = way-3 .before .before .before .before in
+    Win (start .args .set .now) (at-search-sizes .search-sizes .last .1 .0) (start .args .lanes)
 win-in c =
-    let t = c .before .before .before .before .before .before .before .search-sizes in
-    won (search-in (c .before .before .before .before .before .before .before .before .before .before .before)) (t .result) (t .last .1 .0) (t .ensures .0) (c .if3 .taken) (t .ensures .1) (t .kept .1 .0 ∙ c .before .before .before .before .before .before .before .before .before .before .before .before .before .before .before .before .before .before .before .before .before .pre .room)
+    let way = c .before .before .before .before in
+    let at-search-sizes = way .before .before .before in
+    let way-2 = at-search-sizes .before .before .before .before in
+    let way-3 = way-2 .before .before .before .before .before in
+    let start = way-3 .before .before .before .before .before in
+    let t = at-search-sizes .search-sizes in
+    won (search-in way-2) (t .result) (t .last .1 .0) (t .ensures .0) (c .if3 .taken) (t .ensures .1) (t .kept .1 .0 ∙ start .pre .room)
 
 -- the rounds are those of its lanes, at most 32
 rounds-in : (c : tie.After-longest-row) → c .longest-row .result ≡ longest (win-in (c .before .before) .lanes)
@@ -34,43 +54,40 @@ rounds-in c = c .longest-row .ensures ∙ ap longest (win-in (c .before .before)
 
 few-in : (c : tie.After-longest-row) → c .longest-row .result ≤ 32
 few-in c =
-    let a = c .before .before .before .before .before .before .before .before .before .before .before .before .before .before .before .before .before .before .before .before .before .before .before in
+    let way = c .before .before .before .before .before in
+    let way-2 = way .before .before .before .before in
+    let at-if2 = way-2 .before .before .before .before in
+    let at-if1 = at-if2 .before .before .before .before in
+    let at-shared-slice-known = at-if1 .before .before .before .before .before in
+    let a = at-shared-slice-known .before in
+    let lanes = a .args .lanes in
+    let set = a .args .set .now in
     let w = win-in (c .before .before) in
-    let packed = is-packed (a .args .lanes) (a .args .set .now) 0 (c .before .before .before .before .before .before .before .before .before .before .before .before .before .before .before .before .before .if1 .left) (form-in (c .before .before .before .before .before .before .before .before .before .before .before .before .before .before)) (c .before .before .before .before .before .before .before .before .before .before .before .before .before .if2 .left) (w .lanes) (w .found) in
-    let sound = placed-sound (a .args .lanes) (a .args .set .now) (w .lanes) (a .pre .some-lanes) (λ x. c .before .before .before .before .before .before .before .before .before .before .before .before .before .before .before .before .before .before .before .before .before .before .shared-slice-known .given x .fits) packed in
+    let packed = is-packed lanes set 0 (at-if1 .if1 .left) (form-in (at-if2 .before)) (at-if2 .if2 .left) (w .lanes) (w .found) in
+    let sound = placed-sound lanes set (w .lanes) (a .pre .some-lanes) (λ x. at-shared-slice-known .shared-slice-known .given x .fits) packed in
     omega (arith, rounds-in c, sound .rounds .1)
 
-refused-requires : tie.Need-refused-requires
-refused-requires c κs = search needs
-
 returns : tie.Need-returns
-returns c = refused-post _ _ _ 1 0 (is-many (c .before .before .before .before .before .before .before .args .lanes) (c .before .before .before .before .before .before .before .args .set .now) _ (c .before .if1 .taken)) (c .refused .ensures)
-
-check-form-requires : tie.Need-check-form-requires
-check-form-requires c κs = search needs
-
-enum-known-i : tie.Need-enum-known-i
-enum-known-i c = search needs
-
-refused-requires-2 : tie.Need-refused-requires-2
-refused-requires-2 c κs = search needs
+returns c =
+    let way = c .before .before .before .before in
+    let start = way .before .before .before in
+    refused-post _ _ _ 1 0 (is-many (start .args .lanes) (start .args .set .now) _ (c .before .if1 .taken)) (c .refused .ensures)
 
 returns-2 : tie.Need-returns-2
 returns-2 c =
-    let a = c .before .before .before .before .before .before .before .before .before .before .before .args in
-    let bad = item-some _ _ (sym (c .before .before .before .before .check-form .ensures) ∙ c .before .before .i .given .1) in
-    refused-post _ _ _ 2 _ (is-bad (a .lanes) (a .set .now) _ (c .before .before .before .before .before .if1 .left) _ bad) (c .refused2 .ensures)
-
-enum-told : tie.Need-enum-told
-enum-told c = search needs
-
-refused-requires-3 : tie.Need-refused-requires-3
-refused-requires-3 c κs = search needs
+    let at-check-form = c .before .before .before .before in
+    let way = at-check-form .before .before .before .before in
+    let start = way .before .before .before in
+    let a = start .args in
+    let bad = item-some _ _ (sym (at-check-form .check-form .ensures) ∙ c .before .before .i .given .1) in
+    refused-post _ _ _ 2 _ (is-bad (a .lanes) (a .set .now) _ (at-check-form .before .if1 .left) _ bad) (c .refused2 .ensures)
 
 returns-3 : tie.Need-returns-3
 returns-3 c =
-    let a = c .before .before .before .before .before .before .before .before .before .before .before .args in
-    refused-post _ _ _ 3 0 (is-none (a .lanes) (a .set .now) _ (c .before .before .before .before .before .if1 .left) (form-in (c .before .before)) (c .before .if2 .taken)) (c .refused3 .ensures)
+    let at-if1 = c .before .before .before .before .before in
+    let start = at-if1 .before .before .before .before .before .before in
+    let a = start .args in
+    refused-post _ _ _ 3 0 (is-none (a .lanes) (a .set .now) _ (at-if1 .if1 .left) (form-in (c .before .before)) (c .before .if2 .taken)) (c .refused3 .ensures)
 
 search-sizes-requires : tie.Need-search-sizes-requires
 search-sizes-requires c κs = search-in (c .before .before .before)
@@ -78,29 +95,24 @@ search-sizes-requires c κs = search-in (c .before .before .before)
 longest-row-requires : tie.Need-longest-row-requires
 longest-row-requires c κs = win-in (c .before) .readable
 
-mul-if4 : tie.Need-mul-if4
-mul-if4 c = search needs
-
 mul-if4-2 : tie.Need-mul-if4-2
-mul-if4-2 c = omega (arith, size-fits (c .before .before .before .before .before .before .before .before .before .before .before .before .before .before .before .before .before .before .before .before .before .before .before .args .lanes) _ (c .before .before .before .before .before .before .before .before .before .before .before .before .before .before .before .before .before .before .before .before .before .before .before .pre .few-lanes) (few-in c))
-
-refused-requires-4 : tie.Need-refused-requires-4
-refused-requires-4 c κs = search needs
-
-same-length : tie.Need-same-length
-same-length c = search needs
-
-same-length-2 : tie.Need-same-length-2
-same-length-2 c = search needs
-
-same-length-3 : tie.Need-same-length-3
-same-length-3 c = search needs
+mul-if4-2 c =
+    let way = c .before .before .before .before .before .before in
+    let way-2 = way .before .before .before .before .before .before in
+    let way-3 = way-2 .before .before .before .before .before .before in
+    let start = way-3 .before .before .before .before .before in
+    omega (arith, size-fits (start .args .lanes) _ (start .pre .few-lanes) (few-in c))
 
 returns-4 : tie.Need-returns-4
 returns-4 c =
-    let a = c .before .before .before .before .before .before .before .before .before .before .before .before .before .before .before .before .before .before .before .before .before .before .before .before .before .args in
-    let w = win-in (c .before .before .before .before) in
-    let short = is-short (a .lanes) (a .set .now) _ (c .before .before .before .before .before .before .before .before .before .before .before .before .before .before .before .before .before .before .before .if1 .left) (form-in (c .before .before .before .before .before .before .before .before .before .before .before .before .before .before .before .before)) (c .before .before .before .before .before .before .before .before .before .before .before .before .before .before .before .if2 .left) (w .lanes) (w .found) (rw (rounds-in (c .before .before)) at (c .before .if4 .taken)) in
+    let way = c .before .before .before .before in
+    let way-2 = way .before .before .before .before .before .before in
+    let at-if2 = way-2 .before .before .before .before .before in
+    let at-if1 = at-if2 .before .before .before .before in
+    let start = at-if1 .before .before .before .before .before .before in
+    let a = start .args in
+    let w = win-in way in
+    let short = is-short (a .lanes) (a .set .now) _ (at-if1 .if1 .left) (form-in (at-if2 .before)) (at-if2 .if2 .left) (w .lanes) (w .found) (rw (rounds-in (c .before .before)) at (c .before .if4 .taken)) in
     refused-post _ _ _ 14 0 short (c .refused4 .ensures)
 
 write-rounds-requires : tie.Need-write-rounds-requires
@@ -109,74 +121,35 @@ write-rounds-requires c κs = record { table = win-in (c .before .before .before
 cast-t31 : tie.Need-cast-t31
 cast-t31 c = omega (arith, few-in (c .before .before .before .before .before .before))
 
-same-length-4 : tie.Need-same-length-4
-same-length-4 c = search needs
-
-same-length-5 : tie.Need-same-length-5
-same-length-5 c = search needs
-
-same-length-6 : tie.Need-same-length-6
-same-length-6 c = search needs
-
-same-length-7 : tie.Need-same-length-7
-same-length-7 c = search needs
-
 returns-5 : tie.Need-returns-5
 returns-5 c =
-    let a = c .before .before .before .before .before .before .before .before .before .before .before .before .before .before .before .before .before .before .before .before .before .before .before .before .before .before .before .before .before .args in
-    let w = win-in (c .before .before .before .before .before .before .before .before) in
-    let fits = is-placed (a .lanes) (a .set .now) _ (c .before .before .before .before .before .before .before .before .before .before .before .before .before .before .before .before .before .before .before .before .before .before .before .if1 .left) (form-in (c .before .before .before .before .before .before .before .before .before .before .before .before .before .before .before .before .before .before .before .before)) (c .before .before .before .before .before .before .before .before .before .before .before .before .before .before .before .before .before .before .before .if2 .left) (w .lanes) (w .found) (rw (rounds-in (c .before .before .before .before .before .before)) at (c .before .before .before .before .before .if4 .left)) in
-    placed-post _ (w .lanes) _ _ (a .out .now) _ fits (w .same) (c .before .before .before .before .before .before .longest-row .ensures) (c .before .before .write-rounds .ensures)
-
-refused-requires-5 : tie.Need-refused-requires-5
-refused-requires-5 c κs = search needs
-
-same-length-8 : tie.Need-same-length-8
-same-length-8 c = search needs
-
-same-length-9 : tie.Need-same-length-9
-same-length-9 c = search needs
-
-same-length-10 : tie.Need-same-length-10
-same-length-10 c = search needs
+    let at-if4 = c .before .before .before .before .before in
+    let way = at-if4 .before .before .before in
+    let way-2 = way .before .before .before .before .before .before in
+    let at-if2 = way-2 .before .before .before .before .before in
+    let at-if1 = at-if2 .before .before .before .before in
+    let start = at-if1 .before .before .before .before .before .before in
+    let a = start .args in
+    let w = win-in way in
+    let fits = is-placed (a .lanes) (a .set .now) _ (at-if1 .if1 .left) (form-in (at-if2 .before)) (at-if2 .if2 .left) (w .lanes) (w .found) (rw (rounds-in (at-if4 .before)) at (at-if4 .if4 .left)) in
+    placed-post _ (w .lanes) _ _ (a .out .now) _ fits (w .same) (at-if4 .before .longest-row .ensures) (c .before .before .write-rounds .ensures)
 
 returns-6 : tie.Need-returns-6
 returns-6 c =
-    let a = c .before .before .before .before .before .before .before .before .before .before .before .before .before .before .before .before .before .before .before .before .before .before .args in
-    let none-won = lost _ _ (c .before .before .before .before .before .before .before .before .search-sizes .ensures .0) (c .before .if3 .left) in
-    refused-post _ _ _ 4 0 (is-stuck (a .lanes) (a .set .now) _ (c .before .before .before .before .before .before .before .before .before .before .before .before .before .before .before .before .if1 .left) (form-in (c .before .before .before .before .before .before .before .before .before .before .before .before .before)) (c .before .before .before .before .before .before .before .before .before .before .before .before .if2 .left) none-won) (c .refused5 .ensures)
+    let way = c .before .before .before .before in
+    let at-search-sizes = way .before .before .before .before in
+    let at-if2 = at-search-sizes .before .before .before .before in
+    let at-if1 = at-if2 .before .before .before .before in
+    let start = at-if1 .before .before .before .before .before .before in
+    let a = start .args in
+    let none-won = lost _ _ (at-search-sizes .search-sizes .ensures .0) (c .before .if3 .left) in
+    refused-post _ _ _ 4 0 (is-stuck (a .lanes) (a .set .now) _ (at-if1 .if1 .left) (form-in (at-if2 .before)) (at-if2 .if2 .left) none-won) (c .refused5 .ensures)
 
 pub rounds-over-spec : {M : Type 1} → statement M
 rounds-over-spec =
     tie.close
-    (tie.spec
-    refused-requires
-    returns
-    check-form-requires
-    enum-known-i
-    refused-requires-2
-    returns-2
-    enum-told
-    refused-requires-3
-    returns-3
-    search-sizes-requires
-    longest-row-requires
-    mul-if4
-    mul-if4-2
-    refused-requires-4
-    same-length
-    same-length-2
-    same-length-3
-    returns-4
-    write-rounds-requires
-    cast-t31
-    same-length-4
-    same-length-5
-    same-length-6
-    same-length-7
-    returns-5
-    refused-requires-5
-    same-length-8
-    same-length-9
-    same-length-10
-    returns-6)
+    (tie.spec (λ c κs. search needs) returns (λ c κs. search needs) (λ c. search needs) (λ c κs. search needs) returns-2 (λ c. search needs)
+    (λ c κs. search needs) returns-3 search-sizes-requires longest-row-requires (λ c. search needs) mul-if4-2 (λ c κs. search needs)
+    (λ c. search needs) (λ c. search needs) (λ c. search needs) returns-4 write-rounds-requires cast-t31 (λ c. search needs)
+    (λ c. search needs) (λ c. search needs) (λ c. search needs) returns-5 (λ c κs. search needs) (λ c. search needs) (λ c. search needs)
+    (λ c. search needs) returns-6)

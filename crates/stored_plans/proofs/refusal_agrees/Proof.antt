@@ -5,47 +5,17 @@ use borrow.Author.Needs.{needs}
 use Rattle.stored_plans.proofs.refusal_agrees.Statement.{statement}
 use Rattle.stored_plans.proofs.refusal_agrees.Tie as tie
 
-word-at-requires : tie.Need-word-at-requires
-word-at-requires c κs = search needs
-
 returns : tie.Need-returns
 returns c = λ e. never e
-
-add-word-at : tie.Need-add-word-at
-add-word-at c = search needs
-
-word-at-requires-2 : tie.Need-word-at-requires-2
-word-at-requires-2 c κs = search needs
 
 returns-2 : tie.Need-returns-2
 returns-2 c = λ e. never e
 
-add-word-at-2 : tie.Need-add-word-at-2
-add-word-at-2 c = search needs
-
-word-at-requires-3 : tie.Need-word-at-requires-3
-word-at-requires-3 c κs = search needs
-
-cast-if3 : tie.Need-cast-if3
-cast-if3 c = search needs
-
 returns-3 : tie.Need-returns-3
 returns-3 c = λ e. never e
-
-returns-4 : tie.Need-returns-4
-returns-4 c = search needs
 
 pub refusal-agrees-spec : {M : Type 1} → statement M
 refusal-agrees-spec =
     tie.close
-    (tie.spec
-    word-at-requires
-    returns
-    add-word-at
-    word-at-requires-2
-    returns-2
-    add-word-at-2
-    word-at-requires-3
-    cast-if3
-    returns-3
-    returns-4)
+    (tie.spec (λ c κs. search needs) returns (λ c. search needs) (λ c κs. search needs) returns-2 (λ c. search needs) (λ c κs. search needs)
+    (λ c. search needs) returns-3 (λ c. search needs))

@@ -12,39 +12,20 @@ use borrow.Author.Needs.{needs}
 use Rattle.stored_plans.proofs.starts_agree.Statement.{statement}
 use Rattle.stored_plans.proofs.starts_agree.Tie as tie
 
-expand-requires : tie.Need-expand-requires
-expand-requires c κs = search needs
-
-same-length : tie.Need-same-length
-same-length c = search needs
-
 returns : tie.Need-returns
 returns c = λ e. never e
-
-slice-reshare-prefix-same-halves : tie.Need-slice-reshare-prefix-same-halves
-slice-reshare-prefix-same-halves c = search needs
 
 slice-aggregate-same-halves : tie.Need-slice-aggregate-same-halves
 slice-aggregate-same-halves c = simp length-take (omega arith)
 
-same-halves-requires : tie.Need-same-halves-requires
-same-halves-requires c κs = search needs
-
-same-length-2 : tie.Need-same-length-2
-same-length-2 c = search needs
-
 returns-2 : tie.Need-returns-2
-returns-2 c = λ e. subst (λ (l : List ℕ). Halves (now (c .before .before .before .before .before .before .before .before .before .before .args .starts)) l) (c .before .before .before .before .before .expand .ensures (search needs)) (c .same-halves .ensures .0 e)
+returns-2 c =
+    let at-expand = c .before .before .before .before .before in
+    let start = at-expand .before .before .before .before .before in
+    λ e. subst (λ (l : List ℕ). Halves (now (start .args .starts)) l) (at-expand .expand .ensures (search needs)) (c .same-halves .ensures .0 e)
 
 pub starts-agree-spec : {M : Type 1} → statement M
 starts-agree-spec =
     tie.close
-    (tie.spec
-    expand-requires
-    same-length
-    returns
-    slice-reshare-prefix-same-halves
-    slice-aggregate-same-halves
-    same-halves-requires
-    same-length-2
-    returns-2)
+    (tie.spec (λ c κs. search needs) (λ c. search needs) returns (λ c. search needs) slice-aggregate-same-halves (λ c κs. search needs)
+    (λ c. search needs) returns-2)

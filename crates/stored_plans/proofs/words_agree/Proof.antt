@@ -8,26 +8,11 @@ use borrow.Author.Needs.{needs}
 use Rattle.stored_plans.proofs.words_agree.Statement.{statement}
 use Rattle.stored_plans.proofs.words_agree.Tie as tie
 
-expand-requires : tie.Need-expand-requires
-expand-requires c κs = search needs
-
-same-length : tie.Need-same-length
-same-length c = search needs
-
 returns : tie.Need-returns
 returns c = λ e. never e
 
-slice-reshare-prefix-same-words : tie.Need-slice-reshare-prefix-same-words
-slice-reshare-prefix-same-words c = search needs
-
 slice-aggregate-same-words : tie.Need-slice-aggregate-same-words
 slice-aggregate-same-words c = simp length-take (omega arith)
-
-same-words-requires : tie.Need-same-words-requires
-same-words-requires c κs = search needs
-
-same-length-2 : tie.Need-same-length-2
-same-length-2 c = search needs
 
 returns-2 : tie.Need-returns-2
 returns-2 c = λ e. c .same-words .ensures .0 e ∙ c .before .before .before .before .before .expand .ensures (search needs)
@@ -35,12 +20,5 @@ returns-2 c = λ e. c .same-words .ensures .0 e ∙ c .before .before .before .b
 pub words-agree-spec : {M : Type 1} → statement M
 words-agree-spec =
     tie.close
-    (tie.spec
-    expand-requires
-    same-length
-    returns
-    slice-reshare-prefix-same-words
-    slice-aggregate-same-words
-    same-words-requires
-    same-length-2
-    returns-2)
+    (tie.spec (λ c κs. search needs) (λ c. search needs) returns (λ c. search needs) slice-aggregate-same-words (λ c κs. search needs)
+    (λ c. search needs) returns-2)

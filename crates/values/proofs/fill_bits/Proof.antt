@@ -13,12 +13,6 @@ start f =
     let o = f .before .before .before .before in
     o .before .before .before
 
-fill-known-requires : tie.Need-fill-known-requires
-fill-known-requires c κs = search needs
-
-slice-reshare-prefix-all-values : tie.Need-slice-reshare-prefix-all-values
-slice-reshare-prefix-all-values c = search needs
-
 slice-aggregate-all-values : tie.Need-slice-aggregate-all-values
 slice-aggregate-all-values c =
     let f = c .before .before .before in
@@ -32,18 +26,12 @@ all-values-requires c κs =
     let o = s .args in
     fillable (o .plan .now) (o .part) (o .old .now) (o .new .now) _ (f .fill-known .ensures) (s .pre .0 .form) (s .pre .0 .gates) _ (s .pre .1)
 
-slice-reshare-prefix-value : tie.Need-slice-reshare-prefix-value
-slice-reshare-prefix-value c = search needs
-
 slice-aggregate-value : tie.Need-slice-aggregate-value
 slice-aggregate-value c =
     let v = c .before .before .before .before .before in
     let f = v .before .before .before .before .before in
     let o = start f .args in
     known-length (o .plan .now) (o .part) (o .old .now) (o .new .now) _ (f .fill-known .ensures)
-
-word-at-requires : tie.Need-word-at-requires
-word-at-requires c κs = search needs
 
 value-requires : tie.Need-value-requires
 value-requires c κs =
@@ -57,15 +45,6 @@ value-requires c κs =
     (s .pre .1)
     (v .all-values .ensures) in
     (good, search needs, rw (c .word-at .ensures) valued)
-
-clear-requires : tie.Need-clear-requires
-clear-requires c κs = search needs
-
-same-length : tie.Need-same-length
-same-length c = search needs
-
-same-length-2 : tie.Need-same-length-2
-same-length-2 c = search needs
 
 returns : tie.Need-returns
 returns c =
@@ -91,16 +70,5 @@ returns c =
 pub fill-bits-spec : {M : Type 1} → statement M
 fill-bits-spec =
     tie.close
-    (tie.spec
-    fill-known-requires
-    slice-reshare-prefix-all-values
-    slice-aggregate-all-values
-    all-values-requires
-    slice-reshare-prefix-value
-    slice-aggregate-value
-    word-at-requires
-    value-requires
-    clear-requires
-    same-length
-    same-length-2
-    returns)
+    (tie.spec (λ c κs. search needs) (λ c. search needs) slice-aggregate-all-values all-values-requires (λ c. search needs)
+    slice-aggregate-value (λ c κs. search needs) value-requires (λ c κs. search needs) (λ c. search needs) (λ c. search needs) returns)

@@ -29,12 +29,6 @@ plan-of c =
 formed : (c : tie.Else2) → planForm (plan-of c .args .plan .now) ≡ true
 formed c = sym (c .before .plan-form .ensures) ∙ not-false _ (c .if2 .left)
 
-room-words-requires : tie.Need-room-words-requires
-room-words-requires c κs = search needs
-
-refuse-requires : tie.Need-refuse-requires
-refuse-requires c κs = search needs
-
 returns : tie.Need-returns
 returns c =
     let w = c .before .before in
@@ -42,18 +36,6 @@ returns c =
     let h : length (o .room .now) < roomWords (o .plan .now) = omega (arith, w .room-words .ensures .0, c .before .if1 .taken) in
     let e = out-short (o .plan .now) (o .part) (o .old .now) (o .new .now) (length (o .bits .now)) (o .pin .0) (length (o .room .now)) h in
     (c .refuse .ensures ∙ ap valuedOf (sym e), (room-short (o .plan .now) (o .room .now) h, bits-kept _ 32 0 (o .bits .now) e))
-
-clear-requires : tie.Need-clear-requires
-clear-requires c κs = search needs
-
-plan-form-requires : tie.Need-plan-form-requires
-plan-form-requires c κs = search needs
-
-refuse-requires-2 : tie.Need-refuse-requires-2
-refuse-requires-2 c κs = search needs
-
-same-length : tie.Need-same-length
-same-length c = search needs
 
 returns-2 : tie.Need-returns-2
 returns-2 c =
@@ -66,18 +48,6 @@ returns-2 c =
     let zeros = room-zeros (o .plan .now) (o .room .now) (enough t) _ (z .clear .ensures) in
     (c .refuse2 .ensures ∙ ap valuedOf (sym e), (zeros, bits-kept _ 5 0 (o .bits .now) e))
 
-check-gates-requires : tie.Need-check-gates-requires
-check-gates-requires c κs = search needs
-
-enum-known-g : tie.Need-enum-known-g
-enum-known-g c = search needs
-
-refuse-requires-3 : tie.Need-refuse-requires-3
-refuse-requires-3 c κs = search needs
-
-enum-told : tie.Need-enum-told
-enum-told c = search needs
-
 value-lent-requires : tie.Need-value-lent-requires
 value-lent-requires c κs =
     let told = c .before .before in
@@ -88,9 +58,6 @@ value-lent-requires c κs =
     let o = start (t .before) .args in
     room-asked (o .plan .now) (o .room .now) (enough t) _ (z .clear .ensures) (formed (g .before))
     (item-none _ (sym (g .check-gates .ensures) ∙ told .enum-told .given .1))
-
-same-length-2 : tie.Need-same-length-2
-same-length-2 c = search needs
 
 returns-3 : tie.Need-returns-3
 returns-3 c =
@@ -106,12 +73,6 @@ returns-3 c =
     (item-some _ _ (sym (g .check-gates .ensures) ∙ n .g .given .1)) in
     let zeros = room-zeros (o .plan .now) (o .room .now) (enough t) _ (z .clear .ensures) in
     (c .refuse3 .ensures ∙ ap valuedOf (sym e), (zeros, bits-kept _ 6 _ (o .bits .now) e))
-
-same-length-3 : tie.Need-same-length-3
-same-length-3 c = search needs
-
-same-length-4 : tie.Need-same-length-4
-same-length-4 c = search needs
 
 returns-4 : tie.Need-returns-4
 returns-4 c =
@@ -132,22 +93,6 @@ returns-4 c =
 pub value-spec : {M : Type 1} → statement M
 value-spec =
     tie.close
-    (tie.spec
-    room-words-requires
-    refuse-requires
-    returns
-    clear-requires
-    plan-form-requires
-    refuse-requires-2
-    same-length
-    returns-2
-    check-gates-requires
-    enum-known-g
-    refuse-requires-3
-    enum-told
-    value-lent-requires
-    same-length-2
-    returns-3
-    same-length-3
-    same-length-4
-    returns-4)
+    (tie.spec (λ c κs. search needs) (λ c κs. search needs) returns (λ c κs. search needs) (λ c κs. search needs) (λ c κs. search needs)
+    (λ c. search needs) returns-2 (λ c κs. search needs) (λ c. search needs) (λ c κs. search needs) (λ c. search needs) value-lent-requires
+    (λ c. search needs) returns-3 (λ c. search needs) (λ c. search needs) returns-4)

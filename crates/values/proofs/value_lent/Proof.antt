@@ -13,12 +13,6 @@ use borrow.Author.Needs.{needs}
 use Rattle.values.proofs.value_lent.Statement.{statement}
 use Rattle.values.proofs.value_lent.Tie as tie
 
-bit-words-requires : tie.Need-bit-words-requires
-bit-words-requires c κs = search needs
-
-refuse-requires : tie.Need-refuse-requires
-refuse-requires c κs = search needs
-
 returns : tie.Need-returns
 returns c =
     let w = c .before .before in
@@ -26,9 +20,6 @@ returns c =
     let o = s .args in
     let e = lent-short (o .plan .now) (o .part) (o .old .now) (o .new .now) (length (o .bits .now)) (o .pin .0) (omega arith) in
     (c .refuse .ensures ∙ ap valuedOf (sym e), (s .pre .clear .is, bits-kept _ 14 0 (o .bits .now) e))
-
-slice-relend-prefix-fill-bits : tie.Need-slice-relend-prefix-fill-bits
-slice-relend-prefix-fill-bits c = search needs
 
 slice-aggregate-fill-bits : tie.Need-slice-aggregate-fill-bits
 slice-aggregate-fill-bits c =
@@ -41,12 +32,6 @@ fill-bits-requires c κs =
     let w = c .before .before .before in
     let s = w .before .before .before .before .before .before in
     (s .pre, length-take-le (w .bit-words .result) (s .args .bits .now) (omega arith) ∙ w .bit-words .ensures)
-
-same-length : tie.Need-same-length
-same-length c = search needs
-
-same-length-2 : tie.Need-same-length-2
-same-length-2 c = search needs
 
 returns-2 : tie.Need-returns-2
 returns-2 c =
@@ -64,13 +49,5 @@ returns-2 c =
 pub value-lent-spec : {M : Type 1} → statement M
 value-lent-spec =
     tie.close
-    (tie.spec
-    bit-words-requires
-    refuse-requires
-    returns
-    slice-relend-prefix-fill-bits
-    slice-aggregate-fill-bits
-    fill-bits-requires
-    same-length
-    same-length-2
-    returns-2)
+    (tie.spec (λ c κs. search needs) (λ c κs. search needs) returns (λ c. search needs) slice-aggregate-fill-bits fill-bits-requires
+    (λ c. search needs) (λ c. search needs) returns-2)

@@ -4,27 +4,6 @@ use Rattle.aiger_read.proofs.GroupLaws.{gate-first, gate-second, gate-b
 use Rattle.aiger_read.proofs.differences.gate_at.Statement.{statement}
 use Rattle.aiger_read.proofs.differences.gate_at.Tie as tie
 
-inverted-requires : tie.Need-inverted-requires
-inverted-requires c κs = search needs
-
-literal-at-requires : tie.Need-literal-at-requires
-literal-at-requires c κs = search needs
-
-enum-known-n : tie.Need-enum-known-n
-enum-known-n c = search needs
-
-enum-known-first : tie.Need-enum-known-first
-enum-known-first c = search needs
-
-literal-at-requires-2 : tie.Need-literal-at-requires-2
-literal-at-requires-2 c κs = search needs
-
-enum-known-n-2 : tie.Need-enum-known-n-2
-enum-known-n-2 c = search needs
-
-enum-known-second : tie.Need-enum-known-second
-enum-known-second c = search needs
-
 returns : tie.Need-returns
 returns c =
     let literal = c .before .before .before in
@@ -55,14 +34,5 @@ returns-3 c =
 pub gate-at-spec : {M : Type 1} → statement M
 gate-at-spec =
     tie.close
-    (tie.spec
-    inverted-requires
-    literal-at-requires
-    enum-known-n
-    enum-known-first
-    literal-at-requires-2
-    enum-known-n-2
-    enum-known-second
-    returns
-    returns-2
-    returns-3)
+    (tie.spec (λ c κs. search needs) (λ c κs. search needs) (λ c. search needs) (λ c. search needs) (λ c κs. search needs)
+    (λ c. search needs) (λ c. search needs) returns returns-2 returns-3)

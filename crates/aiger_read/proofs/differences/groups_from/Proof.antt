@@ -19,12 +19,6 @@ loop-holds c = groups-start _ _ _ (c .before .pre)
 returns : tie.Need-returns Inv-loop μ-loop
 returns c = groups-cut (c .before .before .loop .inv) (c .before .loop-test .taken) (c .if1 .taken)
 
-shared-slice-read-wide : tie.Need-shared-slice-read-wide Inv-loop μ-loop
-shared-slice-read-wide c = search needs
-
-wide-requires : tie.Need-wide-requires Inv-loop μ-loop
-wide-requires c κs = search needs
-
 returns-2 : tie.Need-returns-2 Inv-loop μ-loop
 returns-2 c =
     let byte = c .before in
@@ -50,9 +44,6 @@ add-t14 c =
     let scale = scale-fits G (test .loop-test .taken) in
     let most = product-fits (byte .wide .result) _ (byte .wide .ensures .1) scale in
     omega (arith, G .small)
-
-add-t15 : tie.Need-add-t15 Inv-loop μ-loop
-add-t15 c = search needs
 
 returns-3 : tie.Need-returns-3 Inv-loop μ-loop
 returns-3 c =
@@ -91,15 +82,6 @@ mul-scale c =
     let G = test .before .loop .inv in
     omega (arith, scale-fits G (test .loop-test .taken))
 
-add-i : tie.Need-add-i Inv-loop μ-loop
-add-i c = search needs
-
-sub-left : tie.Need-sub-left Inv-loop μ-loop
-sub-left c = search needs
-
-loop-less : tie.Need-loop-less Inv-loop μ-loop
-loop-less c = search needs
-
 loop-again : tie.Need-loop-again Inv-loop μ-loop
 loop-again c =
     let byte = c .before .before in
@@ -114,23 +96,5 @@ returns-4 c = groups-end (c .before .loop .inv) (omega (arith, c .loop-test .lef
 pub groups-from-spec : {M : Type 1} → statement M
 groups-from-spec =
     tie.close
-    (tie.spec
-    Inv-loop
-    μ-loop
-    loop-holds
-    returns
-    shared-slice-read-wide
-    wide-requires
-    returns-2
-    mul-t13
-    add-t14
-    add-t15
-    returns-3
-    mul-x
-    add-x
-    mul-scale
-    add-i
-    sub-left
-    loop-less
-    loop-again
-    returns-4)
+    (tie.spec Inv-loop μ-loop loop-holds returns (λ c. search needs) (λ c κs. search needs) returns-2 mul-t13 add-t14 (λ c. search needs)
+    returns-3 mul-x add-x mul-scale (λ c. search needs) (λ c. search needs) (λ c. search needs) loop-again returns-4)

@@ -6,12 +6,6 @@ use Rattle.aiger_read.proofs.GroupLaws.{literal-under, literal-over, li
 use Rattle.aiger_read.proofs.differences.literal_at.Statement.{statement}
 use Rattle.aiger_read.proofs.differences.literal_at.Tie as tie
 
-difference-at-requires : tie.Need-difference-at-requires
-difference-at-requires c κs = search needs
-
-enum-known-d : tie.Need-enum-known-d
-enum-known-d c = search needs
-
 returns : tie.Need-returns
 returns c =
     let value = c .before .before in
@@ -21,9 +15,6 @@ returns c =
     let is = sym (difference .difference-at .ensures) ∙ value .d .given .1 in
     literal-under _ _ d _ _ is (c .if1 .taken)
 
-cast-above : tie.Need-cast-above
-cast-above c = search needs
-
 returns-2 : tie.Need-returns-2
 returns-2 c =
     let value = c .before .before .before .before in
@@ -32,15 +23,6 @@ returns-2 c =
     let d = differenceAt (start .args .bytes .now) (start .args .at) in
     let is = sym (difference .difference-at .ensures) ∙ value .d .given .1 in
     literal-over _ _ d _ _ is (c .before .before .if1 .left) (c .if2 .taken)
-
-cast-t12 : tie.Need-cast-t12
-cast-t12 c = search needs
-
-enum-told : tie.Need-enum-told
-enum-told c = search needs
-
-enum-told-2 : tie.Need-enum-told-2
-enum-told-2 c = search needs
 
 returns-3 : tie.Need-returns-3
 returns-3 c =
@@ -66,15 +48,5 @@ returns-5 c =
 pub literal-at-spec : {M : Type 1} → statement M
 literal-at-spec =
     tie.close
-    (tie.spec
-    difference-at-requires
-    enum-known-d
-    returns
-    cast-above
-    returns-2
-    cast-t12
-    enum-told
-    enum-told-2
-    returns-3
-    returns-4
-    returns-5)
+    (tie.spec (λ c κs. search needs) (λ c. search needs) returns (λ c. search needs) returns-2 (λ c. search needs) (λ c. search needs)
+    (λ c. search needs) returns-3 returns-4 returns-5)

@@ -10,11 +10,9 @@ returns c = digit-low _ (c .if1 .taken)
 returns-2 : tie.Need-returns-2
 returns-2 c = digit-high _ (c .if2 .taken)
 
-cast-result : tie.Need-cast-result
-cast-result c = search needs
-
 returns-3 : tie.Need-returns-3
 returns-3 c = digit-value _ (c .before .if1 .left) (c .if2 .left)
 
 pub digit-of-spec : {M : Type 1} → statement M
-digit-of-spec = tie.close (tie.spec returns returns-2 cast-result returns-3)
+digit-of-spec = tie.close
+    (tie.spec returns returns-2 (λ c. search needs) returns-3)

@@ -15,15 +15,6 @@ Inv-loop bytes at most x₀ i₀ x i = (x ≤ most) × (digitsFrom x i (drop i b
 abbrev μ-loop : tie.MeasureT-loop
 μ-loop bytes at most x₀ i₀ x i = length bytes - i
 
-loop-holds : tie.Need-loop-holds Inv-loop μ-loop
-loop-holds c = search needs
-
-shared-slice-read-digit-of : tie.Need-shared-slice-read-digit-of Inv-loop μ-loop
-shared-slice-read-digit-of c = search needs
-
-digit-of-requires : tie.Need-digit-of-requires Inv-loop μ-loop
-digit-of-requires c κs = search needs
-
 returns : tie.Need-returns Inv-loop μ-loop
 returns c =
     let test = c .before .before .before in
@@ -41,12 +32,6 @@ returns-2 c =
     digits-large (start .args .bytes .now) (start .args .most) (loop .loop .x) (loop .loop .i) _ _ (test .loop-test .taken) (digit .digit-of .ensures) (c .before .if1 .left) (omega arith)
     (loop .loop .inv .1)
 
-mul-if3 : tie.Need-mul-if3 Inv-loop μ-loop
-mul-if3 c = search needs
-
-sub-if3 : tie.Need-sub-if3 Inv-loop μ-loop
-sub-if3 c = search needs
-
 returns-3 : tie.Need-returns-3 Inv-loop μ-loop
 returns-3 c =
     let digit = c .before .before .before in
@@ -55,18 +40,6 @@ returns-3 c =
     let start = loop .before .before in
     digits-large (start .args .bytes .now) (start .args .most) (loop .loop .x) (loop .loop .i) _ _ (test .loop-test .taken) (digit .digit-of .ensures) (c .before .before .if1 .left)
     (omega arith) (loop .loop .inv .1)
-
-mul-x : tie.Need-mul-x Inv-loop μ-loop
-mul-x c = search needs
-
-add-x : tie.Need-add-x Inv-loop μ-loop
-add-x c = search needs
-
-add-i : tie.Need-add-i Inv-loop μ-loop
-add-i c = search needs
-
-loop-less : tie.Need-loop-less Inv-loop μ-loop
-loop-less c = search needs
 
 loop-again : tie.Need-loop-again Inv-loop μ-loop
 loop-again c =
@@ -87,20 +60,5 @@ returns-4 c =
 pub digits-from-spec : {M : Type 1} → statement M
 digits-from-spec =
     tie.close
-    (tie.spec
-    Inv-loop
-    μ-loop
-    loop-holds
-    shared-slice-read-digit-of
-    digit-of-requires
-    returns
-    returns-2
-    mul-if3
-    sub-if3
-    returns-3
-    mul-x
-    add-x
-    add-i
-    loop-less
-    loop-again
-    returns-4)
+    (tie.spec Inv-loop μ-loop (λ c. search needs) (λ c. search needs) (λ c κs. search needs) returns returns-2 (λ c. search needs)
+    (λ c. search needs) returns-3 (λ c. search needs) (λ c. search needs) (λ c. search needs) (λ c. search needs) loop-again returns-4)

@@ -7,12 +7,6 @@ use Rattle.aiger_read.proofs.FieldLaws.{value-parts, field-past, field-
 use Rattle.aiger_read.proofs.fields.field_at.Statement.{statement}
 use Rattle.aiger_read.proofs.fields.field_at.Tie as tie
 
-number-at-requires : tie.Need-number-at-requires
-number-at-requires c κs = search needs
-
-enum-known-x : tie.Need-enum-known-x
-enum-known-x c = search needs
-
 returns : tie.Need-returns
 returns c =
     let value = c .before .before in
@@ -21,12 +15,6 @@ returns c =
     let N = value-parts _ (numberIn (start .args .at) (drop (start .args .at) (start .args .bytes .now))) _ _ (sym (number .number-at .ensures) ∙ value .x .given .1) in
     field-past (start .args .bytes .now) _ _ _ _ _ (start .pre) N (c .if1 .taken)
 
-shared-slice-read-b : tie.Need-shared-slice-read-b
-shared-slice-read-b c = search needs
-
-add-t14 : tie.Need-add-t14
-add-t14 c = search needs
-
 returns-2 : tie.Need-returns-2
 returns-2 c =
     let value = c .before .before .before .before in
@@ -34,9 +22,6 @@ returns-2 c =
     let start = number .before .before in
     let N = value-parts _ (numberIn (start .args .at) (drop (start .args .at) (start .args .bytes .now))) _ _ (sym (number .number-at .ensures) ∙ value .x .given .1) in
     field-ends (start .args .bytes .now) _ _ _ _ _ (start .pre) N (c .if2 .taken)
-
-enum-told : tie.Need-enum-told
-enum-told c = search needs
 
 returns-3 : tie.Need-returns-3
 returns-3 c =
@@ -55,13 +40,5 @@ returns-4 c =
 pub field-at-spec : {M : Type 1} → statement M
 field-at-spec =
     tie.close
-    (tie.spec
-    number-at-requires
-    enum-known-x
-    returns
-    shared-slice-read-b
-    add-t14
-    returns-2
-    enum-told
-    returns-3
-    returns-4)
+    (tie.spec (λ c κs. search needs) (λ c. search needs) returns (λ c. search needs) (λ c. search needs) returns-2 (λ c. search needs)
+    returns-3 returns-4)

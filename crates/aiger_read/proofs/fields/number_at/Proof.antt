@@ -7,23 +7,11 @@ use Rattle.aiger_read.proofs.fields.number_at.Tie as tie
 returns : tie.Need-returns
 returns c = let start = c .before .before in number-past (start .args .bytes .now) _ _ (c .if1 .taken)
 
-shared-slice-read-b : tie.Need-shared-slice-read-b
-shared-slice-read-b c = search needs
-
-add-t9 : tie.Need-add-t9
-add-t9 c = search needs
-
 returns-2 : tie.Need-returns-2
 returns-2 c =
     let inside = c .before .before in
     let start = inside .before .before in
     number-nought (start .args .bytes .now) _ _ (inside .if1 .left) (c .if2 .taken)
-
-digit-of-requires : tie.Need-digit-of-requires
-digit-of-requires c κs = search needs
-
-digits-from-requires : tie.Need-digits-from-requires
-digits-from-requires c κs = search needs
 
 returns-3 : tie.Need-returns-3
 returns-3 c =
@@ -43,12 +31,4 @@ returns-4 c =
 pub number-at-spec : {M : Type 1} → statement M
 number-at-spec =
     tie.close
-    (tie.spec
-    returns
-    shared-slice-read-b
-    add-t9
-    returns-2
-    digit-of-requires
-    digits-from-requires
-    returns-3
-    returns-4)
+    (tie.spec returns (λ c. search needs) (λ c. search needs) returns-2 (λ c κs. search needs) (λ c κs. search needs) returns-3 returns-4)

@@ -15,24 +15,6 @@ Inv-loop bytes gates at left₀ pin₀ i₀ left pin i = (pin + left ≤ 2 ^ 30 
 abbrev μ-loop : tie.MeasureT-loop
 μ-loop bytes gates at left₀ pin₀ i₀ left pin i = left
 
-loop-holds : tie.Need-loop-holds Inv-loop μ-loop
-loop-holds c = search needs
-
-gate-at-requires : tie.Need-gate-at-requires Inv-loop μ-loop
-gate-at-requires c κs = search needs
-
-enum-known-next : tie.Need-enum-known-next Inv-loop μ-loop
-enum-known-next c = search needs
-
-add-pin : tie.Need-add-pin Inv-loop μ-loop
-add-pin c = search needs
-
-sub-left : tie.Need-sub-left Inv-loop μ-loop
-sub-left c = search needs
-
-loop-less : tie.Need-loop-less Inv-loop μ-loop
-loop-less c = search needs
-
 loop-again : tie.Need-loop-again Inv-loop μ-loop
 loop-again c =
     let value = c .before in
@@ -41,9 +23,6 @@ loop-again c =
     let start = loop .before .before in
     let on = judged-next (start .args .bytes .now) (loop .loop .left) (loop .loop .pin) _ (gate .before .loop-test .taken) _ _ _ _ (gate .gate-at .ensures) (value .next .given .1) in
     (omega (arith, loop .loop .inv .0), sym on ∙ loop .loop .inv .1)
-
-enum-known-n : tie.Need-enum-known-n Inv-loop μ-loop
-enum-known-n c = search needs
 
 returns : tie.Need-returns Inv-loop μ-loop
 returns c =
@@ -62,16 +41,5 @@ returns-2 c =
 pub judge-spec : {M : Type 1} → statement M
 judge-spec =
     tie.close
-    (tie.spec
-    Inv-loop
-    μ-loop
-    loop-holds
-    gate-at-requires
-    enum-known-next
-    add-pin
-    sub-left
-    loop-less
-    loop-again
-    enum-known-n
-    returns
-    returns-2)
+    (tie.spec Inv-loop μ-loop (λ c. search needs) (λ c κs. search needs) (λ c. search needs) (λ c. search needs) (λ c. search needs)
+    (λ c. search needs) loop-again (λ c. search needs) returns returns-2)

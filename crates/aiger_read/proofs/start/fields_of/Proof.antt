@@ -62,38 +62,11 @@ a-known : (c : tie.After-known-told5)
     → ValueIs (m-in (first-of (second-of (third-of (fourth-of c)))) .value) (fieldAt (bytes-at (fourth-of c)) 10 (o-in (fourth-of c) .next)) (a-in c .value) (a-in c .next)
 a-known c = value-parts _ _ _ _ (sym (c .before .before .before .field-at5 .ensures) ∙ c .before .gates .given .1)
 
-field-at-requires : tie.Need-field-at-requires
-field-at-requires c κs = search needs
-
-enum-known-m : tie.Need-enum-known-m
-enum-known-m c = search needs
-
-enum-told : tie.Need-enum-told
-enum-told c = search needs
-
 returns : tie.Need-returns
 returns c = wrong-m _ _ (sym (c .before .before .field-at .ensures) ∙ c .enum-told .given .1)
 
-field-at-requires-2 : tie.Need-field-at-requires-2
-field-at-requires-2 c κs = search needs
-
-enum-known-inputs : tie.Need-enum-known-inputs
-enum-known-inputs c = search needs
-
-enum-told-2 : tie.Need-enum-told-2
-enum-told-2 c = search needs
-
 returns-2 : tie.Need-returns-2
 returns-2 c = let k = c .before .before .before in wrong-i (bytes-in k) _ (m-in k) (m-known k .is) (sym (c .before .before .field-at2 .ensures) ∙ c .enum-told2 .given .1)
-
-field-at-requires-3 : tie.Need-field-at-requires-3
-field-at-requires-3 c κs = search needs
-
-enum-known-latches : tie.Need-enum-known-latches
-enum-known-latches c = search needs
-
-enum-told-3 : tie.Need-enum-told-3
-enum-told-3 c = search needs
 
 returns-3 : tie.Need-returns-3
 returns-3 c =
@@ -101,30 +74,12 @@ returns-3 c =
     let j = first-of k in
     wrong-l (bytes-in j) _ (m-in j) (m-known j .is) (i-in k) (i-known k .is) (sym (c .before .before .field-at3 .ensures) ∙ c .enum-told3 .given .1)
 
-field-at-requires-4 : tie.Need-field-at-requires-4
-field-at-requires-4 c κs = search needs
-
-enum-known-outputs : tie.Need-enum-known-outputs
-enum-known-outputs c = search needs
-
-enum-told-4 : tie.Need-enum-told-4
-enum-told-4 c = search needs
-
 returns-4 : tie.Need-returns-4
 returns-4 c =
     let k = c .before .before .before in
     let j = second-of k in
     let i = first-of j in
     wrong-o (bytes-in i) _ (m-in i) (m-known i .is) (i-in j) (i-known j .is) (l-in k) (l-known k .is) (sym (c .before .before .field-at4 .ensures) ∙ c .enum-told4 .given .1)
-
-field-at-requires-5 : tie.Need-field-at-requires-5
-field-at-requires-5 c κs = search needs
-
-enum-known-gates : tie.Need-enum-known-gates
-enum-known-gates c = search needs
-
-enum-told-5 : tie.Need-enum-told-5
-enum-told-5 c = search needs
 
 returns-5 : tie.Need-returns-5
 returns-5 c =
@@ -169,28 +124,7 @@ returns-7 c =
 pub fields-of-spec : {M : Type 1} → statement M
 fields-of-spec =
     tie.close
-    (tie.spec
-    field-at-requires
-    enum-known-m
-    enum-told
-    returns
-    field-at-requires-2
-    enum-known-inputs
-    enum-told-2
-    returns-2
-    field-at-requires-3
-    enum-known-latches
-    enum-told-3
-    returns-3
-    field-at-requires-4
-    enum-known-outputs
-    enum-told-4
-    returns-4
-    field-at-requires-5
-    enum-known-gates
-    enum-told-5
-    returns-5
-    add-if1
-    add-if1-2
-    returns-6
-    returns-7)
+    (tie.spec (λ c κs. search needs) (λ c. search needs) (λ c. search needs) returns (λ c κs. search needs) (λ c. search needs)
+    (λ c. search needs) returns-2 (λ c κs. search needs) (λ c. search needs) (λ c. search needs) returns-3 (λ c κs. search needs)
+    (λ c. search needs) (λ c. search needs) returns-4 (λ c κs. search needs) (λ c. search needs) (λ c. search needs) returns-5 add-if1
+    add-if1-2 returns-6 returns-7)

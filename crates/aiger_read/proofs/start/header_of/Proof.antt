@@ -5,12 +5,6 @@ use Rattle.aiger_read.proofs.StartLaws.{header-yes, header-no}
 use Rattle.aiger_read.proofs.start.header_of.Statement.{statement}
 use Rattle.aiger_read.proofs.start.header_of.Tie as tie
 
-is-marked-requires : tie.Need-is-marked-requires
-is-marked-requires c κs = search needs
-
-fields-of-requires : tie.Need-fields-of-requires
-fields-of-requires c κs = search needs
-
 returns : tie.Need-returns
 returns c =
     let mark = c .before .before in
@@ -24,4 +18,5 @@ returns-2 c =
     header-no (start .args .bytes .now) _ (sym (c .if1 .left) ∙ mark .is-marked .ensures)
 
 pub header-of-spec : {M : Type 1} → statement M
-header-of-spec = tie.close (tie.spec is-marked-requires fields-of-requires returns returns-2)
+header-of-spec = tie.close
+    (tie.spec (λ c κs. search needs) (λ c κs. search needs) returns returns-2)

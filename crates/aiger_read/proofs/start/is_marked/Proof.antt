@@ -7,26 +7,14 @@ use Rattle.aiger_read.proofs.start.is_marked.Tie as tie
 returns : tie.Need-returns
 returns c = mark-short _ (c .if1 .taken)
 
-shared-slice-read-a : tie.Need-shared-slice-read-a
-shared-slice-read-a c = search needs
-
 returns-2 : tie.Need-returns-2
 returns-2 c = mark-a _ (c .if2 .taken)
-
-shared-slice-read-i : tie.Need-shared-slice-read-i
-shared-slice-read-i c = search needs
 
 returns-3 : tie.Need-returns-3
 returns-3 c = mark-i _ (c .before .before .if2 .left) (c .if3 .taken)
 
-shared-slice-read-g : tie.Need-shared-slice-read-g
-shared-slice-read-g c = search needs
-
 returns-4 : tie.Need-returns-4
 returns-4 c = mark-g _ (c .before .before .before .before .if2 .left) (c .before .before .if3 .left) (c .if4 .taken)
-
-shared-slice-read-result : tie.Need-shared-slice-read-result
-shared-slice-read-result c = search needs
 
 returns-5 : tie.Need-returns-5
 returns-5 c = let i = c .before .before .before in mark-blank _ (i .before .before .if2 .left) (i .if3 .left) (c .before .if4 .left)
@@ -34,13 +22,5 @@ returns-5 c = let i = c .before .before .before in mark-blank _ (i .before .befo
 pub is-marked-spec : {M : Type 1} → statement M
 is-marked-spec =
     tie.close
-    (tie.spec
-    returns
-    shared-slice-read-a
-    returns-2
-    shared-slice-read-i
-    returns-3
-    shared-slice-read-g
-    returns-4
-    shared-slice-read-result
+    (tie.spec returns (λ c. search needs) returns-2 (λ c. search needs) returns-3 (λ c. search needs) returns-4 (λ c. search needs)
     returns-5)

@@ -14,21 +14,6 @@ Inv-loop bytes most lines at left₀ i₀ left i = linesFrom bytes most left i �
 abbrev μ-loop : tie.MeasureT-loop
 μ-loop bytes most lines at left₀ i₀ left i = left
 
-loop-holds : tie.Need-loop-holds Inv-loop μ-loop
-loop-holds c = search needs
-
-field-at-requires : tie.Need-field-at-requires Inv-loop μ-loop
-field-at-requires c κs = search needs
-
-enum-known-next : tie.Need-enum-known-next Inv-loop μ-loop
-enum-known-next c = search needs
-
-sub-left : tie.Need-sub-left Inv-loop μ-loop
-sub-left c = search needs
-
-loop-less : tie.Need-loop-less Inv-loop μ-loop
-loop-less c = search needs
-
 loop-again : tie.Need-loop-again Inv-loop μ-loop
 loop-again c =
     let value = c .before in
@@ -36,9 +21,6 @@ loop-again c =
     let loop = field .before .before in
     let start = loop .before .before in
     sym (line-next (start .args .bytes .now) _ _ _ _ _ (field .before .loop-test .taken) (sym (field .field-at .ensures) ∙ value .next .given .1)) ∙ loop .loop .inv
-
-enum-told : tie.Need-enum-told Inv-loop μ-loop
-enum-told c = search needs
 
 returns : tie.Need-returns Inv-loop μ-loop
 returns c =
@@ -57,15 +39,5 @@ returns-2 c =
 pub lines-from-spec : {M : Type 1} → statement M
 lines-from-spec =
     tie.close
-    (tie.spec
-    Inv-loop
-    μ-loop
-    loop-holds
-    field-at-requires
-    enum-known-next
-    sub-left
-    loop-less
-    loop-again
-    enum-told
-    returns
-    returns-2)
+    (tie.spec Inv-loop μ-loop (λ c. search needs) (λ c κs. search needs) (λ c. search needs) (λ c. search needs) (λ c. search needs)
+    loop-again (λ c. search needs) returns returns-2)

@@ -10,15 +10,6 @@ header-in : (c : tie.After-known-told)
     → HeaderAt (c .before .before .before .before .before .args .bytes .now) (c .before .header .given .0 .0) (c .before .header .given .0 .1 .0)
 header-in c = start-header _ _ _ (sym (c .before .before .before .header-of .ensures) ∙ c .before .header .given .1)
 
-header-of-requires : tie.Need-header-of-requires
-header-of-requires c κs = search needs
-
-enum-told : tie.Need-enum-told
-enum-told c = search needs
-
-enum-known-header : tie.Need-enum-known-header
-enum-known-header c = search needs
-
 add-most : tie.Need-add-most
 add-most c = omega (arith, header-in (c .before) .fits)
 
@@ -33,15 +24,6 @@ add-most-3 c = omega (arith, header-in (c .before .before) .fits)
 
 add-lines-from : tie.Need-add-lines-from
 add-lines-from c = let H = header-in (c .before .before .before) in omega (arith, H .fits, H .lines)
-
-lines-from-requires : tie.Need-lines-from-requires
-lines-from-requires c κs = search needs
-
-enum-told-2 : tie.Need-enum-told-2
-enum-told-2 c = search needs
-
-enum-known-next : tie.Need-enum-known-next
-enum-known-next c = search needs
 
 returns : tie.Need-returns
 returns c = start-wrong _ (sym (c .before .before .header-of .ensures) ∙ c .enum-told .given .1)
@@ -61,18 +43,5 @@ returns-3 c =
 pub start-of-spec : {M : Type 1} → statement M
 start-of-spec =
     tie.close
-    (tie.spec
-    header-of-requires
-    enum-told
-    enum-known-header
-    add-most
-    add-most-2
-    mul-most
-    add-most-3
-    add-lines-from
-    lines-from-requires
-    enum-told-2
-    enum-known-next
-    returns
-    returns-2
-    returns-3)
+    (tie.spec (λ c κs. search needs) (λ c. search needs) (λ c. search needs) add-most add-most-2 mul-most add-most-3 add-lines-from
+    (λ c κs. search needs) (λ c. search needs) (λ c. search needs) returns returns-2 returns-3)

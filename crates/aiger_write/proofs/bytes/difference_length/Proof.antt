@@ -20,4 +20,5 @@ returns-5 : tie.Need-returns-5
 returns-5 c = let start = c .before .before .before .before in (length-five _ (c .if4 .left) (start .fits .x .fits), omega arith)
 
 pub difference-length-spec : {M : Type 1} → statement M
-difference-length-spec = tie.close (tie.spec returns returns-2 returns-3 returns-4 returns-5)
+difference-length-spec = tie.close
+    (tie.spec returns returns-2 returns-3 returns-4 returns-5)

@@ -5,24 +5,6 @@ use Rattle.aiger_write.proofs.ByteLaws.{gate-long}
 use Rattle.aiger_write.proofs.bytes.gate_length.Statement.{statement}
 use Rattle.aiger_write.proofs.bytes.gate_length.Tie as tie
 
-inverted-requires : tie.Need-inverted-requires
-inverted-requires c κs = search needs
-
-sub-difference-length : tie.Need-sub-difference-length
-sub-difference-length c = search needs
-
-difference-length-requires : tie.Need-difference-length-requires
-difference-length-requires c κs = search needs
-
-sub-difference-length-2 : tie.Need-sub-difference-length-2
-sub-difference-length-2 c = search needs
-
-difference-length-requires-2 : tie.Need-difference-length-requires-2
-difference-length-requires-2 c κs = search needs
-
-add-result : tie.Need-add-result
-add-result c = search needs
-
 returns : tie.Need-returns
 returns c =
     let one = c .before .before .before in
@@ -32,11 +14,5 @@ returns c =
 pub gate-length-spec : {M : Type 1} → statement M
 gate-length-spec =
     tie.close
-    (tie.spec
-    inverted-requires
-    sub-difference-length
-    difference-length-requires
-    sub-difference-length-2
-    difference-length-requires-2
-    add-result
-    returns)
+    (tie.spec (λ c κs. search needs) (λ c. search needs) (λ c κs. search needs) (λ c. search needs) (λ c κs. search needs)
+    (λ c. search needs) returns)

@@ -16,26 +16,14 @@ abbrev μ-loop : tie.MeasureT-loop
 loop-holds : tie.Need-loop-holds Inv-loop μ-loop
 loop-holds c = let start = c .before in putting-start _ _ _ (start .fits .x .fits)
 
-add-put : tie.Need-add-put Inv-loop μ-loop
-add-put c = search needs
-
-cast-put : tie.Need-cast-put Inv-loop μ-loop
-cast-put c = search needs
-
 put-requires : tie.Need-put-requires Inv-loop μ-loop
 put-requires c κs = omega (arith, putting-short (c .before .before .loop .inv))
-
-loop-less : tie.Need-loop-less Inv-loop μ-loop
-loop-less c = search needs
 
 loop-again : tie.Need-loop-again Inv-loop μ-loop
 loop-again c =
     let put = c .before .before in
     let test = put .before .before in
     putting-more (test .before .loop .inv) (test .loop-test .taken) (put .put .ensures) (omega arith)
-
-cast-put-2 : tie.Need-cast-put-2 Inv-loop μ-loop
-cast-put-2 c = search needs
 
 put-requires-2 : tie.Need-put-requires-2 Inv-loop μ-loop
 put-requires-2 c κs = omega (arith, putting-short (c .before .before .loop .inv))
@@ -55,16 +43,5 @@ returns c =
 pub put-difference-spec : {M : Type 1} → statement M
 put-difference-spec =
     tie.close
-    (tie.spec
-    Inv-loop
-    μ-loop
-    loop-holds
-    add-put
-    cast-put
-    put-requires
-    loop-less
-    loop-again
-    cast-put-2
-    put-requires-2
-    same-length
-    returns)
+    (tie.spec Inv-loop μ-loop loop-holds (λ c. search needs) (λ c. search needs) put-requires (λ c. search needs) loop-again
+    (λ c. search needs) put-requires-2 same-length returns)

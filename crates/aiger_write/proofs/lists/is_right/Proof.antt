@@ -7,9 +7,6 @@ use Rattle.aiger_write.proofs.lists.is_right.Tie as tie
 returns : tie.Need-returns
 returns c = right-other _ _ _ _ (c .if1 .taken)
 
-inverted-requires : tie.Need-inverted-requires
-inverted-requires c κs = search needs
-
 returns-2 : tie.Need-returns-2
 returns-2 c = let own = c .before .before .before in right-high _ _ _ _ _ (own .before .if1 .left) (own .inverted .ensures) (c .if2 .taken)
 
@@ -20,4 +17,5 @@ returns-3 c =
     right-last _ _ _ _ _ (own .before .if1 .left) (own .inverted .ensures) (low .if2 .left)
 
 pub is-right-spec : {M : Type 1} → statement M
-is-right-spec = tie.close (tie.spec returns inverted-requires returns-2 returns-3)
+is-right-spec = tie.close
+    (tie.spec returns (λ c κs. search needs) returns-2 returns-3)

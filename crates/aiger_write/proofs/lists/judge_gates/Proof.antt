@@ -24,15 +24,6 @@ loop-holds c =
     let start = c .before .before in
     judging-start (start .args .gates .now) _ _ (start .pre .is) (c .header-length .ensures .0) (c .header-length .ensures .1)
 
-first-of-requires : tie.Need-first-of-requires Inv-loop μ-loop
-first-of-requires c κs = search needs
-
-second-of-requires : tie.Need-second-of-requires Inv-loop μ-loop
-second-of-requires c κs = search needs
-
-pin-of-requires : tie.Need-pin-of-requires Inv-loop μ-loop
-pin-of-requires c κs = search needs
-
 is-right-requires : tie.Need-is-right-requires Inv-loop μ-loop
 is-right-requires c κs =
     let test = c .before .before .before in
@@ -66,12 +57,6 @@ add-pin-2 c =
     let loop = test .before in
     let start = loop .before .before .before in
     omega (arith, judging-pin (loop .loop .inv) (omega (arith, start .pre .is, start .pre .fits)) (test .loop-test .taken))
-
-add-g : tie.Need-add-g Inv-loop μ-loop
-add-g c = search needs
-
-loop-less : tie.Need-loop-less Inv-loop μ-loop
-loop-less c = search needs
 
 loop-again : tie.Need-loop-again Inv-loop μ-loop
 loop-again c =
@@ -109,21 +94,5 @@ returns-2 c =
 pub judge-gates-spec : {M : Type 1} → statement M
 judge-gates-spec =
     tie.close
-    (tie.spec
-    Inv-loop
-    μ-loop
-    header-length-requires
-    add-pin
-    loop-holds
-    first-of-requires
-    second-of-requires
-    pin-of-requires
-    is-right-requires
-    gate-length-requires
-    add-bytes
-    add-pin-2
-    add-g
-    loop-less
-    loop-again
-    returns
-    returns-2)
+    (tie.spec Inv-loop μ-loop header-length-requires add-pin loop-holds (λ c κs. search needs) (λ c κs. search needs) (λ c κs. search needs)
+    is-right-requires gate-length-requires add-bytes add-pin-2 (λ c. search needs) (λ c. search needs) loop-again returns returns-2)

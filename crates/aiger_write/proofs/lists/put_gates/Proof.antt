@@ -18,15 +18,6 @@ abbrev μ-loop : tie.MeasureT-loop
 loop-holds : tie.Need-loop-holds Inv-loop μ-loop
 loop-holds c = (omega arith, gates-start _ _ _)
 
-pin-of-requires : tie.Need-pin-of-requires Inv-loop μ-loop
-pin-of-requires c κs = search needs
-
-first-of-requires : tie.Need-first-of-requires Inv-loop μ-loop
-first-of-requires c κs = search needs
-
-second-of-requires : tie.Need-second-of-requires Inv-loop μ-loop
-second-of-requires c κs = search needs
-
 put-gate-requires : tie.Need-put-gate-requires Inv-loop μ-loop
 put-gate-requires c κs =
     let first = c .before in
@@ -38,12 +29,6 @@ put-gate-requires c κs =
     let good = start .pre .0 in
     let right = gate-of l good (loop .loop .g) (test .loop-test .taken) (pin .pin-of .ensures) (first .first-of .ensures) (c .second-of .ensures) in
     (right, omega (arith, loop .loop .inv .0, loop .loop .inv .1 .short, list-fits l good, start .pre .1))
-
-add-g : tie.Need-add-g Inv-loop μ-loop
-add-g c = search needs
-
-loop-less : tie.Need-loop-less Inv-loop μ-loop
-loop-less c = search needs
 
 loop-again : tie.Need-loop-again Inv-loop μ-loop
 loop-again c =
@@ -70,16 +55,5 @@ returns c =
 pub put-gates-spec : {M : Type 1} → statement M
 put-gates-spec =
     tie.close
-    (tie.spec
-    Inv-loop
-    μ-loop
-    loop-holds
-    pin-of-requires
-    first-of-requires
-    second-of-requires
-    put-gate-requires
-    add-g
-    loop-less
-    loop-again
-    same-length
-    returns)
+    (tie.spec Inv-loop μ-loop loop-holds (λ c κs. search needs) (λ c κs. search needs) (λ c κs. search needs) put-gate-requires
+    (λ c. search needs) (λ c. search needs) loop-again same-length returns)

@@ -4,21 +4,6 @@ use Rattle.aiger_write.proofs.ListLaws.{text-put}
 use Rattle.aiger_write.proofs.lists.put_text.Statement.{statement}
 use Rattle.aiger_write.proofs.lists.put_text.Tie as tie
 
-inputs-of-requires : tie.Need-inputs-of-requires
-inputs-of-requires c κs = search needs
-
-cast-put-header : tie.Need-cast-put-header
-cast-put-header c = search needs
-
-put-header-requires : tie.Need-put-header-requires
-put-header-requires c κs = search needs
-
-put-gates-requires : tie.Need-put-gates-requires
-put-gates-requires c κs = search needs
-
-same-length : tie.Need-same-length
-same-length c = search needs
-
 returns : tie.Need-returns
 returns c =
     let gates = c .before .before in
@@ -30,10 +15,4 @@ returns c =
 pub put-text-spec : {M : Type 1} → statement M
 put-text-spec =
     tie.close
-    (tie.spec
-    inputs-of-requires
-    cast-put-header
-    put-header-requires
-    put-gates-requires
-    same-length
-    returns)
+    (tie.spec (λ c κs. search needs) (λ c. search needs) (λ c κs. search needs) (λ c κs. search needs) (λ c. search needs) returns)

@@ -10,4 +10,5 @@ returns-2 : tie.Need-returns-2
 returns-2 c = kind-s _ (c .if1 .left)
 
 pub kind-letter-spec : {M : Type 1} → statement M
-kind-letter-spec = tie.close (tie.spec returns returns-2)
+kind-letter-spec = tie.close
+    (tie.spec returns returns-2)

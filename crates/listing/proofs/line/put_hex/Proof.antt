@@ -19,26 +19,11 @@ abbrev μ-loop : tie.MeasureT-loop
 loop-holds : tie.Need-loop-holds Inv-loop μ-loop
 loop-holds c = (omega arith, going-start _ _ _)
 
-sub-k : tie.Need-sub-k Inv-loop μ-loop
-sub-k c = search needs
-
-mul-hex-digit : tie.Need-mul-hex-digit Inv-loop μ-loop
-mul-hex-digit c = search needs
-
-shr-hex-digit : tie.Need-shr-hex-digit Inv-loop μ-loop
-shr-hex-digit c = search needs
-
-hex-digit-requires : tie.Need-hex-digit-requires Inv-loop μ-loop
-hex-digit-requires c κs = search needs
-
-put-requires : tie.Need-put-requires Inv-loop μ-loop
-put-requires c κs = search needs
-
-loop-less : tie.Need-loop-less Inv-loop μ-loop
-loop-less c = search needs
-
 loop-again : tie.Need-loop-again Inv-loop μ-loop
-loop-again c = (omega arith, going-more (c .before .before .before .before .before .before .loop .inv .1) (c .before .before .before .hex-digit .result ∷ []) _ (hex-top _ _ (omega arith) ∙ (rw (c .before .before .before .hex-digit .ensures))) (c .before .before .put .ensures) (omega arith))
+loop-again c =
+    let at-hex-digit = c .before .before .before in
+    let at-loop = at-hex-digit .before .before .before in
+    (omega arith, going-more (at-loop .loop .inv .1) (at-hex-digit .hex-digit .result ∷ []) _ (hex-top _ _ (omega arith) ∙ (rw (at-hex-digit .hex-digit .ensures))) (c .before .before .put .ensures) (omega arith))
 
 same-length : tie.Need-same-length Inv-loop μ-loop
 same-length c = going-long (c .before .loop .inv .1)
@@ -50,16 +35,5 @@ returns c = let z : c .before .loop .k ≡ 0 = omega arith in going-done (c .bef
 pub put-hex-spec : {M : Type 1} → statement M
 put-hex-spec =
     tie.close
-    (tie.spec
-    Inv-loop
-    μ-loop
-    loop-holds
-    sub-k
-    mul-hex-digit
-    shr-hex-digit
-    hex-digit-requires
-    put-requires
-    loop-less
-    loop-again
-    same-length
-    returns)
+    (tie.spec Inv-loop μ-loop loop-holds (λ c. search needs) (λ c. search needs) (λ c. search needs) (λ c κs. search needs)
+    (λ c κs. search needs) (λ c. search needs) loop-again same-length returns)

@@ -4,51 +4,18 @@ use borrow.Author.Needs.{needs}
 use Rattle.listing.proofs.line.put_line.Statement.{statement}
 use Rattle.listing.proofs.line.put_line.Tie as tie
 
-put-number-requires : tie.Need-put-number-requires
-put-number-requires c κs = search needs
-
-put-number-requires-2 : tie.Need-put-number-requires-2
-put-number-requires-2 c κs = search needs
-
-kind-letter-requires : tie.Need-kind-letter-requires
-kind-letter-requires c κs = search needs
-
-put-requires : tie.Need-put-requires
-put-requires c κs = search needs
-
-put-requires-2 : tie.Need-put-requires-2
-put-requires-2 c κs = search needs
-
-cast-put-number : tie.Need-cast-put-number
-cast-put-number c = search needs
-
-put-number-requires-3 : tie.Need-put-number-requires-3
-put-number-requires-3 c κs = search needs
-
-put-hex-requires : tie.Need-put-hex-requires
-put-hex-requires c κs = search needs
-
-put-requires-3 : tie.Need-put-requires-3
-put-requires-3 c κs = search needs
-
-same-length : tie.Need-same-length
-same-length c = search needs
-
 returns : tie.Need-returns
-returns c = put-fields _ _ _ _ _ (c .before .before .before .before .before .before .before .before .before .before .before .before .before .before .before .before .before .before .before .before .before .before .before .before .before .before .before .put-number .ensures) (c .before .before .before .before .before .before .before .before .before .before .before .before .before .before .before .before .before .before .before .before .before .before .before .put-number2 .ensures) (c .before .before .before .before .before .before .before .before .before .before .before .before .before .before .before .before .before .before .before .kind-letter .ensures) (c .before .before .before .before .before .before .before .before .before .before .before .before .before .before .before .before .before .before .put .ensures) (c .before .before .before .before .before .before .before .before .before .before .before .before .before .before .put2 .ensures) (c .before .before .before .before .before .before .before .before .before .before .put-number3 .ensures) (c .before .before .before .before .before .before .put-hex .ensures) (c .before .before .put3 .ensures)
+returns c =
+    let at-put-hex = c .before .before .before .before .before .before in
+    let at-put-number3 = at-put-hex .before .before .before .before in
+    let at-put2 = at-put-number3 .before .before .before .before in
+    let at-put = at-put2 .before .before .before .before in
+    let at-put-number2 = at-put .before .before .before .before .before in
+    let at-put-number = at-put-number2 .before .before .before .before in
+    put-fields _ _ _ _ _ (at-put-number .put-number .ensures) (at-put-number2 .put-number2 .ensures) (at-put .before .kind-letter .ensures) (at-put .put .ensures) (at-put2 .put2 .ensures) (at-put-number3 .put-number3 .ensures) (at-put-hex .put-hex .ensures) (c .before .before .put3 .ensures)
 
 pub put-line-spec : {M : Type 1} → statement M
 put-line-spec =
     tie.close
-    (tie.spec
-    put-number-requires
-    put-number-requires-2
-    kind-letter-requires
-    put-requires
-    put-requires-2
-    cast-put-number
-    put-number-requires-3
-    put-hex-requires
-    put-requires-3
-    same-length
-    returns)
+    (tie.spec (λ c κs. search needs) (λ c κs. search needs) (λ c κs. search needs) (λ c κs. search needs) (λ c κs. search needs)
+    (λ c. search needs) (λ c κs. search needs) (λ c κs. search needs) (λ c κs. search needs) (λ c. search needs) returns)

@@ -18,17 +18,11 @@ abbrev μ-loop : tie.MeasureT-loop
 loop-holds : tie.Need-loop-holds Inv-loop μ-loop
 loop-holds c = (omega arith, rw sub-zero (going-start _ _ _))
 
-put-place-requires : tie.Need-put-place-requires Inv-loop μ-loop
-put-place-requires c κs = search needs
-
-add-round : tie.Need-add-round Inv-loop μ-loop
-add-round c = search needs
-
-loop-less : tie.Need-loop-less Inv-loop μ-loop
-loop-less c = search needs
-
 loop-again : tie.Need-loop-again Inv-loop μ-loop
-loop-again c = (omega arith, going-more (c .before .before .before .before .before .loop .inv .1) _ _ (next-round 256 (c .before .before .before .before .before .before .before .before .args .section .now) _ _ _ (c .before .before .before .before .loop-test .taken)) (c .before .before .put-place .ensures) (omega arith))
+loop-again c =
+    let at-loop-test = c .before .before .before .before in
+    let start = at-loop-test .before .before .before .before in
+    (omega arith, going-more (at-loop-test .before .loop .inv .1) _ _ (next-round 256 (start .args .section .now) _ _ _ (at-loop-test .loop-test .taken)) (c .before .before .put-place .ensures) (omega arith))
 
 same-length : tie.Need-same-length Inv-loop μ-loop
 same-length c = going-long (c .before .loop .inv .1)
@@ -39,13 +33,4 @@ returns c = going-done (c .before .loop .inv .1) _ (last-round 256 (c .before .b
 pub put-lane-spec : {M : Type 1} → statement M
 put-lane-spec =
     tie.close
-    (tie.spec
-    Inv-loop
-    μ-loop
-    loop-holds
-    put-place-requires
-    add-round
-    loop-less
-    loop-again
-    same-length
-    returns)
+    (tie.spec Inv-loop μ-loop loop-holds (λ c κs. search needs) (λ c. search needs) (λ c. search needs) loop-again same-length returns)

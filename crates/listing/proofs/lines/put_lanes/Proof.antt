@@ -17,17 +17,11 @@ abbrev μ-loop : tie.MeasureT-loop
 loop-holds : tie.Need-loop-holds Inv-loop μ-loop
 loop-holds c = (omega arith, going-start _ _ _)
 
-put-lane-requires : tie.Need-put-lane-requires Inv-loop μ-loop
-put-lane-requires c κs = search needs
-
-add-lane : tie.Need-add-lane Inv-loop μ-loop
-add-lane c = search needs
-
-loop-less : tie.Need-loop-less Inv-loop μ-loop
-loop-less c = search needs
-
 loop-again : tie.Need-loop-again Inv-loop μ-loop
-loop-again c = (omega arith, going-more (c .before .before .before .before .before .loop .inv .1) _ _ (next-lane 256 (c .before .before .before .before .before .before .before .before .args .section .now) _ 256 _ (c .before .before .before .before .loop-test .taken)) (c .before .before .put-lane .ensures) (omega arith))
+loop-again c =
+    let at-loop-test = c .before .before .before .before in
+    let start = at-loop-test .before .before .before .before in
+    (omega arith, going-more (at-loop-test .before .loop .inv .1) _ _ (next-lane 256 (start .args .section .now) _ 256 _ (at-loop-test .loop-test .taken)) (c .before .before .put-lane .ensures) (omega arith))
 
 same-length : tie.Need-same-length Inv-loop μ-loop
 same-length c = going-long (c .before .loop .inv .1)
@@ -38,13 +32,4 @@ returns c = going-done (c .before .loop .inv .1) _ (last-lane 256 (c .before .be
 pub put-lanes-spec : {M : Type 1} → statement M
 put-lanes-spec =
     tie.close
-    (tie.spec
-    Inv-loop
-    μ-loop
-    loop-holds
-    put-lane-requires
-    add-lane
-    loop-less
-    loop-again
-    same-length
-    returns)
+    (tie.spec Inv-loop μ-loop loop-holds (λ c κs. search needs) (λ c. search needs) (λ c. search needs) loop-again same-length returns)

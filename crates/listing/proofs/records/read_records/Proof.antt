@@ -18,47 +18,24 @@ abbrev μ-loop : tie.MeasureT-loop
 loop-holds : tie.Need-loop-holds Inv-loop μ-loop
 loop-holds c = reading-start _ _ _
 
-record-at-requires : tie.Need-record-at-requires Inv-loop μ-loop
-record-at-requires c κs = search needs
-
-enum-known-key : tie.Need-enum-known-key Inv-loop μ-loop
-enum-known-key c = search needs
-
 same-length : tie.Need-same-length Inv-loop μ-loop
 same-length c = c .before .before .before .before .before .loop .inv .long
 
 returns : tie.Need-returns Inv-loop μ-loop
-returns c = reading-refused (c .before .before .before .before .before .loop .inv) _ (stop-full _ _ _ _ (sym (c .before .before .before .before .record-at .ensures) ∙ c .before .before .key .given .1) (omega arith))
-
-mul-keys : tie.Need-mul-keys Inv-loop μ-loop
-mul-keys c = search needs
-
-slice-write-keys : tie.Need-slice-write-keys Inv-loop μ-loop
-slice-write-keys c = search needs
-
-add-n : tie.Need-add-n Inv-loop μ-loop
-add-n c = search needs
-
-add-at : tie.Need-add-at Inv-loop μ-loop
-add-at c = search needs
-
-loop-less : tie.Need-loop-less Inv-loop μ-loop
-loop-less c = search needs
+returns c =
+    let at-record-at = c .before .before .before .before in
+    reading-refused (at-record-at .before .loop .inv) _ (stop-full _ _ _ _ (sym (at-record-at .record-at .ensures) ∙ c .before .before .key .given .1) (omega arith))
 
 loop-again : tie.Need-loop-again Inv-loop μ-loop
-loop-again c = reading-more (c .before .before .before .before .before .loop .inv) _ (sym (c .before .before .before .before .record-at .ensures) ∙ c .before .before .key .given .1) (omega arith)
-
-enum-told : tie.Need-enum-told Inv-loop μ-loop
-enum-told c = search needs
+loop-again c =
+    let at-record-at = c .before .before .before .before in
+    reading-more (at-record-at .before .loop .inv) _ (sym (at-record-at .record-at .ensures) ∙ c .before .before .key .given .1) (omega arith)
 
 same-length-2 : tie.Need-same-length-2 Inv-loop μ-loop
 same-length-2 c = c .before .before .before .loop .inv .long
 
 returns-2 : tie.Need-returns-2 Inv-loop μ-loop
 returns-2 c = reading-asked (c .before .before .before .loop .inv) (sym (c .before .before .record-at .ensures) ∙ c .enum-told .given .1)
-
-enum-known-b : tie.Need-enum-known-b Inv-loop μ-loop
-enum-known-b c = search needs
 
 same-length-3 : tie.Need-same-length-3 Inv-loop μ-loop
 same-length-3 c = c .before .before .before .before .loop .inv .long
@@ -69,23 +46,6 @@ returns-3 c = reading-refused (c .before .before .before .before .loop .inv) _ (
 pub read-records-spec : {M : Type 1} → statement M
 read-records-spec =
     tie.close
-    (tie.spec
-    Inv-loop
-    μ-loop
-    loop-holds
-    record-at-requires
-    enum-known-key
-    same-length
-    returns
-    mul-keys
-    slice-write-keys
-    add-n
-    add-at
-    loop-less
-    loop-again
-    enum-told
-    same-length-2
-    returns-2
-    enum-known-b
-    same-length-3
-    returns-3)
+    (tie.spec Inv-loop μ-loop loop-holds (λ c κs. search needs) (λ c. search needs) same-length returns (λ c. search needs)
+    (λ c. search needs) (λ c. search needs) (λ c. search needs) (λ c. search needs) loop-again (λ c. search needs) same-length-2 returns-2
+    (λ c. search needs) same-length-3 returns-3)

@@ -11,15 +11,6 @@ use Rattle.listing.proofs.records.record_at.Tie as tie
 returns : tie.Need-returns
 returns c = at-length _ _ (c .if1 .taken)
 
-shared-slice-read-kind : tie.Need-shared-slice-read-kind
-shared-slice-read-kind c = search needs
-
-add-if3 : tie.Need-add-if3
-add-if3 c = search needs
-
-add-t12 : tie.Need-add-t12
-add-t12 c = search needs
-
 returns-2 : tie.Need-returns-2
 returns-2 c = after-end _ _ (c .before .before .before .if1 .left) (c .before .if2 .taken) (c .if3 .taken)
 
@@ -29,23 +20,11 @@ returns-3 c = right-end _ _ (c .before .before .before .if1 .left) (c .before .i
 returns-4 : tie.Need-returns-4
 returns-4 c = unknown-kind _ _ (c .before .before .before .if1 .left) (c .if4 .taken)
 
-add-if5 : tie.Need-add-if5
-add-if5 c = search needs
-
 returns-5 : tie.Need-returns-5
 returns-5 c = cut-body _ _ (c .before .before .before .before .if1 .left) (c .before .before .if2 .left) (c .before .if4 .left) (c .if5 .taken)
 
-add-number-at : tie.Need-add-number-at
-add-number-at c = search needs
-
-number-at-requires : tie.Need-number-at-requires
-number-at-requires c κs = search needs
-
 returns-6 : tie.Need-returns-6
 returns-6 c = ap Position (c .before .number-at .ensures .0) ∙ unstaged _ _ (c .before .before .before .before .before .before .if1 .left) (c .if6 .taken) (c .before .before .if5 .left)
-
-add-t14 : tie.Need-add-t14
-add-t14 c = search needs
 
 returns-7 : tie.Need-returns-7
 returns-7 c = ap (λ (x : ℕ). Position (2 ^ 36 + x)) (c .before .number-at .ensures .0) ∙ staged _ _ (c .before .before .before .before .before .before .if1 .left) (omega arith) (c .before .before .if5 .left)
@@ -53,18 +32,5 @@ returns-7 c = ap (λ (x : ℕ). Position (2 ^ 36 + x)) (c .before .number-at .en
 pub record-at-spec : {M : Type 1} → statement M
 record-at-spec =
     tie.close
-    (tie.spec
-    returns
-    shared-slice-read-kind
-    add-if3
-    add-t12
-    returns-2
-    returns-3
-    returns-4
-    add-if5
-    returns-5
-    add-number-at
-    number-at-requires
-    returns-6
-    add-t14
-    returns-7)
+    (tie.spec returns (λ c. search needs) (λ c. search needs) (λ c. search needs) returns-2 returns-3 returns-4 (λ c. search needs)
+    returns-5 (λ c. search needs) (λ c κs. search needs) returns-6 (λ c. search needs) returns-7)

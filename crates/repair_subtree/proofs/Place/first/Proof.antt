@@ -7,11 +7,6 @@ use Rattle.repair_subtree.proofs.SubtreeLaws.{below-a, below-small}
 use borrow.Author.Needs.{needs}
 use Rattle.repair_subtree.proofs.Place.first.Statement.{statement}
 use Rattle.repair_subtree.proofs.Place.first.Tie as tie
-use Rattle.repair_subtree.proofs.Place.first.Reads as reads
-use Rattle.repair_subtree.proofs.Place.first.Lts as lts
-
-sub-t2 : tie.Need-sub-t2
-sub-t2 c = search needs
 
 mul-t3 : tie.Need-mul-t3
 mul-t3 c =
@@ -31,4 +26,5 @@ returns c =
     record { level = refl; width = refl; index = refl; rooted = below-a (s .args .self .level) (s .args .self .width) (s .args .self .index) (s .pre .1) (s .pre .0) }
 
 pub first-spec : {M : Type 1} → statement M
-first-spec = tie.close (tie.spec sub-t2 mul-t3 add-t4 returns)
+first-spec = tie.close
+    (tie.spec (λ c. search needs) mul-t3 add-t4 returns)

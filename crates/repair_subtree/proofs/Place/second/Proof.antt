@@ -7,11 +7,6 @@ use Rattle.repair_subtree.proofs.SubtreeLaws.{below-b, below-small}
 use borrow.Author.Needs.{needs}
 use Rattle.repair_subtree.proofs.Place.second.Statement.{statement}
 use Rattle.repair_subtree.proofs.Place.second.Tie as tie
-use Rattle.repair_subtree.proofs.Place.second.Reads as reads
-use Rattle.repair_subtree.proofs.Place.second.Lts as lts
-
-sub-t2 : tie.Need-sub-t2
-sub-t2 c = search needs
 
 mul-t3 : tie.Need-mul-t3
 mul-t3 c =
@@ -37,4 +32,5 @@ returns c =
     record { level = refl; width = refl; index = refl; rooted = below-b (s .args .self .level) (s .args .self .width) (s .args .self .index) (s .pre .1) (s .pre .0) }
 
 pub second-spec : {M : Type 1} → statement M
-second-spec = tie.close (tie.spec sub-t2 mul-t3 mul-t4 add-t5 returns)
+second-spec = tie.close
+    (tie.spec (λ c. search needs) mul-t3 mul-t4 add-t5 returns)

@@ -24,68 +24,30 @@ loop-holds c =
     let o = c .before .before .before in
     (o .pre .1 .some, refl, refl, o .pre .1 .first ∙ stages-first (o .args .d .now) (o .args .p))
 
-add-loop : tie.Need-add-loop Inv-loop μ-loop
-add-loop c = search needs
-
-add-from : tie.Need-add-from Inv-loop μ-loop
-add-from c = search needs
-
-mul-from : tie.Need-mul-from Inv-loop μ-loop
-mul-from c = search needs
-
-add-to : tie.Need-add-to Inv-loop μ-loop
-add-to c = search needs
-
-mul-write-later : tie.Need-mul-write-later Inv-loop μ-loop
-mul-write-later c = search needs
-
-sub-write-later : tie.Need-sub-write-later Inv-loop μ-loop
-sub-write-later c = search needs
-
-part-write-later-start : tie.Need-part-write-later-start Inv-loop μ-loop
-part-write-later-start c = search needs
-
-part-write-later-end : tie.Need-part-write-later-end Inv-loop μ-loop
-part-write-later-end c = search needs
-
-write-later-requires : tie.Need-write-later-requires Inv-loop μ-loop
-write-later-requires c κs = search needs
-
-add-s : tie.Need-add-s Inv-loop μ-loop
-add-s c = search needs
-
-loop-less : tie.Need-loop-less Inv-loop μ-loop
-loop-less c = search needs
-
 loop-again : tie.Need-loop-again Inv-loop μ-loop
 loop-again c =
-    let w = c .before .before .before .before .write-later in
-    let l = c .before .before .before .before .before .before .before .before .loop in
-    let o = c .before .before .before .before .before .before .before .before .before .before .before .before in
+    let at-write-later = c .before .before .before .before in
+    let at-loop = at-write-later .before .before .before .before in
+    let o = at-loop .before .before .before .before in
+    let p = o .args .p in
     let d = o .args .d .now in
+    let w = at-write-later .write-later in
+    let l = at-loop .loop in
     let from = 5120 * (l .s + 1) in
     let room : from + 5120 ≤ length (l .out) = omega (arith, o .pre .1 .room) in
     let added = w .last .1 .1 .1 .1 .1 .0 in
-    let fits : length added ≡ from + 5120 - from = omega (arith, ap length (w .ensures .1) ∙ stage-length 256 d (o .args .p) (l .s + 1)) in (
+    let fits : length added ≡ from + 5120 - from = omega (arith, ap length (w .ensures .1) ∙ stage-length 256 d p (l .s + 1)) in (
       omega arith,
       w .kept .1 .1 .1 .1 .0 ∙ l .inv .1,
       put-length from (from + 5120) (l .out) added (omega arith) room fits ∙ l .inv .2,
-      stages-more d (o .args .p) (l .out) added (l .s + 1) from (from + 5120) refl refl room (w .ensures .1) (l .inv .3),
+      stages-more d p (l .out) added (l .s + 1) from (from + 5120) refl refl room (w .ensures .1) (l .inv .3),
     )
-
-clear-requires : tie.Need-clear-requires Inv-loop μ-loop
-clear-requires c κs = search needs
-
-same-length : tie.Need-same-length Inv-loop μ-loop
-same-length c = search needs
-
-same-length-2 : tie.Need-same-length-2 Inv-loop μ-loop
-same-length-2 c = search needs
 
 returns : tie.Need-returns Inv-loop μ-loop
 returns c =
-    let l = c .before .before .before .before .before .loop in
-    let o = c .before .before .before .before .before .before .before .before .before in
+    let at-loop = c .before .before .before .before .before in
+    let o = at-loop .before .before .before .before in
+    let l = at-loop .loop in
     let n = o .pre .0 .body .stages in (
       c .before .before .clear .ensures ∙ ap (λ (n : ℕ). replicate n 0) (l .inv .1),
       stages-end (o .args .d .now) (o .args .p) (l .out) (l .s + 1) _ (omega (arith, n, o .pre .1 .room)) (omega (arith, n)) (l .inv .3),
@@ -94,23 +56,6 @@ returns c =
 pub write-stages-spec : {M : Type 1} → statement M
 write-stages-spec =
     tie.close
-    (tie.spec
-    Inv-loop
-    μ-loop
-    loop-holds
-    add-loop
-    add-from
-    mul-from
-    add-to
-    mul-write-later
-    sub-write-later
-    part-write-later-start
-    part-write-later-end
-    write-later-requires
-    add-s
-    loop-less
-    loop-again
-    clear-requires
-    same-length
-    same-length-2
-    returns)
+    (tie.spec Inv-loop μ-loop loop-holds (λ c. search needs) (λ c. search needs) (λ c. search needs) (λ c. search needs) (λ c. search needs)
+    (λ c. search needs) (λ c. search needs) (λ c. search needs) (λ c κs. search needs) (λ c. search needs) (λ c. search needs) loop-again
+    (λ c κs. search needs) (λ c. search needs) (λ c. search needs) returns)

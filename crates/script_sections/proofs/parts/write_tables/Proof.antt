@@ -12,9 +12,6 @@ use borrow.Author.Needs.{needs}
 use Rattle.script_sections.proofs.parts.write_tables.Statement.{statement}
 use Rattle.script_sections.proofs.parts.write_tables.Tie as tie
 
-slice-relend-prefix-write-sram : tie.Need-slice-relend-prefix-write-sram
-slice-relend-prefix-write-sram c = search needs
-
 slice-aggregate-write-sram : tie.Need-slice-aggregate-write-sram
 slice-aggregate-write-sram c =
     let o = c .before .before .before in
@@ -27,38 +24,16 @@ write-sram-requires c κs =
     let h : 5120 ≤ length (o .args .out .now) = omega (arith, o .pre .1) in
     (o .pre .0, length-take-le 5120 (o .args .out .now) h)
 
-sub-write-enables : tie.Need-sub-write-enables
-sub-write-enables c = search needs
-
-part-write-enables-start : tie.Need-part-write-enables-start
-part-write-enables-start c = search needs
-
-part-write-enables-end : tie.Need-part-write-enables-end
-part-write-enables-end c = search needs
-
-write-enables-requires : tie.Need-write-enables-requires
-write-enables-requires c κs = search needs
-
-same-length : tie.Need-same-length
-same-length c = search needs
-
 returns : tie.Need-returns
 returns c =
-    let o = c .before .before .before .before .before .before .before .before .before .before in
-    let a = c .before .before .before .before .before .before .write-sram in
+    let at-write-sram = c .before .before .before .before .before .before in
+    let o = at-write-sram .before .before .before .before in
+    let a = at-write-sram .write-sram in
     let b = c .before .before .write-enables in
     two-parts 5120 (o .args .out .now) (a .last .1 .1 .1 .0) (b .last .1 .1 .1 .0) (ap length (a .ensures) ∙ sram-length 256 (o .args .d .now) (o .args .p)) ∙ ap₂ _++_ (a .ensures) (b .ensures)
 
 pub write-tables-spec : {M : Type 1} → statement M
 write-tables-spec =
     tie.close
-    (tie.spec
-    slice-relend-prefix-write-sram
-    slice-aggregate-write-sram
-    write-sram-requires
-    sub-write-enables
-    part-write-enables-start
-    part-write-enables-end
-    write-enables-requires
-    same-length
-    returns)
+    (tie.spec (λ c. search needs) slice-aggregate-write-sram write-sram-requires (λ c. search needs) (λ c. search needs) (λ c. search needs)
+    (λ c κs. search needs) (λ c. search needs) returns)

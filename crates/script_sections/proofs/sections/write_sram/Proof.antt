@@ -12,79 +12,43 @@ use borrow.Author.Needs.{needs}
 use Rattle.script_sections.proofs.sections.write_sram.Statement.{statement}
 use Rattle.script_sections.proofs.sections.write_sram.Tie as tie
 
-slice-aggregate-read-table : tie.Need-slice-aggregate-read-table
-slice-aggregate-read-table c = search needs
-
-read-table-requires : tie.Need-read-table-requires
-read-table-requires c κs = search needs
-
-slice-aggregate-read-table-2 : tie.Need-slice-aggregate-read-table-2
-slice-aggregate-read-table-2 c = search needs
-
-read-table-requires-2 : tie.Need-read-table-requires-2
-read-table-requires-2 c κs = search needs
-
-slice-aggregate-read-table-3 : tie.Need-slice-aggregate-read-table-3
-slice-aggregate-read-table-3 c = search needs
-
-read-table-requires-3 : tie.Need-read-table-requires-3
-read-table-requires-3 c κs = search needs
-
-slice-aggregate-write-section : tie.Need-slice-aggregate-write-section
-slice-aggregate-write-section c = search needs
-
-slice-aggregate-write-section-2 : tie.Need-slice-aggregate-write-section-2
-slice-aggregate-write-section-2 c = search needs
-
-slice-aggregate-write-section-3 : tie.Need-slice-aggregate-write-section-3
-slice-aggregate-write-section-3 c = search needs
-
-slice-aggregate-write-section-4 : tie.Need-slice-aggregate-write-section-4
-slice-aggregate-write-section-4 c = search needs
-
 write-section-requires : tie.Need-write-section-requires
 write-section-requires c κs =
-    let o = c .before .before .before .before .before .before .before .before .before .before .before .before .before .before .before .before in
+    let at-read-table3 = c .before .before .before .before .before .before in
+    let at-read-table2 = at-read-table3 .before .before .before in
+    let at-read-table = at-read-table2 .before .before .before in
+    let o = at-read-table .before .before .before .before in
     let t = tableAt (o .args .d .now) (o .args .p) in
-    let e = c .before .before .before .before .before .before .before .before .before .before .before .before .read-table .ensures ∙ from-zero t 8192 in
+    let e = at-read-table .read-table .ensures ∙ from-zero t 8192 in
     record {
       many = ap length e ∙ length-listOf t 8192;
       small = entries-small t _ 8192 e (o .pre .0 .sram);
-      first = ap length (c .before .before .before .before .before .before .before .before .before .read-table2 .ensures) ∙ length-listOf _ 256;
-      second = ap length (c .before .before .before .before .before .before .read-table3 .ensures) ∙ length-listOf _ 256;
+      first = ap length (at-read-table2 .read-table2 .ensures) ∙ length-listOf _ 256;
+      second = ap length (at-read-table3 .read-table3 .ensures) ∙ length-listOf _ 256;
       third = omega arith;
       room = omega arith;
     }
 
-same-length : tie.Need-same-length
-same-length c = search needs
-
 returns : tie.Need-returns
 unfolding sramSection
 returns c =
-    let o = c .before .before .before .before .before .before .before .before .before .before .before .before .before .before .before .before .before .before .before .args in
+    let way = c .before .before .before .before .before in
+    let at-read-table3 = way .before .before .before .before in
+    let at-read-table2 = at-read-table3 .before .before .before in
+    let at-read-table = at-read-table2 .before .before .before in
+    let start = at-read-table .before .before .before .before in
+    let o = start .args in
     let t = tableAt (o .d .now) (o .p) in
     c .before .before .write-section .ensures
     ∙ section-are 256 t (λ w. t (8192 + w)) (λ w. t (8448 + w)) (λ w. 0) _ _ _ _
-    (c .before .before .before .before .before .before .before .before .before .before .before .before .before .before .before .read-table .ensures ∙ from-zero t 8192)
-    (c .before .before .before .before .before .before .before .before .before .before .before .before .read-table2 .ensures)
-    (c .before .before .before .before .before .before .before .before .before .read-table3 .ensures)
+    (at-read-table .read-table .ensures ∙ from-zero t 8192)
+    (at-read-table2 .read-table2 .ensures)
+    (at-read-table3 .read-table3 .ensures)
     (zeros-are 256)
 
 pub write-sram-spec : {M : Type 1} → statement M
 write-sram-spec =
     tie.close
-    (tie.spec
-    slice-aggregate-read-table
-    read-table-requires
-    slice-aggregate-read-table-2
-    read-table-requires-2
-    slice-aggregate-read-table-3
-    read-table-requires-3
-    slice-aggregate-write-section
-    slice-aggregate-write-section-2
-    slice-aggregate-write-section-3
-    slice-aggregate-write-section-4
-    write-section-requires
-    same-length
-    returns)
+    (tie.spec (λ c. search needs) (λ c κs. search needs) (λ c. search needs) (λ c κs. search needs) (λ c. search needs)
+    (λ c κs. search needs) (λ c. search needs) (λ c. search needs) (λ c. search needs) (λ c. search needs) write-section-requires
+    (λ c. search needs) returns)

@@ -5,29 +5,11 @@ use borrow.Author.Needs.{needs}
 use Rattle.script_sections.proofs.stages.later_entry.Statement.{statement}
 use Rattle.script_sections.proofs.stages.later_entry.Tie as tie
 
-add-slot : tie.Need-add-slot
-add-slot c = search needs
-
-add-slot-2 : tie.Need-add-slot-2
-add-slot-2 c = search needs
-
-slot-requires : tie.Need-slot-requires
-slot-requires c κs = search needs
-
 returns : tie.Need-returns
 returns c =
     let a = c .before in
     let o = a .before .before .before .args in
     entry-empty (o .d .now) (o .p) (o .s) (o .i) _ (a .slot .ensures) (c .if1 .taken)
-
-look-up-requires : tie.Need-look-up-requires
-look-up-requires c κs = search needs
-
-enum-known-q : tie.Need-enum-known-q
-enum-known-q c = search needs
-
-enum-told : tie.Need-enum-told
-enum-told c = search needs
 
 returns-2 : tie.Need-returns-2
 returns-2 c =
@@ -46,13 +28,5 @@ returns-3 c =
 pub later-entry-spec : {M : Type 1} → statement M
 later-entry-spec =
     tie.close
-    (tie.spec
-    add-slot
-    add-slot-2
-    slot-requires
-    returns
-    look-up-requires
-    enum-known-q
-    enum-told
-    returns-2
-    returns-3)
+    (tie.spec (λ c. search needs) (λ c. search needs) (λ c κs. search needs) returns (λ c κs. search needs) (λ c. search needs)
+    (λ c. search needs) returns-2 returns-3)

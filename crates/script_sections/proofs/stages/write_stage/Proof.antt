@@ -9,33 +9,15 @@ use borrow.Author.Needs.{needs}
 use Rattle.script_sections.proofs.stages.write_stage.Statement.{statement}
 use Rattle.script_sections.proofs.stages.write_stage.Tie as tie
 
-slice-aggregate-fill-masks : tie.Need-slice-aggregate-fill-masks
-slice-aggregate-fill-masks c = search needs
-
-slice-aggregate-fill-masks-2 : tie.Need-slice-aggregate-fill-masks-2
-slice-aggregate-fill-masks-2 c = search needs
-
-slice-aggregate-fill-masks-3 : tie.Need-slice-aggregate-fill-masks-3
-slice-aggregate-fill-masks-3 c = search needs
-
-fill-masks-requires : tie.Need-fill-masks-requires
-fill-masks-requires c κs = search needs
-
-slice-aggregate-write-section : tie.Need-slice-aggregate-write-section
-slice-aggregate-write-section c = search needs
-
-slice-aggregate-write-section-2 : tie.Need-slice-aggregate-write-section-2
-slice-aggregate-write-section-2 c = search needs
-
-slice-aggregate-write-section-3 : tie.Need-slice-aggregate-write-section-3
-slice-aggregate-write-section-3 c = search needs
-
 write-section-requires : tie.Need-write-section-requires
 write-section-requires c κs =
-    let o = c .before .before .before .before .before .before .before .before .before .before .before .before .before .before in
+    let way = c .before .before .before .before in
+    let at-fill-masks = way .before .before .before in
+    let way-2 = at-fill-masks .before .before .before .before in
+    let o = way-2 .before .before .before in
     let a = o .args in
     let entries = o .pre .2 in
-    let masks = c .before .before .before .before .before .before .before .fill-masks .ensures in
+    let masks = at-fill-masks .fill-masks .ensures in
     record {
       many = ap length (entries .is) ∙ length-listOf _ 8192;
       small = entries-small (stageEntry 256 (a .d .now) (a .p) (a .s)) (a .entries .now) 8192 (entries .is) (entries .small);
@@ -45,15 +27,15 @@ write-section-requires c κs =
       room = o .pre .3;
     }
 
-same-length : tie.Need-same-length
-same-length c = search needs
-
 returns : tie.Need-returns
 unfolding stageSection
 returns c =
-    let o = c .before .before .before .before .before .before .before .before .before .before .before .before .before .before .before .before .before in
+    let way = c .before .before .before .before .before in
+    let at-fill-masks = way .before .before .before .before .before in
+    let way-2 = at-fill-masks .before .before .before .before in
+    let o = way-2 .before .before .before in
     let a = o .args in
-    let masks = c .before .before .before .before .before .before .before .before .before .before .fill-masks .ensures in
+    let masks = at-fill-masks .fill-masks .ensures in
     let d = a .d .now in
     c .before .before .write-section .ensures
     ∙ section-are 256 (stageEntry 256 d (a .p) (a .s)) (laneWord (xoraBit d (a .p) (a .s))) (laneWord (xorbBit d (a .p) (a .s))) (laneWord (orbBit d (a .p) (a .s))) _ _ _ _
@@ -65,14 +47,5 @@ returns c =
 pub write-stage-spec : {M : Type 1} → statement M
 write-stage-spec =
     tie.close
-    (tie.spec
-    slice-aggregate-fill-masks
-    slice-aggregate-fill-masks-2
-    slice-aggregate-fill-masks-3
-    fill-masks-requires
-    slice-aggregate-write-section
-    slice-aggregate-write-section-2
-    slice-aggregate-write-section-3
-    write-section-requires
-    same-length
-    returns)
+    (tie.spec (λ c. search needs) (λ c. search needs) (λ c. search needs) (λ c κs. search needs) (λ c. search needs) (λ c. search needs)
+    (λ c. search needs) write-section-requires (λ c. search needs) returns)

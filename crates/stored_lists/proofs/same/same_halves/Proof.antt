@@ -38,80 +38,27 @@ loop-holds c =
     let at-start = c .before .before .before .before in
     (half-none (A at-start) (B at-start), omega arith)
 
-mul-if3 : tie.Need-mul-if3 Inv-loop μ-loop
-mul-if3 c = search needs
-
-shared-slice-read-if3 : tie.Need-shared-slice-read-if3 Inv-loop μ-loop
-shared-slice-read-if3 c = search needs
-
-mul-joined : tie.Need-mul-joined Inv-loop μ-loop
-mul-joined c = search needs
-
-mul-joined-2 : tie.Need-mul-joined-2 Inv-loop μ-loop
-mul-joined-2 c = search needs
-
-shared-slice-read-joined : tie.Need-shared-slice-read-joined Inv-loop μ-loop
-shared-slice-read-joined c = search needs
-
-mul-joined-3 : tie.Need-mul-joined-3 Inv-loop μ-loop
-mul-joined-3 c = search needs
-
-add-joined : tie.Need-add-joined Inv-loop μ-loop
-add-joined c = search needs
-
-mul-joined-4 : tie.Need-mul-joined-4 Inv-loop μ-loop
-mul-joined-4 c = search needs
-
-shared-slice-read-joined-2 : tie.Need-shared-slice-read-joined-2 Inv-loop μ-loop
-shared-slice-read-joined-2 c = search needs
-
-joined-requires : tie.Need-joined-requires Inv-loop μ-loop
-joined-requires c κs = search needs
-
 returns-3 : tie.Need-returns-3 Inv-loop μ-loop
 returns-3 c =
-    let at-start = c .before .before .before .before .before .before .before .before .before .before .before in
-    other-half (A at-start) (B at-start) (c .before .before .before .before .before .before .loop .i) (c .before .before .before .before .before .loop-test .taken) (λ e. (c .if3 .taken) (e ∙ sym (c .before .joined .ensures)))
-
-add-i : tie.Need-add-i Inv-loop μ-loop
-add-i c = search needs
-
-loop-less : tie.Need-loop-less Inv-loop μ-loop
-loop-less c = search needs
+    let at-loop-test = c .before .before .before .before .before in
+    let at-start = at-loop-test .before .before .before .before .before .before in
+    other-half (A at-start) (B at-start) (at-loop-test .before .loop .i) (at-loop-test .loop-test .taken) (λ e. (c .if3 .taken) (e ∙ sym (c .before .joined .ensures)))
 
 loop-again : tie.Need-loop-again Inv-loop μ-loop
 loop-again c =
-    let at-start = c .before .before .before .before .before .before .before .before .before .before .before in
     let at-loop = c .before .before .before .before .before .before in
+    let at-start = at-loop .before .before .before .before .before in
     (half-more (A at-start) (B at-start) (at-loop .loop .i) (at-loop .loop .inv .0) (c .if3 .left ∙ c .before .joined .ensures), search needs)
 
 returns-4 : tie.Need-returns-4 Inv-loop μ-loop
 returns-4 c =
-    let at-start = c .before .before .before .before .before .before in
     let at-loop = c .before in
-    half-all (A at-start) (B at-start) (at-loop .loop .i) (c .before .before .before .if1 .left) (c .before .before .if2 .left) (at-loop .loop .inv .0) (c .loop-test .left)
+    let at-start = at-loop .before .before .before .before .before in
+    half-all (A at-start) (B at-start) (at-loop .loop .i) (at-loop .before .before .if1 .left) (at-loop .before .if2 .left) (at-loop .loop .inv .0) (c .loop-test .left)
 
 pub same-halves-spec : {M : Type 1} → statement M
 same-halves-spec =
     tie.close
-    (tie.spec
-    Inv-loop
-    μ-loop
-    returns
-    returns-2
-    loop-holds
-    mul-if3
-    shared-slice-read-if3
-    mul-joined
-    mul-joined-2
-    shared-slice-read-joined
-    mul-joined-3
-    add-joined
-    mul-joined-4
-    shared-slice-read-joined-2
-    joined-requires
-    returns-3
-    add-i
-    loop-less
-    loop-again
-    returns-4)
+    (tie.spec Inv-loop μ-loop returns returns-2 loop-holds (λ c. search needs) (λ c. search needs) (λ c. search needs) (λ c. search needs)
+    (λ c. search needs) (λ c. search needs) (λ c. search needs) (λ c. search needs) (λ c. search needs) (λ c κs. search needs) returns-3
+    (λ c. search needs) (λ c. search needs) loop-again returns-4)

@@ -18,53 +18,33 @@ Inv-loop d p body old new room₀ j₀ room j = (j ≤ 8192) × (length room ≡
 abbrev μ-loop : tie.MeasureT-loop
 μ-loop d p body old new room₀ j₀ room j = 8192 - j
 
-sub-fill-planned : tie.Need-sub-fill-planned Inv-loop μ-loop
-sub-fill-planned c = search needs
-
-part-fill-planned-start : tie.Need-part-fill-planned-start Inv-loop μ-loop
-part-fill-planned-start c = search needs
-
-part-fill-planned-end : tie.Need-part-fill-planned-end Inv-loop μ-loop
-part-fill-planned-end c = search needs
-
 fill-planned-requires : tie.Need-fill-planned-requires Inv-loop μ-loop
 fill-planned-requires c κs = let s = c .before .before .before .before .before in (listed _ (s .pre .0), s .pre .1, s .pre .2)
 
 loop-holds : tie.Need-loop-holds Inv-loop μ-loop
-loop-holds c = let s = c .before .before .before .before .before .before .before .before in let (n, t) = fill-first (s .args .d .now) (s .args .p) (s .args .body) (s .args .old .now) (s .args .new .now) (s .args .room .now) _ (s .pre .1) (s .pre .2) (s .pre .3) (c .before .before .fill-planned .ensures) in (omega arith, refl, n, t)
-
-put-slot-bit-requires : tie.Need-put-slot-bit-requires Inv-loop μ-loop
-put-slot-bit-requires c κs = search needs
-
-add-j : tie.Need-add-j Inv-loop μ-loop
-add-j c = search needs
+loop-holds c =
+    let way = c .before .before .before .before in
+    let s = way .before .before .before .before in
+    let (n, t) = fill-first (s .args .d .now) (s .args .p) (s .args .body) (s .args .old .now) (s .args .new .now) (s .args .room .now) _ (s .pre .1) (s .pre .2) (s .pre .3) (c .before .before .fill-planned .ensures) in (omega arith, refl, n, t)
 
 loop-less : tie.Need-loop-less Inv-loop μ-loop
 loop-less c = omega arith
 
 loop-again : tie.Need-loop-again Inv-loop μ-loop
-loop-again c = let s = c .before .before .before .before .before .before .before .before .before .before .before .before .before .before in let l = c .before .before .before .before .before in let (e, n, t) = fill-next (s .args .d .now) (s .args .p) (s .args .body) (s .args .old .now) (s .args .new .now) (l .loop .room) _ (l .loop .j) (l .loop .inv .2) (l .loop .inv .3) (c .before .before .put-slot-bit .ensures) in (omega arith, e ∙ l .loop .inv .1, n, t)
-
-same-length : tie.Need-same-length Inv-loop μ-loop
-same-length c = search needs
+loop-again c =
+    let l = c .before .before .before .before .before in
+    let way = l .before .before .before .before .before in
+    let s = way .before .before .before .before in
+    let (e, n, t) = fill-next (s .args .d .now) (s .args .p) (s .args .body) (s .args .old .now) (s .args .new .now) (l .loop .room) _ (l .loop .j) (l .loop .inv .2) (l .loop .inv .3) (c .before .before .put-slot-bit .ensures) in (omega arith, e ∙ l .loop .inv .1, n, t)
 
 returns : tie.Need-returns Inv-loop μ-loop
-returns c = let s = c .before .before .before .before .before .before .before .before .before .before in c .before .loop .inv .3 ∙ ap (λ (j : ℕ). filled 32768 (bitPuts (s .args .d .now) (s .args .p) (s .args .old .now) (s .args .new .now) j)) (omega arith)
+returns c =
+    let way = c .before .before .before .before .before in
+    let s = way .before .before .before .before .before in
+    c .before .loop .inv .3 ∙ ap (λ (j : ℕ). filled 32768 (bitPuts (s .args .d .now) (s .args .p) (s .args .old .now) (s .args .new .now) j)) (omega arith)
 
 pub fill-part-spec : {M : Type 1} → statement M
 fill-part-spec =
     tie.close
-    (tie.spec
-    Inv-loop
-    μ-loop
-    sub-fill-planned
-    part-fill-planned-start
-    part-fill-planned-end
-    fill-planned-requires
-    loop-holds
-    put-slot-bit-requires
-    add-j
-    loop-less
-    loop-again
-    same-length
-    returns)
+    (tie.spec Inv-loop μ-loop (λ c. search needs) (λ c. search needs) (λ c. search needs) fill-planned-requires loop-holds
+    (λ c κs. search needs) (λ c. search needs) loop-less loop-again (λ c. search needs) returns)

@@ -18,38 +18,16 @@ abbrev μ-loop : tie.MeasureT-loop
 first-body-requires : tie.Need-first-body-requires Inv-loop μ-loop
 first-body-requires c κs = formed _ (c .before .pre .0) .head .majors
 
-loop-holds : tie.Need-loop-holds Inv-loop μ-loop
-loop-holds c = search needs
-
 body-at-requires : tie.Need-body-at-requires Inv-loop μ-loop
 body-at-requires c κs = body-ready _ (formed _ (c .before .before .before .before .pre .0) .sizes) _ _ (omega (arith, c .before .before .before .before .pre .1, c .loop-test .taken)) (c .before .loop .inv .1)
 
-add-k : tie.Need-add-k Inv-loop μ-loop
-add-k c = search needs
-
-loop-less : tie.Need-loop-less Inv-loop μ-loop
-loop-less c = search needs
-
-loop-again : tie.Need-loop-again Inv-loop μ-loop
-loop-again c = search needs
-
 body-at-requires-2 : tie.Need-body-at-requires-2 Inv-loop μ-loop
-body-at-requires-2 c κs = body-ready _ (formed _ (c .before .before .before .before .pre .0) .sizes) _ _ (c .before .before .before .before .pre .1) (c .before .loop .inv .1 ∙ ap (bodyAt (c .before .before .before .before .args .d .now)) (omega arith))
-
-returns : tie.Need-returns Inv-loop μ-loop
-returns c = search needs
+body-at-requires-2 c κs =
+    let start = c .before .before .before .before in
+    body-ready _ (formed _ (start .pre .0) .sizes) _ _ (start .pre .1) (c .before .loop .inv .1 ∙ ap (bodyAt (start .args .d .now)) (omega arith))
 
 pub part-body-spec : {M : Type 1} → statement M
 part-body-spec =
     tie.close
-    (tie.spec
-    Inv-loop
-    μ-loop
-    first-body-requires
-    loop-holds
-    body-at-requires
-    add-k
-    loop-less
-    loop-again
-    body-at-requires-2
-    returns)
+    (tie.spec Inv-loop μ-loop first-body-requires (λ c. search needs) body-at-requires (λ c. search needs) (λ c. search needs)
+    (λ c. search needs) body-at-requires-2 (λ c. search needs))
