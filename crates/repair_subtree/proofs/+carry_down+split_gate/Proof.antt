@@ -242,8 +242,6 @@ split-gate-second-of-requires t c κs =
 
 split-gate-level-of-requires : (t : ℕ) → split-gate-lts.Need-level-of-requires (calls-split-gate t) (split-gate-at t) split-gate.Post
 split-gate-level-of-requires t c κs =
-    let gates = s .args .gates .now in
-    let node = s .args .node in
     let pb = c in
     let so = pb .before in
     let pa = so .before in
@@ -252,6 +250,8 @@ split-gate-level-of-requires t c κs =
     let i = g .before .before in
     let b1 = i .before .before .before .before .before .before in
     let s = b1 .before .before .before .before in
+    let gates = s .args .gates .now in
+    let node = s .args .node in
     let o = listed-gate gates (node .0) _ (i .find-in .result) (i .find-in .ensures) (g .g .given .1) in
     let u : pa .pin .result .0 ≡ listFirst gates (g .g .given .0 .0) / 2 = omega (arith, pa .pin .ensures, fo .first-of .ensures) in
     let v : pb .pin2 .result .0 ≡ listSecond gates (g .g .given .0 .0) / 2 = omega (arith, pb .pin2 .ensures, so .second-of .ensures) in
