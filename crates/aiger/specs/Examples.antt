@@ -79,6 +79,19 @@ examples =
     ∷ record { got = readAs (readAiger (97 ∷ 105 ∷ 103 ∷ 32 ∷ 48 ∷ 32 ∷ 48 ∷ 32 ∷ 48 ∷ 32 ∷ 49 ∷ 32 ∷ 48 ∷ 10 ∷ 48 ∷ [])); said = 18 ∷ [] }
     ∷ record { got = readAs (readAiger []); said = 18 ∷ [] }
     ∷ record { got = writtenAs (writeAiger (3 ∷ 4 ∷ 2 ∷ 5 ∷ 9 ∷ 7 ∷ [])); said = 33 ∷ [] }
+    -- a second fan-in that is larger: 33; an equal one is not
+    ∷ record { got = writtenAs (writeAiger (2 ∷ 1 ∷ 3 ∷ [])); said = 33 ∷ [] }
+    ∷ record { got = writtenAs (writeAiger (2 ∷ 3 ∷ 3 ∷ [])); said = 97 ∷ 105 ∷ 103 ∷ 32 ∷ 50 ∷ 32 ∷ 49 ∷ 32 ∷ 48 ∷ 32 ∷ 48 ∷ 32 ∷ 49 ∷ 10 ∷ 1 ∷ 0 ∷ [] }
+    -- `aig 3 1 1 0 1` and the line `6`: the gate's variable comes behind the input and the latch. Two literals on that line: 18
+    ∷ record { got = readAs (readAiger (97 ∷ 105 ∷ 103 ∷ 32 ∷ 51 ∷ 32 ∷ 49 ∷ 32 ∷ 49 ∷ 32 ∷ 48 ∷ 32 ∷ 49 ∷ 10 ∷ 54 ∷ 10 ∷ 1 ∷ 5 ∷ [])); said = 1 ∷ 1 ∷ 0 ∷ 1 ∷ 3 ∷ 5 ∷ 0 ∷ [] }
+    ∷ record { got = readAs (readAiger (97 ∷ 105 ∷ 103 ∷ 32 ∷ 51 ∷ 32 ∷ 49 ∷ 32 ∷ 49 ∷ 32 ∷ 48 ∷ 32 ∷ 49 ∷ 10 ∷ 54 ∷ 32 ∷ 48 ∷ 10 ∷ 1 ∷ 5 ∷ [])); said = 18 ∷ [] }
+    -- a gate that would be its own fan-in: 19
+    ∷ record { got = readAs (readAiger (97 ∷ 105 ∷ 103 ∷ 32 ∷ 49 ∷ 32 ∷ 48 ∷ 32 ∷ 48 ∷ 32 ∷ 48 ∷ 32 ∷ 49 ∷ 10 ∷ 0 ∷ 0 ∷ [])); said = 19 ∷ [] }
+    -- `aig 1073741825 1073741825 0 0 0`, one variable too many; M is not the sum; a leading zero; a blank behind A: 18
+    ∷ record { got = readAs (readAiger (97 ∷ 105 ∷ 103 ∷ 32 ∷ 49 ∷ 48 ∷ 55 ∷ 51 ∷ 55 ∷ 52 ∷ 49 ∷ 56 ∷ 50 ∷ 53 ∷ 32 ∷ 49 ∷ 48 ∷ 55 ∷ 51 ∷ 55 ∷ 52 ∷ 49 ∷ 56 ∷ 50 ∷ 53 ∷ 32 ∷ 48 ∷ 32 ∷ 48 ∷ 32 ∷ 48 ∷ 10 ∷ [])); said = 18 ∷ [] }
+    ∷ record { got = readAs (readAiger (97 ∷ 105 ∷ 103 ∷ 32 ∷ 50 ∷ 32 ∷ 49 ∷ 32 ∷ 48 ∷ 32 ∷ 48 ∷ 32 ∷ 48 ∷ 10 ∷ [])); said = 18 ∷ [] }
+    ∷ record { got = readAs (readAiger (97 ∷ 105 ∷ 103 ∷ 32 ∷ 48 ∷ 48 ∷ 32 ∷ 48 ∷ 32 ∷ 48 ∷ 32 ∷ 48 ∷ 32 ∷ 48 ∷ 10 ∷ [])); said = 18 ∷ [] }
+    ∷ record { got = readAs (readAiger (97 ∷ 105 ∷ 103 ∷ 32 ∷ 48 ∷ 32 ∷ 48 ∷ 32 ∷ 48 ∷ 32 ∷ 48 ∷ 32 ∷ 48 ∷ 32 ∷ 10 ∷ [])); said = 18 ∷ [] }
     ∷ []
 
 unfoldable pub given : List Example → List (List ℕ)
