@@ -60,10 +60,11 @@ returns c =
     let new = start .args .new .now in
     let blocks = at-blocks-of .blocks-of .ensures in
     let begun = at-begin-blocks .begin-blocks .ensures in
-    let good = goods-begun words starts turns _ _ rooms (start .pre) _ (search needs) _ blocks begun in
+    let long = at-begin-blocks .begin-blocks .kept .1 .1 .1 .0 in
+    let good = goods-begun words starts turns _ _ rooms (start .pre) _ long _ blocks begun in
     let ran = at-take-turns .take-turns .ensures .1 starts good (start .pre .named) in (
-      run-left words starts turns _ _ rooms (start .pre) _ (search needs) _ blocks begun old new _ _ ran _ (at-turns-left .turns-left .ensures),
-      (run-new words starts turns _ _ rooms (start .pre) _ (search needs) _ blocks begun old new _ _ ran, again (length rooms) (at-take-turns .take-turns .last .1 .1 .1 .1 .0) _ (c .before .before .clear .ensures) (search needs)),
+      run-left words starts turns _ _ rooms (start .pre) _ long _ blocks begun old new _ _ ran _ (at-turns-left .turns-left .ensures),
+      (run-new words starts turns _ _ rooms (start .pre) _ long _ blocks begun old new _ _ ran, again (length rooms) (at-take-turns .take-turns .last .1 .1 .1 .1 .0) _ (c .before .before .clear .ensures) (search needs)),
     )
 
 pub run-well-spec : {M : Type 1} → statement M
