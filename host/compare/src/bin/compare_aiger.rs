@@ -79,8 +79,8 @@ fn same(checker: &mut AigerChecker, file: &[u8], gates: &[u32]) {
     checker.back_and_there("back and there", gates);
 }
 
-/// Short strings behind the fronts of a file: all of one byte; longer ones of the bytes that matter there, with any byte
-/// at one place. As a gate all strings of two; with `all` those of three too.
+/// Short strings behind the fronts of a file: all of up to two bytes, and longer ones of the bytes that matter there; with
+/// `all` those of three bytes too, behind a front of each kind.
 fn short_strings(checker: &mut AigerChecker, all: bool) {
     let any: Vec<u8> = (0..=255).collect();
     let any = &any[..];
@@ -100,12 +100,14 @@ fn short_strings(checker: &mut AigerChecker, all: bool) {
         "aig 2 0 1 1 1\n0\n",
         "aig 2 1 0 1 1\n5",
     ] {
-        for choices in [&[][..], &[any], &[some, some], &[some, some, some]] {
+        for choices in [&[][..], &[any], &[any, any], &[some, some, some]] {
             checker.every_string("short strings behind text", front.as_bytes(), choices);
         }
     }
     let some =
         &[0, 1, 2, 3, 4, 10, 64, 69, 70, 71, 126, 127, 128, 129, 130, 139, 140, 141, 200, 254, 255][..];
+    // First differences of one, two and three bytes are in range.
+    let three_bytes = "aig 10000 9999 0 0 1\n";
     let last_pin = "aig 1073741824 1073741823 0 0 1\n";
     for (header, groups) in [
         ("aig 0 0 0 0 0\n", &[][..]),
@@ -113,6 +115,7 @@ fn short_strings(checker: &mut AigerChecker, all: bool) {
         ("aig 2 0 0 0 2\n", &[1]),
         ("aig 3 1 1 0 1\n6\n", &[]),
         ("aig 70 69 0 0 1\n", &[]),
+        (three_bytes, &[]),
         (last_pin, &[]),
         (last_pin, &[0x80, 0x80]),
         (last_pin, &[0xFF, 0xFF, 0xFF]),
@@ -120,18 +123,26 @@ fn short_strings(checker: &mut AigerChecker, all: bool) {
         (last_pin, &[0x01, 0xFF, 0xFF, 0xFF]),
     ] {
         let front = [header.as_bytes(), groups].concat();
-        for choices in [&[][..], &[any], &[any, some], &[some, any], &[some, some, some]] {
+        for choices in [&[][..], &[any], &[any, any], &[some, some, some]] {
             checker.every_string("short strings behind gates", &front, choices);
         }
     }
-    // First differences of one, two and three bytes are in range.
-    let front = b"aig 10000 9999 0 0 1\n";
     let few = &[0, 1, 2, 31, 32, 127, 128, 129, 155, 156, 160, 255][..];
-    for choices in [&[any, any][..], &[any, few, few], &[few, any, few], &[few, few, any]] {
-        checker.every_string("two and three bytes as a gate", front, choices);
+    for choices in [&[any, few, few][..], &[few, any, few], &[few, few, any]] {
+        checker.every_string("three bytes as a gate", three_bytes.as_bytes(), choices);
     }
     if all {
-        checker.every_string("all strings of three as a gate", front, &[any, any, any]);
+        let kinds = [
+            ("aig 0 0 0 0 ", &[][..]),
+            ("aig 1 1 0 1 0\n", &[]),
+            (three_bytes, &[]),
+            (last_pin, &[0x80, 0x80]),
+            (last_pin, &[0x01, 0xFF, 0xFF]),
+        ];
+        for (header, groups) in kinds {
+            let front = [header.as_bytes(), groups].concat();
+            checker.every_string("all strings of three", &front, &[any, any, any]);
+        }
     }
 }
 
