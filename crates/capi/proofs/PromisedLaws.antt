@@ -11,6 +11,7 @@ use lib.ListN.{length}
 use Rattle.words.specs.Answer.{Answer, refused, atItem, nowhere, handed}
 use Rattle.words.specs.declared.refusals.Refusal.{Refusal}
 use Rattle.words.proofs.AnswerLaws.{refused-good, handed-zero}
+use Rattle.run_machine.specs.Room.{blockRoom}
 use Rattle.run_machine.specs.Run.{Ran, ran, outcome, newAfter, allLeft, badBlock, badTurn, runTurns}
 use Rattle.promise.proofs.PromiseLaws.{as-run}
 use Rattle.capi.specs.Exported.{turnsLeft}
@@ -40,7 +41,7 @@ module _ (W starts turns old new : List ℕ) (room : ℕ) where
   unfolding outcome
   refused-some q e =
       let x = runTurns 256 13 W starts turns old new in
-      numbered (leb (1024 * (length starts - 1)) room) (badBlock 256 W starts (length old) (length new)) (badTurn starts turns) (allLeft 256 W (x .blocks)) (x .new) q e
+      numbered (leb (blockRoom * (length starts - 1)) room) (badBlock 256 W starts (length old) (length new)) (badTurn starts turns) (allLeft 256 W (x .blocks)) (x .new) q e
 
   pub promised : (number left second : ℕ) (after : List ℕ) → (number ∷ left ∷ second ∷ []) ≡ handed 2 turnsLeft is → after ≡ newAfter is new
       → Promised W starts old new number left after

@@ -21,6 +21,7 @@ use Rattle.script_assembly.specs.Steps.{partsIn}
 use Rattle.script_assembly.proofs.StepLaws.{mark-last, mark-more}
 use Rattle.script_assembly.proofs.PlaceLaws.{part-first}
 use Rattle.run_machine.specs.Part.{stagesAt, lastAt}
+use Rattle.run_machine.specs.Room.{blockRoom}
 use Rattle.run_machine.specs.Run.{ran, outcome, turnsFrom, turnsAfter, allLeft, badBlock, badTurn}
 use Rattle.promise_order.specs.Order.{blockTurns}
 use Rattle.promise_order.proofs.FormLaws.{from-last, from-more}
@@ -92,7 +93,7 @@ module _ (d : List ℕ) (accepted : Accepted d) (s : ℕ) (stage : s < majorsOf 
 -- ---- the run's answer
 
 module _ (d : List ℕ) (s : ℕ) (turns old new : List ℕ) (room : ℕ) (accepted : Accepted d) (stage : s < majorsOf d) (old-size : length old ≡ stateWords d)
-    (new-size : length new ≡ stateWords d) (space : 1024 * blocksOf d ≤ room) (named : (i : ℕ) → i < length turns → getD turns i 0 < blocksOf d) where
+    (new-size : length new ≡ stateWords d) (space : blockRoom * blocksOf d ≤ room) (named : (i : ℕ) → i < length turns → getD turns i 0 < blocksOf d) where
   many : length (startsOf d s) - 1 ≡ blocksOf d
   many = omega (arith, Block.starts-are d accepted s stage)
 
@@ -115,7 +116,7 @@ module _ (d : List ℕ) (s : ℕ) (turns old new : List ℕ) (room : ℕ) (accep
   pub finishes-so : outcome 256 13 (assembled d) (startsOf d s) turns old new room ≡ ran (leftOver d s turns) (stageRun d s turns old new .new)
   unfolding outcome
   finishes-so =
-      rw (le-leb (1024 * (length (startsOf d s) - 1)) room (omega (arith, many)), outcome, good-blocks, good-turns)
+      rw (le-leb (blockRoom * (length (startsOf d s) - 1)) room (omega (arith, many)), outcome, good-blocks, good-turns)
       (ap (λ (x : ℕ). ran x (stageRun d s turns old new .new)) left-is)
 
 -- THE TURNS LEFT ARE THOSE THAT THE TURN LIST DOES NOT NAME

@@ -20,6 +20,7 @@ use Rattle.script_assembly.specs.Steps.{lastMark, partsIn, partStart}
 use Rattle.script_assembly.proofs.RankLaws.{inBefore, part-at, part-found}
 use Rattle.run_machine.specs.Part.{stagesAt, startAt, entryAt, laneWordAt}
 use Rattle.run_machine.specs.Turn.{readRow, taken, gatheredBit, dataInv, chosen, storedBit}
+use Rattle.run_machine.specs.Room.{blockRoom}
 use Rattle.run_machine.specs.Run.{runTurns, allLeft, badBlock, badTurn, Ran, ran, outcome}
 use Rattle.run_machine.proofs.StageLaws.{at-word}
 use Rattle.run_machine.proofs.TurnLaws.{taken-cleared, taken-nothing, stored-word-bit}
@@ -198,7 +199,7 @@ unfolding outcome
 as-run d s turns old new after room accepted stage old-size new-size e =
     let x = stageRun d s turns old new in
     let q =
-    went 0 after (leb (1024 * (length (startsOf d s) - 1)) room) (badBlock 256 (assembled d) (startsOf d s) (length old) (length new))
+    went 0 after (leb (blockRoom * (length (startsOf d s) - 1)) room) (badBlock 256 (assembled d) (startsOf d s) (length old) (length new))
     (badTurn (startsOf d s) turns) (ran (allLeft 256 (assembled d) (x .blocks)) (x .new)) e
     in
     let f = q .1 in

@@ -24,6 +24,7 @@ use Rattle.plan_checks.specs.Refusals.{planRefusal}
 use Rattle.script_assembly.specs.Assembly.{scriptWords, scriptStarts}
 use Rattle.script_assembly.specs.Steps.{partsIn, partStart}
 use Rattle.run_machine.specs.Turn.{taken, enableBit, chosen}
+use Rattle.run_machine.specs.Room.{blockRoom}
 use Rattle.run_machine.specs.Run.{ran, outcome, Running, runTurns, allLeft, badBlock, badTurn}
 use Rattle.promise_order.specs.Order.{capturedBy, oneAfterAnother}
 
@@ -129,14 +130,14 @@ leftOver d s turns = sumTo (λ b. turnsOf d s b - count b turns) (blocksOf d)
 abbrev pub Finishes : Type 0
 Finishes =
     (d : List ℕ) (s : ℕ) (turns old new : List ℕ) (room : ℕ) → Accepted d → s < majorsOf d → length old ≡ stateWords d → length new ≡ stateWords d
-    → 1024 * blocksOf d ≤ room → ((i : ℕ) → i < length turns → getD turns i 0 < blocksOf d)
+    → blockRoom * blocksOf d ≤ room → ((i : ℕ) → i < length turns → getD turns i 0 < blocksOf d)
     → outcome 256 13 (assembled d) (startsOf d s) turns old new room ≡ ran (leftOver d s turns) (stageRun d s turns old new .new)
 
 -- and where each block is named as often as it has turns, 0 are left and the promise is kept
 abbrev pub Finished : Type 0
 Finished =
     (d : List ℕ) (s : ℕ) (turns old new : List ℕ) (room : ℕ) → Accepted d → s < majorsOf d → length old ≡ stateWords d → length new ≡ stateWords d
-    → 1024 * blocksOf d ≤ room → ((i : ℕ) → i < length turns → getD turns i 0 < blocksOf d) → ((b : ℕ) → b < blocksOf d → turnsOf d s b ≤ count b turns)
+    → blockRoom * blocksOf d ≤ room → ((i : ℕ) → i < length turns → getD turns i 0 < blocksOf d) → ((b : ℕ) → b < blocksOf d → turnsOf d s b ≤ count b turns)
     → (outcome 256 13 (assembled d) (startsOf d s) turns old new room ≡ ran 0 (stageRun d s turns old new .new)) × Kept d s old new (stageRun d s turns old new .new)
 
 -- the same of what a run answers: it was not refused, no turns are left, and `after` is the new state

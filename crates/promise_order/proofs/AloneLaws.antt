@@ -15,7 +15,7 @@ use Rattle.words.proofs.BitLaws.{lt-or-ge}
 use Rattle.words.specs.Tests.{someBelow}
 use Rattle.words.proofs.TestLaws.{not-both, not-true-false, some-found, some-at}
 use Rattle.run_machine.specs.Part.{stagesAt, lastAt, endAt}
-use Rattle.run_machine.specs.Turn.{readRow, Block, begins, ended}
+use Rattle.run_machine.specs.Turn.{readRow, finished, Block, begins, ended}
 use Rattle.run_machine.specs.Run.{Running, blocksFrom, step, runFrom, runTurns, turnsFrom, turnsAfter, turnsLeft, badBlock}
 use Rattle.promise_order.specs.Order.{partsFrom, partsAt, capturedBy, blockTurns, storesAt, Stores, storeWord, PartAt, Unstored, Apart}
 use Rattle.promise_order.proofs.FormLaws.{Formed, Chain, form-chain, part-first, Ith, ith-part, after-last, after-more, turns-split}
@@ -158,7 +158,7 @@ module _ (n H : ℕ) (W starts : List ℕ) (s t : ℕ) (old new : List ℕ) (lai
     reads : (o : ℕ) → Part b i o → p ≡ begins W o → Now b i p
     works : (o j : ℕ) → Part b i o → j < stagesAt W o → p ≡ staging o j → Now b i p
     puts : (o : ℕ) → Part b i o → p ≡ staging o (stagesAt W o) → Now b i p
-    rests : p .phase ≡ 3 → length (partsOf b) ≤ i → Now b i p
+    rests : p .phase ≡ finished → length (partsOf b) ≤ i → Now b i p
 
   record Ok (b : ℕ) (p : Block) (k : List ℕ) : Type 0 where
     pub same : Same Free k new

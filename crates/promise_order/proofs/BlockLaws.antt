@@ -15,7 +15,7 @@ use Rattle.words.proofs.SectionLaws.{listOf-ext}
 use Rattle.reads.specs.ReadTurn.{appended, laneWord}
 use Rattle.reads.proofs.ReadTurnLaws.{appended-none}
 use Rattle.run_machine.specs.Part.{stagesAt, lastAt, roundsAt, normalAt, endAt, readWordAt, readMaskAt}
-use Rattle.run_machine.specs.Turn.{stateWord, readRow, Block, begins, ended, afterRead, afterStage, afterStore, stored, turned, written}
+use Rattle.run_machine.specs.Turn.{stateWord, readRow, Phase, toRead, toStage, toStore, finished, Block, begins, ended, afterRead, afterStage, afterStore, stored, turned, written}
 use Rattle.run_machine.specs.Run.{turnsAfter, turnsLeft}
 use Rattle.run_machine.proofs.TurnLaws.{captured-length}
 use Rattle.promise_order.specs.Order.{rowAfter, capsAfter}
@@ -51,22 +51,22 @@ row-same n W o old m m′ h = listOf-ext _ _ n (λ l k. lane-ext _ _ _ (roundsAt
 -- ---- phases
 
 module _ (W : List ℕ) where
-  begins-phase : (o : ℕ) → 1 ≤ stagesAt W o → begins W o .phase ≡ 0
+  begins-phase : (o : ℕ) → 1 ≤ stagesAt W o → begins W o .phase ≡ toRead
   unfolding begins
   begins-phase o h = rw (ne-eqb (stagesAt W o) 0 (λ e. omega arith), begins)
 
-  pub empty-phase : (o : ℕ) → stagesAt W o ≡ 0 → begins W o .phase ≡ 3
+  pub empty-phase : (o : ℕ) → stagesAt W o ≡ 0 → begins W o .phase ≡ finished
   unfolding begins
   empty-phase o h = rw (eq-eqb (stagesAt W o) 0 h, begins)
 
-  pub written-size : (n : ℕ) (old : List ℕ) (f : ℕ) (p : Block) (m : List ℕ) → length (written n W old f p m) ≡ length m
+  pub written-size : (n : ℕ) (old : List ℕ) (f : Phase) (p : Block) (m : List ℕ) → length (written n W old f p m) ≡ length m
   unfolding written stored
-  written-size n old zero p m = refl
-  written-size n old (suc zero) p m = refl
-  written-size n old (suc (suc zero)) p m = put-size n W (p .part) old (p .caps) m
-  written-size n old (suc (suc (suc f))) p m = refl
+  written-size n old toRead p m = refl
+  written-size n old toStage p m = refl
+  written-size n old toStore p m = put-size n W (p .part) old (p .caps) m
+  written-size n old finished p m = refl
 
-pub ended-phase : (o : ℕ) → ended o .phase ≡ 3
+pub ended-phase : (o : ℕ) → ended o .phase ≡ finished
 unfolding ended
 ended-phase o = refl
 
@@ -80,7 +80,7 @@ module _ (n : ℕ) (W : List ℕ) where
   unfolding turnsLeft begins
   left-read o h = ap (λ f. turnsLeft n W f (begins W o)) (begins-phase W o h)
 
-  pub left-none : (p : Block) → p .phase ≡ 3 → leftOf p ≡ 0
+  pub left-none : (p : Block) → p .phase ≡ finished → leftOf p ≡ 0
   unfolding turnsLeft
   left-none p e = ap (λ f. turnsLeft n W f p) e
 
@@ -91,7 +91,7 @@ module _ (n H : ℕ) (W : List ℕ) where
   pub staged : ℕ → List ℕ → ℕ → Block
   staged o row k = record {
     part = o;
-    phase = elim (eqb k (stagesAt W o)) [ true ↦ 2 | false ↦ 1 ];
+    phase = elim (eqb k (stagesAt W o)) [ true ↦ toStore | false ↦ toStage ];
     stage = k;
     row = rowAfter n H W o row k;
     caps = capsAfter n H W o row k;
@@ -104,11 +104,11 @@ module _ (n H : ℕ) (W : List ℕ) where
 
   -- ---- its phase
 
-  staged-phase : (o : ℕ) (row : List ℕ) (k : ℕ) → k < stagesAt W o → staged o row k .phase ≡ 1
+  staged-phase : (o : ℕ) (row : List ℕ) (k : ℕ) → k < stagesAt W o → staged o row k .phase ≡ toStage
   unfolding staged
   staged-phase o row k h = rw (ne-eqb k (stagesAt W o) (λ e. omega arith), staged)
 
-  all-phase : (o : ℕ) (row : List ℕ) → staged o row (stagesAt W o) .phase ≡ 2
+  all-phase : (o : ℕ) (row : List ℕ) → staged o row (stagesAt W o) .phase ≡ toStore
   unfolding staged
   all-phase o row = rw (eq-eqb (stagesAt W o) (stagesAt W o) refl, staged)
 
@@ -162,10 +162,10 @@ module _ (n H : ℕ) (W : List ℕ) where
     put-store o row m = ap (λ f. written n W old f (staged o row (stagesAt W o)) m) (all-phase o row)
 
     -- "A turn of a finished block does nothing"
-    pub turn-none : (p : Block) (m : List ℕ) → p .phase ≡ 3 → turnOf p m ≡ p
+    pub turn-none : (p : Block) (m : List ℕ) → p .phase ≡ finished → turnOf p m ≡ p
     unfolding turned
     turn-none p m e = ap (λ f. turned n H W old f p m) e
 
-    pub put-none : (p : Block) (m : List ℕ) → p .phase ≡ 3 → putOf p m ≡ m
+    pub put-none : (p : Block) (m : List ℕ) → p .phase ≡ finished → putOf p m ≡ m
     unfolding written
     put-none p m e = ap (λ f. written n W old f p m) e

@@ -13,6 +13,7 @@ use Rattle.words.specs.Answer.{refused, atItem, nowhere}
 use Rattle.words.specs.Tests.{firstNot}
 use Rattle.words.proofs.TestLaws.{not-none}
 use Rattle.run_machine.specs.Turn.{Block}
+use Rattle.run_machine.specs.Room.{blockRoom}
 use Rattle.run_machine.specs.Run.{Running, blocksFrom, runFrom, runTurns, allLeft, badBlock, badTurn, blockForm, outcome, newAfter, roomAfter}
 use Rattle.run_form.proofs.RefuseLaws.{blockGood, turnGood}
 use Rattle.run.specs.declared.Ran.{Ran}
@@ -76,15 +77,15 @@ module _ (W starts turns old new room : List ℕ) where
       (r ≡ ranOf (outcome 256 13 W starts turns old new (length room)))
       × ((new′ ≡ newAfter (outcome 256 13 W starts turns old new (length room)) new) × (room′ ≡ roomAfter starts room))
 
-  pub told-short : (m : ℕ) → m ≡ length starts - 1 → length room / 1024 < m → (r : Ran) → r ≡ ranOf (refused (nowhere 32)) → Told r new room
+  pub told-short : (m : ℕ) → m ≡ length starts - 1 → length room / blockRoom < m → (r : Ran) → r ≡ ranOf (refused (nowhere 32)) → Told r new room
   unfolding outcome newAfter roomAfter
   told-short m few h r e =
-      let short : leb (1024 * (length starts - 1)) (length room) ≡ false = lt-leb (1024 * (length starts - 1)) (length room) (omega arith) in
+      let short : leb (blockRoom * (length starts - 1)) (length room) ≡ false = lt-leb (blockRoom * (length starts - 1)) (length room) (omega arith) in
       (e ∙ rw (short, outcome), (rw (short, outcome), rw (short, roomAfter)))
 
-  module _ (m : ℕ) (few : m ≡ length starts - 1) (h : m ≤ length room / 1024) (room′ : List ℕ) (zeros : room′ ≡ replicate (length room) 0) where
-    fits : leb (1024 * (length starts - 1)) (length room) ≡ true
-    fits = le-leb (1024 * (length starts - 1)) (length room) (omega arith)
+  module _ (m : ℕ) (few : m ≡ length starts - 1) (h : m ≤ length room / blockRoom) (room′ : List ℕ) (zeros : room′ ≡ replicate (length room) 0) where
+    fits : leb (blockRoom * (length starts - 1)) (length room) ≡ true
+    fits = le-leb (blockRoom * (length starts - 1)) (length room) (omega arith)
 
     clear : room′ ≡ roomAfter starts room
     unfolding roomAfter

@@ -13,7 +13,7 @@ use lib.ListN.{length, getD}
 use Rattle.words.proofs.BitLaws.{lt-or-ge}
 use Rattle.words.proofs.TestLaws.{not-both, and-true, or-cases, all-at}
 use Rattle.run_machine.specs.Part.{stagesAt, lastAt, endAt}
-use Rattle.run_machine.specs.Turn.{Block, begins, ended, afterRead, afterStage, afterStore, turned}
+use Rattle.run_machine.specs.Turn.{Phase, toRead, toStage, toStore, finished, going, Block, begins, ended, afterRead, afterStage, afterStore, turned}
 use Rattle.run_machine.specs.Run.{partForm, partsForm, emptyBlock, blockForm}
 use Rattle.run_form.specs.Well.{PartWell}
 use Rattle.run_form.proofs.FormLaws.{InForm, in-form, parts-well, parts-next}
@@ -42,17 +42,38 @@ pub part-turns : (W : List ℕ) (o : ℕ) → o + stagesAt W o + 2 ≤ endAt 256
 unfolding endAt
 part-turns W o = omega arith
 
--- ---- a block that begins
+-- ---- a block that begins, or is finished
+
+-- a phase before or after the stages
+abbrev isStage : Phase → Bool
+isStage toRead = false
+isStage toStage = true
+isStage toStore = false
+isStage finished = false
+
+not-to-stage : (f : Phase) → isStage f ≡ false → f ≡ toStage → ⊥
+not-to-stage f n e = not-both (isStage f) (ap isStage e) n
 
 module _ (W : List ℕ) (s t lo hi : ℕ) where
+  pub finished-good : (o : ℕ) → lo ≤ hi → hi ≤ length W → Good W s t lo hi (ended o)
+  unfolding ended going
+  finished-good o order within = record {
+    order = order;
+    within = within;
+    from = λ h. absurd (not-both false h refl);
+    parts = λ h. absurd (not-both false h refl);
+    stage = λ h. absurd (not-to-stage finished refl h);
+    few = omega arith;
+  }
+
   -- at word o, where its parts are in form unless it is empty
   pub begins-good : (o : ℕ) → lo ≤ hi → hi ≤ length W → lo ≤ o → ((stagesAt W o ≡ 0 → ⊥) → Parts W s t hi o) → Good W s t lo hi (begins W o)
-  unfolding begins
+  unfolding begins ended
   begins-good o order within from parts = go (eqb (stagesAt W o) 0) refl
     where
       go : (b : Bool) → eqb (stagesAt W o) 0 ≡ b → Good W s t lo hi (begins W o)
-      go true e = rw (e, begins) (record { order = order; within = within; from = λ h. absurd (omega arith); parts = λ h. absurd (omega arith); stage = λ (h : _≡_ {A = ℕ} 3 1). absurd (omega arith); few = omega arith })
-      go false e = rw (e, begins) (record { order = order; within = within; from = λ h. from; parts = λ h. parts (eqb-false _ _ e); stage = λ (h : _≡_ {A = ℕ} 0 1). absurd (omega arith); few = omega arith })
+      go true e = rw (e, begins) (finished-good o order within)
+      go false e = rw (e, begins) (record { order = order; within = within; from = λ h. from; parts = λ h. parts (eqb-false _ _ e); stage = λ h. absurd (not-to-stage toRead refl h); few = omega arith })
 
 pub record BlockAt (W : List ℕ) (s t o e : ℕ) : Type 0 where
   pub order : o < e
@@ -77,29 +98,29 @@ module _ (W : List ℕ) (s t o e : ℕ) where
 
 -- ---- a turn keeps it
 
-not-stage : (x : Bool) → x ≡ true → _≡_ {A = ℕ} (elim x [ true ↦ 2 | false ↦ 1 ]) 1 → ⊥
-not-stage true q h = omega arith
+not-stage : (x : Bool) → x ≡ true → _≡_ {A = Phase} (elim x [ true ↦ toStore | false ↦ toStage ]) toStage → ⊥
+not-stage true q h = not-to-stage toStore refl h
 not-stage false q h = not-both false q refl
 
 module _ (W : List ℕ) (s t lo hi : ℕ) (old new : List ℕ) where
   module _ (b : Block) (g : Good W s t lo hi b) where
-    read-good : b .phase ≡ 0 → Good W s t lo hi (afterRead 256 W old new b)
-    unfolding afterRead
+    read-good : b .phase ≡ toRead → Good W s t lo hi (afterRead 256 W old new b)
+    unfolding afterRead going
     read-good e = record {
       order = g .order;
       within = g .within;
-      from = λ h. g .from (omega arith);
-      parts = λ h. g .parts (omega arith);
-      stage = λ h. omega (arith, parts-first W s t hi (b .part) (g .parts (omega arith)) .some);
+      from = λ h. g .from (ap going e);
+      parts = λ h. g .parts (ap going e);
+      stage = λ h. omega (arith, parts-first W s t hi (b .part) (g .parts (ap going e)) .some);
       few = omega arith;
     }
 
-    stage-good : b .phase ≡ 1 → Good W s t lo hi (afterStage 256 13 W b)
-    unfolding afterStage
+    stage-good : b .phase ≡ toStage → Good W s t lo hi (afterStage 256 13 W b)
+    unfolding afterStage going
     stage-good e = go (eqb (b .stage + 1) (stagesAt W (b .part))) refl
       where
         first : InForm 256 W s t (b .part) hi
-        first = parts-first W s t hi (b .part) (g .parts (omega arith))
+        first = parts-first W s t hi (b .part) (g .parts (ap going e))
 
         less : b .stage < stagesAt W (b .part)
         less = g .stage e
@@ -108,16 +129,16 @@ module _ (W : List ℕ) (s t lo hi : ℕ) (old new : List ℕ) where
         go true q = record {
           order = g .order;
           within = g .within;
-          from = λ h. g .from (omega arith);
-          parts = λ h. g .parts (omega arith);
+          from = λ h. g .from (ap going e);
+          parts = λ h. g .parts (ap going e);
           stage = λ h. absurd (not-stage (eqb (b .stage + 1) (stagesAt W (b .part))) q h);
           few = omega (arith, first .few, less);
         }
         go false q = record {
           order = g .order;
           within = g .within;
-          from = λ h. g .from (omega arith);
-          parts = λ h. g .parts (omega arith);
+          from = λ h. g .from (ap going e);
+          parts = λ h. g .parts (ap going e);
           stage = λ h. let n = eqb-false (b .stage + 1) (stagesAt W (b .part)) q in lt-of n;
           few = omega (arith, first .few, less);
         }
@@ -125,22 +146,22 @@ module _ (W : List ℕ) (s t lo hi : ℕ) (old new : List ℕ) where
             lt-of : (b .stage + 1 ≡ stagesAt W (b .part) → ⊥) → b .stage + 1 < stagesAt W (b .part)
             lt-of n = ⊎-elim (λ l. l) (λ l. absurd (n (omega (arith, less)))) (lt-or-ge (b .stage + 1) (stagesAt W (b .part)))
 
-    store-good : b .phase ≡ 2 → Good W s t lo hi (afterStore 256 W b)
-    unfolding afterStore ended
+    store-good : b .phase ≡ toStore → Good W s t lo hi (afterStore 256 W b)
+    unfolding afterStore ended going
     store-good e = go (eqb (lastAt W (b .part)) 1) refl
       where
         parts : Parts W s t hi (b .part)
-        parts = g .parts (omega arith)
+        parts = g .parts (ap going e)
 
         go : (x : Bool) → eqb (lastAt W (b .part)) 1 ≡ x → Good W s t lo hi (afterStore 256 W b)
-        go true q = rw (q, afterStore) (record { order = g .order; within = g .within; from = λ h. absurd (omega arith); parts = λ h. absurd (omega arith); stage = λ (h : _≡_ {A = ℕ} 3 1). absurd (omega arith); few = omega arith })
+        go true q = rw (q, afterStore) (finished-good W s t lo hi (b .part) (g .order) (g .within))
         go false q = rw (q, afterStore)
-            (begins-good W s t lo hi (endAt 256 W (b .part)) (g .order) (g .within) (omega (arith, g .from (omega arith), part-turns W (b .part)))
+            (begins-good W s t lo hi (endAt 256 W (b .part)) (g .order) (g .within) (omega (arith, g .from (ap going e), part-turns W (b .part)))
             (λ n. parts-rest W s t hi (b .part) parts (g .within) (eqb-false _ _ q)))
 
-  pub turned-good : (f : ℕ) (b : Block) → Good W s t lo hi b → b .phase ≡ f → Good W s t lo hi (turned 256 13 W old f b new)
+  pub turned-good : (f : Phase) (b : Block) → Good W s t lo hi b → b .phase ≡ f → Good W s t lo hi (turned 256 13 W old f b new)
   unfolding turned
-  turned-good zero b g e = read-good b g e
-  turned-good (suc zero) b g e = stage-good b g e
-  turned-good (suc (suc zero)) b g e = store-good b g e
-  turned-good (suc (suc (suc f))) b g e = g
+  turned-good toRead b g e = read-good b g e
+  turned-good toStage b g e = stage-good b g e
+  turned-good toStore b g e = store-good b g e
+  turned-good finished b g e = g

@@ -10,12 +10,13 @@ use borrow.Author.Tests.{eqb-false, eq-eqb, ne-eqb}
 use lib.Dec.{eqb}
 use lib.ListN.{length, getD}
 use Rattle.run_machine.specs.Part.{stagesAt, lastAt, endAt}
-use Rattle.run_machine.specs.Turn.{Block}
+use Rattle.run_machine.specs.Turn.{Phase, toRead, toStage, toStore, finished, going, Block}
+use Rattle.run_machine.specs.Room.{partOf, phaseOf, stageOf}
 use Rattle.run_machine.specs.Run.{turnsFrom, turnsAfter, turnsLeft, allLeft}
 use Rattle.run_form.specs.Well.{PartIn}
 use Rattle.run_turns.specs.Block.{blockIn}
 use Rattle.run_form.proofs.FormLaws.{InForm}
-use Rattle.run.specs.States.{partOf, phaseOf, stageOf, roomOf, blockOf, blocksIn}
+use Rattle.run.specs.States.{roomOf, blockOf, blocksIn}
 use Rattle.run.specs.Good.{Parts, PartsFrom, Good, GoodIn, Goods}
 use Rattle.run.proofs.GoodLaws.{parts-first, part-well, parts-rest, part-turns}
 
@@ -105,73 +106,64 @@ module _ (W : List ℕ) where
 -- ---- a block
 
 module _ (W : List ℕ) (s t lo hi : ℕ) (b : Block) (g : Good W s t lo hi b) where
-  after-fits : b .phase < 3 → turnsAfter 256 W (b .part) + stagesAt W (b .part) + 2 + lo ≤ hi
+  after-fits : going (b .phase) ≡ true → turnsAfter 256 W (b .part) + stagesAt W (b .part) + 2 + lo ≤ hi
   after-fits h = omega (arith, g .from h, part-turns W (b .part), after-bound W s t hi (g .within) (b .part) (g .parts h))
 
-  pub left-bound : (f : ℕ) → b .phase ≡ f → turnsLeft 256 W f b + lo ≤ hi
-  unfolding turnsLeft
-  left-bound zero e = omega (arith, after-fits (omega arith))
-  left-bound (suc zero) e = omega (arith, after-fits (omega arith))
-  left-bound (suc (suc zero)) e = omega (arith, after-fits (omega arith))
-  left-bound (suc (suc (suc f))) e = omega (arith, g .order)
+  pub left-bound : (f : Phase) → b .phase ≡ f → turnsLeft 256 W f b + lo ≤ hi
+  unfolding turnsLeft going
+  left-bound toRead e = omega (arith, after-fits (ap going e))
+  left-bound toStage e = omega (arith, after-fits (ap going e))
+  left-bound toStore e = omega (arith, after-fits (ap going e))
+  left-bound finished e = omega (arith, g .order)
 
-none-left : (W : List ℕ) (f : ℕ) (b : Block) → 2 < f → 0 ≡ turnsLeft 256 W f b
-unfolding turnsLeft
-none-left W zero b h = absurd (omega arith)
-none-left W (suc zero) b h = absurd (omega arith)
-none-left W (suc (suc zero)) b h = absurd (omega arith)
-none-left W (suc (suc (suc f))) b h = refl
-
-module _ (W r : List ℕ) (p f k : ℕ) (part : p ≡ partOf r) (phase : f ≡ phaseOf r) (stage : k ≡ stageOf r) where
-  left-is : turnsLeft 256 W f (blockIn 256 W p f k r) ≡ turnsLeft 256 W (phaseOf r) (blockOf W r)
+module _ (W r : List ℕ) (p : ℕ) (f : Phase) (k : ℕ) (part : p ≡ partOf r) (phase : f ≡ phaseOf r) (stage : k ≡ stageOf r) where
+  -- the turns of the block in r, by the phase that the code found
+  left-is : (g : Phase) → f ≡ g → turnsLeft 256 W g (blockIn 256 W p f k r) ≡ turnsLeft 256 W (phaseOf r) (blockOf W r)
   unfolding blockOf
-  left-is = rw (part, phase, stage)
+  left-is g e = rw (sym e, part, phase, stage)
 
-  pub left-done : 2 < f → 0 ≡ turnsLeft 256 W (phaseOf r) (blockOf W r)
-  left-done h = none-left W f (blockIn 256 W p f k r) h ∙ left-is
+  pub left-done : f ≡ finished → 0 ≡ turnsLeft 256 W (phaseOf r) (blockOf W r)
+  unfolding turnsLeft
+  left-done e = left-is finished e
 
   module _ (a : ℕ) (after : a ≡ turnsAfter 256 W p) where
-    pub left-read : (x : ℕ) → x ≡ stagesAt W p → f ≡ 0 → x + 2 + a ≡ turnsLeft 256 W (phaseOf r) (blockOf W r)
+    pub left-read : (x : ℕ) → x ≡ stagesAt W p → f ≡ toRead → x + 2 + a ≡ turnsLeft 256 W (phaseOf r) (blockOf W r)
     unfolding turnsLeft blockIn
-    left-read x stages e = rw (stages, after) (sym (ap (λ (y : ℕ). turnsLeft 256 W y (blockIn 256 W p f k r)) e)) ∙ left-is
+    left-read x stages e = rw (stages, after) (left-is toRead e)
 
-    pub left-stage : (x : ℕ) → x ≡ stagesAt W p → f ≡ 1 → x - k + 1 + a ≡ turnsLeft 256 W (phaseOf r) (blockOf W r)
+    pub left-stage : (x : ℕ) → x ≡ stagesAt W p → f ≡ toStage → x - k + 1 + a ≡ turnsLeft 256 W (phaseOf r) (blockOf W r)
     unfolding turnsLeft blockIn
-    left-stage x stages e = rw (stages, after) (sym (ap (λ (y : ℕ). turnsLeft 256 W y (blockIn 256 W p f k r)) e)) ∙ left-is
+    left-stage x stages e = rw (stages, after) (left-is toStage e)
 
-    pub left-store : f ≤ 2 → (f ≡ 0 → ⊥) → (f ≡ 1 → ⊥) → 1 + a ≡ turnsLeft 256 W (phaseOf r) (blockOf W r)
+    pub left-store : f ≡ toStore → 1 + a ≡ turnsLeft 256 W (phaseOf r) (blockOf W r)
     unfolding turnsLeft blockIn
-    left-store d z o = rw after (sym (ap (λ (y : ℕ). turnsLeft 256 W y (blockIn 256 W p f k r)) two)) ∙ left-is
-      where
-        two-of : (x : ℕ) → x ≤ 2 → (x ≡ 0 → ⊥) → (x ≡ 1 → ⊥) → x ≡ 2
-        two-of zero d z o = absurd (z refl)
-        two-of (suc zero) d z o = absurd (o refl)
-        two-of (suc (suc zero)) d z o = refl
-        two-of (suc (suc (suc x))) d z o = absurd (omega arith)
+    left-store e = rw after (left-is toStore e)
 
-        two : f ≡ 2
-        two = two-of f d z o
+-- what the code asks of a block that is not finished, at word p
+pub record Ahead (W : List ℕ) (p : ℕ) : Type 0 where
+  pub parts : PartsFrom W p
+  pub fits : turnsAfter 256 W p + stagesAt W p + 2 ≤ length W
+  pub inside : p < length W
 
--- what the code asks of a block that is not finished
-module _ (W : List ℕ) (s t : ℕ) (r : List ℕ) (g : GoodIn W s t r) (p f k : ℕ) (part : p ≡ partOf r) (phase : f ≡ phaseOf r) (stage : k ≡ stageOf r) (going : f ≤ 2) where
+module _ (W : List ℕ) (s t : ℕ) (r : List ℕ) (g : GoodIn W s t r) (p : ℕ) (f : Phase) (k : ℕ) (part : p ≡ partOf r) (phase : f ≡ phaseOf r) (stage : k ≡ stageOf r) (goes : going f ≡ true) where
   here : Good W s t (g .lo) (g .hi) (blockIn 256 W p f k r)
   unfolding blockOf
   here = rw (part, phase, stage) (g .good)
 
-  pub left-parts : PartsFrom W p
+  pub ahead : Ahead W p
   unfolding blockIn
-  left-parts = record { s = s; t = t; e = g .hi; within = here .within; parts = here .parts (omega arith) }
+  ahead = record {
+    parts = parts;
+    fits = omega (arith, after-fits W s t (g .lo) (g .hi) (blockIn 256 W p f k r) here goes, here .within);
+    inside = omega (arith, parts-first W s t (g .hi) p (parts .parts) .header, here .within);
+  }
+    where
+      parts : PartsFrom W p
+      parts = record { s = s; t = t; e = g .hi; within = here .within; parts = here .parts goes }
 
-  pub left-fits : turnsAfter 256 W p + stagesAt W p + 2 ≤ length W
+  pub stage-inside : f ≡ toStage → k ≤ stagesAt W p
   unfolding blockIn
-  left-fits = omega (arith, after-fits W s t (g .lo) (g .hi) (blockIn 256 W p f k r) here (omega arith), here .within)
-
-  pub left-inside : p < length W
-  left-inside = let q = left-parts in omega (arith, parts-first W (q .s) (q .t) (q .e) p (q .parts) .header, q .within)
-
-  pub left-stage-in : f ≡ 1 → k ≤ stagesAt W p
-  unfolding blockIn
-  left-stage-in e = omega (arith, here .stage e)
+  stage-inside e = omega (arith, here .stage e)
 
 -- ---- all blocks
 

@@ -4,185 +4,119 @@ use mathlib.Core.Path.{_≡_, refl, sym, ap, ap₂, _∙_}
 use mathlib.Core.Bool.{Bool, true, false}
 use mathlib.Core.List.{List, [], _∷_, _++_}
 use mathlib.Core.Logic.{⊎-elim}
-use Prim.Native.Nat.{ℕ, zero, suc, _+_, _*_, _-_, _/_, _%_, _^_, _≤_, _<_}
+use Prim.Native.Nat.{ℕ, zero, suc, _+_, _*_, _-_, _≤_, _<_}
 use native.Mathlib.Nat.{zero-add, add-zero}
 use native.Mathlib.Omega.{arith}
 use lib.Dec.{eqb}
-use lib.ListN.{length, getD, take, drop, set, length-drop, length-set}
-use lib.Seq.{sets, length-sets, length-take-le, getD-take, getD-drop, getD-set-same, getD-set-other, ext-getD}
+use lib.ListN.{length, getD, take, drop, set}
+use lib.Seq.{sets, length-sets}
 use Rattle.words.proofs.BitLaws.{lt-or-ge}
+use Rattle.words.proofs.TestLaws.{not-both}
 use Rattle.words.proofs.ListLaws.{put-sets}
 use Rattle.run_machine.specs.Part.{stagesAt, normalAt}
-use Rattle.run_machine.specs.Turn.{Block, begins, ended}
+use Rattle.run_machine.specs.Turn.{Phase, toRead, toStage, toStore, finished, Block, begins, ended}
+use Rattle.run_machine.specs.Room.{blockRoom, capturedFrom, partLow, stateWords}
 use Rattle.run_machine.specs.Run.{blocksFrom}
-use Rattle.run_turns.specs.Block.{held, blockIn}
-use Rattle.run_turns.proofs.SetsLaws.{take-sets, sets-in, sets-under, sets-over}
-use Rattle.run.specs.States.{roomOf, partOf, phaseOf, stageOf, stateWords, blockOf, blocksIn}
-
--- ---- parts of lists
-
-part-at : (n a : ℕ) (l : List ℕ) (i : ℕ) → i < n → getD (take n (drop a l)) i 0 ≡ getD l (a + i) 0
-part-at n a l i h = getD-take n (drop a l) i 0 h ∙ getD-drop a l i 0
-
-part-long : (n a : ℕ) (l : List ℕ) → a + n ≤ length l → length (take n (drop a l)) ≡ n
-part-long n a l h = length-take-le n (drop a l) (omega (arith, length-drop a l))
-
-part-ext : (n a : ℕ) (l k : List ℕ) → a + n ≤ length l → length k ≡ length l → ((i : ℕ) → i < n → getD k (a + i) 0 ≡ getD l (a + i) 0)
-    → take n (drop a k) ≡ take n (drop a l)
-part-ext n a l k h e same =
-    let p : length (take n (drop a k)) ≡ n = part-long n a k (omega arith) in
-    ext-getD 0 _ _ (p ∙ sym (part-long n a l h))
-    (λ i g. part-at n a k i (omega arith) ∙ same i (omega arith) ∙ sym (part-at n a l i (omega arith)))
+use Rattle.run_turns.specs.Block.{holds, held, blockIn}
+use Rattle.run_machine.proofs.SetsLaws.{sets-in, sets-under, sets-over}
+use Rattle.run_machine.proofs.RoomLaws.{part-long, part-ext, state-part, state-phase, state-stage, state-positions, state-captured}
+use Rattle.run.specs.States.{roomOf, blockOf, blocksIn}
 
 -- ---- the rooms of blocks
 
 -- the code's length of room b, which is lent
 abbrev size : ℕ → ℕ
-size b = 1024 * b + 1024 - 1024 * b
+size b = blockRoom * b + blockRoom - blockRoom * b
 
-size-is : (b : ℕ) → size b ≡ 1024
+size-is : (b : ℕ) → size b ≡ blockRoom
 size-is b = omega arith
 
-pub lent-room : (room : List ℕ) (b : ℕ) → take (size b) (drop (1024 * b) room) ≡ roomOf room b
+pub lent-room : (room : List ℕ) (b : ℕ) → take (size b) (drop (blockRoom * b) room) ≡ roomOf room b
 unfolding roomOf
-lent-room room b = ap (λ (n : ℕ). take n (drop (1024 * b) room)) (size-is b)
+lent-room room b = ap (λ (n : ℕ). take n (drop (blockRoom * b) room)) (size-is b)
 
 -- r given back for it
 abbrev pub lent : List ℕ → ℕ → List ℕ → List ℕ
-lent room b r = take (1024 * b) room ++ (r ++ drop (size b) (drop (1024 * b) room))
+lent room b r = take (blockRoom * b) room ++ (r ++ drop (size b) (drop (blockRoom * b) room))
 
-module _ (room : List ℕ) (b : ℕ) (r : List ℕ) (fits : 1024 * b + 1024 ≤ length room) (long : length r ≡ 1024) where
-  lent-sets : lent room b r ≡ sets room (1024 * b) r
-  lent-sets = ap (λ (n : ℕ). take (1024 * b) room ++ (r ++ drop n (drop (1024 * b) room))) (size-is b) ∙ put-sets room (1024 * b) 1024 r fits long
+module _ (room : List ℕ) (b : ℕ) (r : List ℕ) (fits : blockRoom * b + blockRoom ≤ length room) (long : length r ≡ blockRoom) where
+  lent-sets : lent room b r ≡ sets room (blockRoom * b) r
+  lent-sets = ap (λ (n : ℕ). take (blockRoom * b) room ++ (r ++ drop n (drop (blockRoom * b) room))) (size-is b) ∙ put-sets room (blockRoom * b) blockRoom r fits long
 
   pub lent-long : length (lent room b r) ≡ length room
-  lent-long = ap length lent-sets ∙ length-sets room (1024 * b) r
+  lent-long = ap length lent-sets ∙ length-sets room (blockRoom * b) r
 
   pub lent-same : roomOf (lent room b r) b ≡ r
   unfolding roomOf
-  lent-same = ap (λ (l : List ℕ). take 1024 (drop (1024 * b) l)) lent-sets ∙ ap (λ (n : ℕ). take n (drop (1024 * b) (sets room (1024 * b) r))) (sym long)
-      ∙ sets-in room (1024 * b) r (omega arith)
+  lent-same = ap (λ (l : List ℕ). take blockRoom (drop (blockRoom * b) l)) lent-sets ∙ ap (λ (n : ℕ). take n (drop (blockRoom * b) (sets room (blockRoom * b) r))) (sym long)
+      ∙ sets-in room (blockRoom * b) r (omega arith)
 
-  pub lent-other : (a : ℕ) → 1024 * a + 1024 ≤ length room → (a ≡ b → ⊥) → roomOf (lent room b r) a ≡ roomOf room a
+  pub lent-other : (a : ℕ) → blockRoom * a + blockRoom ≤ length room → (a ≡ b → ⊥) → roomOf (lent room b r) a ≡ roomOf room a
   unfolding roomOf
-  lent-other a h d = part-ext 1024 (1024 * a) room (lent room b r) h lent-long each
+  lent-other a h d = part-ext blockRoom (blockRoom * a) room (lent room b r) h lent-long each
     where
-      each : (i : ℕ) → i < 1024 → getD (lent room b r) (1024 * a + i) 0 ≡ getD room (1024 * a + i) 0
+      each : (i : ℕ) → i < blockRoom → getD (lent room b r) (blockRoom * a + i) 0 ≡ getD room (blockRoom * a + i) 0
       each i g =
-          ap (λ (l : List ℕ). getD l (1024 * a + i) 0) lent-sets
-          ∙ ⊎-elim (λ under. sets-under room (1024 * b) r (1024 * a + i) (omega arith))
-          (λ over. sets-over room (1024 * b) r (1024 * a + i) (let n : b < a = ne-lt over in omega (arith, n))) (lt-or-ge a b)
+          ap (λ (l : List ℕ). getD l (blockRoom * a + i) 0) lent-sets
+          ∙ ⊎-elim (λ under. sets-under room (blockRoom * b) r (blockRoom * a + i) (omega arith))
+          (λ over. sets-over room (blockRoom * b) r (blockRoom * a + i) (let n : b < a = ne-lt over in omega (arith, n))) (lt-or-ge a b)
         where
           ne-lt : b ≤ a → b < a
           ne-lt o = ⊎-elim (λ l. l) (λ g. absurd (d (omega arith))) (lt-or-ge b a)
 
-pub room-long : (room : List ℕ) (b : ℕ) → 1024 * b + 1024 ≤ length room → length (roomOf room b) ≡ 1024
+pub room-long : (room : List ℕ) (b : ℕ) → blockRoom * b + blockRoom ≤ length room → length (roomOf room b) ≡ blockRoom
 unfolding roomOf
-room-long room b h = part-long 1024 (1024 * b) room h
+room-long room b h = part-long blockRoom (blockRoom * b) room h
 
 -- ---- a state stored
 
-ap₃ : (g : ℕ → ℕ → ℕ → Block) {a a′ b b′ c c′ : ℕ} → a ≡ a′ → b ≡ b′ → c ≡ c′ → g a b c ≡ g a′ b′ c′
+ap₃ : (g : ℕ → Phase → ℕ → Block) {a a′ : ℕ} {b b′ : Phase} {c c′ : ℕ} → a ≡ a′ → b ≡ b′ → c ≡ c′ → g a b c ≡ g a′ b′ c′
 ap₃ g p q r = rw (p, q, r)
 
-abbrev block : (part phase stage : ℕ) → List ℕ → List ℕ → Block
+abbrev block : (part : ℕ) → Phase → (stage : ℕ) → List ℕ → List ℕ → Block
 block o f k row caps = record { part = o; phase = f; stage = k; row = row; caps = caps }
 
-halves : (p : ℕ) → p % 2 ^ 32 + 2 ^ 32 * (p / 2 ^ 32) ≡ p
-halves p = omega arith
+kept : (f : Phase) (l l′ : List ℕ) → (holds f ≡ true → l ≡ l′) → held f l ≡ held f l′
+unfolding held holds
+kept toRead l l′ e = refl
+kept toStage l l′ e = e refl
+kept toStore l l′ e = e refl
+kept finished l l′ e = refl
 
-module _ (W room : List ℕ) (p f k : ℕ) (long : length room ≡ 1024) where
-  abbrev stored : List ℕ
-  stored = set (set (set (set room 768 (p % 2 ^ 32)) 769 (p / 2 ^ 32)) 770 f) 771 k
-
-  abbrev r₁ : List ℕ
-  r₁ = set room 768 (p % 2 ^ 32)
-
-  abbrev r₂ : List ℕ
-  r₂ = set r₁ 769 (p / 2 ^ 32)
-
-  abbrev r₃ : List ℕ
-  r₃ = set r₂ 770 f
-
-  long₁ : length r₁ ≡ 1024
-  long₁ = length-set room 768 (p % 2 ^ 32) ∙ long
-
-  long₂ : length r₂ ≡ 1024
-  long₂ = length-set r₁ 769 (p / 2 ^ 32) ∙ long₁
-
-  long₃ : length r₃ ≡ 1024
-  long₃ = length-set r₂ 770 f ∙ long₂
-
-  pub stored-is : stored ≡ sets room 768 (stateWords p f k)
-  unfolding stateWords
-  stored-is = refl
-
-  low : getD stored 768 0 ≡ p % 2 ^ 32
-  low =
-      getD-set-other r₃ 771 768 k 0 (omega arith) ∙ getD-set-other r₂ 770 768 f 0 (omega arith)
-      ∙ getD-set-other r₁ 769 768 (p / 2 ^ 32) 0 (omega arith) ∙ getD-set-same room 768 (p % 2 ^ 32) 0 (omega arith)
-
-  high : getD stored 769 0 ≡ p / 2 ^ 32
-  high =
-      getD-set-other r₃ 771 769 k 0 (omega arith) ∙ getD-set-other r₂ 770 769 f 0 (omega arith)
-      ∙ getD-set-same r₁ 769 (p / 2 ^ 32) 0 (omega (arith, long₁))
-
-  phase : phaseOf stored ≡ f
-  phase = getD-set-other r₃ 771 770 k 0 (omega arith) ∙ getD-set-same r₂ 770 f 0 (omega (arith, long₂))
-
-  stage : stageOf stored ≡ k
-  stage = getD-set-same r₃ 771 k 0 (omega (arith, long₃))
-
-  part : partOf stored ≡ p
-  part = ap₂ (λ (x y : ℕ). x + 2 ^ 32 * y) low high ∙ halves p
-
-  row : take 256 (sets room 768 (stateWords p f k)) ≡ take 256 room
-  row = take-sets 256 room 768 (stateWords p f k) (omega arith)
-
-  caps : normalAt W p ≤ 256 → take (normalAt W p) (drop 512 (sets room 768 (stateWords p f k))) ≡ take (normalAt W p) (drop 512 room)
-  caps few =
-      part-ext (normalAt W p) 512 room (sets room 768 (stateWords p f k)) (omega arith) (length-sets room 768 (stateWords p f k))
-      (λ i h. sets-under room 768 (stateWords p f k) (512 + i) (omega arith))
-
-  kept : (f : ℕ) (l l′ : List ℕ) → (0 < f → f < 3 → l ≡ l′) → held f l ≡ held f l′
-  unfolding held
-  kept zero l l′ e = refl
-  kept (suc zero) l l′ e = e (omega arith) (omega arith)
-  kept (suc (suc zero)) l l′ e = e (omega arith) (omega arith)
-  kept (suc (suc (suc f))) l l′ e = refl
-
-  pub stored-block : (0 < f → f < 3 → normalAt W p ≤ 256) → blockOf W (sets room 768 (stateWords p f k)) ≡ blockIn 256 W p f k room
-  unfolding blockOf blockIn
-  stored-block few =
-      ap₃ (λ (x y z : ℕ). blockIn 256 W x y z S) (ap partOf is ∙ part) (ap phaseOf is ∙ phase) (ap stageOf is ∙ stage)
-      ∙ ap₂ (block p f k)
-      (kept f (take 256 S) (take 256 room) (λ g h. row))
-      (kept f (take (normalAt W p) (drop 512 S)) (take (normalAt W p) (drop 512 room)) (λ g h. caps (few g h)))
-    where
-      S : List ℕ
-      S = sets room 768 (stateWords p f k)
-
-      is : S ≡ stored
-      is = sym stored-is
+pub stored-block : (W room : List ℕ) (p : ℕ) (f : Phase) (k : ℕ) → length room ≡ blockRoom → (holds f ≡ true → normalAt W p ≤ 256)
+    → blockOf W (sets room partLow (stateWords p f k)) ≡ blockIn 256 W p f k room
+unfolding blockOf blockIn
+stored-block W room p f k long few =
+    ap₃ (λ (x : ℕ) (y : Phase) (z : ℕ). blockIn 256 W x y z S) (state-part room p f k long) (state-phase room p f k long) (state-stage room p f k long)
+    ∙ ap₂ (block p f k)
+    (kept f (take 256 S) (take 256 room) (λ h. state-positions room p f k long))
+    (kept f (take (normalAt W p) (drop capturedFrom S)) (take (normalAt W p) (drop capturedFrom room)) (λ h. state-captured room p f k long (normalAt W p) (few h)))
+  where
+    S : List ℕ
+    S = sets room partLow (stateWords p f k)
 
 -- ---- a block that begins needs nothing of its room
 
 module _ (W : List ℕ) (o : ℕ) (room : List ℕ) where
-  first-phase : (t : Bool) → 0 < elim t [ true ↦ 3 | false ↦ 0 ] → elim t [ true ↦ 3 | false ↦ 0 ] < 3 → ⊥
-  first-phase true g h = omega arith
-  first-phase false g h = omega arith
+  abbrev first : Bool → Phase
+  first t = elim t [ true ↦ finished | false ↦ toRead ]
 
-  begun : (t : Bool) → block o (elim t [ true ↦ 3 | false ↦ 0 ]) 0 (held (elim t [ true ↦ 3 | false ↦ 0 ]) (take 256 room)) (held (elim t [ true ↦ 3 | false ↦ 0 ]) (take (normalAt W o) (drop 512 room)))
-      ≡ block o (elim t [ true ↦ 3 | false ↦ 0 ]) 0 [] []
-  unfolding held
+  first-free : (t : Bool) → holds (first t) ≡ true → ⊥
+  unfolding holds
+  first-free true h = not-both false h refl
+  first-free false h = not-both false h refl
+
+  begun : (t : Bool) → block o (first t) 0 (held (first t) (take 256 room)) (held (first t) (take (normalAt W o) (drop capturedFrom room))) ≡ block o (first t) 0 [] []
+  unfolding held holds
   begun true = refl
   begun false = refl
 
-  pub stored-begins : (p f k : ℕ) → length room ≡ 1024 → p ≡ o → f ≡ begins W o .phase → k ≡ 0 → blockOf W (sets room 768 (stateWords p f k)) ≡ begins W o
+  pub stored-begins : (p : ℕ) (f : Phase) (k : ℕ) → length room ≡ blockRoom → p ≡ o → f ≡ begins W o .phase → k ≡ 0
+      → blockOf W (sets room partLow (stateWords p f k)) ≡ begins W o
   unfolding blockIn begins
   stored-begins p f k long e g h =
-      ap₃ (λ (p f k : ℕ). blockOf W (sets room 768 (stateWords p f k))) e g h
-      ∙ stored-block W room o (begins W o .phase) 0 long (λ a b. absurd (first-phase (eqb (stagesAt W o) 0) a b))
+      ap₃ (λ (p : ℕ) (f : Phase) (k : ℕ). blockOf W (sets room partLow (stateWords p f k))) e g h
+      ∙ stored-block W room o (begins W o .phase) 0 long (λ a. absurd (first-free (eqb (stagesAt W o) 0) a))
       ∙ begun (eqb (stagesAt W o) 0)
 
 -- ---- the blocks
@@ -220,7 +154,7 @@ blocks-at W room (suc m) i (suc t) d l =
 abbrev pub Begun : List ℕ → List ℕ → List ℕ → ℕ → Type 0
 Begun W starts room b = (a : ℕ) → a < b → blockOf W (roomOf room a) ≡ begins W (getD starts a 0)
 
-pub begun-more : (W starts room : List ℕ) (b : ℕ) (r : List ℕ) → Begun W starts room b → 1024 * b + 1024 ≤ length room → length r ≡ 1024
+pub begun-more : (W starts room : List ℕ) (b : ℕ) (r : List ℕ) → Begun W starts room b → blockRoom * b + blockRoom ≤ length room → length r ≡ blockRoom
     → blockOf W r ≡ begins W (getD starts b 0) → Begun W starts (lent room b r) (b + 1)
 begun-more W starts room b r h fits long e a l =
     ⊎-elim
@@ -229,16 +163,16 @@ begun-more W starts room b r h fits long e a l =
     (lt-or-ge a b)
 
 -- block b begun in its room
-pub begun-next : (W starts room : List ℕ) (b p f k : ℕ) (r : List ℕ) → Begun W starts room b → 1024 * b + 1024 ≤ length room
-    → p ≡ getD starts b 0 → f ≡ begins W (getD starts b 0) .phase → k ≡ 0 → r ≡ sets (take (size b) (drop (1024 * b) room)) 768 (stateWords p f k)
+pub begun-next : (W starts room : List ℕ) (b p : ℕ) (f : Phase) (k : ℕ) (r : List ℕ) → Begun W starts room b → blockRoom * b + blockRoom ≤ length room
+    → p ≡ getD starts b 0 → f ≡ begins W (getD starts b 0) .phase → k ≡ 0 → r ≡ sets (take (size b) (drop (blockRoom * b) room)) partLow (stateWords p f k)
     → (length (lent room b r) ≡ length room) × Begun W starts (lent room b r) (b + 1)
 begun-next W starts room b p f k r h fits e g z is = (lent-long room b r fits long, begun-more W starts room b r h fits long (ap (blockOf W) is′ ∙ stored-begins W (getD starts b 0) (roomOf room b) p f k (room-long room b fits) e g z))
   where
-    is′ : r ≡ sets (roomOf room b) 768 (stateWords p f k)
-    is′ = is ∙ ap (λ (l : List ℕ). sets l 768 (stateWords p f k)) (lent-room room b)
+    is′ : r ≡ sets (roomOf room b) partLow (stateWords p f k)
+    is′ = is ∙ ap (λ (l : List ℕ). sets l partLow (stateWords p f k)) (lent-room room b)
 
-    long : length r ≡ 1024
-    long = ap length is′ ∙ length-sets (roomOf room b) 768 (stateWords p f k) ∙ room-long room b fits
+    long : length r ≡ blockRoom
+    long = ap length is′ ∙ length-sets (roomOf room b) partLow (stateWords p f k) ∙ room-long room b fits
 
 pub begun-all : (W starts room : List ℕ) (m i : ℕ) → ((b : ℕ) → i ≤ b → b < i + m → blockOf W (roomOf room b) ≡ begins W (getD starts b 0))
     → blocksIn W room m i ≡ blocksFrom W starts m i

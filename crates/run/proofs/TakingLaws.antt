@@ -1,6 +1,7 @@
 -- The turns one after the other: a turn in a block's room is a step of the run as all rooms hold it.
 -- Assumes nothing.
 use mathlib.Core.Path.{_≡_, refl, sym, ap, ap₂, subst, _∙_}
+use mathlib.Core.Bool.{true}
 use mathlib.Core.List.{List}
 use mathlib.Core.Logic.{⊎-elim}
 use Prim.Native.Nat.{ℕ, _+_, _*_, _-_, _≤_, _<_}
@@ -11,17 +12,25 @@ use lib.ListN.{length, getD, drop, set}
 use lib.Seq.{sets, drop-cons, drop-length}
 use Rattle.words.proofs.BitLaws.{lt-or-ge}
 use Rattle.run_machine.specs.Part.{normalAt}
-use Rattle.run_machine.specs.Turn.{Block, ended, turned, written}
+use Rattle.run_machine.specs.Turn.{Phase, toRead, toStage, toStore, finished, going, Block, ended, turned, written}
+use Rattle.run_machine.specs.Room.{blockRoom, partLow, partOf, phaseOf, stageOf, stateWords}
 use Rattle.run_machine.specs.Run.{Running, step, runFrom}
-use Rattle.run_turns.specs.Block.{blockIn, BlockWell}
-use Rattle.run.specs.States.{partOf, phaseOf, stageOf, stateWords, roomOf, blockOf, blocksIn, running}
+use Rattle.run_turns.specs.Block.{holds, blockIn, BlockWell}
+use Rattle.run.specs.States.{roomOf, blockOf, blocksIn, running}
 use Rattle.run.specs.Good.{Good, GoodIn, Goods, Named}
 use Rattle.run.proofs.StateLaws.{lent, lent-long, lent-same, lent-other, room-long, stored-block, blocks-set, blocks-at}
 use Rattle.run.proofs.GoodLaws.{parts-first, part-well, turned-good}
 
 -- ---- one turn, of the block in room r
 
-module _ (W : List ℕ) (s t : ℕ) (r : List ℕ) (g : GoodIn W s t r) (p f k : ℕ) (part : p ≡ partOf r) (phase : f ≡ phaseOf r) (stage : k ≡ stageOf r) where
+holds-going : (f : Phase) → holds f ≡ true → going f ≡ true
+unfolding holds going
+holds-going toRead h = refl
+holds-going toStage h = refl
+holds-going toStore h = refl
+holds-going finished h = h
+
+module _ (W : List ℕ) (s t : ℕ) (r : List ℕ) (g : GoodIn W s t r) (p : ℕ) (f : Phase) (k : ℕ) (part : p ≡ partOf r) (phase : f ≡ phaseOf r) (stage : k ≡ stageOf r) where
   good-here : Good W s t (g .lo) (g .hi) (blockIn 256 W p f k r)
   unfolding blockOf
   good-here = rw (part, phase, stage) (g .good)
@@ -33,7 +42,7 @@ module _ (W : List ℕ) (s t : ℕ) (r : List ℕ) (g : GoodIn W s t r) (p f k :
     within = λ h. good-here .stage h;
   }
 
-  module _ (old new : List ℕ) (p′ f′ k′ : ℕ) (r′ : List ℕ) (is : blockIn 256 W p′ f′ k′ r′ ≡ turned 256 13 W old f (blockIn 256 W p f k r) new) where
+  module _ (old new : List ℕ) (p′ : ℕ) (f′ : Phase) (k′ : ℕ) (r′ : List ℕ) (is : blockIn 256 W p′ f′ k′ r′ ≡ turned 256 13 W old f (blockIn 256 W p f k r) new) where
     good-after : Good W s t (g .lo) (g .hi) (blockIn 256 W p′ f′ k′ r′)
     unfolding blockIn
     good-after = subst (Good W s t (g .lo) (g .hi)) (sym is) (turned-good W s t (g .lo) (g .hi) old new f (blockIn 256 W p f k r) good-here refl)
@@ -42,11 +51,11 @@ module _ (W : List ℕ) (s t : ℕ) (r : List ℕ) (g : GoodIn W s t r) (p f k :
     unfolding blockIn
     stage-small = good-after .few
 
-    few : 0 < f′ → f′ < 3 → normalAt W p′ ≤ 256
+    few : holds f′ ≡ true → normalAt W p′ ≤ 256
     unfolding blockIn
-    few a h = parts-first W s t (g .hi) p′ (good-after .parts h) .stores .few
+    few h = parts-first W s t (g .hi) p′ (good-after .parts (holds-going f′ h)) .stores .few
 
-    pub turn-kept : (r″ : List ℕ) → length r′ ≡ 1024 → r″ ≡ sets r′ 768 (stateWords p′ f′ k′) → blockOf W r″ ≡ turned 256 13 W old (phaseOf r) (blockOf W r) new
+    pub turn-kept : (r″ : List ℕ) → length r′ ≡ blockRoom → r″ ≡ sets r′ partLow (stateWords p′ f′ k′) → blockOf W r″ ≡ turned 256 13 W old (phaseOf r) (blockOf W r) new
     unfolding blockOf
     turn-kept r″ long e = ap (blockOf W) e ∙ stored-block W r′ p′ f′ k′ long few ∙ (rw (part, phase, stage) at is)
 
@@ -57,13 +66,13 @@ module _ (W : List ℕ) (s t : ℕ) (r : List ℕ) (g : GoodIn W s t r) (p f k :
 -- ---- one turn of block b, of all blocks in the room
 
 module _ (W starts : List ℕ) (s t : ℕ) (room : List ℕ) (g : Goods W starts s t room) (b : ℕ) (below : b < length starts - 1) where
-  pub room-fits : 1024 * b + 1024 ≤ length room
+  pub room-fits : blockRoom * b + blockRoom ≤ length room
   room-fits = omega (arith, g .wide)
 
   pub room-good : GoodIn W s t (roomOf room b)
   room-good = record { long = room-long room b room-fits; lo = getD starts b 0; hi = getD starts (b + 1) 0; good = g .each b below }
 
-  module _ (old new r : List ℕ) (long : length r ≡ 1024) (is : blockOf W r ≡ turned 256 13 W old (phaseOf (roomOf room b)) (blockOf W (roomOf room b)) new) where
+  module _ (old new r : List ℕ) (long : length r ≡ blockRoom) (is : blockOf W r ≡ turned 256 13 W old (phaseOf (roomOf room b)) (blockOf W (roomOf room b)) new) where
     others : (a : ℕ) → a < length starts - 1 → (a ≡ b → ⊥) → roomOf (lent room b r) a ≡ roomOf room a
     others a l d = lent-other room b r room-fits long a (omega (arith, g .wide)) d
 
@@ -127,10 +136,10 @@ module _ (W turns old new₀ room₀ : List ℕ) where
     pub turn-good : (starts : List ℕ) → Goods W starts (length old) (length new₀) room₀ → Named starts turns → GoodIn W (length old) (length new₀) (roomOf room (getD turns i 0))
     turn-good starts g n = room-good W starts (length old) (length new₀) room (h .good starts g n) (getD turns i 0) (n i l)
 
-    pub turn-fits : (starts : List ℕ) → Goods W starts (length old) (length new₀) room₀ → Named starts turns → 1024 * getD turns i 0 + 1024 ≤ length room
+    pub turn-fits : (starts : List ℕ) → Goods W starts (length old) (length new₀) room₀ → Named starts turns → blockRoom * getD turns i 0 + blockRoom ≤ length room
     turn-fits starts g n = room-fits W starts (length old) (length new₀) room (h .good starts g n) (getD turns i 0) (n i l)
 
-    pub taken-next : (starts : List ℕ) → Goods W starts (length old) (length new₀) room₀ → Named starts turns → (r new′ : List ℕ) → length r ≡ 1024 → length new′ ≡ length new
+    pub taken-next : (starts : List ℕ) → Goods W starts (length old) (length new₀) room₀ → Named starts turns → (r new′ : List ℕ) → length r ≡ blockRoom → length new′ ≡ length new
         → blockOf W r ≡ turned 256 13 W old (phaseOf (roomOf room (getD turns i 0))) (blockOf W (roomOf room (getD turns i 0))) new
         → new′ ≡ written 256 W old (phaseOf (roomOf room (getD turns i 0))) (blockOf W (roomOf room (getD turns i 0))) new
         → Taken W turns old new₀ room₀ new′ (lent room (getD turns i 0) r) (i + 1)

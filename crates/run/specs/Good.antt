@@ -7,7 +7,8 @@ use mathlib.Core.List.{List}
 use Prim.Native.Nat.{ℕ, _+_, _*_, _-_, _<_, _≤_}
 use lib.ListN.{length, getD}
 use Rattle.run_machine.specs.Part.{stagesAt}
-use Rattle.run_machine.specs.Turn.{Block}
+use Rattle.run_machine.specs.Turn.{toStage, going, Block}
+use Rattle.run_machine.specs.Room.{blockRoom}
 use Rattle.run_machine.specs.Run.{partsForm, blockForm}
 use Rattle.run.specs.States.{roomOf, blockOf}
 
@@ -28,14 +29,14 @@ pub record PartsFrom (W : List ℕ) (o : ℕ) : Type 0 where
 pub record Good (W : List ℕ) (s t lo hi : ℕ) (b : Block) : Type 0 where
   pub order : lo ≤ hi
   pub within : hi ≤ length W
-  pub from : b .phase < 3 → lo ≤ b .part
-  pub parts : b .phase < 3 → Parts W s t hi (b .part)
-  pub stage : b .phase ≡ 1 → b .stage < stagesAt W (b .part)
+  pub from : going (b .phase) ≡ true → lo ≤ b .part
+  pub parts : going (b .phase) ≡ true → Parts W s t hi (b .part)
+  pub stage : b .phase ≡ toStage → b .stage < stagesAt W (b .part)
   pub few : b .stage ≤ 255
 
 -- the same of the block in room r
 pub record GoodIn (W : List ℕ) (s t : ℕ) (r : List ℕ) : Type 0 where
-  pub long : length r ≡ 1024
+  pub long : length r ≡ blockRoom
   pub lo : ℕ
   pub hi : ℕ
   pub good : Good W s t lo hi (blockOf W r)
@@ -44,7 +45,7 @@ pub record GoodIn (W : List ℕ) (s t : ℕ) (r : List ℕ) : Type 0 where
 
 -- room for each, and each of them good
 pub record Goods (W starts : List ℕ) (s t : ℕ) (room : List ℕ) : Type 0 where
-  pub wide : 1024 * (length starts - 1) ≤ length room
+  pub wide : blockRoom * (length starts - 1) ≤ length room
   pub each : (b : ℕ) → b < length starts - 1 → Good W s t (getD starts b 0) (getD starts (b + 1) 0) (blockOf W (roomOf room b))
 
 -- "turn names no block" is refused
@@ -53,12 +54,12 @@ Named starts turns = (i : ℕ) → i < length turns → getD turns i 0 < length 
 
 -- before the first turn
 pub record Accepted (W starts turns : List ℕ) (s t : ℕ) (room : List ℕ) : Type 0 where
-  pub wide : 1024 * (length starts - 1) ≤ length room
+  pub wide : blockRoom * (length starts - 1) ≤ length room
   pub blocks : (b : ℕ) → b < length starts - 1 → blockForm 256 W s t (getD starts b 0) (getD starts (b + 1) 0) ≡ true
   pub named : Named starts turns
 
 -- where m blocks begin
 pub record Beginnings (W starts : List ℕ) (m : ℕ) (room : List ℕ) : Type 0 where
   pub count : m ≤ length starts
-  pub wide : 1024 * m ≤ length room
+  pub wide : blockRoom * m ≤ length room
   pub inside : (b : ℕ) → b < m → getD starts b 0 < length W

@@ -4,10 +4,13 @@ ghost use mathlib.Core.List.{List};
 ghost use Prim.Native.Nat.{ℕ, _-_};
 ghost use lib.ListN.{length};
 ghost use Rattle.run_machine.specs.Run.{turnsAfter, turnsLeft, allLeft};
-ghost use Rattle.run.specs.States.{phaseOf, blockOf, blocksIn};
+ghost use Rattle.run_machine.specs.Room.{phaseOf};
+ghost use Rattle.run.specs.States.{blockOf, blocksIn};
 ghost use Rattle.run.specs.Good.{PartsFrom, GoodIn, Goods};
-use crate::states::load_state;
 use run_form::part;
+use run_turns::block::Phase;
+use run_turns::room::BLOCK_ROOM;
+use run_turns::room::load_state;
 
 // The turns of the parts of a block after the one at word `at`.
 fn turns_after(words: &[u32], at: usize) -> usize
@@ -31,17 +34,12 @@ fn block_left(words: &[u32], room: &[u32]) -> usize
     let state = load_state(room);
     let phase = state.phase;
     let at = state.part;
-    if 2 < phase {
-        return 0;
+    match phase {
+        Phase::Read => part::stages(words, at) + 2 + turns_after(words, at),
+        Phase::Stage => part::stages(words, at) - state.stage + 1 + turns_after(words, at),
+        Phase::Store => 1 + turns_after(words, at),
+        Phase::Finished => 0,
     }
-    let after = turns_after(words, at);
-    if phase == 0 {
-        return part::stages(words, at) + 2 + after;
-    }
-    if phase == 1 {
-        return part::stages(words, at) - state.stage + 1 + after;
-    }
-    1 + after
 }
 
 // Those of all blocks.
@@ -52,7 +50,7 @@ pub fn turns_left(words: &[u32], blocks: usize, room: &[u32]) -> usize
     let mut sum: usize = 0;
     let mut b = 0;
     while b < blocks {
-        sum += block_left(words, &room[1024 * b..1024 * b + 1024]);
+        sum += block_left(words, &room[BLOCK_ROOM * b..BLOCK_ROOM * b + BLOCK_ROOM]);
         b += 1;
     }
     sum

@@ -13,6 +13,7 @@ use left::turns_left;
 use run_form::refuse::bad_block;
 use run_form::refuse::bad_turn;
 use run_form::refuse::blocks_of;
+use run_turns::room::BLOCK_ROOM;
 use states::begin_blocks;
 use taking::take_turns;
 use words::clear::clear;
@@ -74,7 +75,7 @@ pub fn run(
     ensures state { λ _. ⌜ now (new .exit) ≡ newAfter (outcome 256 13 (now (words .entry)) (now (starts .entry)) (now (turns .entry)) (now (old .entry)) (now (new .entry)) (length (now (room .entry)))) (now (new .entry)) ⌝ }
     ensures room { λ _. ⌜ now (room .exit) ≡ roomAfter (now (starts .entry)) (now (room .entry)) ⌝ }
 {
-    if room.len() / 1024 < blocks_of(starts) {
+    if room.len() / BLOCK_ROOM < blocks_of(starts) {
         return refuse(ROOM_SHORT, 0);
     }
     clear(room);

@@ -5,10 +5,12 @@ ghost use Prim.Native.Nat.{ℕ, _-_};
 ghost use lib.ListN.{length};
 ghost use Rattle.run_machine.specs.Turn.{turned, written};
 ghost use Rattle.run_machine.specs.Run.{runFrom};
-ghost use Rattle.run.specs.States.{phaseOf, blockOf, running};
+ghost use Rattle.run_machine.specs.Room.{phaseOf};
+ghost use Rattle.run.specs.States.{blockOf, running};
 ghost use Rattle.run.specs.Good.{GoodIn, Goods, Named};
-use crate::states::load_state;
-use crate::states::store_state;
+use run_turns::room::BLOCK_ROOM;
+use run_turns::room::load_state;
+use run_turns::room::store_state;
 
 // One turn of the block in `room`.
 fn one_turn(words: &[u32], old: &[u32], new: &mut [u32], room: &mut [u32])
@@ -29,7 +31,12 @@ pub fn take_turns(words: &[u32], turns: &[u32], old: &[u32], new: &mut [u32], ro
     let mut i = 0;
     while i < turns.len() {
         let b = turns[i] as usize;
-        one_turn(words, old, new, &mut room[1024 * b..1024 * b + 1024]);
+        one_turn(
+            words,
+            old,
+            new,
+            &mut room[BLOCK_ROOM * b..BLOCK_ROOM * b + BLOCK_ROOM],
+        );
         i += 1;
     }
 }

@@ -3,7 +3,7 @@ use crate::part;
 use words::bits;
 ghost use mathlib.Core.Path.{_≡_};
 ghost use mathlib.Core.Bool.{true, false, _&&_};
-ghost use Prim.Native.Nat.{_+_, _*_, _%_, _/_, _^_, _<_, _≤_};
+ghost use Prim.Native.Nat.{_+_, _%_, _/_, _^_, _<_, _≤_};
 ghost use lib.Dec.{ltb, eqb};
 ghost use lib.ListN.{length, getD};
 ghost use Rattle.words.specs.Sum.{sumTo};

@@ -1,2 +1,4 @@
+pub mod SetsLaws
 pub mod StageLaws
 pub mod TurnLaws
+pub mod RoomLaws

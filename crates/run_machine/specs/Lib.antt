@@ -1,3 +1,4 @@
 pub mod Part
 pub mod Turn
+pub mod Room
 pub mod Run

@@ -1,7 +1,7 @@
 -- A block's turn: document 01, "The run", sentence by sentence. n is the number of lanes and 2^H the number of positions, 32n; W the words, old and
 -- new the states.
 -- Assumes nothing.
-use mathlib.Core.Bool.{true, false}
+use mathlib.Core.Bool.{Bool, true, false}
 use mathlib.Core.List.{List, []}
 use Prim.Native.Nat.{ℕ, zero, suc, _+_, _*_, _-_, _/_, _%_, _^_, min, max}
 use lib.Bits.{differ}
@@ -90,31 +90,44 @@ storedWord n W o old caps l =
 
 -- ---- a block's state, and its turn
 
--- where its part begins; what the next turn does: 0 read, 1 a stage, 2 store, 3 nothing, the block being finished; which stage; the positions and
--- the captured words
+-- what its next turn does: "read, each stage, store"; "a turn of a finished block does nothing"
+pub data Phase : Type 0 where
+  toRead : Phase
+  toStage : Phase
+  toStore : Phase
+  finished : Phase
+
+-- it is not finished
+unfoldable pub going : Phase → Bool
+going toRead = true
+going toStage = true
+going toStore = true
+going finished = false
+
+-- where its part begins; what its next turn does; which stage; the positions and the captured words
 pub record Block : Type 0 where
   pub part : ℕ
-  pub phase : ℕ
+  pub phase : Phase
   pub stage : ℕ
   pub row : List ℕ
   pub caps : List ℕ
 
 -- a block that begins the part at word o: "an empty block is finished"
 unfoldable pub begins : List ℕ → ℕ → Block
-begins W o = record { part = o; phase = elim (eqb (stagesAt W o) 0) [ true ↦ 3 | false ↦ 0 ]; stage = 0; row = []; caps = [] }
+begins W o = record { part = o; phase = elim (eqb (stagesAt W o) 0) [ true ↦ finished | false ↦ toRead ]; stage = 0; row = []; caps = [] }
 
 -- a finished block
 unfoldable pub ended : ℕ → Block
-ended o = record { part = o; phase = 3; stage = 0; row = []; caps = [] }
+ended o = record { part = o; phase = finished; stage = 0; row = []; caps = [] }
 
 unfoldable pub afterRead : ℕ → List ℕ → List ℕ → List ℕ → Block → Block
 afterRead n W old new b =
-    record { part = b .part; phase = 1; stage = 0; row = readRow n W (b .part) old new; caps = replicate (normalAt W (b .part)) 0 }
+    record { part = b .part; phase = toStage; stage = 0; row = readRow n W (b .part) old new; caps = replicate (normalAt W (b .part)) 0 }
 
 unfoldable pub afterStage : ℕ → ℕ → List ℕ → Block → Block
 afterStage n H W b = record {
   part = b .part;
-  phase = elim (eqb (b .stage + 1) (stagesAt W (b .part))) [ true ↦ 2 | false ↦ 1 ];
+  phase = elim (eqb (b .stage + 1) (stagesAt W (b .part))) [ true ↦ toStore | false ↦ toStage ];
   stage = b .stage + 1;
   row = stageRow n H W (b .part) (b .stage) (b .row);
   caps = captured n W (b .part) (b .stage) (stageRow n H W (b .part) (b .stage) (b .row)) (b .caps);
@@ -127,15 +140,15 @@ afterStore n W b = elim (eqb (lastAt W (b .part)) 1) [ true ↦ ended (b .part) 
 unfoldable pub stored : ℕ → List ℕ → List ℕ → Block → List ℕ → List ℕ
 stored n W old b new = sets new (startAt W (b .part)) (listOf (storedWord n W (b .part) old (b .caps)) (normalAt W (b .part)))
 
--- "A turn of a finished block does nothing": the block after a turn in phase f, and the new state after it
-unfoldable pub turned : ℕ → ℕ → List ℕ → List ℕ → ℕ → Block → List ℕ → Block
-turned n H W old zero b new = afterRead n W old new b
-turned n H W old (suc zero) b new = afterStage n H W b
-turned n H W old (suc (suc zero)) b new = afterStore n W b
-turned n H W old (suc (suc (suc f))) b new = b
+-- "A turn of a finished block does nothing": the block after a turn in a phase, and the new state after it
+unfoldable pub turned : ℕ → ℕ → List ℕ → List ℕ → Phase → Block → List ℕ → Block
+turned n H W old toRead b new = afterRead n W old new b
+turned n H W old toStage b new = afterStage n H W b
+turned n H W old toStore b new = afterStore n W b
+turned n H W old finished b new = b
 
-unfoldable pub written : ℕ → List ℕ → List ℕ → ℕ → Block → List ℕ → List ℕ
-written n W old zero b new = new
-written n W old (suc zero) b new = new
-written n W old (suc (suc zero)) b new = stored n W old b new
-written n W old (suc (suc (suc f))) b new = new
+unfoldable pub written : ℕ → List ℕ → List ℕ → Phase → Block → List ℕ → List ℕ
+written n W old toRead b new = new
+written n W old toStage b new = new
+written n W old toStore b new = stored n W old b new
+written n W old finished b new = new

@@ -13,8 +13,9 @@ use Rattle.words.specs.Section.{listOf}
 use Rattle.words.proofs.SectionLaws.{length-listOf, listOf-ext}
 use Rattle.run_machine.specs.Part.{locationIn, normalAt}
 use Rattle.run_machine.specs.Turn.{captured}
+use Rattle.run_machine.specs.Room.{capturedFrom}
 use Rattle.run_turns.specs.Capture.{capturedWord}
-use Rattle.run_turns.proofs.SetsLaws.{sets-more, sets-under, sets-over}
+use Rattle.run_machine.proofs.SetsLaws.{sets-more, sets-under, sets-over}
 
 module _ (n : ℕ) (W : List ℕ) (o k : ℕ) where
   -- as the code tests it
@@ -22,9 +23,9 @@ module _ (n : ℕ) (W : List ℕ) (o k : ℕ) where
   unfolding capturedWord
   word-here room caps l x e h = rw (← e, eq-eqb (x / 256) k h, capturedWord) (ap (λ (y : ℕ). getD room (y % 256) 0) e)
 
-  pub word-kept : (room : List ℕ) (l x : ℕ) → x ≡ locationIn n W o l → (x / 256 ≡ k → ⊥) → getD room (512 + l) 0 ≡ capturedWord n W o k room (drop 512 room) l
+  pub word-kept : (room : List ℕ) (l x : ℕ) → x ≡ locationIn n W o l → (x / 256 ≡ k → ⊥) → getD room (capturedFrom + l) 0 ≡ capturedWord n W o k room (drop capturedFrom room) l
   unfolding capturedWord
-  word-kept room l x e h = rw (← e, ne-eqb (x / 256) k h, capturedWord) (sym (getD-drop 512 room l 0))
+  word-kept room l x e h = rw (← e, ne-eqb (x / 256) k h, capturedWord) (sym (getD-drop capturedFrom room l 0))
 
   word-same : (row row′ caps caps′ : List ℕ) (l : ℕ) → getD row (locationIn n W o l % 256) 0 ≡ getD row′ (locationIn n W o l % 256) 0 → getD caps l 0 ≡ getD caps′ l 0
       → capturedWord n W o k row caps l ≡ capturedWord n W o k row′ caps′ l
@@ -39,23 +40,23 @@ module _ (n : ℕ) (W : List ℕ) (o k : ℕ) where
       by false = q
 
   -- one word more
-  pub capture-more : (room₀ room : List ℕ) (l v : ℕ) → room ≡ sets room₀ 512 (listOf (capturedWord n W o k room₀ (drop 512 room₀)) l)
-      → locationIn n W o l % 256 < 256 → v ≡ capturedWord n W o k room (drop 512 room) l
-      → set room (512 + l) v ≡ sets room₀ 512 (listOf (capturedWord n W o k room₀ (drop 512 room₀)) (l + 1))
-  capture-more room₀ room l v e h is = ap₂ (λ (r : List ℕ) (x : ℕ). set r (512 + l) x) e (is ∙ word-same room room₀ _ _ l row caps) ∙ sets-more room₀ 512 f l
+  pub capture-more : (room₀ room : List ℕ) (l v : ℕ) → room ≡ sets room₀ capturedFrom (listOf (capturedWord n W o k room₀ (drop capturedFrom room₀)) l)
+      → locationIn n W o l % 256 < 256 → v ≡ capturedWord n W o k room (drop capturedFrom room) l
+      → set room (capturedFrom + l) v ≡ sets room₀ capturedFrom (listOf (capturedWord n W o k room₀ (drop capturedFrom room₀)) (l + 1))
+  capture-more room₀ room l v e h is = ap₂ (λ (r : List ℕ) (x : ℕ). set r (capturedFrom + l) x) e (is ∙ word-same room room₀ _ _ l row caps) ∙ sets-more room₀ capturedFrom f l
     where
       f : ℕ → ℕ
-      f = capturedWord n W o k room₀ (drop 512 room₀)
+      f = capturedWord n W o k room₀ (drop capturedFrom room₀)
 
       row : getD room (locationIn n W o l % 256) 0 ≡ getD room₀ (locationIn n W o l % 256) 0
-      row = rw e (sets-under room₀ 512 (listOf f l) (locationIn n W o l % 256) (omega arith))
+      row = rw e (sets-under room₀ capturedFrom (listOf f l) (locationIn n W o l % 256) (omega arith))
 
-      caps : getD (drop 512 room) l 0 ≡ getD (drop 512 room₀) l 0
+      caps : getD (drop capturedFrom room) l 0 ≡ getD (drop capturedFrom room₀) l 0
       caps =
-          getD-drop 512 room l 0
-          ∙ ap (λ (r : List ℕ). getD r (512 + l) 0) e
-          ∙ sets-over room₀ 512 (listOf f l) (512 + l) (omega (arith, length-listOf f l))
-          ∙ sym (getD-drop 512 room₀ l 0)
+          getD-drop capturedFrom room l 0
+          ∙ ap (λ (r : List ℕ). getD r (capturedFrom + l) 0) e
+          ∙ sets-over room₀ capturedFrom (listOf f l) (capturedFrom + l) (omega (arith, length-listOf f l))
+          ∙ sym (getD-drop capturedFrom room₀ l 0)
 
   pub capture-end : (row caps : List ℕ) (l : ℕ) → l ≡ normalAt W o → listOf (capturedWord n W o k row caps) l ≡ captured n W o k row caps
   unfolding captured capturedWord

@@ -1,4 +1,3 @@
-pub mod SetsLaws
 pub mod StoreLaws
 pub mod AppendLaws
 pub mod CaptureLaws

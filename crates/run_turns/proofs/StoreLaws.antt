@@ -17,7 +17,7 @@ use Rattle.run_machine.specs.Turn.{taken, gatheredBit, chosen, chosenBits, stor
 use Rattle.run_machine.proofs.StageLaws.{at-word}
 use Rattle.run_machine.proofs.TurnLaws.{taken-lt, stored-word-lt, stored-word-bit}
 use Rattle.run_turns.specs.Store.{chosenWord}
-use Rattle.run_turns.proofs.SetsLaws.{sets-in, sets-over, take-is}
+use Rattle.run_machine.proofs.SetsLaws.{sets-in, sets-over, take-is}
 
 -- ---- on bits
 

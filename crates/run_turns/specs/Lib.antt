@@ -1,3 +1,4 @@
+pub mod Phases
 pub mod Window
 pub mod Capture
 pub mod Store

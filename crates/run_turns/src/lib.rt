@@ -1,4 +1,5 @@
 // The run of a major stage: document 01, "The run". A part is read from the script's words where they stand.
 pub mod block;
 pub mod read;
+pub mod room;
 pub mod store;

@@ -1,5 +1,6 @@
 // Captured words: document 01, "A write-out location w captures positions 32w..32w+31" and "The store turn puts normal captured words .. at state
-// start onward", by 5/13 where they are enabled. A block's room has its positions in words 0..255 and its captured words from word 512 on.
+// start onward", by 5/13 where they are enabled.
+use crate::room::CAPTURED;
 use run_form::part;
 use run_stage::section_word;
 ghost use mathlib.Core.Path.{_≡_};
@@ -9,6 +10,7 @@ ghost use lib.Seq.{sets};
 ghost use Rattle.words.specs.Bit.{bit, bitAt};
 ghost use Rattle.run_machine.specs.Part.{stagesAt, startAt, normalAt, entryAt};
 ghost use Rattle.run_machine.specs.Turn.{captured, storedWord};
+ghost use Rattle.run_machine.specs.Room.{blockRoom, capturedFrom};
 ghost use Rattle.words.specs.Section.{listOf};
 ghost use Rattle.run_turns.specs.Capture.{capturedWord};
 ghost use Rattle.run_turns.specs.Store.{chosenWord, Storing};
@@ -16,24 +18,24 @@ ghost use Rattle.run_form.specs.Well.{PartIn, EntriesIn, Captures};
 
 // Captured word l after stage k.
 fn capture_word(words: &[u32], at: usize, k: usize, room: &[u32], l: usize) -> u32
-    requires { ⌜ PartIn 256 (now words) at × Captures 256 (now words) at × (length (now room) ≡ 1024) × (l < normalAt (now words) at) ⌝ }
-    ensures { λ r. ⌜ r ≡ capturedWord 256 (now (words .entry)) at k (now (room .entry)) (drop 512 (now (room .entry))) l ⌝ }
+    requires { ⌜ PartIn 256 (now words) at × Captures 256 (now words) at × (length (now room) ≡ blockRoom) × (l < normalAt (now words) at) ⌝ }
+    ensures { λ r. ⌜ r ≡ capturedWord 256 (now (words .entry)) at k (now (room .entry)) (drop capturedFrom (now (room .entry))) l ⌝ }
 {
     let place = part::location(words, at, l) as usize;
     if place / 256 == k {
         room[place % 256]
     } else {
-        room[512 + l]
+        room[CAPTURED + l]
     }
 }
 
 // The captured words after stage k.
 pub fn capture(words: &[u32], at: usize, k: usize, room: &mut [u32])
-    requires { ⌜ PartIn 256 (now words) at × Captures 256 (now words) at × (length (now room) ≡ 1024) ⌝ }
-    ensures { λ _. ⌜ now (room .exit) ≡ sets (now (room .entry)) 512 (captured 256 (now (words .entry)) at k (now (room .entry)) (drop 512 (now (room .entry)))) ⌝ }
+    requires { ⌜ PartIn 256 (now words) at × Captures 256 (now words) at × (length (now room) ≡ blockRoom) ⌝ }
+    ensures { λ _. ⌜ now (room .exit) ≡ sets (now (room .entry)) capturedFrom (captured 256 (now (words .entry)) at k (now (room .entry)) (drop capturedFrom (now (room .entry)))) ⌝ }
 {
     for l in 0..part::normal(words, at) {
-        room[512 + l] = capture_word(words, at, k, room, l);
+        room[CAPTURED + l] = capture_word(words, at, k, room, l);
     }
 }
 

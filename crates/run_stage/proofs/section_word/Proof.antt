@@ -9,31 +9,24 @@ use Rattle.run_stage.proofs.StageEndLaws.{cut, entry-cut, entries-cut}
 use Rattle.run_stage.proofs.section_word.Statement.{statement}
 use Rattle.run_stage.proofs.section_word.Tie as tie
 
--- src/lib.rt:52:9
 section-requires : tie.Need-section-requires
 section-requires c κs = search needs
 
--- src/lib.rt:53:14
 add-to : tie.Need-add-to
 add-to c = search needs
 
--- src/lib.rt:54:20
 mul-gather-word : tie.Need-mul-gather-word
 mul-gather-word c = search needs
 
--- src/lib.rt:54:20
 sub-gather-word : tie.Need-sub-gather-word
 sub-gather-word c = search needs
 
--- src/lib.rt:54:20
 part-gather-word-start : tie.Need-part-gather-word-start
 part-gather-word-start c = search needs
 
--- src/lib.rt:54:20
 part-gather-word-end : tie.Need-part-gather-word-end
 part-gather-word-end c = search needs
 
--- src/lib.rt:54:5
 gather-word-requires : tie.Need-gather-word-requires
 gather-word-requires c κs =
     let known = c .before in
@@ -43,7 +36,6 @@ gather-word-requires c κs =
     let p = cut W from (from + 4096) _ 4096 (known .section .ensures .0) refl (omega arith) in
     (omega arith, omega arith, omega (arith, p .long), omega arith, entries-cut 256 W _ _ _ p (start .pre .1) (start .pre .2))
 
--- src/lib.rt:48:1
 returns : tie.Need-returns
 returns c = λ b h.
     let known = c .before .before in

@@ -1,7 +1,10 @@
 -- `run::left::block_left` meets its contract: one law for each phase.
 -- Assumes nothing.
+use mathlib.Core.Path.{ap}
 use native.Mathlib.Omega.{arith}
-use Rattle.run.proofs.LeftLaws.{left-done, left-read, left-stage, left-store, left-parts, left-fits, left-inside, left-stage-in}
+use Rattle.run_turns.specs.Phases.{phaseIs}
+use Rattle.run_turns.proofs.BlockLaws.{read-going, stage-going, store-going}
+use Rattle.run.proofs.LeftLaws.{left-done, left-read, left-stage, left-store, ahead, stage-inside}
 use borrow.Author.Needs.{needs}
 use Rattle.run.proofs.left.block_left.Statement.{statement}
 use Rattle.run.proofs.left.block_left.Tie as tie
@@ -9,131 +12,200 @@ use Rattle.run.proofs.left.block_left.Tie as tie
 load-state-requires : tie.Need-load-state-requires
 load-state-requires c κs = search needs
 
-returns : tie.Need-returns
-returns c = left-done (c .before .before .before .before .args .words .now) (c .before .before .before .before .args .room .now) _ _ _ (c .before .load-state .ensures .0) (c .before .load-state .ensures .1) (c .before .load-state .ensures .2) (c .if1 .taken)
-
-turns-after-requires : tie.Need-turns-after-requires
-turns-after-requires c κs =
-    left-parts (c .before .before .before .before .args .words .now) (c .before .before .before .before .pre .0) (c .before .before .before .before .pre .1)
-    (c .before .before .before .before .args .room .now) (c .before .before .before .before .pre .2) _ _ _ (c .before .load-state .ensures .0) (c .before .load-state .ensures .1)
-    (c .before .load-state .ensures .2) (c .if1 .left)
+enum-told : tie.Need-enum-told
+enum-told c = search needs
 
 stages-requires : tie.Need-stages-requires
 stages-requires c κs =
-    left-inside (c .before .before .before .before .before .before .args .words .now) (c .before .before .before .before .before .before .pre .0)
-    (c .before .before .before .before .before .before .pre .1) (c .before .before .before .before .before .before .args .room .now) (c .before .before .before .before .before .before .pre .2) _ _ _
-    (c .before .before .before .load-state .ensures .0) (c .before .before .before .load-state .ensures .1) (c .before .before .before .load-state .ensures .2) (c .before .before .if1 .left)
+    let load = c .before .before in
+    let start = load .before .before .before in
+    let words = start .args .words .now in
+    let room = start .args .room .now in
+    let state = load .load-state .ensures in
+    let phase = ap phaseIs (c .enum-told .given .1) in
+    let ready = ahead words _ _ room (start .pre .2) _ _ _ (state .0) (state .1) (state .2) (read-going _ phase) in
+    ready .inside
 
 add-result : tie.Need-add-result
 add-result c =
-    let at-load-state = c .before .before .before .before in
-    let start = at-load-state .before .before .before in
-    omega (
-      arith,
-      left-fits (start .args .words .now) (start .pre .0) (start .pre .1) (start .args .room .now) (start .pre .2) _ _ _ (at-load-state .load-state .ensures .0)
-          (at-load-state .load-state .ensures .1) (at-load-state .load-state .ensures .2) (c .before .before .before .if1 .left),
-      c .stages .ensures,
-    )
+    let load = c .before .before .before in
+    let start = load .before .before .before in
+    let words = start .args .words .now in
+    let room = start .args .room .now in
+    let state = load .load-state .ensures in
+    let phase = ap phaseIs (c .before .enum-told .given .1) in
+    let ready = ahead words _ _ room (start .pre .2) _ _ _ (state .0) (state .1) (state .2) (read-going _ phase) in
+    omega (arith, ready .fits, c .stages .ensures)
+
+turns-after-requires : tie.Need-turns-after-requires
+turns-after-requires c κs =
+    let load = c .before .before .before in
+    let start = load .before .before .before in
+    let words = start .args .words .now in
+    let room = start .args .room .now in
+    let state = load .load-state .ensures in
+    let phase = ap phaseIs (c .before .enum-told .given .1) in
+    let ready = ahead words _ _ room (start .pre .2) _ _ _ (state .0) (state .1) (state .2) (read-going _ phase) in
+    ready .parts
 
 add-result-2 : tie.Need-add-result-2
 add-result-2 c =
-    let at-load-state = c .before .before .before .before in
-    let start = at-load-state .before .before .before in
-    omega (
-      arith,
-      left-fits (start .args .words .now) (start .pre .0) (start .pre .1) (start .args .room .now) (start .pre .2) _ _ _ (at-load-state .load-state .ensures .0)
-          (at-load-state .load-state .ensures .1) (at-load-state .load-state .ensures .2) (c .before .before .before .if1 .left),
-      c .stages .ensures,
-      c .before .before .turns-after .ensures,
-    )
+    let load = c .before .before .before .before in
+    let start = load .before .before .before in
+    let words = start .args .words .now in
+    let room = start .args .room .now in
+    let state = load .load-state .ensures in
+    let phase = ap phaseIs (c .before .before .enum-told .given .1) in
+    let ready = ahead words _ _ room (start .pre .2) _ _ _ (state .0) (state .1) (state .2) (read-going _ phase) in
+    omega (arith, ready .fits, c .before .stages .ensures, c .turns-after .ensures)
 
-returns-2 : tie.Need-returns-2
-returns-2 c =
-    let at-load-state = c .before .before .before .before in
-    let start = at-load-state .before .before .before in
-    left-read (start .args .words .now) (start .args .room .now) _ _ _ (at-load-state .load-state .ensures .0) (at-load-state .load-state .ensures .1) (at-load-state .load-state .ensures .2) _ (c .before .before .turns-after .ensures) _ (c .stages .ensures) (c .before .if2 .taken)
+enum-told-2 : tie.Need-enum-told-2
+enum-told-2 c = search needs
 
 stages-requires-2 : tie.Need-stages-requires-2
 stages-requires-2 c κs =
-    let at-load-state = c .before .before .before .before in
-    let start = at-load-state .before .before .before in
-    left-inside (start .args .words .now) (start .pre .0) (start .pre .1) (start .args .room .now) (start .pre .2) _ _ _ (at-load-state .load-state .ensures .0) (at-load-state .load-state .ensures .1) (at-load-state .load-state .ensures .2) (c .before .before .before .if1 .left)
+    let load = c .before .before in
+    let start = load .before .before .before in
+    let words = start .args .words .now in
+    let room = start .args .room .now in
+    let state = load .load-state .ensures in
+    let phase = ap phaseIs (c .enum-told2 .given .1) in
+    let ready = ahead words _ _ room (start .pre .2) _ _ _ (state .0) (state .1) (state .2) (stage-going _ phase) in
+    ready .inside
 
 sub-result : tie.Need-sub-result
 sub-result c =
-    let at-load-state = c .before .before .before .before .before .before in
-    let start = at-load-state .before .before .before in
-    omega (
-      arith,
-      left-stage-in (start .args .words .now) (start .pre .0) (start .pre .1) (start .args .room .now) (start .pre .2) _ _ _ (at-load-state .load-state .ensures .0)
-          (at-load-state .load-state .ensures .1) (at-load-state .load-state .ensures .2) (c .before .before .before .before .before .if1 .left) (c .before .before .if3 .taken),
-      c .before .stages2 .ensures,
-    )
+    let load = c .before .before .before .before in
+    let start = load .before .before .before in
+    let words = start .args .words .now in
+    let room = start .args .room .now in
+    let state = load .load-state .ensures in
+    let phase = ap phaseIs (c .before .before .enum-told2 .given .1) in
+    let inside = stage-inside words _ _ room (start .pre .2) _ _ _ (state .0) (state .1) (state .2) (stage-going _ phase) phase in
+    omega (arith, inside, c .before .stages2 .ensures)
 
 add-result-3 : tie.Need-add-result-3
 add-result-3 c =
-    let at-load-state = c .before .before .before .before .before .before in
-    let start = at-load-state .before .before .before in
-    omega (
-      arith,
-      left-fits (start .args .words .now) (start .pre .0) (start .pre .1) (start .args .room .now) (start .pre .2) _ _ _ (at-load-state .load-state .ensures .0)
-          (at-load-state .load-state .ensures .1) (at-load-state .load-state .ensures .2) (c .before .before .before .before .before .if1 .left),
-      c .before .stages2 .ensures,
-    )
+    let load = c .before .before .before .before in
+    let start = load .before .before .before in
+    let words = start .args .words .now in
+    let room = start .args .room .now in
+    let state = load .load-state .ensures in
+    let phase = ap phaseIs (c .before .before .enum-told2 .given .1) in
+    let ready = ahead words _ _ room (start .pre .2) _ _ _ (state .0) (state .1) (state .2) (stage-going _ phase) in
+    omega (arith, ready .fits, c .before .stages2 .ensures)
+
+turns-after-requires-2 : tie.Need-turns-after-requires-2
+turns-after-requires-2 c κs =
+    let load = c .before .before .before .before in
+    let start = load .before .before .before in
+    let words = start .args .words .now in
+    let room = start .args .room .now in
+    let state = load .load-state .ensures in
+    let phase = ap phaseIs (c .before .before .enum-told2 .given .1) in
+    let ready = ahead words _ _ room (start .pre .2) _ _ _ (state .0) (state .1) (state .2) (stage-going _ phase) in
+    ready .parts
 
 add-result-4 : tie.Need-add-result-4
 add-result-4 c =
-    let at-load-state = c .before .before .before .before .before .before in
-    let start = at-load-state .before .before .before in
-    omega (
-      arith,
-      left-fits (start .args .words .now) (start .pre .0) (start .pre .1) (start .args .room .now) (start .pre .2) _ _ _ (at-load-state .load-state .ensures .0)
-          (at-load-state .load-state .ensures .1) (at-load-state .load-state .ensures .2) (c .before .before .before .before .before .if1 .left),
-      c .before .stages2 .ensures,
-      c .before .before .before
-          .before .turns-after .ensures,
-    )
+    let load = c .before .before .before .before .before in
+    let start = load .before .before .before in
+    let words = start .args .words .now in
+    let room = start .args .room .now in
+    let state = load .load-state .ensures in
+    let phase = ap phaseIs (c .before .before .before .enum-told2 .given .1) in
+    let ready = ahead words _ _ room (start .pre .2) _ _ _ (state .0) (state .1) (state .2) (stage-going _ phase) in
+    omega (arith, ready .fits, c .before .before .stages2 .ensures, c .turns-after2 .ensures)
 
-returns-3 : tie.Need-returns-3
-returns-3 c =
-    let at-load-state = c .before .before .before .before .before .before in
-    let start = at-load-state .before .before .before in
-    left-stage (start .args .words .now) (start .args .room .now) _ _ _ (at-load-state .load-state .ensures .0) (at-load-state .load-state .ensures .1) (at-load-state .load-state .ensures .2) _
-    (c .before .before .before .before .turns-after .ensures) _ (c .before .stages2 .ensures) (c .before .before .if3 .taken)
+enum-told-3 : tie.Need-enum-told-3
+enum-told-3 c = search needs
+
+turns-after-requires-3 : tie.Need-turns-after-requires-3
+turns-after-requires-3 c κs =
+    let load = c .before .before in
+    let start = load .before .before .before in
+    let words = start .args .words .now in
+    let room = start .args .room .now in
+    let state = load .load-state .ensures in
+    let phase = ap phaseIs (c .enum-told3 .given .1) in
+    let ready = ahead words _ _ room (start .pre .2) _ _ _ (state .0) (state .1) (state .2) (store-going _ phase) in
+    ready .parts
 
 add-result-5 : tie.Need-add-result-5
 add-result-5 c =
-    let at-load-state = c .before .before .before .before in
-    let start = at-load-state .before .before .before in
-    omega (
-      arith,
-      left-fits (start .args .words .now) (start .pre .0) (start .pre .1) (start .args .room .now) (start .pre .2) _ _ _ (at-load-state .load-state .ensures .0)
-          (at-load-state .load-state .ensures .1) (at-load-state .load-state .ensures .2) (c .before .before .before .if1 .left),
-      c .before .before .turns-after .ensures,
-    )
+    let load = c .before .before .before in
+    let start = load .before .before .before in
+    let words = start .args .words .now in
+    let room = start .args .room .now in
+    let state = load .load-state .ensures in
+    let phase = ap phaseIs (c .before .enum-told3 .given .1) in
+    let ready = ahead words _ _ room (start .pre .2) _ _ _ (state .0) (state .1) (state .2) (store-going _ phase) in
+    omega (arith, ready .fits, c .turns-after3 .ensures)
+
+enum-told-4 : tie.Need-enum-told-4
+enum-told-4 c = search needs
+
+returns : tie.Need-returns
+returns c =
+    let load = c .before .before .before .before in
+    let start = load .before .before .before in
+    let words = start .args .words .now in
+    let room = start .args .room .now in
+    let state = load .load-state .ensures in
+    let phase = ap phaseIs (c .before .before .enum-told .given .1) in
+    left-read words room _ _ _ (state .0) (state .1) (state .2) _ (c .turns-after .ensures) _ (c .before .stages .ensures) phase
+
+returns-2 : tie.Need-returns-2
+returns-2 c =
+    let load = c .before .before .before .before .before in
+    let start = load .before .before .before in
+    let words = start .args .words .now in
+    let room = start .args .room .now in
+    let state = load .load-state .ensures in
+    let phase = ap phaseIs (c .before .before .before .enum-told2 .given .1) in
+    left-stage words room _ _ _ (state .0) (state .1) (state .2) _ (c .turns-after2 .ensures) _ (c .before .before .stages2 .ensures) phase
+
+returns-3 : tie.Need-returns-3
+returns-3 c =
+    let load = c .before .before .before in
+    let start = load .before .before .before in
+    let words = start .args .words .now in
+    let room = start .args .room .now in
+    let state = load .load-state .ensures in
+    let phase = ap phaseIs (c .before .enum-told3 .given .1) in
+    left-store words room _ _ _ (state .0) (state .1) (state .2) _ (c .turns-after3 .ensures) phase
 
 returns-4 : tie.Need-returns-4
 returns-4 c =
-    let at-load-state = c .before .before .before .before in
-    let start = at-load-state .before .before .before in
-    left-store (start .args .words .now) (start .args .room .now) _ _ _ (at-load-state .load-state .ensures .0) (at-load-state .load-state .ensures .1) (at-load-state .load-state .ensures .2) _
-    (c .before .before .turns-after .ensures) (c .before .before .before .if1 .left) (c .before .if2 .left) (c .if3 .left)
+    let load = c .before .before in
+    let start = load .before .before .before in
+    let words = start .args .words .now in
+    let room = start .args .room .now in
+    let state = load .load-state .ensures in
+    let phase = ap phaseIs (c .enum-told4 .given .1) in
+    left-done words room _ _ _ (state .0) (state .1) (state .2) phase
 
 pub block-left-spec : {M : Type 1} → statement M
 block-left-spec =
     tie.close
     (tie.spec
     load-state-requires
-    returns
-    turns-after-requires
+    enum-told
     stages-requires
     add-result
+    turns-after-requires
     add-result-2
-    returns-2
+    enum-told-2
     stages-requires-2
     sub-result
     add-result-3
+    turns-after-requires-2
     add-result-4
-    returns-3
+    enum-told-3
+    turns-after-requires-3
     add-result-5
+    enum-told-4
+    returns
+    returns-2
+    returns-3
     returns-4)

@@ -5,7 +5,6 @@ use Prim.Native.Nat.{_-_}
 use native.Mathlib.Omega.{arith}
 use lib.ListN.{length}
 use Rattle.run.proofs.LeftLaws.{Walking, walk-start, walk-inside, walk-part, walk-after, walk-next, walk-bound, walk-end}
-use borrow.Author.Needs.{needs}
 use Rattle.run.proofs.left.turns_after.Statement.{statement}
 use Rattle.run.proofs.left.turns_after.Tie as tie
 

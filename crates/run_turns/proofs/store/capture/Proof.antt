@@ -8,6 +8,7 @@ use lib.ListN.{length, drop, length-set}
 use lib.Seq.{sets}
 use Rattle.words.specs.Section.{listOf}
 use Rattle.run_machine.specs.Part.{normalAt}
+use Rattle.run_machine.specs.Room.{blockRoom, capturedFrom}
 use Rattle.run_turns.specs.Capture.{capturedWord}
 use Rattle.run_turns.proofs.CaptureLaws.{capture-more, capture-end}
 use Rattle.run_turns.proofs.store.capture.Statement.{statement}
@@ -15,7 +16,7 @@ use Rattle.run_turns.proofs.store.capture.Tie as tie
 
 abbrev Inv-loop : tie.InvT-loop
 Inv-loop words at k room₀ l₀ l-end room l =
-    (l ≤ l-end) × (l-end ≡ normalAt words at) × (length room ≡ 1024) × (room ≡ sets room₀ 512 (listOf (capturedWord 256 words at k room₀ (drop 512 room₀)) l))
+    (l ≤ l-end) × (l-end ≡ normalAt words at) × (length room ≡ blockRoom) × (room ≡ sets room₀ capturedFrom (listOf (capturedWord 256 words at k room₀ (drop capturedFrom room₀)) l))
 
 abbrev μ-loop : tie.MeasureT-loop
 μ-loop words at k room₀ l₀ l-end room l = l-end - l
@@ -60,7 +61,7 @@ returns c =
     let l = c .before .loop in
     let start = c .before .before .before .before .before in
     let e : l .l ≡ normalAt (start .args .words .now) (start .args .at) = omega arith in
-    l .inv .3 ∙ ap (sets (start .args .room .now) 512) (capture-end 256 _ _ _ _ _ _ e)
+    l .inv .3 ∙ ap (sets (start .args .room .now) capturedFrom) (capture-end 256 _ _ _ _ _ _ e)
 
 pub capture-spec : {M : Type 1} → statement M
 capture-spec =

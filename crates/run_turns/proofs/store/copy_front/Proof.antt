@@ -1,13 +1,13 @@
 -- `run_turns::store::copy_front` meets its contract. The invariant: i words are copied.
 -- Assumes nothing.
-use mathlib.Core.Path.{_≡_, refl, sym, ap, _∙_, subst}
-use Prim.Native.Nat.{ℕ, _-_, _≤_}
+use mathlib.Core.Path.{_≡_, refl}
+use Prim.Native.Nat.{_-_, _≤_}
 use native.Mathlib.Nat.{zero-add}
 use native.Mathlib.Omega.{arith}
-use lib.ListN.{length, getD, set, length-set}
+use lib.ListN.{length, getD, length-set}
 use lib.Seq.{sets}
 use Rattle.words.specs.Section.{listOf}
-use Rattle.run_turns.proofs.SetsLaws.{stored-more}
+use Rattle.run_machine.proofs.SetsLaws.{stored-more}
 use borrow.Author.Needs.{needs}
 use Rattle.run_turns.proofs.store.copy_front.Statement.{statement}
 use Rattle.run_turns.proofs.store.copy_front.Tie as tie

@@ -1,11 +1,11 @@
 -- `run_turns::store::store` meets its contract: the words are stored from the captured ones with zeros behind them.
 -- Assumes nothing.
-use mathlib.Core.Path.{_≡_, ap, _∙_}
+use mathlib.Core.Path.{ap, _∙_}
 use mathlib.Core.List.{List}
 use Prim.Native.Nat.{ℕ, _≤_}
 use borrow.Author.Needs.{needs}
 use native.Mathlib.Omega.{arith}
-use lib.ListN.{length, getD, replicate}
+use lib.ListN.{getD, replicate}
 use lib.Seq.{sets}
 use Rattle.words.specs.Section.{listOf}
 use Rattle.run_machine.specs.Part.{startAt, normalAt}

@@ -1,14 +1,14 @@
 -- `run_turns::store::store_words` meets its contract. The invariant: l words are stored.
 -- Assumes nothing.
-use mathlib.Core.Path.{_≡_, refl, ap, _∙_, subst}
-use Prim.Native.Nat.{ℕ, _+_, _-_, _≤_, _<_}
+use mathlib.Core.Path.{_≡_, refl}
+use Prim.Native.Nat.{_+_, _-_, _≤_, _<_}
 use native.Mathlib.Omega.{arith}
-use lib.ListN.{length, getD, length-set}
+use lib.ListN.{length, length-set}
 use lib.Seq.{sets}
 use Rattle.words.specs.Section.{listOf}
 use Rattle.run_machine.specs.Part.{startAt, normalAt}
 use Rattle.run_machine.specs.Turn.{storedWord}
-use Rattle.run_turns.proofs.SetsLaws.{stored-more}
+use Rattle.run_machine.proofs.SetsLaws.{stored-more}
 use borrow.Author.Needs.{needs}
 use Rattle.run_turns.proofs.store.store_words.Statement.{statement}
 use Rattle.run_turns.proofs.store.store_words.Tie as tie

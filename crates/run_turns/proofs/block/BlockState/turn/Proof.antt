@@ -4,142 +4,147 @@ use mathlib.Core.Path.{sym, ap, _∙_}
 use Prim.Native.Nat.{ℕ}
 use borrow.Author.Needs.{needs}
 use native.Mathlib.Omega.{arith}
-use lib.ListN.{drop, length-drop}
-use lib.Seq.{length-take-le}
 use Rattle.run_machine.specs.Turn.{begins}
-use Rattle.run_turns.proofs.BlockLaws.{read-done, stage-done-last, stage-done-more, store-done-last, store-done-next, idle-done}
+use Rattle.run_turns.specs.Phases.{phaseIs}
+use Rattle.run_turns.proofs.BlockLaws.{read-going, stage-going, store-going, read-done, stage-done-last, stage-done-more, store-done-last, store-done-next, idle-done}
 use Rattle.run_turns.proofs.block.BlockState.turn.Statement.{statement}
 use Rattle.run_turns.proofs.block.BlockState.turn.Tie as tie
 
+enum-told : tie.Need-enum-told
+enum-told c = search needs
+
 read-room-requires : tie.Need-read-room-requires
 read-room-requires c κs =
-    let way = c .before .before .before .before .before .before in
-    let start = way .before in
-    let well = start .pre .0 .well (omega arith) in
+    let told = c .before .before in
+    let start = told .before .before .before .before .before .before in
+    let well = start .pre .0 .well (read-going _ (ap phaseIs (told .enum-told .given .1))) in
     (well .part, well .reads, search needs)
+
+enum-told-2 : tie.Need-enum-told-2
+enum-told-2 c = search needs
+
+stage-room-requires : tie.Need-stage-room-requires
+stage-room-requires c κs =
+    let told = c .before in
+    let start = told .before .before .before .before .before .before in
+    let phase = ap phaseIs (told .enum-told2 .given .1) in
+    let well = start .pre .0 .well (stage-going _ phase) in
+    (well .part, well .entries, well .captures, start .pre .0 .within phase, search needs)
+
+add-if1 : tie.Need-add-if1
+add-if1 c =
+    let told = c .before .before .before .before in
+    let words = told .before .before .before .before .before in
+    let start = words .before in
+    let within = start .pre .0 .within (ap phaseIs (told .enum-told2 .given .1)) in
+    omega (arith, words .shared-slice-known .given (start .args .self .part))
+
+stages-requires : tie.Need-stages-requires
+stages-requires c κs =
+    let told = c .before .before .before .before in
+    let start = told .before .before .before .before .before .before in
+    let part = start .pre .0 .well (stage-going _ (ap phaseIs (told .enum-told2 .given .1))) .part in
+    omega arith
+
+add-t23 : tie.Need-add-t23
+add-t23 c = search needs
 
 same-length : tie.Need-same-length
 same-length c = search needs
 
-same-length-2 : tie.Need-same-length-2
-same-length-2 c = search needs
-
 returns : tie.Need-returns
 returns c =
-    let at-if1 = c .before .before .before .before .before in
-    let start = at-if1 .before .before .before .before .before in
-    let well = start .pre .0 .well (omega arith) in
-    read-done _ _ _ _ _ _ _ (start .pre .1) (well .captures .few) _ (at-if1 .if1 .taken) (c .before .before .read-room .ensures)
-
-stage-room-requires : tie.Need-stage-room-requires
-stage-room-requires c κs =
-    let at-if2 = c .before in
-    let start = at-if2 .before .before .before .before .before .before in
-    let well = start .pre .0 .well (omega arith) in
-    (well .part, well .entries, well .captures, start .pre .0 .within (at-if2 .if2 .taken), search needs)
+    let stage = c .before .before .before .before in
+    let told = stage .before .before in
+    let start = told .before .before .before .before .before .before in
+    let phase = ap phaseIs (told .enum-told2 .given .1) in
+    let well = start .pre .0 .well (stage-going _ phase) in
+    stage-done-last _ _ _ _ _ _ _ (start .pre .1) (well .captures .few) _ phase (stage .stage-room .ensures) (c .if1 .taken ∙ c .before .stages .ensures)
 
 add-self : tie.Need-add-self
 add-self c =
-    let at-if2 = c .before .before .before .before in
-    let at-shared-slice-known = at-if2 .before .before .before .before .before in
-    let start = at-shared-slice-known .before in
-    let within = start .pre .0 .within (at-if2 .if2 .taken) in
-    omega (arith, at-shared-slice-known .shared-slice-known .given (start .args .self .part))
+    let told = c .before .before .before .before .before .before in
+    let words = told .before .before .before .before .before in
+    let start = words .before in
+    let within = start .pre .0 .within (ap phaseIs (told .enum-told2 .given .1)) in
+    omega (arith, words .shared-slice-known .given (start .args .self .part))
 
-add-if3 : tie.Need-add-if3
-add-if3 c =
-    let at-if2 = c .before .before .before .before in
-    let at-shared-slice-known = at-if2 .before .before .before .before .before in
-    let start = at-shared-slice-known .before in
-    let within = start .pre .0 .within (at-if2 .if2 .taken) in
-    omega (arith, at-shared-slice-known .shared-slice-known .given (start .args .self .part))
+enum-told-3 : tie.Need-enum-told-3
+enum-told-3 c = search needs
 
-stages-requires : tie.Need-stages-requires
-stages-requires c κs =
-    let at-if2 = c .before .before .before .before in
-    let start = at-if2 .before .before .before .before .before .before in
-    let part = start .pre .0 .well (omega (arith, at-if2 .if2 .taken)) .part in
-    omega arith
+store-room-requires : tie.Need-store-room-requires
+store-room-requires c κs =
+    let told = c .before .before in
+    let start = told .before .before .before .before .before .before in
+    let well = start .pre .0 .well (store-going _ (ap phaseIs (told .enum-told3 .given .1))) in
+    (well .part, well .captures, well .entries, start .pre .1, well .stores)
+
+last-requires : tie.Need-last-requires
+last-requires c κs =
+    let told = c .before .before .before .before .before in
+    let start = told .before .before .before .before .before .before in
+    start .pre .0 .well (store-going _ (ap phaseIs (told .enum-told3 .given .1))) .part
+
+same-length-2 : tie.Need-same-length-2
+same-length-2 c = search needs
 
 same-length-3 : tie.Need-same-length-3
 same-length-3 c = search needs
 
 returns-2 : tie.Need-returns-2
 returns-2 c =
-    let at-if2 = c .before .before .before .before .before .before in
-    let start = at-if2 .before .before .before .before .before .before in
-    let well = start .pre .0 .well (omega (arith, at-if2 .if2 .taken)) in
-    stage-done-last _ _ _ _ _ _ _ (start .pre .1) (well .captures .few) _ (at-if2 .if2 .taken) (c .before .before .before .before .stage-room .ensures) (c .if3 .taken ∙ c .before .stages .ensures)
+    let store = c .before .before .before .before in
+    let told = store .before .before .before in
+    let start = told .before .before .before .before .before .before in
+    let phase = ap phaseIs (told .enum-told3 .given .1) in
+    let well = start .pre .0 .well (store-going _ phase) in
+    store-done-last _ _ _ _ _ _ _ (start .pre .1) (well .captures .few) _ phase (store .store-room .ensures) (sym (c .before .last .ensures) ∙ c .if2 .taken)
+
+part-end-requires : tie.Need-part-end-requires
+part-end-requires c κs =
+    let store = c .before .before .before .before in
+    let told = store .before .before .before in
+    let start = told .before .before .before .before .before .before in
+    let part = start .pre .0 .well (store-going _ (ap phaseIs (told .enum-told3 .given .1))) .part in
+    omega arith
+
+begins-requires : tie.Need-begins-requires
+begins-requires c κs =
+    let store = c .before .before .before .before .before in
+    let told = store .before .before .before in
+    let start = told .before .before .before .before .before .before in
+    let well = start .pre .0 .well (store-going _ (ap phaseIs (told .enum-told3 .given .1))) in
+    let next = well .next (λ q. c .before .if2 .left (c .before .before .last .ensures ∙ q)) in
+    omega (arith, c .part-end .ensures)
+
+enum-told-4 : tie.Need-enum-told-4
+enum-told-4 c = search needs
 
 same-length-4 : tie.Need-same-length-4
 same-length-4 c = search needs
 
-returns-3 : tie.Need-returns-3
-returns-3 c =
-    let at-if2 = c .before .before .before .before .before .before in
-    let start = at-if2 .before .before .before .before .before .before in
-    let well = start .pre .0 .well (omega (arith, at-if2 .if2 .taken)) in
-    stage-done-more _ _ _ _ _ _ _ (start .pre .1) (well .captures .few) _ (at-if2 .if2 .taken) (c .before .before .before .before .stage-room .ensures) (λ q. c .if3 .left (q ∙ sym (c .before .stages .ensures)))
-
-sub-store : tie.Need-sub-store
-sub-store c = search needs
-
-part-store-start : tie.Need-part-store-start
-part-store-start c = search needs
-
-part-store-end : tie.Need-part-store-end
-part-store-end c = search needs
-
-store-requires : tie.Need-store-requires
-store-requires c κs =
-    let at-if4 = c .before .before .before in
-    let way = at-if4 .before .before .before .before .before .before in
-    let start = way .before in
-    let well = start .pre .0 .well (omega (arith, at-if4 .if4 .taken)) in
-    let room = start .args .room .now in
-    (well .part, well .captures, well .entries, length-take-le 256 (drop 512 room) (rw (length-drop 512 room) (omega arith)), well .stores)
-
-last-requires : tie.Need-last-requires
-last-requires c κs =
-    let at-if4 = c .before .before .before .before .before .before in
-    let way = at-if4 .before .before .before .before .before .before in
-    let start = way .before in
-    start .pre .0 .well (omega (arith, at-if4 .if4 .taken)) .part
-
 same-length-5 : tie.Need-same-length-5
 same-length-5 c = search needs
+
+returns-3 : tie.Need-returns-3
+returns-3 c =
+    let told = c .before .before .before .before .before in
+    let start = told .before .before .before .before .before .before in
+    let phase = ap phaseIs (told .enum-told .given .1) in
+    let well = start .pre .0 .well (read-going _ phase) in
+    read-done _ _ _ _ _ _ _ (start .pre .1) (well .captures .few) _ phase (c .before .before .read-room .ensures)
 
 same-length-6 : tie.Need-same-length-6
 same-length-6 c = search needs
 
 returns-4 : tie.Need-returns-4
 returns-4 c =
-    let at-store = c .before .before .before .before in
-    let at-if4 = at-store .before .before .before .before in
-    let way = at-if4 .before .before .before .before .before .before in
-    let start = way .before in
-    let well = start .pre .0 .well (omega (arith, at-if4 .if4 .taken)) in
-    store-done-last _ _ _ _ _ _ _ (start .pre .1) (well .captures .few) _ (at-if4 .if4 .taken) (at-store .store .ensures) (sym (c .before .last .ensures) ∙ c .if5 .taken)
-
-part-end-requires : tie.Need-part-end-requires
-part-end-requires c κs =
-    let way = c .before .before .before .before .before .before in
-    let at-if4 = way .before .before in
-    let way-2 = at-if4 .before .before .before .before .before .before in
-    let start = way-2 .before in
-    let part = start .pre .0 .well (omega (arith, at-if4 .if4 .taken)) .part in
-    omega arith
-
-begins-requires : tie.Need-begins-requires
-begins-requires c κs =
-    let at-last = c .before .before in
-    let way = at-last .before .before .before .before .before .before in
-    let at-if4 = way .before in
-    let way-2 = at-if4 .before .before .before .before .before .before in
-    let start = way-2 .before in
-    let well = start .pre .0 .well (omega (arith, at-if4 .if4 .taken)) in
-    let next = well .next (λ q. c .before .if5 .left (at-last .last .ensures ∙ q)) in
-    omega (arith, c .part-end .ensures)
+    let stage = c .before .before .before .before in
+    let told = stage .before .before in
+    let start = told .before .before .before .before .before .before in
+    let phase = ap phaseIs (told .enum-told2 .given .1) in
+    let well = start .pre .0 .well (stage-going _ phase) in
+    stage-done-more _ _ _ _ _ _ _ (start .pre .1) (well .captures .few) _ phase (stage .stage-room .ensures) (λ q. c .if1 .left (q ∙ sym (c .before .stages .ensures)))
 
 same-length-7 : tie.Need-same-length-7
 same-length-7 c = search needs
@@ -149,44 +154,46 @@ same-length-8 c = search needs
 
 returns-5 : tie.Need-returns-5
 returns-5 c =
-    let at-store = c .before .before .before .before .before .before in
-    let at-if4 = at-store .before .before .before .before in
-    let way = at-if4 .before .before .before .before .before .before in
-    let start = way .before in
-    let well = start .pre .0 .well (omega (arith, at-if4 .if4 .taken)) in
-    store-done-next _ _ _ _ _ _ _ (start .pre .1) (well .captures .few) _ _ _ _ (at-if4 .if4 .taken) (at-store .store .ensures) (λ q. c .before .before .if5 .left (c .before .before .before .last .ensures ∙ q))
-    (c .begins .ensures .0 ∙ c .before .part-end .ensures) (c .begins .ensures .1 ∙ ap (λ (o : ℕ). begins (start .args .words .now) o .phase) (sym (c .begins .ensures .0))) (c .begins .ensures .2)
+    let store = c .before .before .before .before .before .before in
+    let told = store .before .before .before in
+    let start = told .before .before .before .before .before .before in
+    let phase = ap phaseIs (told .enum-told3 .given .1) in
+    let well = start .pre .0 .well (store-going _ phase) in
+    let next = c .begins .ensures in
+    store-done-next _ _ _ _ _ _ _ (start .pre .1) (well .captures .few) _ _ _ _ phase (store .store-room .ensures) (λ q. c .before .before .if2 .left (c .before .before .before .last .ensures ∙ q)) (next .0 ∙ c .before .part-end .ensures)
+    (next .1 ∙ ap (λ (o : ℕ). begins (start .args .words .now) o .phase) (sym (next .0))) (next .2)
 
 returns-6 : tie.Need-returns-6
-returns-6 c =
-    idle-done _ _ _ _ _ _ _ (c .before .before .if1 .left) (c .before .if2 .left) (c .if4 .left)
+returns-6 c = idle-done _ _ _ _ _ _ _ (ap phaseIs (c .enum-told4 .given .1))
 
 pub turn-spec : {M : Type 1} → statement M
 turn-spec =
     tie.close
     (tie.spec
+    enum-told
     read-room-requires
-    same-length
-    same-length-2
-    returns
+    enum-told-2
     stage-room-requires
-    add-self
-    add-if3
+    add-if1
     stages-requires
+    add-t23
+    same-length
+    returns
+    add-self
+    enum-told-3
+    store-room-requires
+    last-requires
+    same-length-2
     same-length-3
     returns-2
-    same-length-4
-    returns-3
-    sub-store
-    part-store-start
-    part-store-end
-    store-requires
-    last-requires
-    same-length-5
-    same-length-6
-    returns-4
     part-end-requires
     begins-requires
+    enum-told-4
+    same-length-4
+    same-length-5
+    returns-3
+    same-length-6
+    returns-4
     same-length-7
     same-length-8
     returns-5

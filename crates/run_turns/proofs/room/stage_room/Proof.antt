@@ -1,9 +1,9 @@
--- `run_turns::block::stage_room` meets its contract: the positions come back in their place, and the captured words are those of the new positions.
+-- `run_turns::room::stage_room` meets its contract: the positions come back in their place, and the captured words are those of the new positions.
 -- Assumes nothing.
 use borrow.Author.Needs.{needs}
 use Rattle.run_turns.proofs.BlockLaws.{stage-room-is}
-use Rattle.run_turns.proofs.block.stage_room.Statement.{statement}
-use Rattle.run_turns.proofs.block.stage_room.Tie as tie
+use Rattle.run_turns.proofs.room.stage_room.Statement.{statement}
+use Rattle.run_turns.proofs.room.stage_room.Tie as tie
 
 sub-stage-turn : tie.Need-sub-stage-turn
 sub-stage-turn c = search needs

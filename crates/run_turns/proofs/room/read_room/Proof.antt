@@ -1,9 +1,9 @@
--- `run_turns::block::read_room` meets its contract: a part that is lent comes back in its place.
+-- `run_turns::room::read_room` meets its contract: a part that is lent comes back in its place.
 -- Assumes nothing.
 use borrow.Author.Needs.{needs}
 use Rattle.run_turns.proofs.BlockLaws.{read-room-is}
-use Rattle.run_turns.proofs.block.read_room.Statement.{statement}
-use Rattle.run_turns.proofs.block.read_room.Tie as tie
+use Rattle.run_turns.proofs.room.read_room.Statement.{statement}
+use Rattle.run_turns.proofs.room.read_room.Tie as tie
 
 sub-read-turn : tie.Need-sub-read-turn
 sub-read-turn c = search needs

@@ -1,0 +1,112 @@
+// A block's room: which of its words are for what, and what of it a turn is lent. No other file has these numbers.
+use crate::block::BlockState;
+use crate::block::Phase;
+use crate::read;
+use crate::store;
+use run_stage::stage_turn;
+ghost use mathlib.Core.Path.{_≡_};
+ghost use Prim.Native.Nat.{_+_, _<_, _≤_};
+ghost use lib.ListN.{length, take, drop};
+ghost use lib.Seq.{sets};
+ghost use Rattle.words.specs.Section.{listOf};
+ghost use Rattle.run_machine.specs.Part.{stagesAt, startAt, normalAt};
+ghost use Rattle.run_machine.specs.Turn.{storedWord};
+ghost use Rattle.run_machine.specs.Room.{blockRoom, capturedFrom, partLow, phaseCode, phaseFrom, partOf, phaseOf, stageOf, stateWords};
+ghost use Rattle.run_form.specs.Well.{PartIn, Reads, EntriesIn, Captures};
+ghost use Rattle.run_turns.specs.Phases.{phaseIs};
+ghost use Rattle.run_turns.specs.Block.{roomRead, roomStaged};
+use words::clear::clear;
+
+// The words of a block's room: document 01, "1024 a block for a run".
+pub const BLOCK_ROOM: usize = 1024;
+// From word 0 on the positions, 32 to a word; then the bits that a stage gathers; then the captured words.
+const GATHERED: usize = 256;
+
+pub const CAPTURED: usize = 512;
+// Then the block's state: where its part begins, low 32 bits and high, its phase and its stage.
+const PART_LOW: usize = 768;
+
+const PART_HIGH: usize = 769;
+
+const PHASE: usize = 770;
+
+const STAGE: usize = 771;
+
+// A phase as a word, and a word as a phase.
+fn phase_word(phase: Phase) -> u32
+    ensures { λ r. ⌜ r ≡ phaseCode (phaseIs phase) ⌝ }
+{
+    match phase {
+        Phase::Read => 0,
+        Phase::Stage => 1,
+        Phase::Store => 2,
+        Phase::Finished => 3,
+    }
+}
+
+fn phase_from(word: u32) -> Phase
+    ensures { λ r. ⌜ phaseIs r ≡ phaseFrom word ⌝ }
+{
+    if word == 0 {
+        return Phase::Read;
+    }
+    if word == 1 {
+        return Phase::Stage;
+    }
+    if word == 2 {
+        return Phase::Store;
+    }
+    Phase::Finished
+}
+
+// The state that a block's room holds.
+pub fn load_state(room: &[u32]) -> BlockState
+    requires { ⌜ length (now room) ≡ blockRoom ⌝ }
+    ensures { λ r. ⌜ (r .part ≡ partOf (now (room .entry))) × (phaseIs (r .phase) ≡ phaseOf (now (room .entry))) × (r .stage ≡ stageOf (now (room .entry))) ⌝ }
+{
+    let phase = phase_from(room[PHASE]);
+    BlockState {
+        part: room[PART_LOW] as usize + 0x1_0000_0000 * (room[PART_HIGH] as usize),
+        phase,
+        stage: room[STAGE] as usize,
+    }
+}
+
+// Stores it there.
+pub fn store_state(room: &mut [u32], state: BlockState)
+    requires { ⌜ (length (now room) ≡ blockRoom) × (state .stage ≤ 255) ⌝ }
+    ensures { λ _. ⌜ now (room .exit) ≡ sets (now (room .entry)) partLow (stateWords (state .part) (phaseIs (state .phase)) (state .stage)) ⌝ }
+{
+    let at = state.part;
+    let phase = state.phase;
+    room[PART_LOW] = (at % 0x1_0000_0000) as u32;
+    room[PART_HIGH] = (at / 0x1_0000_0000) as u32;
+    room[PHASE] = phase_word(phase);
+    room[STAGE] = state.stage as u32;
+}
+
+// The read turn of the part at word `at`: it is lent the positions, and no word is captured yet.
+pub fn read_room<'a>(words: &[u32], at: usize, old: &'a [u32], new: &'a [u32], room: &mut [u32])
+    requires { ⌜ PartIn 256 (now words) at × Reads 256 (now words) at (length (now old)) (length (now new)) × (length (now room) ≡ blockRoom) ⌝ }
+    ensures { λ _. ⌜ now (room .exit) ≡ roomRead 256 (now (words .entry)) at (now (old .entry)) (now (new .entry)) (now (room .entry)) ⌝ }
+{
+    read::read_turn(words, at, old, new, &mut room[0..GATHERED]);
+    clear(&mut room[CAPTURED..PART_LOW]);
+}
+
+// Stage k: it is lent the positions and the gathered bits; then words are captured.
+pub fn stage_room(words: &[u32], at: usize, k: usize, room: &mut [u32])
+    requires { ⌜ PartIn 256 (now words) at × EntriesIn 256 (now words) at × Captures 256 (now words) at × (k < stagesAt (now words) at) × (length (now room) ≡ blockRoom) ⌝ }
+    ensures { λ _. ⌜ now (room .exit) ≡ roomStaged 256 13 (now (words .entry)) at k (now (room .entry)) ⌝ }
+{
+    stage_turn(words, at, k, &mut room[0..CAPTURED]);
+    store::capture(words, at, k, room);
+}
+
+// The store turn: it is lent the captured words.
+pub fn store_room(words: &[u32], at: usize, room: &[u32], old: &[u32], new: &mut [u32])
+    requires { ⌜ PartIn 256 (now words) at × Captures 256 (now words) at × EntriesIn 256 (now words) at × (length (now room) ≡ blockRoom) × (0 < normalAt (now words) at → (startAt (now words) at + normalAt (now words) at ≤ length (now old)) × (startAt (now words) at + normalAt (now words) at ≤ length (now new))) ⌝ }
+    ensures { λ _. ⌜ now (new .exit) ≡ sets (now (new .entry)) (startAt (now (words .entry)) at) (listOf (storedWord 256 (now (words .entry)) at (now (old .entry)) (take (normalAt (now (words .entry)) at) (drop capturedFrom (now (room .entry))))) (normalAt (now (words .entry)) at)) ⌝ }
+{
+    store::store(words, at, &room[CAPTURED..PART_LOW], old, new);
+}
