@@ -1,0 +1,26 @@
+-- The numbers are those of the answer, and each slice is left as the function behind says.
+-- Assumes nothing.
+use mathlib.Core.Path.{refl, ap, _∙_}
+use lib.ListN.{length}
+use borrow.Author.Needs.{needs}
+use Rattle.flatten.specs.Flatten.{building}
+use Rattle.capi.specs.Exported.{build}
+use Rattle.capi.specs.Told.{flattenedTold}
+use Rattle.capi.proofs.ToldLaws.{also, flattened-told}
+use Rattle.capi.proofs.juolgesot_build.Statement.{statement}
+use Rattle.capi.proofs.juolgesot_build.Tie as tie
+
+returns : tie.Need-returns
+unfolding build
+returns c =
+    let lent = c .before .before .before .before .before in
+    let m = lent .before .before .before .before .before .before in
+    let given = m .before .before .before .before .before .before in
+    let a = given .before .before .args in
+    let o = building 256 (a .plan .now) (length (a .room .now)) (length (a .starts .now)) (length (a .words .now)) in
+    let made = m .build-flattened-script-v1 .ensures in
+    let numbers = c .tell-flattened .ensures ∙ (ap flattenedTold (made .0) ∙ flattened-told o) in
+    also numbers (also (made .1 .0) (also (made .1 .1 .0) (also (made .1 .1 .1) refl)))
+
+pub juolgesot-build-spec : {M : Type 1} → statement M
+juolgesot-build-spec = tie.close (tie.spec (λ c κs. search needs) (λ c κs. search needs) (λ c. search needs) (λ c. search needs) (λ c. search needs) returns)
