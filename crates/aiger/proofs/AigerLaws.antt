@@ -18,7 +18,7 @@ use Rattle.words.specs.Tests.{allBelow}
 use Rattle.words.proofs.TestLaws.{and-true, true-and, all-at, all-true, not-none, none-not}
 use Rattle.gatelist.specs.GateList.{beforeOver, rightOver, badOver}
 use Rattle.gatelist.specs.Words.{listPin, listFirst, listSecond, wholeGates, allGates, listRight, badList}
-use Rattle.words.specs.Answer.{Answer, good, nowhere}
+use Rattle.words.specs.Answer.{good, refused, nowhere}
 use Rattle.words.proofs.AnswerLaws.{refused-good}
 use Rattle.aiger.specs.Reading.{Header, lastVariable, Start, startOf, Gates, found, gatesFrom, gatesOf, Read, gates, listed, readAiger}
 use Rattle.aiger.specs.Writing.{headerText, gatesBytes, follows, gateWritable, isNone, writable, inputsOf, textOf, writeAiger}
@@ -170,7 +170,7 @@ pub write-good : (l : List ℕ) → writable l ≡ true → writeAiger l ≡ goo
 unfolding writeAiger
 write-good l e = rw (e, writeAiger)
 
-pub write-bad : (l : List ℕ) → writable l ≡ false → writeAiger l ≡ Answer.refused (nowhere 33)
+pub write-bad : (l : List ℕ) → writable l ≡ false → writeAiger l ≡ refused (nowhere 33)
 unfolding writeAiger
 write-bad l e = rw (e, writeAiger)
 

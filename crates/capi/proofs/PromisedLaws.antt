@@ -1,6 +1,6 @@
 -- Demand 3 of the exported run: the number 0 was no refusal, so the answer is a run, and the promise is kept by what it leaves.
 -- Assumes nothing.
-use mathlib.Core.Path.{_≡_, refl, sym, ap, ap₂, _∙_}
+use mathlib.Core.Path.{_≡_, sym, ap, ap₂, _∙_}
 use mathlib.Core.Bool.{Bool, true, false}
 use mathlib.Core.Option.{Option, none, some}
 use mathlib.Core.List.{List, [], _∷_}
@@ -14,7 +14,7 @@ use Rattle.words.proofs.AnswerLaws.{refused-good, handed-zero}
 use Rattle.run_machine.specs.Room.{blockRoom}
 use Rattle.run_machine.specs.Run.{Ran, ran, outcome, newAfter, allLeft, badBlock, badTurn, runTurns}
 use Rattle.promise.proofs.PromiseLaws.{as-run}
-use Rattle.capi.specs.Exported.{turnsLeft}
+use Rattle.capi.specs.Exported.{turnCount}
 use Rattle.capi.specs.Promised.{Promised}
 
 -- refusals have a number
@@ -43,12 +43,12 @@ module _ (W starts turns old new : List ℕ) (room : ℕ) where
       let x = runTurns 256 13 W starts turns old new in
       numbered (leb (blockRoom * (length starts - 1)) room) (badBlock 256 W starts (length old) (length new)) (badTurn starts turns) (allLeft 256 W (x .blocks)) (x .new) q e
 
-  pub promised : (number left second : ℕ) (after : List ℕ) → (number ∷ left ∷ second ∷ []) ≡ handed 2 turnsLeft is → after ≡ newAfter is new
+  pub promised : (number left second : ℕ) (after : List ℕ) → (number ∷ left ∷ second ∷ []) ≡ handed 2 turnCount is → after ≡ newAfter is new
       → Promised W starts old new number left after
   unfolding Promised newAfter
   promised number left second after told made d t accepted stage words begins old-size new-size none-refused none-left =
-      let zeros : (0 ∷ 0 ∷ second ∷ []) ≡ handed 2 turnsLeft is = cc in
-      let (x, e) = handed-zero 2 turnsLeft is (0 ∷ second ∷ []) refused-some zeros in
+      let zeros : (0 ∷ 0 ∷ second ∷ []) ≡ handed 2 turnCount is = cc in
+      let (x, e) = handed-zero 2 turnCount is (0 ∷ second ∷ []) refused-some zeros in
       let numbers : (0 ∷ 0 ∷ second ∷ []) ≡ 0 ∷ x .left ∷ 0 ∷ [] = rw e at zeros in
       let finished : x .left ≡ 0 = cc in
       let state : x .new ≡ after = sym (rw e at made) in

@@ -17,40 +17,40 @@ use Rattle.repair_settle.specs.Settle.{repairedOf}
 use Rattle.aiger.specs.Reading.{Read}
 use Rattle.aiger_read.specs.Told.{gatesTold as gatesOf}
 use Rattle.aiger_write.specs.Told.{textTold as textOf}
-use Rattle.capi.specs.Exported.{roundCount, textLength, ownBit, turnsLeft, planSize, entryCount, header}
-use Rattle.capi.specs.Told.{roundsTold, listedTold, valuedTold, ranTold, repairedTold, textTold, flattenedTold, gatesTold}
+use Rattle.capi.specs.Exported.{roundCount, textLength, ownBit, turnCount, planSize, entryCount, gateCounts}
+use Rattle.capi.specs.Numbers.{roundsNumbers, listedNumbers, valuedNumbers, ranNumbers, repairedNumbers, textNumbers, flattenedNumbers, gatesNumbers}
 
 pub also : {x y : List ℕ} {l m : List (List ℕ)} → x ≡ y → l ≡ m → x ∷ l ≡ y ∷ m
 also e f = cc
 
-pub rounds-told : (o : Answer (List Lane)) → roundsTold (roundsOf o) ≡ handed 2 roundCount o
+pub rounds-told : (o : Answer (List Lane)) → roundsNumbers (roundsOf o) ≡ handed 2 roundCount o
 rounds-told (good x) = refl
 rounds-told (refused q) = refl
 
-pub listed-told : (o : Answer (List ℕ)) → listedTold (listedOf o) ≡ handed 2 textLength o
+pub listed-told : (o : Answer (List ℕ)) → listedNumbers (listedOf o) ≡ handed 2 textLength o
 listed-told (good x) = refl
 listed-told (refused q) = refl
 
-pub valued-told : (o : Answer Bits) → valuedTold (valuedOf o) ≡ handed 2 ownBit o
+pub valued-told : (o : Answer Bits) → valuedNumbers (valuedOf o) ≡ handed 2 ownBit o
 valued-told (good x) = refl
 valued-told (refused q) = refl
 
-pub ran-told : (o : Answer Ran) → ranTold (ranOf o) ≡ handed 2 turnsLeft o
+pub ran-told : (o : Answer Ran) → ranNumbers (ranOf o) ≡ handed 2 turnCount o
 ran-told (good x) = refl
 ran-told (refused q) = refl
 
-pub flattened-told : (o : Answer Sizes) → flattenedTold (flattenedOf o) ≡ handed 4 planSize o
+pub flattened-told : (o : Answer Sizes) → flattenedNumbers (flattenedOf o) ≡ handed 4 planSize o
 flattened-told (good x) = refl
 flattened-told (refused q) = refl
 
-pub repaired-told : (o : Answer Repair) → repairedTold (repairedOf o) ≡ handed 2 entryCount o
+pub repaired-told : (o : Answer Repair) → repairedNumbers (repairedOf o) ≡ handed 2 entryCount o
 repaired-told (good x) = refl
 repaired-told (refused q) = refl
 
-pub gates-told : (o : Answer Read) → gatesTold (gatesOf o) ≡ handed 4 header o
+pub gates-told : (o : Answer Read) → gatesNumbers (gatesOf o) ≡ handed 4 gateCounts o
 gates-told (good x) = refl
 gates-told (refused q) = refl
 
-pub text-told : (o : Answer (List ℕ)) → textTold (textOf o) ≡ handed 2 textLength o
+pub text-told : (o : Answer (List ℕ)) → textNumbers (textOf o) ≡ handed 2 textLength o
 text-told (good x) = refl
 text-told (refused q) = refl

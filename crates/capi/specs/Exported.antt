@@ -12,8 +12,8 @@ use Rattle.values.specs.Values.{Bits, outcome as valued, bitsAfter, roomAfter a
 use Rattle.run_machine.specs.Run.{Ran, outcome as ranAs, newAfter, roomAfter as runRoomAfter}
 use Rattle.flatten.specs.Flatten.{Sizes, sizing, building, laid, roomAfter as builtRoomAfter}
 use Rattle.script_assembly.specs.Assembly.{scriptWords, scriptStarts}
-use Rattle.aiger.specs.Reading.{Read, readAiger as reading}
-use Rattle.aiger.specs.Writing.{writeAiger as writing}
+use Rattle.aiger.specs.Reading.{Read, readAiger}
+use Rattle.aiger.specs.Writing.{writeAiger}
 use Rattle.aiger.specs.Outcome.{fitting, listAfter as gatesAfter, holding, textAfter as aigerAfter}
 use Rattle.repair_nodes.specs.Outcome.{Repair, placed, cleared, slotsAfter, listAfter, roomAfter as repairRoomAfter}
 
@@ -32,8 +32,8 @@ abbrev pub ownBit : Bits → List ℕ
 ownBit x = x .own ∷ []
 
 -- of a run the turns left
-abbrev pub turnsLeft : Ran → List ℕ
-turnsLeft x = x .left ∷ []
+abbrev pub turnCount : Ran → List ℕ
+turnCount x = x .left ∷ []
 
 -- of a plan starts, words, state words and SRAM words
 abbrev pub planSize : Sizes → List ℕ
@@ -44,55 +44,55 @@ abbrev pub entryCount : Repair → List ℕ
 entryCount x = length (x .counts) ∷ []
 
 -- of gates read gates, inputs, latches and outputs
-abbrev pub header : Read → List ℕ
-header x = x .header .gates ∷ x .header .inputs ∷ x .header .latches ∷ x .header .outputs ∷ []
+abbrev pub gateCounts : Read → List ℕ
+gateCounts x = x .header .gates ∷ x .header .inputs ∷ x .header .latches ∷ x .header .outputs ∷ []
 
 -- ---- the functions
 
-unfoldable pub readRounds : (set room out : List ℕ) → List (List ℕ)
-readRounds set room out =
+unfoldable pub afterReadRounds : (set room out : List ℕ) → List (List ℕ)
+afterReadRounds set room out =
     let o = rounds 256 set (length out) (length room) in
     handed 2 roundCount o ∷ roomAfter room ∷ resultAfter o out ∷ []
 
-unfoldable pub list : (records room out : List ℕ) → List (List ℕ)
-list records room out =
+unfoldable pub afterList : (records room out : List ℕ) → List (List ℕ)
+afterList records room out =
     let o = listed records (length out) (length room) in
     handed 2 textLength o ∷ roomAfter room ∷ textAfter o out ∷ []
 
-unfoldable pub value : (plan room old new bits : List ℕ) (part pin : ℕ) → List (List ℕ)
-value plan room old new bits part pin =
+unfoldable pub afterValue : (plan room old new bits : List ℕ) (part pin : ℕ) → List (List ℕ)
+afterValue plan room old new bits part pin =
     let o = valued plan part old new (length room) (length bits) pin in
     handed 2 ownBit o ∷ planRoomAfter plan room ∷ bitsAfter o bits ∷ []
 
-unfoldable pub run : (words starts turns old new room : List ℕ) → List (List ℕ)
-run words starts turns old new room =
+unfoldable pub afterRun : (words starts turns old new room : List ℕ) → List (List ℕ)
+afterRun words starts turns old new room =
     let o = ranAs 256 13 words starts turns old new (length room) in
-    handed 2 turnsLeft o ∷ newAfter o new ∷ runRoomAfter starts room ∷ []
+    handed 2 turnCount o ∷ newAfter o new ∷ runRoomAfter starts room ∷ []
 
-unfoldable pub planSizes : (plan room : List ℕ) → List (List ℕ)
-planSizes plan room = handed 4 planSize (sizing 256 plan (length room)) ∷ builtRoomAfter plan room ∷ []
+unfoldable pub afterPlanSizes : (plan room : List ℕ) → List (List ℕ)
+afterPlanSizes plan room = handed 4 planSize (sizing 256 plan (length room)) ∷ builtRoomAfter plan room ∷ []
 
-unfoldable pub build : (plan room starts words : List ℕ) → List (List ℕ)
-build plan room starts words =
+unfoldable pub afterBuild : (plan room starts words : List ℕ) → List (List ℕ)
+afterBuild plan room starts words =
     let o = building 256 plan (length room) (length starts) (length words) in
     handed 4 planSize o ∷ builtRoomAfter plan room ∷ laid o (scriptStarts 256 plan) starts ∷ laid o (scriptWords 256 plan) words ∷ []
 
-unfoldable pub placeBit : (gates levels counts slots after room : List ℕ) (level slot node : ℕ) → List (List ℕ)
-placeBit gates levels counts slots after room level slot node =
+unfoldable pub afterPlaceBit : (gates levels counts slots after room : List ℕ) (level slot node : ℕ) → List (List ℕ)
+afterPlaceBit gates levels counts slots after room level slot node =
     let o = placed 13 gates levels counts slots (length after) (length room) level slot node in
     handed 2 entryCount o ∷ slotsAfter o slots ∷ listAfter o after ∷ repairRoomAfter counts room ∷ []
 
-unfoldable pub purgeBit : (counts slots after room : List ℕ) (level slot : ℕ) → List (List ℕ)
-purgeBit counts slots after room level slot =
+unfoldable pub afterPurgeBit : (counts slots after room : List ℕ) (level slot : ℕ) → List (List ℕ)
+afterPurgeBit counts slots after room level slot =
     let o = cleared 13 counts slots (length after) (length room) level slot in
     handed 2 entryCount o ∷ slotsAfter o slots ∷ listAfter o after ∷ repairRoomAfter counts room ∷ []
 
-unfoldable pub readAiger : (bytes out : List ℕ) → List (List ℕ)
-readAiger bytes out =
-    let o = fitting (length out) (reading bytes) in
-    handed 4 header o ∷ gatesAfter o out ∷ []
+unfoldable pub afterReadAiger : (bytes out : List ℕ) → List (List ℕ)
+afterReadAiger bytes out =
+    let o = fitting (length out) (readAiger bytes) in
+    handed 4 gateCounts o ∷ gatesAfter o out ∷ []
 
-unfoldable pub writeAiger : (gates out : List ℕ) → List (List ℕ)
-writeAiger gates out =
-    let o = holding (length out) (writing gates) in
+unfoldable pub afterWriteAiger : (gates out : List ℕ) → List (List ℕ)
+afterWriteAiger gates out =
+    let o = holding (length out) (writeAiger gates) in
     handed 2 textLength o ∷ aigerAfter o out ∷ []

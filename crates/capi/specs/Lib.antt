@@ -1,3 +1,3 @@
 pub mod Exported
-pub mod Told
+pub mod Numbers
 pub mod Promised

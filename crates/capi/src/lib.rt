@@ -2,9 +2,8 @@
 // lent for them: what a good answer says, or the refusal's place. Each contract is one equation: the numbers, then every slice that is written.
 ghost use mathlib.Core.Path.{_≡_};
 ghost use mathlib.Core.List.{[], _∷_};
-ghost use Prim.Native.Nat.{ℕ};
-ghost use Rattle.capi.specs.Exported.{readRounds, list, value, run, planSizes, build, placeBit, purgeBit, readAiger, writeAiger};
-ghost use Rattle.capi.specs.Told.{roundsTold, listedTold, valuedTold, ranTold, flattenedTold, repairedTold, gatesTold, textTold};
+ghost use Rattle.capi.specs.Exported.{afterReadRounds, afterList, afterValue, afterRun, afterPlanSizes, afterBuild, afterPlaceBit, afterPurgeBit, afterReadAiger, afterWriteAiger};
+ghost use Rattle.capi.specs.Numbers.{roundsNumbers, listedNumbers, valuedNumbers, ranNumbers, flattenedNumbers, repairedNumbers, gatesNumbers, textNumbers};
 ghost use Rattle.capi.specs.Promised.{Promised};
 use aiger_read::Gates;
 use aiger_write::Text;
@@ -19,7 +18,7 @@ use words::answer::hand_refusal;
 use words::units::Pin;
 
 fn tell_rounds(answer: Rounds, first: &mut u64, second: &mut u64) -> u32
-    ensures { λ r. ⌜ (r ∷ now (first .exit) ∷ now (second .exit) ∷ []) ≡ roundsTold answer ⌝ }
+    ensures { λ r. ⌜ (r ∷ now (first .exit) ∷ now (second .exit) ∷ []) ≡ roundsNumbers answer ⌝ }
 {
     match answer {
         Rounds::Placed(n) => hand_good(n as u64, first, second),
@@ -36,7 +35,7 @@ pub extern "C" fn juolgesot_read_rounds(
     first: &mut u64,
     second: &mut u64,
 ) -> u32
-    ensures { λ r. ⌜ ((r ∷ now (first .exit) ∷ now (second .exit) ∷ []) ∷ now (room .exit) ∷ now (out .exit) ∷ []) ≡ readRounds (now (set .entry)) (now (room .entry)) (now (out .entry)) ⌝ }
+    ensures { λ r. ⌜ ((r ∷ now (first .exit) ∷ now (second .exit) ∷ []) ∷ now (room .exit) ∷ now (out .exit) ∷ []) ≡ afterReadRounds (now (set .entry)) (now (room .entry)) (now (out .entry)) ⌝ }
 {
     tell_rounds(
         rounds::map_global_read_to_rounds(set, room, out),
@@ -46,7 +45,7 @@ pub extern "C" fn juolgesot_read_rounds(
 }
 
 fn tell_listed(answer: Listed, first: &mut u64, second: &mut u64) -> u32
-    ensures { λ r. ⌜ (r ∷ now (first .exit) ∷ now (second .exit) ∷ []) ≡ listedTold answer ⌝ }
+    ensures { λ r. ⌜ (r ∷ now (first .exit) ∷ now (second .exit) ∷ []) ≡ listedNumbers answer ⌝ }
 {
     match answer {
         Listed::Text(n) => hand_good(n as u64, first, second),
@@ -63,13 +62,13 @@ pub extern "C" fn juolgesot_list(
     first: &mut u64,
     second: &mut u64,
 ) -> u32
-    ensures { λ r. ⌜ ((r ∷ now (first .exit) ∷ now (second .exit) ∷ []) ∷ now (room .exit) ∷ now (out .exit) ∷ []) ≡ list (now (records .entry)) (now (room .entry)) (now (out .entry)) ⌝ }
+    ensures { λ r. ⌜ ((r ∷ now (first .exit) ∷ now (second .exit) ∷ []) ∷ now (room .exit) ∷ now (out .exit) ∷ []) ≡ afterList (now (records .entry)) (now (room .entry)) (now (out .entry)) ⌝ }
 {
     tell_listed(listing::list(records, room, out), first, second)
 }
 
 fn tell_valued(answer: Valued, first: &mut u64, second: &mut u64) -> u32
-    ensures { λ r. ⌜ (r ∷ now (first .exit) ∷ now (second .exit) ∷ []) ≡ valuedTold answer ⌝ }
+    ensures { λ r. ⌜ (r ∷ now (first .exit) ∷ now (second .exit) ∷ []) ≡ valuedNumbers answer ⌝ }
 {
     match answer {
         Valued::Bit(b) => hand_good(b as u64, first, second),
@@ -91,7 +90,7 @@ pub extern "C" fn juolgesot_value(
     first: &mut u64,
     second: &mut u64,
 ) -> u32
-    ensures { λ r. ⌜ ((r ∷ now (first .exit) ∷ now (second .exit) ∷ []) ∷ now (room .exit) ∷ now (bits .exit) ∷ []) ≡ value (now (plan .entry)) (now (room .entry)) (now (old .entry)) (now (new .entry)) (now (bits .entry)) part pin ⌝ }
+    ensures { λ r. ⌜ ((r ∷ now (first .exit) ∷ now (second .exit) ∷ []) ∷ now (room .exit) ∷ now (bits .exit) ∷ []) ≡ afterValue (now (plan .entry)) (now (room .entry)) (now (old .entry)) (now (new .entry)) (now (bits .entry)) part pin ⌝ }
 {
     tell_valued(
         values::value(plan, part, old, new, room, bits, Pin(pin)),
@@ -101,7 +100,7 @@ pub extern "C" fn juolgesot_value(
 }
 
 fn tell_ran(answer: Ran, first: &mut u64, second: &mut u64) -> u32
-    ensures { λ r. ⌜ (r ∷ now (first .exit) ∷ now (second .exit) ∷ []) ≡ ranTold answer ⌝ }
+    ensures { λ r. ⌜ (r ∷ now (first .exit) ∷ now (second .exit) ∷ []) ≡ ranNumbers answer ⌝ }
 {
     match answer {
         Ran::Left(n) => hand_good(n, first, second),
@@ -121,7 +120,7 @@ pub extern "C" fn juolgesot_run(
     first: &mut u64,
     second: &mut u64,
 ) -> u32
-    ensures { λ r. ⌜ ((r ∷ now (first .exit) ∷ now (second .exit) ∷ []) ∷ now (new .exit) ∷ now (room .exit) ∷ []) ≡ run (now (words .entry)) (now (starts .entry)) (now (turns .entry)) (now (old .entry)) (now (new .entry)) (now (room .entry)) ⌝ }
+    ensures { λ r. ⌜ ((r ∷ now (first .exit) ∷ now (second .exit) ∷ []) ∷ now (new .exit) ∷ now (room .exit) ∷ []) ≡ afterRun (now (words .entry)) (now (starts .entry)) (now (turns .entry)) (now (old .entry)) (now (new .entry)) (now (room .entry)) ⌝ }
     ensures promise { λ r. ⌜ Promised (now (words .entry)) (now (starts .entry)) (now (old .entry)) (now (new .entry)) r (now (first .exit)) (now (new .exit)) ⌝ }
 {
     tell_ran(
@@ -138,7 +137,7 @@ fn tell_flattened(
     third: &mut u64,
     fourth: &mut u64,
 ) -> u32
-    ensures { λ r. ⌜ (r ∷ now (first .exit) ∷ now (second .exit) ∷ now (third .exit) ∷ now (fourth .exit) ∷ []) ≡ flattenedTold answer ⌝ }
+    ensures { λ r. ⌜ (r ∷ now (first .exit) ∷ now (second .exit) ∷ now (third .exit) ∷ now (fourth .exit) ∷ []) ≡ flattenedNumbers answer ⌝ }
 {
     match answer {
         Flattened::Built(sizes) => {
@@ -166,7 +165,7 @@ pub extern "C" fn juolgesot_plan_sizes(
     third: &mut u64,
     fourth: &mut u64,
 ) -> u32
-    ensures { λ r. ⌜ ((r ∷ now (first .exit) ∷ now (second .exit) ∷ now (third .exit) ∷ now (fourth .exit) ∷ []) ∷ now (room .exit) ∷ []) ≡ planSizes (now (plan .entry)) (now (room .entry)) ⌝ }
+    ensures { λ r. ⌜ ((r ∷ now (first .exit) ∷ now (second .exit) ∷ now (third .exit) ∷ now (fourth .exit) ∷ []) ∷ now (room .exit) ∷ []) ≡ afterPlanSizes (now (plan .entry)) (now (room .entry)) ⌝ }
 {
     tell_flattened(
         flatten::plan_sizes(plan, room),
@@ -189,7 +188,7 @@ pub extern "C" fn juolgesot_build(
     third: &mut u64,
     fourth: &mut u64,
 ) -> u32
-    ensures { λ r. ⌜ ((r ∷ now (first .exit) ∷ now (second .exit) ∷ now (third .exit) ∷ now (fourth .exit) ∷ []) ∷ now (room .exit) ∷ now (starts .exit) ∷ now (words .exit) ∷ []) ≡ build (now (plan .entry)) (now (room .entry)) (now (starts .entry)) (now (words .entry)) ⌝ }
+    ensures { λ r. ⌜ ((r ∷ now (first .exit) ∷ now (second .exit) ∷ now (third .exit) ∷ now (fourth .exit) ∷ []) ∷ now (room .exit) ∷ now (starts .exit) ∷ now (words .exit) ∷ []) ≡ afterBuild (now (plan .entry)) (now (room .entry)) (now (starts .entry)) (now (words .entry)) ⌝ }
 {
     tell_flattened(
         flatten::build_flattened_script_v1(plan, room, starts, words),
@@ -201,7 +200,7 @@ pub extern "C" fn juolgesot_build(
 }
 
 fn tell_repaired(answer: Repaired, first: &mut u64, second: &mut u64) -> u32
-    ensures { λ r. ⌜ (r ∷ now (first .exit) ∷ now (second .exit) ∷ []) ≡ repairedTold answer ⌝ }
+    ensures { λ r. ⌜ (r ∷ now (first .exit) ∷ now (second .exit) ∷ []) ≡ repairedNumbers answer ⌝ }
 {
     match answer {
         Repaired::Listed(n) => hand_good(n as u64, first, second),
@@ -224,7 +223,7 @@ pub extern "C" fn juolgesot_place_bit(
     first: &mut u64,
     second: &mut u64,
 ) -> u32
-    ensures { λ r. ⌜ ((r ∷ now (first .exit) ∷ now (second .exit) ∷ []) ∷ now (slots .exit) ∷ now (after .exit) ∷ now (room .exit) ∷ []) ≡ placeBit (now (gates .entry)) (now (levels .entry)) (now (counts .entry)) (now (slots .entry)) (now (after .entry)) (now (room .entry)) level slot node ⌝ }
+    ensures { λ r. ⌜ ((r ∷ now (first .exit) ∷ now (second .exit) ∷ []) ∷ now (slots .exit) ∷ now (after .exit) ∷ now (room .exit) ∷ []) ≡ afterPlaceBit (now (gates .entry)) (now (levels .entry)) (now (counts .entry)) (now (slots .entry)) (now (after .entry)) (now (room .entry)) level slot node ⌝ }
 {
     let answer = repair::place_bit(
         gates,
@@ -252,7 +251,7 @@ pub extern "C" fn juolgesot_purge_bit(
     first: &mut u64,
     second: &mut u64,
 ) -> u32
-    ensures { λ r. ⌜ ((r ∷ now (first .exit) ∷ now (second .exit) ∷ []) ∷ now (slots .exit) ∷ now (after .exit) ∷ now (room .exit) ∷ []) ≡ purgeBit (now (counts .entry)) (now (slots .entry)) (now (after .entry)) (now (room .entry)) level slot ⌝ }
+    ensures { λ r. ⌜ ((r ∷ now (first .exit) ∷ now (second .exit) ∷ []) ∷ now (slots .exit) ∷ now (after .exit) ∷ now (room .exit) ∷ []) ≡ afterPurgeBit (now (counts .entry)) (now (slots .entry)) (now (after .entry)) (now (room .entry)) level slot ⌝ }
 {
     tell_repaired(
         repair::purge_bit(counts, slots, after, room, level, slot),
@@ -268,7 +267,7 @@ fn tell_gates(
     third: &mut u64,
     fourth: &mut u64,
 ) -> u32
-    ensures { λ r. ⌜ (r ∷ now (first .exit) ∷ now (second .exit) ∷ now (third .exit) ∷ now (fourth .exit) ∷ []) ≡ gatesTold answer ⌝ }
+    ensures { λ r. ⌜ (r ∷ now (first .exit) ∷ now (second .exit) ∷ now (third .exit) ∷ now (fourth .exit) ∷ []) ≡ gatesNumbers answer ⌝ }
 {
     match answer {
         Gates::Read(header) => {
@@ -296,7 +295,7 @@ pub extern "C" fn juolgesot_read_aiger(
     third: &mut u64,
     fourth: &mut u64,
 ) -> u32
-    ensures { λ r. ⌜ ((r ∷ now (first .exit) ∷ now (second .exit) ∷ now (third .exit) ∷ now (fourth .exit) ∷ []) ∷ now (out .exit) ∷ []) ≡ readAiger (now (bytes .entry)) (now (out .entry)) ⌝ }
+    ensures { λ r. ⌜ ((r ∷ now (first .exit) ∷ now (second .exit) ∷ now (third .exit) ∷ now (fourth .exit) ∷ []) ∷ now (out .exit) ∷ []) ≡ afterReadAiger (now (bytes .entry)) (now (out .entry)) ⌝ }
 {
     tell_gates(
         aiger_read::read_gates(bytes, out),
@@ -308,7 +307,7 @@ pub extern "C" fn juolgesot_read_aiger(
 }
 
 fn tell_text(answer: Text, first: &mut u64, second: &mut u64) -> u32
-    ensures { λ r. ⌜ (r ∷ now (first .exit) ∷ now (second .exit) ∷ []) ≡ textTold answer ⌝ }
+    ensures { λ r. ⌜ (r ∷ now (first .exit) ∷ now (second .exit) ∷ []) ≡ textNumbers answer ⌝ }
 {
     match answer {
         Text::Bytes(n) => hand_good(n as u64, first, second),
@@ -324,7 +323,7 @@ pub extern "C" fn juolgesot_write_aiger(
     first: &mut u64,
     second: &mut u64,
 ) -> u32
-    ensures { λ r. ⌜ ((r ∷ now (first .exit) ∷ now (second .exit) ∷ []) ∷ now (out .exit) ∷ []) ≡ writeAiger (now (gates .entry)) (now (out .entry)) ⌝ }
+    ensures { λ r. ⌜ ((r ∷ now (first .exit) ∷ now (second .exit) ∷ []) ∷ now (out .exit) ∷ []) ≡ afterWriteAiger (now (gates .entry)) (now (out .entry)) ⌝ }
 {
     tell_text(aiger_write::write_gates(gates, out), first, second)
 }

@@ -19,13 +19,11 @@ use Rattle.plan_checks.specs.Refusals.{planRefusal, planVerdict}
 use Rattle.plan_checks.specs.Ready.{Ready, readyRoom, roomLeft}
 use Rattle.plan_checks.specs.Verdicts.{verdictOf}
 use Rattle.words.proofs.TestLaws.{some-not-none}
-use Rattle.plan_checks.specs.declared.Verdict.{Verdict}
 use Rattle.plan_checks.specs.declared.Verdict.the-variants as verdict
 use Rattle.script_assembly.specs.Assembly.{scriptWords}
 use Rattle.script_assembly.proofs.StartLaws.{starts-length}
 use Rattle.script_layout.specs.Layout.{Sound, PlanRoom}
 use Rattle.flatten.specs.declared.sizes.Sizes.{Sizes}
-use Rattle.flatten.specs.declared.Flattened.{Flattened}
 use Rattle.flatten.specs.declared.Flattened.the-variants as flattened
 use Rattle.flatten.specs.Flatten as flat
 use Rattle.flatten.specs.Flatten.{sizesOf, sizing, fits, ifFits, building, laid, roomAfter}

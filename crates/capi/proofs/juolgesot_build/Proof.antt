@@ -4,14 +4,14 @@ use mathlib.Core.Path.{refl, ap, _∙_}
 use lib.ListN.{length}
 use borrow.Author.Needs.{needs}
 use Rattle.flatten.specs.Flatten.{building}
-use Rattle.capi.specs.Exported.{build}
-use Rattle.capi.specs.Told.{flattenedTold}
+use Rattle.capi.specs.Exported.{afterBuild}
+use Rattle.capi.specs.Numbers.{flattenedNumbers}
 use Rattle.capi.proofs.ToldLaws.{also, flattened-told}
 use Rattle.capi.proofs.juolgesot_build.Statement.{statement}
 use Rattle.capi.proofs.juolgesot_build.Tie as tie
 
 returns : tie.Need-returns
-unfolding build
+unfolding afterBuild
 returns c =
     let lent = c .before .before .before .before .before in
     let m = lent .before .before .before .before .before .before in
@@ -19,7 +19,7 @@ returns c =
     let a = given .before .before .args in
     let o = building 256 (a .plan .now) (length (a .room .now)) (length (a .starts .now)) (length (a .words .now)) in
     let made = m .build-flattened-script-v1 .ensures in
-    let numbers = c .tell-flattened .ensures ∙ (ap flattenedTold (made .0) ∙ flattened-told o) in
+    let numbers = c .tell-flattened .ensures ∙ (ap flattenedNumbers (made .0) ∙ flattened-told o) in
     also numbers (also (made .1 .0) (also (made .1 .1 .0) (also (made .1 .1 .1) refl)))
 
 pub juolgesot-build-spec : {M : Type 1} → statement M

@@ -4,21 +4,21 @@ use mathlib.Core.Path.{refl, ap, _∙_}
 use lib.ListN.{length}
 use borrow.Author.Needs.{needs}
 use Rattle.listing.specs.Listing.{listed}
-use Rattle.capi.specs.Exported.{list}
-use Rattle.capi.specs.Told.{listedTold}
+use Rattle.capi.specs.Exported.{afterList}
+use Rattle.capi.specs.Numbers.{listedNumbers}
 use Rattle.capi.proofs.ToldLaws.{also, listed-told}
 use Rattle.capi.proofs.juolgesot_list.Statement.{statement}
 use Rattle.capi.proofs.juolgesot_list.Tie as tie
 
 returns : tie.Need-returns
-unfolding list
+unfolding afterList
 returns c =
     let lent = c .before .before .before in
     let m = lent .before .before .before .before in
     let a = m .before .before .before .before .before .before .args in
     let o = listed (a .records .now) (length (a .out .now)) (length (a .room .now)) in
     let made = m .list .ensures in
-    let numbers = c .tell-listed .ensures ∙ (ap listedTold (made .0) ∙ listed-told o) in
+    let numbers = c .tell-listed .ensures ∙ (ap listedNumbers (made .0) ∙ listed-told o) in
     also numbers (also (made .1 .0) (also (made .1 .1) refl))
 
 pub juolgesot-list-spec : {M : Type 1} → statement M

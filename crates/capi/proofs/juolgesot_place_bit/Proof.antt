@@ -4,14 +4,14 @@ use mathlib.Core.Path.{refl, ap, _∙_}
 use lib.ListN.{length}
 use borrow.Author.Needs.{needs}
 use Rattle.repair_nodes.specs.Outcome.{placed}
-use Rattle.capi.specs.Exported.{placeBit}
-use Rattle.capi.specs.Told.{repairedTold}
+use Rattle.capi.specs.Exported.{afterPlaceBit}
+use Rattle.capi.specs.Numbers.{repairedNumbers}
 use Rattle.capi.proofs.ToldLaws.{also, repaired-told}
 use Rattle.capi.proofs.juolgesot_place_bit.Statement.{statement}
 use Rattle.capi.proofs.juolgesot_place_bit.Tie as tie
 
 returns : tie.Need-returns
-unfolding placeBit
+unfolding afterPlaceBit
 returns c =
     let lent = c .before .before .before in
     let m = lent .before .before .before .before .before .before in
@@ -19,7 +19,7 @@ returns c =
     let a = given .before .before .before .before .args in
     let o = placed 13 (a .gates .now) (a .levels .now) (a .counts .now) (a .slots .now) (length (a .after .now)) (length (a .room .now)) (a .level) (a .slot) (a .node) in
     let made = m .place-bit .ensures in
-    let numbers = c .tell-repaired .ensures ∙ (ap repairedTold (made .0) ∙ repaired-told o) in
+    let numbers = c .tell-repaired .ensures ∙ (ap repairedNumbers (made .0) ∙ repaired-told o) in
     also numbers (also (made .1 .0) (also (made .1 .1 .0) (also (made .1 .1 .1) refl)))
 
 pub juolgesot-place-bit-spec : {M : Type 1} → statement M

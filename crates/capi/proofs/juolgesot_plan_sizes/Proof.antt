@@ -4,21 +4,21 @@ use mathlib.Core.Path.{refl, ap, _∙_}
 use lib.ListN.{length}
 use borrow.Author.Needs.{needs}
 use Rattle.flatten.specs.Flatten.{sizing}
-use Rattle.capi.specs.Exported.{planSizes}
-use Rattle.capi.specs.Told.{flattenedTold}
+use Rattle.capi.specs.Exported.{afterPlanSizes}
+use Rattle.capi.specs.Numbers.{flattenedNumbers}
 use Rattle.capi.proofs.ToldLaws.{also, flattened-told}
 use Rattle.capi.proofs.juolgesot_plan_sizes.Statement.{statement}
 use Rattle.capi.proofs.juolgesot_plan_sizes.Tie as tie
 
 returns : tie.Need-returns
-unfolding planSizes
+unfolding afterPlanSizes
 returns c =
     let lent = c .before .before .before .before .before in
     let m = lent .before .before in
     let a = m .before .before .before .before .args in
     let o = sizing 256 (a .plan .now) (length (a .room .now)) in
     let made = m .plan-sizes .ensures in
-    let numbers = c .tell-flattened .ensures ∙ (ap flattenedTold (made .0) ∙ flattened-told o) in
+    let numbers = c .tell-flattened .ensures ∙ (ap flattenedNumbers (made .0) ∙ flattened-told o) in
     also numbers (also (made .1) refl)
 
 pub juolgesot-plan-sizes-spec : {M : Type 1} → statement M

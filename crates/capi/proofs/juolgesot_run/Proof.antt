@@ -4,15 +4,15 @@ use mathlib.Core.Path.{refl, ap, _∙_}
 use lib.ListN.{length}
 use borrow.Author.Needs.{needs}
 use Rattle.run_machine.specs.Run.{outcome}
-use Rattle.capi.specs.Exported.{run}
-use Rattle.capi.specs.Told.{ranTold}
+use Rattle.capi.specs.Exported.{afterRun}
+use Rattle.capi.specs.Numbers.{ranNumbers}
 use Rattle.capi.proofs.ToldLaws.{also, ran-told}
 use Rattle.capi.proofs.PromisedLaws.{promised}
 use Rattle.capi.proofs.juolgesot_run.Statement.{statement}
 use Rattle.capi.proofs.juolgesot_run.Tie as tie
 
 returns : tie.Need-returns
-unfolding run
+unfolding afterRun
 returns c =
     let lent = c .before .before .before in
     let m = lent .before .before .before .before in
@@ -20,7 +20,7 @@ returns c =
     let a = given .before .before .before .args in
     let o = outcome 256 13 (a .words .now) (a .starts .now) (a .turns .now) (a .old .now) (a .new .now) (length (a .room .now)) in
     let made = m .run .ensures in
-    let numbers = c .tell-ran .ensures ∙ (ap ranTold (made .0) ∙ ran-told o) in
+    let numbers = c .tell-ran .ensures ∙ (ap ranNumbers (made .0) ∙ ran-told o) in
     (also numbers (also (made .1 .0) (also (made .1 .1) refl)), promised (a .words .now) (a .starts .now) (a .turns .now) (a .old .now) (a .new .now) (length (a .room .now)) _ _ _ _ numbers (made .1 .0))
 
 pub juolgesot-run-spec : {M : Type 1} → statement M

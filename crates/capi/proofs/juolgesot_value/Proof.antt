@@ -4,14 +4,14 @@ use mathlib.Core.Path.{refl, ap, _∙_}
 use lib.ListN.{length}
 use borrow.Author.Needs.{needs}
 use Rattle.values.specs.Values.{outcome}
-use Rattle.capi.specs.Exported.{value}
-use Rattle.capi.specs.Told.{valuedTold}
+use Rattle.capi.specs.Exported.{afterValue}
+use Rattle.capi.specs.Numbers.{valuedNumbers}
 use Rattle.capi.proofs.ToldLaws.{also, valued-told}
 use Rattle.capi.proofs.juolgesot_value.Statement.{statement}
 use Rattle.capi.proofs.juolgesot_value.Tie as tie
 
 returns : tie.Need-returns
-unfolding value
+unfolding afterValue
 returns c =
     let lent = c .before .before .before in
     let m = lent .before .before .before .before in
@@ -19,7 +19,7 @@ returns c =
     let a = given .before .before .args in
     let o = outcome (a .plan .now) (a .part) (a .old .now) (a .new .now) (length (a .room .now)) (length (a .bits .now)) (a .pin) in
     let made = m .value .ensures in
-    let numbers = c .tell-valued .ensures ∙ (ap valuedTold (made .0) ∙ valued-told o) in
+    let numbers = c .tell-valued .ensures ∙ (ap valuedNumbers (made .0) ∙ valued-told o) in
     also numbers (also (made .1 .0) (also (made .1 .1) refl))
 
 pub juolgesot-value-spec : {M : Type 1} → statement M

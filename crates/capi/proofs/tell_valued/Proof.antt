@@ -2,12 +2,12 @@
 -- Assumes nothing.
 use mathlib.Core.Path.{sym, ap, _∙_}
 use borrow.Author.Needs.{needs}
-use Rattle.capi.specs.Told.{valuedTold}
+use Rattle.capi.specs.Numbers.{valuedNumbers}
 use Rattle.capi.proofs.tell_valued.Statement.{statement}
 use Rattle.capi.proofs.tell_valued.Tie as tie
 
 returns-2 : tie.Need-returns-2
-returns-2 c = c .hand-refusal .ensures ∙ ap valuedTold (sym (c .before .before .before .before .answer2 .given .1))
+returns-2 c = c .hand-refusal .ensures ∙ ap valuedNumbers (sym (c .before .before .before .before .answer2 .given .1))
 
 pub tell-valued-spec : {M : Type 1} → statement M
 tell-valued-spec = tie.close (tie.spec (λ c. search needs) (λ c. search needs) (λ c κs. search needs) (λ c. search needs) (λ c κs. search needs) (λ c. search needs) returns-2)

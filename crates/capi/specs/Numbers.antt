@@ -22,38 +22,38 @@ use Rattle.aiger_write.specs.declared.Text.{Text}
 use Rattle.aiger_write.specs.declared.Text.the-variants as text
 
 -- two numbers beside the one that is returned
-abbrev pub roundsTold : Rounds → List ℕ
-roundsTold (rounds.Placed n) = 0 ∷ n ∷ 0 ∷ []
-roundsTold (rounds.Refused q) = numbers q
+abbrev pub roundsNumbers : Rounds → List ℕ
+roundsNumbers (rounds.Placed n) = 0 ∷ n ∷ 0 ∷ []
+roundsNumbers (rounds.Refused q) = numbers q
 
-abbrev pub listedTold : Listed → List ℕ
-listedTold (listed.Text n) = 0 ∷ n ∷ 0 ∷ []
-listedTold (listed.Refused q) = numbers q
+abbrev pub listedNumbers : Listed → List ℕ
+listedNumbers (listed.Text n) = 0 ∷ n ∷ 0 ∷ []
+listedNumbers (listed.Refused q) = numbers q
 
-abbrev pub valuedTold : Valued → List ℕ
-valuedTold (valued.Bit b) = 0 ∷ b ∷ 0 ∷ []
-valuedTold (valued.Refused q) = numbers q
+abbrev pub valuedNumbers : Valued → List ℕ
+valuedNumbers (valued.Bit b) = 0 ∷ b ∷ 0 ∷ []
+valuedNumbers (valued.Refused q) = numbers q
 
-abbrev pub ranTold : Ran → List ℕ
-ranTold (ran.Left n) = 0 ∷ n ∷ 0 ∷ []
-ranTold (ran.Refused q) = numbers q
+abbrev pub ranNumbers : Ran → List ℕ
+ranNumbers (ran.Left n) = 0 ∷ n ∷ 0 ∷ []
+ranNumbers (ran.Refused q) = numbers q
 
-abbrev pub repairedTold : Repaired → List ℕ
-repairedTold (repaired.Listed n) = 0 ∷ n ∷ 0 ∷ []
-repairedTold (repaired.Refused q) = numbers q
+abbrev pub repairedNumbers : Repaired → List ℕ
+repairedNumbers (repaired.Listed n) = 0 ∷ n ∷ 0 ∷ []
+repairedNumbers (repaired.Refused q) = numbers q
 
-abbrev pub textTold : Text → List ℕ
-textTold (text.Bytes n) = 0 ∷ n ∷ 0 ∷ []
-textTold (text.Refused q) = numbers q
+abbrev pub textNumbers : Text → List ℕ
+textNumbers (text.Bytes n) = 0 ∷ n ∷ 0 ∷ []
+textNumbers (text.Refused q) = numbers q
 
 -- four
 abbrev pub four : Refusal → List ℕ
 four q = q .number ∷ q .part ∷ q .item ∷ 0 ∷ 0 ∷ []
 
-abbrev pub flattenedTold : Flattened → List ℕ
-flattenedTold (flattened.Built x) = 0 ∷ x .starts ∷ x .words ∷ x .state ∷ x .sram ∷ []
-flattenedTold (flattened.Refused q) = four q
+abbrev pub flattenedNumbers : Flattened → List ℕ
+flattenedNumbers (flattened.Built x) = 0 ∷ x .starts ∷ x .words ∷ x .state ∷ x .sram ∷ []
+flattenedNumbers (flattened.Refused q) = four q
 
-abbrev pub gatesTold : Gates → List ℕ
-gatesTold (gates.Read h) = 0 ∷ h .gates ∷ h .inputs ∷ h .latches ∷ h .outputs ∷ []
-gatesTold (gates.Refused q) = four q
+abbrev pub gatesNumbers : Gates → List ℕ
+gatesNumbers (gates.Read h) = 0 ∷ h .gates ∷ h .inputs ∷ h .latches ∷ h .outputs ∷ []
+gatesNumbers (gates.Refused q) = four q
