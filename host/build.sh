@@ -29,6 +29,8 @@ cargo_in() {
     (
         cd "$1"
         export RUSTC CARGO_TARGET_DIR=$2
+        # Of the same version as rustc: what is on the path may be another one's.
+        [ ! -x "${RUSTC%/*}/rustdoc" ] || export RUSTDOC=${RUSTC%/*}/rustdoc
         shift 2
         export CARGO_TARGET_X86_64_UNKNOWN_LINUX_GNU_LINKER=$CC
         [ ${#RUN[@]} = 0 ] || export CARGO_TARGET_X86_64_UNKNOWN_LINUX_GNU_RUNNER="${RUN[*]}"
@@ -51,7 +53,7 @@ cargo_build() {
     [ ${#features[@]} = 0 ] || words+=(--features "${features[*]}")
     cargo_host build --release "${words[@]}"
     for program in "$OUT/cargo/${CARGO_FLAGS[1]:+${CARGO_FLAGS[1]}/}release"/*; do
-        if [ -f "$program" ] && [ -x "$program" ]; then
+        if [ -f "$program" ] && [ -x "$program" ] && [[ $program != *.so ]]; then
             ln -f "$program" "$OUT/"
         fi
     done

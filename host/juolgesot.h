@@ -1,12 +1,13 @@
 /* Juolgesot for C: the functions that target/staticlib/libcapi.a exports (x86-64).
  *
  * Each returns 0, or the number of a refusal of documents 01 and 02; then *first is the part and *second the item of its place,
- * and the others are 0. A slice is a pointer and its length in items. Slices must not overlap; nothing else is asked of
- * a caller, and no pointer is kept. Pointers to empty slices are not read, but must not be null.
+ * and the others are 0. A slice is a pointer and its length in items. Slices must not overlap, and the stack has to be large
+ * enough (below); nothing else is asked of a caller, and no pointer is kept. Pointers to empty slices are not read, but must not
+ * be null.
  *
  * `room` is working room. It holds zeros after every call, but for refusal 32 (it is too short), which changes nothing.
  *
- * Nothing is allocated and no function of the C library is called but memcpy and memset. What is needed of the stack is below.
+ * Nothing is allocated, and no function of the C library is called but memcpy and memset.
  */
 #ifndef JUOLGESOT_H
 #define JUOLGESOT_H

@@ -2,10 +2,13 @@
 
 use crate::seen::Seen;
 use from_gem::{Made, Place, What};
-use juolgesot::{finishing_turns, run_into, Pin, Script, StatePosition, BLOCK_ROOM};
+use juolgesot::{finishing_turns, run_into, Machine, Pin, PinIv, Script, StatePosition, BLOCK_ROOM};
 use plan::part_heads;
 use random::Random;
 use simulate::Simulator;
+
+/// Cycles of a design that a machine runs too.
+const MACHINE_CYCLES: usize = 10;
 
 pub struct Bench<'a> {
     made: &'a Made,
@@ -17,6 +20,9 @@ pub struct Bench<'a> {
     /// For each word of the state, whether a part stores it, and which of its bits belong to an endpoint.
     normal: Vec<bool>,
     carried: Vec<u32>,
+    /// Runs the first cycles too, and tells outputs by their pins.
+    machine: Machine,
+    machine_cycles: usize,
     /// For each given pin, how often of four times it is 1.
     odds: Vec<usize>,
     pub seen: Seen,
@@ -24,7 +30,8 @@ pub struct Bench<'a> {
 
 impl<'a> Bench<'a> {
     pub fn new(made: &'a Made) -> Result<Self, String> {
-        let script = juolgesot::build(&made.plan.record()).map_err(|refusal| refusal.to_string())?;
+        let machine = Machine::new(&made.plan).map_err(|refusal| refusal.to_string())?;
+        let script = machine.script().clone();
         let words = script.state_words as usize;
         let mut carried = vec![0; words];
         for endpoint in &made.endpoints {
@@ -39,6 +46,8 @@ impl<'a> Bench<'a> {
             old: vec![0; words],
             new: vec![0; words],
             room: vec![0; BLOCK_ROOM * script.blocks],
+            machine,
+            machine_cycles: MACHINE_CYCLES,
             odds: Vec::new(),
             seen: Seen::of(made),
             made,
@@ -71,6 +80,10 @@ impl<'a> Bench<'a> {
         let next = self.simulator.next();
         self.judge_endpoints(&next)?;
         self.judge_others(&lent)?;
+        if self.machine_cycles > 0 {
+            self.machine_cycles -= 1;
+            self.judge_machine()?;
+        }
         self.simulator.clock();
         std::mem::swap(&mut self.old, &mut self.new);
         self.put_duplicates(&next);
@@ -152,6 +165,32 @@ impl<'a> Bench<'a> {
         Ok(())
     }
 
+    /// A machine of the plan makes the same normal words of the old state, and gives the outputs by their pins.
+    fn judge_machine(&mut self) -> Result<(), String> {
+        self.machine.state_mut().copy_from_slice(&self.old);
+        self.machine.cycle().map_err(|trouble| trouble.to_string())?;
+        let differs = |word: &usize| self.normal[*word] && self.machine.state()[*word] != self.new[*word];
+        if let Some(word) = (0..self.new.len()).find(differs) {
+            return Err(format!("state word {}: a machine stores another", word));
+        }
+        for endpoint in &self.made.endpoints {
+            if let (What::Output(inverted_pin), Place::Normal(_)) = (endpoint.what, endpoint.place) {
+                let (given, expected) =
+                    (self.machine.output(PinIv(inverted_pin as u32)), self.simulator.value(inverted_pin));
+                if given != Some(expected) {
+                    return Err(format!(
+                        "{}: a machine gives {:?}, the simulator says {}",
+                        self.named(endpoint.what),
+                        given,
+                        expected
+                    ));
+                }
+                self.seen.by_machine += 1;
+            }
+        }
+        Ok(())
+    }
+
     /// Registers whose bits lie in duplicate words: the run does not store them, so the host does.
     fn put_duplicates(&mut self, next: &[bool]) {
         for endpoint in &self.made.endpoints {
@@ -162,7 +201,7 @@ impl<'a> Bench<'a> {
     }
 
     fn named(&self, what: What) -> String {
-        let shown = |inverted_pin: usize| juolgesot::PinIv(inverted_pin as u32).to_string();
+        let shown = |inverted_pin: usize| PinIv(inverted_pin as u32).to_string();
         match what {
             What::Output(inverted_pin) => format!("output {}", shown(inverted_pin)),
             What::Staged(pin) => format!("staged {}", Pin(pin as u32)),

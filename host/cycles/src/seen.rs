@@ -70,6 +70,7 @@ pub struct Seen {
     of_inverted_outputs: u64,
     of_staged: u64,
     pub others: u64,
+    pub by_machine: u64,
     /// What the run does not store, and so is not judged.
     duplicate_registers: u64,
     duplicate_outputs: u64,
@@ -131,6 +132,7 @@ impl Seen {
         self.of_inverted_outputs += other.of_inverted_outputs;
         self.of_staged += other.of_staged;
         self.others += other.others;
+        self.by_machine += other.by_machine;
         self.duplicate_registers += other.duplicate_registers;
         self.duplicate_outputs += other.duplicate_outputs;
         self.registers_of_0 += other.registers_of_0;
@@ -177,6 +179,7 @@ impl Seen {
         println!("  {:9}  outputs, {} of them inverted", self.of_outputs, self.of_inverted_outputs);
         println!("  {:9}  staged pins", self.of_staged);
         println!("  {:9}  others of normal words: they hold", self.others);
+        println!("  {:9}  outputs that a machine (juolgesot::Machine) gave by their pins", self.by_machine);
         println!("not judged, since the run stores no duplicate word (before 6/13) and no SRAM's:");
         println!(
             "  {:9}  registers in duplicate words: the host puts in what the simulator says",
@@ -219,7 +222,7 @@ impl Seen {
             self.assert_times(enable.name(), 30, |cell| cell.enable == enable);
         }
         self.assert_times("inverted data", 1000, |cell| cell.inverted);
-        assert!(self.of_inverted_outputs >= 1000 && self.of_staged >= 1000);
+        assert!(self.of_inverted_outputs >= 1000 && self.of_staged >= 1000 && self.by_machine >= 1000);
     }
 
     fn assert_times(&self, what: &str, times: u64, which: impl Fn(&Register) -> bool) {

@@ -33,10 +33,11 @@ impl Aiger {
     }
 }
 
-/// Bytes of a header, at most: `aig `, five numbers of at most ten digits with a blank or LF behind them.
-const HEADER_BYTES: usize = 64;
+/// Bytes of a file that is written before its gates, at most: `aig `, five numbers of at most ten digits with a blank or LF behind
+/// them.
+pub const AIGER_HEADER: usize = 64;
 /// Bytes of a gate, at most: two differences of five.
-const GATE_BYTES: usize = 10;
+pub const AIGER_GATE: usize = 10;
 
 /// Reads the header and the AND gates of a binary AIGER file.
 ///
@@ -68,13 +69,14 @@ pub fn read_aiger_into(bytes: &[u8], out: &mut [u32]) -> Result<AigerHeader, Ref
 #[doc = include_str!("../examples/write_aiger.rs")]
 #[doc = "```"]
 pub fn write_aiger(gates: &[u32]) -> Result<Vec<u8>, Refusal> {
-    let mut bytes = vec![0; HEADER_BYTES + GATE_BYTES * (gates.len() / 3)];
+    let mut bytes = vec![0; AIGER_HEADER + AIGER_GATE * (gates.len() / 3)];
     let length = write_aiger_into(gates, &mut bytes)?;
     bytes.truncate(length);
     Ok(bytes)
 }
 
-/// The same over a lent slice, which is filled from its beginning. Gives the number of bytes.
+/// The same over a lent slice, which is filled from its beginning. Gives the number of bytes. `AIGER_HEADER` bytes, and
+/// `AIGER_GATE` a gate, always are enough.
 pub fn write_aiger_into(gates: &[u32], out: &mut [u8]) -> Result<usize, Refusal> {
     Refusal::check(ffi::write_aiger(gates, out)).map(|length| length as usize)
 }

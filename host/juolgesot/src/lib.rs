@@ -31,7 +31,9 @@ mod run;
 pub mod stack;
 mod value;
 
-pub use aiger::{read_aiger, read_aiger_into, write_aiger, write_aiger_into, Aiger, AigerHeader};
+pub use aiger::{
+    read_aiger, read_aiger_into, write_aiger, write_aiger_into, Aiger, AigerHeader, AIGER_GATE, AIGER_HEADER,
+};
 pub use listing::{list, list_into, LIST_ROOM, LIST_TEXT};
 pub use machine::{Machine, Trouble};
 pub use plan::{
@@ -43,7 +45,7 @@ pub use plans::{build, build_into, plan_sizes, plan_sizes_into, Sizes};
 pub use refusal::Refusal;
 pub use repair::{
     levels, place_bit, place_bit_into, purge_bit, purge_bit_into, repair_room, stage_counts, Netlist, Place,
-    RepairSlices, STAGE_SLOTS,
+    RepairSlices, COUNTED_SLOTS, STAGE_SLOTS,
 };
 pub use rounds::{read_rounds, read_rounds_into, ReadRounds, LANES, MOST_ROUNDS, ROUND_WORDS, SET_ROOM};
 pub use run::{finishing_turns, run, run_into, BLOCK_ROOM};

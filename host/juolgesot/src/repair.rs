@@ -8,8 +8,8 @@ use std::collections::HashMap;
 const MOST_PIN: u32 = 1 << 30;
 /// Slots of a stage, as a plan record has them: slot j of level h is word 2^(13-h) + j - 1.
 pub const STAGE_SLOTS: usize = 16383;
-/// Slots of levels 1 and up: so many nodes are counted, at most, where one is placed.
-const COUNTED_SLOTS: usize = 8191;
+/// Slots of levels 1 and up: a placing lists so many entries more than it was given, at most.
+pub const COUNTED_SLOTS: usize = 8191;
 
 /// Words of working room where the count list has so many words.
 #[must_use]
