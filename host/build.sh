@@ -115,8 +115,24 @@ try_outside() {
     (cd "$at/project" && RUSTC=$RUSTC "$CARGO" add --offline --quiet --path "$installed/rust/juolgesot")
     cargo_in "$at/project" "$at/cargo" run
     ${RUN[@]+"${RUN[@]}"} "$installed/bin/juolgesot" --help >/dev/null
+    # Without the archive it is said in a sentence what to do.
+    says_why "$at" "JUOLGESOT_ARCHIVE names $at/none.a, which is no file" "$at/none.a"
+    rm "$installed/lib/libjuolgesot.a"
+    says_why "$at" "the archive is not there: \`rt staticlib capi\` in the repository makes"
     rm -rf "$at"
     echo "a C program and a cargo project outside of the repository: linked and run"
+}
+
+# says_why FOLDER SENTENCE [ARCHIVE]: the project in the folder is not built, and this is said.
+says_why() {
+    if (
+        [ $# = 2 ] || export JUOLGESOT_ARCHIVE=$3
+        cargo_in "$1/project" "$1/cargo" build >"$1/said" 2>&1
+    ); then
+        echo "built without an archive" >&2
+        return 1
+    fi
+    grep -qF "juolgesot: $2" "$1/said" || { cat "$1/said" >&2; return 1; }
 }
 
 # build_c MAKER: the C program over the header, linked with the archive or with the model behind the same functions.
