@@ -5,18 +5,15 @@ use mathlib.Core.List.{List}
 use Prim.Native.Nat.{ℕ, _+_, _*_, _-_, _≤_, _<_}
 use native.Mathlib.Nat.{mul-le-mul-left}
 use native.Mathlib.Omega.{arith}
-use lib.ListN.{length, getD, take, replicate}
-use lib.Seq.{take-take}
+use lib.ListN.{length}
 use Rattle.words.specs.Edition.{partWords}
 use Rattle.words.specs.Sum.{sumTo}
-use Rattle.words.proofs.ListLaws.{zeros-front}
 use Rattle.words.proofs.SumLaws.{sum-more}
-use Rattle.plan_record.specs.Record.{wordAt, blocksOf, majorsOf, countAt, partsOf, headBase}
-use Rattle.plan_record.proofs.RecordLaws.{stages-at}
+use Rattle.plan_record.specs.Record.{blocksOf, majorsOf, countAt, partsOf, stagesOf}
 use Rattle.plan_blocks.specs.Blocks.{stateWords, sramWords}
-use Rattle.plan_blocks.specs.Table.{cell}
+use Rattle.plan_rows.specs.Columns as col
+use Rattle.plan_rows.specs.Rows.{cellAt}
 use Rattle.plan_blocks.specs.Fill.{Tallied}
-use Rattle.plan_positions.specs.Places.{Judgeable}
 use Rattle.script_assembly.specs.Assembly.{scriptWords}
 use Rattle.script_assembly.specs.Steps.{lengthOf, emptyBlocks}
 use Rattle.script_assembly.proofs.LengthLaws.{words-sum}
@@ -38,10 +35,6 @@ module _ (d : List ℕ) where
   empty-more s sum left blocks count a b c e =
       ap₂ _+_ a (e ∙ ap₂ _-_ b c) ∙ sym (sum-more (λ t. blocksOf d - countAt d t) s)
 
--- zeros in front of zeros
-fewer-zeros : (n m : ℕ) (l : List ℕ) → n ≤ m → take m l ≡ replicate m 0 → take n l ≡ replicate n 0
-fewer-zeros n m l h e = sym (take-take n m l h) ∙ ap (take n) e ∙ zeros-front m n h
-
 -- ---- the words of the parts, and of SRAM
 
 module _ (d room : List ℕ) (h : Sound d room) where
@@ -60,13 +53,13 @@ module _ (d room : List ℕ) (h : Sound d room) where
   unfolding sumTo
   parts-none = refl
 
-  pub parts-next : (p heads sum more : ℕ) → p < partsOf d → heads ≡ headBase d → sum ≡ sumTo (lengthOf 256 d) p
-      → (stages : ℕ) → stages ≡ wordAt d (heads + 2 * p) → more ≡ partWords 256 (getD room (cell p 10) 0) stages → sum + more ≡ sumTo (lengthOf 256 d) (p + 1)
+  pub parts-next : (p sum more rounds stages : ℕ) → p < partsOf d → sum ≡ sumTo (lengthOf 256 d) p → rounds ≡ cellAt room p col.rounds → stages ≡ stagesOf d p
+      → more ≡ partWords 256 rounds stages → sum + more ≡ sumTo (lengthOf 256 d) (p + 1)
   unfolding lengthOf
-  parts-next p heads sum more l e a stages t b =
-      ap₂ _+_ a (b ∙ ap₂ (partWords 256) (h .ready .rounds p l) (t ∙ stages-at d heads p e)) ∙ sym (sum-more (lengthOf 256 d) p)
+  parts-next p sum more rounds stages l a r t b =
+      ap₂ _+_ a (b ∙ ap₂ (partWords 256) (r ∙ h .ready .rounds p l) t) ∙ sym (sum-more (lengthOf 256 d) p)
 
-  -- as the sum of a column of the part table asks for it
+  -- as the totals ask for it
   pub tallied : Tallied d room
   tallied = record { ready = record { form = plan-passed d room h .form; inside = h .ready .wide }; counted = h .ready .tabled .counted }
 
@@ -74,14 +67,6 @@ module _ (d room : List ℕ) (h : Sound d room) where
 
   pub script-long : (parts empty : ℕ) → parts ≡ sumTo (lengthOf 256 d) (partsOf d) → empty ≡ emptyBlocks d (majorsOf d) → parts + 256 * empty + 2048 ≡ length (scriptWords 256 d)
   script-long parts empty a b = omega (arith, a, b, words-sum 256 d (omega arith) refl (plan-formed d room h .head .some-blocks))
-
-  pub judgeable : Judgeable d room
-  judgeable = record {
-    form = plan-passed d room h .form;
-    table = h .ready .tabled;
-    wide = h .ready .wide;
-    clear = fewer-zeros 32768 65536 room (omega arith) (h .ready .front);
-  }
 
   pub sizes-are : (blocks majors words state sram : ℕ) → blocks ≡ blocksOf d → majors ≡ majorsOf d → words ≡ length (scriptWords 256 d) → state ≡ stateWords d → sram ≡ sramWords d
       → _≡_ {A = Sizes} (record { starts = blocks * majors + 1; words = words; state = state; sram = sram }) (sizesIn (sizesOf 256 d))

@@ -4,17 +4,21 @@ ghost use Prim.Native.Nat.{_-_, _^_, _≤_};
 ghost use lib.ListN.{length};
 ghost use Rattle.words.specs.Sum.{sumTo};
 ghost use Rattle.plan_record.specs.Record.{majorsOf, partsOf};
-ghost use Rattle.plan_blocks.specs.Blocks.{sramWords};
 ghost use Rattle.script_assembly.specs.Assembly.{scriptWords};
 ghost use Rattle.script_assembly.specs.Steps.{lengthOf, emptyBlocks};
 ghost use Rattle.script_layout.specs.Layout.{Sound};
 ghost use Rattle.flatten.specs.Flatten.{sizesOf};
 ghost use Rattle.flatten.specs.Answers.{sizesIn};
-use plan_positions::planned::state_words;
+use plan_blocks::totals::sram_words;
+use plan_blocks::totals::state_words;
 use plan_record::bodies::parts_of;
+use plan_record::numbers::blocks_of;
+use plan_record::numbers::count_at;
+use plan_record::numbers::majors_of;
+use plan_record::numbers::stages_at;
 use plan_record::places::head_base;
-use plan_record::places::word_at;
-use plan_table::table::column_sum;
+use plan_rows::Column;
+use plan_rows::cell_at;
 use words::edition::Edition;
 
 // How much a plan's result takes: starts, words of the script, words of the state, words of SRAM.
@@ -37,12 +41,12 @@ fn empty_blocks(d: &[u8], room: &[u32]) -> u64
     requires { ⌜ Sound (now d) (now room) ⌝ }
     ensures { λ r. ⌜ (r ≡ emptyBlocks (now (d .entry)) (majorsOf (now (d .entry)))) × (r ≤ 2 ^ 38) ⌝ }
 {
-    let blocks = word_at(d, 0);
-    let majors = word_at(d, 1) as usize;
+    let blocks = blocks_of(d);
+    let majors = majors_of(d) as usize;
     let mut sum: u64 = 0;
     let mut s = 0;
     while s < majors {
-        sum += blocks_left(blocks, word_at(d, 5 + s)) as u64;
+        sum += blocks_left(blocks, count_at(d, s)) as u64;
         s += 1;
     }
     sum
@@ -58,7 +62,8 @@ fn parts_words(d: &[u8], room: &[u32]) -> u64
     let mut sum: u64 = 0;
     let mut p = 0;
     while p < parts {
-        sum += Edition::part_words(room[65536 + 16 * p + 10], word_at(d, heads + 2 * p));
+        let rounds = cell_at(room, p, Column::ROUNDS);
+        sum += Edition::part_words(rounds, stages_at(d, heads, p));
         p += 1;
     }
     sum
@@ -72,25 +77,17 @@ fn script_words(d: &[u8], room: &[u32]) -> u64
     parts_words(d, room) + 256 * empty_blocks(d, room) + 2048
 }
 
-// The words of SRAM.
-fn sram_words(d: &[u8], room: &[u32]) -> u64
-    requires { ⌜ Sound (now d) (now room) ⌝ }
-    ensures { λ r. ⌜ r ≡ sramWords (now (d .entry)) ⌝ }
-{
-    8192 * column_sum(room, parts_of(d), 3)
-}
-
 // The sizes of an accepted plan, whose part table stands in the room.
 pub fn sizes_of(d: &[u8], room: &[u32]) -> Sizes
     requires { ⌜ Sound (now d) (now room) ⌝ }
     ensures { λ r. ⌜ r ≡ sizesIn (sizesOf 256 (now (d .entry))) ⌝ }
 {
-    let blocks = word_at(d, 0) as u64;
-    let majors = word_at(d, 1) as u64;
+    let blocks = blocks_of(d) as u64;
+    let majors = majors_of(d) as u64;
     Sizes {
         starts: blocks * majors + 1,
         words: script_words(d, room),
-        state: state_words(d, room) as u64,
+        state: state_words(d, room),
         sram: sram_words(d, room),
     }
 }

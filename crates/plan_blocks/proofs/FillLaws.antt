@@ -9,7 +9,7 @@ use native.Mathlib.Omega.{arith}
 use lib.ListN.{length, getD, set, length-set}
 use lib.Seq.{getD-set-same, getD-set-other}
 use Rattle.words.proofs.BitLaws.{lt-or-ge}
-use Rattle.plan_blocks.specs.Table.{cell}
+use Rattle.plan_rows.specs.Rows.{cell}
 use Rattle.plan_blocks.specs.Fill.{putCells}
 
 -- two cells are the same only where row and word are

@@ -6,3 +6,4 @@ pub mod FillLaws
 pub mod StepLaws
 pub mod StartLaws
 pub mod StageLaws
+pub mod TallyLaws

@@ -21,6 +21,7 @@ use Rattle.plan_counts.specs.Counts.{srams, writeOuts}
 use Rattle.plan_blocks.specs.declared.firsts.Firsts.{Firsts}
 use Rattle.plan_blocks.specs.Blocks.{blockIn, blockOf, takenBefore, stateOf, sramOf, stateStart, sramStart, stateWords, sramWords, totalsFit}
 use Rattle.plan_blocks.specs.Sums.{inBlock}
+use Rattle.plan_rows.specs.Rows.{rowBase}
 use Rattle.plan_blocks.specs.Table.{rankOf}
 use Rattle.plan_blocks.specs.Fill.{putCells, column, takes, blockFrom, startIn, placedRows, partCounts, rankedRows, startedRows, stageRows, Rows, Takeable, Rankable, StagePlaceable, StageSummable, StageReady}
 use Rattle.plan_blocks.proofs.TotalLaws.{sum-const}
@@ -117,7 +118,7 @@ module _ (room sums₀ : List ℕ) (base count from scale to first : ℕ) (t : S
 -- ---- blocks and ranks
 
 -- a word of the rows that was put
-pub column-put : (room : List ℕ) (k base count : ℕ) (value : ℕ → ℕ) → k < 16 → 65536 + 16 * (base + count) ≤ length room → (i : ℕ) → i < count
+pub column-put : (room : List ℕ) (k base count : ℕ) (value : ℕ → ℕ) → k < 16 → rowBase (base + count) ≤ length room → (i : ℕ) → i < count
     → column (putCells room k (λ j. base + j) value count) base k i ≡ value i
 unfolding column
 column-put room k base count value u h i l = put-here room k (λ j. base + j) value count i l (omega arith) (λ j a b e. omega arith)

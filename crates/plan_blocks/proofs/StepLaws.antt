@@ -15,7 +15,7 @@ use Rattle.words.proofs.SectionLaws.{length-listOf, getD-listOf, listOf-is}
 use Rattle.plan_blocks.specs.declared.costs.BlockCost.{BlockCost}
 use Rattle.plan_blocks.specs.Blocks.{blockFor, costsAfter, blockIn}
 use Rattle.plan_blocks.specs.Sums.{inBlock}
-use Rattle.plan_blocks.specs.Table.{cell}
+use Rattle.plan_rows.specs.Rows.{cell}
 use Rattle.plan_blocks.specs.Fill.{putCells, column, takes, sumsIn, startIn, blank, costsOf, countsOf, withPart, Rows, Puttable, Addable, RankReady, Summable, Takeable, Rankable}
 use Rattle.plan_blocks.proofs.TotalLaws.{same-or, sum-const}
 use Rattle.plan_blocks.proofs.BlockLaws.{in-here, in-grows, in-most, in-lt, sums-none, sums-plain, costs-none, costs-small, sums-at, sums-more}

@@ -12,13 +12,15 @@ use Rattle.words.specs.Section.{listOf}
 use Rattle.plan_record.specs.Record.{blocksOf, majorsOf, countAt, partsBefore, partsOf, stagesOf, bodyAt, locationsOf}
 use Rattle.plan_record.specs.Form.{planForm}
 use Rattle.plan_record.specs.declared.bodies.Body.{Body}
+use Rattle.plan_rows.specs.Columns as col
+use Rattle.plan_rows.specs.Rows.{rowBase, cell, cellAt}
 use Rattle.plan_counts.specs.Counts.{srams, duplicates, writeOuts, refusal7}
 use Rattle.plan_counts.specs.Parts.{Countable}
 use Rattle.plan_blocks.specs.Blocks.{blockIn, blockOf, takenBefore, stateOf, sramOf, stateStart, sramStart, totalsFit}
 use Rattle.plan_blocks.specs.declared.costs.BlockCost.{BlockCost}
 use Rattle.plan_blocks.specs.declared.firsts.Firsts.{Firsts}
 use Rattle.plan_blocks.specs.Sums.{inBlock}
-use Rattle.plan_blocks.specs.Table.{cell, rankOf, Counted}
+use Rattle.plan_blocks.specs.Table.{rankOf, Counted}
 
 -- word k of the rows that `row` names, for each of the first n numbers
 unfoldable pub putCells : List ℕ → ℕ → (ℕ → ℕ) → (ℕ → ℕ) → ℕ → List ℕ
@@ -27,11 +29,11 @@ putCells room k row value (suc n) = set (putCells room k row value n) (cell (row
 
 -- word k of the row of part i, the parts being counted from `base` on
 unfoldable pub column : List ℕ → ℕ → ℕ → ℕ → ℕ
-column room base k i = getD room (cell (base + i) k) 0
+column room base k i = cellAt room (base + i) k
 
 -- the block of part p, as its row says, and sums with w added to that of block b
 abbrev pub blockAt : List ℕ → ℕ → ℕ
-blockAt room p = getD room (cell p 6) 0
+blockAt room p = cellAt room p col.block
 
 abbrev pub added : List ℕ → ℕ → ℕ → List ℕ
 added sums b w = set sums b (getD sums b 0 + w)
@@ -64,14 +66,14 @@ blockFrom d B base i = blockIn B (λ j. stagesOf d (base + j)) i
 
 -- the sums of the blocks after n parts that take `words` each were added, and where part i then starts
 abbrev pub sumsIn : List ℕ → List ℕ → ℕ → (ℕ → ℕ) → ℕ → List ℕ
-sumsIn room sums base words n = listOf (λ b. getD sums b 0 + inBlock (column room base 6) words b n) (length sums)
+sumsIn room sums base words n = listOf (λ b. getD sums b 0 + inBlock (column room base col.block) words b n) (length sums)
 
 abbrev pub startIn : List ℕ → List ℕ → ℕ → (ℕ → ℕ) → ℕ → ℕ
-startIn room sums base words i = getD sums (column room base 6 i) 0 + inBlock (column room base 6) words (column room base 6 i) i
+startIn room sums base words i = getD sums (column room base col.block i) 0 + inBlock (column room base col.block) words (column room base col.block i) i
 
 -- the rows with the parts' blocks, and how many parts each block has
 abbrev pub placedRows : List ℕ → List ℕ → ℕ → ℕ → ℕ → List ℕ
-placedRows d room B base count = putCells room 6 (λ i. base + i) (blockFrom d B base) count
+placedRows d room B base count = putCells room col.block (λ i. base + i) (blockFrom d B base) count
 
 abbrev pub partCounts : List ℕ → ℕ → ℕ → ℕ → List ℕ
 partCounts d B base count = listOf (λ b. inBlock (blockFrom d B base) (λ i. 1) b count) B
@@ -80,11 +82,11 @@ partCounts d B base count = listOf (λ b. inBlock (blockFrom d B base) (λ i. 1)
 abbrev pub rankedRows : List ℕ → List ℕ → ℕ → ℕ → ℕ → List ℕ
 rankedRows d room B base count =
     putCells (placedRows d room B base count)
-    9 (λ i. base + takenBefore (blockFrom d B base) (λ j. 1) count i) (λ i. base + i) count
+    col.ranked (λ i. base + takenBefore (blockFrom d B base) (λ j. 1) count i) (λ i. base + i) count
 
 abbrev pub startedRows : List ℕ → ℕ → ℕ → ℕ → ℕ → ℕ → ℕ → List ℕ
 startedRows room base count from scale to first =
-    putCells room to (λ i. base + i) (λ i. first + takenBefore (column room base 6) (takes room base from scale) count i) count
+    putCells room to (λ i. base + i) (λ i. first + takenBefore (column room base col.block) (takes room base from scale) count i) count
 
 -- ---- the whole table
 
@@ -92,8 +94,8 @@ startedRows room base count from scale to first =
 unfoldable pub stageRows : List ℕ → List ℕ → ℕ → List ℕ
 stageRows d room s =
     putCells (putCells
-    (putCells (putCells room 6 (λ i. partsBefore d s + i) (blockOf d s) (countAt d s)) 9 (rankOf d s) (λ i. partsBefore d s + i) (countAt d s))
-    7 (λ i. partsBefore d s + i) (stateStart d s) (countAt d s)) 8 (λ i. partsBefore d s + i) (sramStart d s) (countAt d s)
+    (putCells (putCells room col.block (λ i. partsBefore d s + i) (blockOf d s) (countAt d s)) col.ranked (rankOf d s) (λ i. partsBefore d s + i) (countAt d s))
+    col.stateStart (λ i. partsBefore d s + i) (stateStart d s) (countAt d s)) col.sramStart (λ i. partsBefore d s + i) (sramStart d s) (countAt d s)
 
 -- of the first s major stages
 unfoldable pub allotRows : List ℕ → List ℕ → ℕ → List ℕ
@@ -103,8 +105,8 @@ allotRows d room (suc s) = stageRows d (allotRows d room s) s
 -- the words that the record gives: body, locations, SRAMs, duplicates and write-outs of part p, and of the first n parts
 unfoldable pub countRow : List ℕ → List ℕ → ℕ → List ℕ
 countRow d room p =
-    set (set (set (set (set (set room (cell p 0) (bodyAt d p % 2 ^ 32)) (cell p 1) (bodyAt d p / 2 ^ 32)) (cell p 2) (locationsOf d p)) (cell p 3) (srams d p))
-    (cell p 4) (duplicates d p)) (cell p 5) (writeOuts d p)
+    set (set (set (set (set (set room (cell p col.bodyLow) (bodyAt d p % 2 ^ 32)) (cell p col.bodyHigh) (bodyAt d p / 2 ^ 32)) (cell p col.locations) (locationsOf d p)) (cell p col.srams) (srams d p))
+    (cell p col.duplicates) (duplicates d p)) (cell p col.writeOuts) (writeOuts d p)
 
 unfoldable pub countRows : List ℕ → List ℕ → ℕ → List ℕ
 countRows d room zero = room
@@ -126,8 +128,8 @@ allottedRoom d room = elim (totalsFit d) [ true ↦ tabledRoom d room | false �
 pub record Rows (room : List ℕ) (blocks base count : ℕ) : Type 0 where
   pub few : count ≤ 4096
   pub parts : base + count ≤ 262144
-  pub inside : 65536 + 16 * (base + count) ≤ length room
-  pub block : (i : ℕ) → i < count → column room base 6 i < blocks
+  pub inside : rowBase (base + count) ≤ length room
+  pub block : (i : ℕ) → i < count → column room base col.block i < blocks
 
 -- a part more in block b
 pub record Puttable (blocks : List BlockCost) (b cost : ℕ) : Type 0 where
@@ -138,16 +140,16 @@ pub record Puttable (blocks : List BlockCost) (b cost : ℕ) : Type 0 where
 -- the row of part p is in the room, and the words that it adds to its block's sum fit
 pub record Addable (room sums : List ℕ) (p from scale : ℕ) : Type 0 where
   pub part : p < 262144
-  pub inside : 65536 + 16 * p + 16 ≤ length room
+  pub inside : rowBase p + 16 ≤ length room
   pub word : from < 16
   pub block : blockAt room p < length sums
-  pub fits : getD sums (blockAt room p) 0 + scale * getD room (cell p from) 0 < 2 ^ 32
+  pub fits : getD sums (blockAt room p) 0 + scale * cellAt room p from < 2 ^ 32
 
 -- and so for its rank, which is below `count`
 pub record RankReady (room sums : List ℕ) (base count i : ℕ) : Type 0 where
   pub part : base + count ≤ 262144
   pub number : i < count
-  pub inside : 65536 + 16 * (base + count) ≤ length room
+  pub inside : rowBase (base + count) ≤ length room
   pub block : blockAt room (base + i) < length sums
   pub rank : getD sums (blockAt room (base + i)) 0 < count
 
@@ -162,19 +164,19 @@ pub record Summable (room sums : List ℕ) (base count from scale : ℕ) : Type 
 pub record Takeable (room sums : List ℕ) (base count from scale to : ℕ) : Type 0 where
   pub rows : Rows room (length sums) base count
   pub word : from < 16
-  pub other : (to < 16) × (to ≡ 6 → ⊥) × (to ≡ from → ⊥)
-  pub fits : (b : ℕ) → b < length sums → getD sums b 0 + inBlock (column room base 6) (takes room base from scale) b count < 2 ^ 32
+  pub other : (to < 16) × (to ≡ col.block → ⊥) × (to ≡ from → ⊥)
+  pub fits : (b : ℕ) → b < length sums → getD sums b 0 + inBlock (column room base col.block) (takes room base from scale) b count < 2 ^ 32
 
 -- the parts' ranks are below their number
 pub record Rankable (room sums : List ℕ) (base count : ℕ) : Type 0 where
   pub rows : Rows room (length sums) base count
-  pub below : (b : ℕ) → b < length sums → getD sums b 0 + inBlock (column room base 6) (λ i. 1) b count ≤ count
+  pub below : (b : ℕ) → b < length sums → getD sums b 0 + inBlock (column room base col.block) (λ i. 1) b count ≤ count
 
 -- the parts of a major stage may be placed
 pub record StagePlaceable (d room : List ℕ) (blocks base count : ℕ) : Type 0 where
   pub few : count ≤ 4096
   pub parts : base + count ≤ 262144
-  pub inside : 65536 + 16 * (base + count) ≤ length room
+  pub inside : rowBase (base + count) ≤ length room
   pub some-block : 0 < blocks
   pub few-blocks : blocks ≤ 1024
   pub stages : (i : ℕ) → i < count → stagesOf d (base + i) ≤ 255
@@ -184,7 +186,7 @@ pub record StageSummable (room : List ℕ) (blocks base count from scale to firs
   pub rows : Rows room blocks base count
   pub few-blocks : blocks ≤ 1024
   pub word : from < 16
-  pub other : (to < 16) × (to ≡ 6 → ⊥) × (to ≡ from → ⊥)
+  pub other : (to < 16) × (to ≡ col.block → ⊥) × (to ≡ from → ⊥)
   pub fits : first + sumTo (takes room base from scale) count < 2 ^ 32
 
 -- f holds what comes before major stage s
@@ -197,7 +199,7 @@ pub record FirstsOf (d : List ℕ) (s : ℕ) (f : Firsts) : Type 0 where
 pub record StageReady (d room : List ℕ) (s blocks count : ℕ) (f : Firsts) : Type 0 where
   pub form : planForm d ≡ true
   pub totals : totalsFit d ≡ true
-  pub inside : 65536 + 16 * partsOf d ≤ length room
+  pub inside : rowBase (partsOf d) ≤ length room
   pub counted : (p : ℕ) → p < partsOf d → Counted d room p
   pub stage : s < majorsOf d
   pub blocks-are : blocks ≡ blocksOf d
@@ -207,7 +209,7 @@ pub record StageReady (d room : List ℕ) (s blocks count : ℕ) (f : Firsts) : 
 -- the record is in form, and its table has room
 pub record InForm (d room : List ℕ) : Type 0 where
   pub form : planForm d ≡ true
-  pub inside : 65536 + 16 * partsOf d ≤ length room
+  pub inside : rowBase (partsOf d) ≤ length room
 
 -- and no part is refused by 7
 pub record Fillable (d room : List ℕ) : Type 0 where
@@ -217,7 +219,7 @@ pub record Fillable (d room : List ℕ) : Type 0 where
 -- one part's row may be filled
 pub record RowReady (d room : List ℕ) (p : ℕ) (b : Body) : Type 0 where
   pub part : p < 262144
-  pub inside : 65536 + 16 * p + 16 ≤ length room
+  pub inside : rowBase p + 16 ≤ length room
   pub countable : Countable d p b
   pub few : writeOuts d p ≤ 256
 

@@ -1,13 +1,16 @@
 // Parts to blocks: each block's record of its part count and running cost, and each part's block.
 ghost use mathlib.Core.Path.{_≡_};
-ghost use Prim.Native.Nat.{_+_, _*_, _-_, _≤_, _<_};
+ghost use Prim.Native.Nat.{_+_, _-_, _≤_, _<_};
 ghost use lib.ListN.{length, set, replicate};
 ghost use Rattle.plan_record.specs.Record.{stagesOf};
 ghost use Rattle.plan_blocks.specs.Blocks.{leastTo, blockFor, costsAfter};
-ghost use Rattle.plan_blocks.specs.Table.{cell};
+ghost use Rattle.plan_rows.specs.Columns as col;
+ghost use Rattle.plan_rows.specs.Rows.{cell};
 ghost use Rattle.plan_blocks.specs.Fill.{Puttable, StagePlaceable, blank, costsOf, countsOf, withPart, lesser, placedRows, partCounts};
+use plan_record::numbers::stages_at;
 use plan_record::places::head_base;
-use plan_record::places::word_at;
+use plan_rows::Column;
+use plan_rows::put_cell;
 
 // What a block has: how many parts, and what they cost together.
 pub struct BlockCost {
@@ -46,7 +49,7 @@ fn part_cost(d: &[u8], p: usize) -> u32
     requires { ⌜ (p < 262144) × (stagesOf (now d) p ≤ 255) ⌝ }
     ensures { λ r. ⌜ r ≡ stagesOf (now (d .entry)) p + 3 ⌝ }
 {
-    word_at(d, head_base(d) + 2 * p) + 3
+    stages_at(d, head_base(d), p) + 3
 }
 
 // Of block `best`, of cost `least`, and a later block i the one of less cost, `best` on a tie.
@@ -84,15 +87,15 @@ pub fn block_for(blocks: [BlockCost; 1024], n: usize, i: usize) -> usize
     least_block(blocks, n)
 }
 
-// Part p is in block b: word 6 of its row.
+// Part p is in block b.
 fn put_block(room: &mut [u32], p: usize, b: usize)
-    requires { ⌜ (p < 262144) × (cell p 6 < length (now room)) × (b < 1024) ⌝ }
-    ensures { λ _. ⌜ now (room .exit) ≡ set (now (room .entry)) (cell p 6) b ⌝ }
+    requires { ⌜ (p < 262144) × (cell p col.block < length (now room)) × (b < 1024) ⌝ }
+    ensures { λ _. ⌜ now (room .exit) ≡ set (now (room .entry)) (cell p col.block) b ⌝ }
 {
-    room[65536 + 16 * p + 6] = b as u32;
+    put_cell(room, p, Column::BLOCK, b as u32);
 }
 
-// The parts of one major stage, `count` of them from part `base` on, to n blocks: word 6 of their rows, and the blocks' records.
+// The parts of one major stage, `count` of them from part `base` on, to n blocks: their rows, and the blocks' records.
 pub fn place_parts(
     d: &[u8],
     room: &mut [u32],

@@ -4,7 +4,7 @@ use mathlib.Core.Path.{_≡_, refl, sym, ap, _∙_}
 use mathlib.Core.Bool.{true}
 use mathlib.Core.Option.{Option, none, some}
 use mathlib.Core.List.{List, _++_}
-use Prim.Native.Nat.{ℕ, _+_, _*_, _≤_, _<_}
+use Prim.Native.Nat.{ℕ, _≤_, _<_}
 use native.Mathlib.Omega.{arith}
 use borrow.Author.Tests.{le-leb, lt-leb}
 use lib.ListN.{length, getD, take, drop, replicate, length-replicate, getD-replicate, take-append-drop}
@@ -12,7 +12,9 @@ use lib.Seq.{length-take-le, getD-take, ext-getD}
 use Rattle.plan_record.specs.Record.{partsOf}
 use Rattle.plan_record.specs.Form.{roomWords}
 use Rattle.plan_blocks.specs.Blocks.{totalsFit}
-use Rattle.plan_blocks.specs.Table.{cell, Tabled}
+use Rattle.plan_rows.specs.Columns as col
+use Rattle.plan_rows.specs.Rows.{rowBase, cellAt}
+use Rattle.plan_blocks.specs.Table.{Tabled}
 use Rattle.plan_blocks.specs.Fill.{Fillable, tabledRoom, allottedRoom}
 use Rattle.plan_blocks.proofs.FillLaws.{put-long, put-here, put-word, put-low}
 use Rattle.plan_table.proofs.TableLaws.{tabled-room, tabled-long, tabled-other}
@@ -79,7 +81,7 @@ module _ (d room₀ : List ℕ) (c : Cleared d room₀) (lists : listRefusal d �
   may-fill = let s = lists-passed d lists in fillable d room₀ (s .0) (s .2) (c .enough)
 
   module _ (totals : totalRefusal d ≡ none) (room : List ℕ) (is : room ≡ allottedRoom d room₀) where
-    inside : 65536 + 16 * partsOf d ≤ length room₀
+    inside : rowBase (partsOf d) ≤ length room₀
     inside = may-fill .ready .inside
 
     table-is : room ≡ tabledRoom d (replicate (length room₀) 0)
@@ -113,7 +115,7 @@ module _ (d room : List ℕ) (n : ℕ) where
   abbrev rows : List ℕ
   rows = roundRows d room n
 
-  rows-word : (p k : ℕ) → k < 10 → getD rows (cell p k) 0 ≡ getD room (cell p k) 0
+  rows-word : (p k : ℕ) → k < 10 → cellAt rows p k ≡ cellAt room p k
   rows-word p k h = put-word room 10 (λ q. q) (roundsIn d) n p k (omega arith) (omega arith) (λ e. omega arith)
 
   rows-tabled : Tabled d room → Tabled d rows
@@ -138,7 +140,7 @@ module _ (d room : List ℕ) (n : ℕ) where
         };
   }
 
-module _ (d : List ℕ) (n : ℕ) (h : 65536 + 16 * partsOf d ≤ n) where
+module _ (d : List ℕ) (n : ℕ) (h : rowBase (partsOf d) ≤ n) where
   abbrev table : List ℕ
   table = tabledRoom d (replicate n 0)
 
@@ -156,7 +158,7 @@ module _ (d : List ℕ) (n : ℕ) (h : 65536 + 16 * partsOf d ≤ n) where
   ready-front : take 65536 (readyRoom d n) ≡ replicate 65536 0
   ready-front = zeros-take 65536 (readyRoom d n) (omega (arith, ready-long)) ready-zero
 
-  ready-rounds : (p : ℕ) → p < partsOf d → getD (readyRoom d n) (cell p 10) 0 ≡ roundsIn d p
+  ready-rounds : (p : ℕ) → p < partsOf d → cellAt (readyRoom d n) p col.rounds ≡ roundsIn d p
   unfolding readyRoom
   ready-rounds p l =
       put-here table 10 (λ q. q) (roundsIn d) (partsOf d) p l (omega (arith, table-length d n some-room)) (λ j a b e. omega arith)

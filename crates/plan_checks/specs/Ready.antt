@@ -4,13 +4,15 @@ use mathlib.Core.Path.{_≡_}
 use mathlib.Core.Bool.{true, false}
 use mathlib.Core.Option.{none, some}
 use mathlib.Core.List.{List}
-use Prim.Native.Nat.{ℕ, _+_, _*_, _≤_, _<_}
+use Prim.Native.Nat.{ℕ, _≤_, _<_}
 use lib.Dec.{leb}
-use lib.ListN.{length, getD, take, replicate}
+use lib.ListN.{length, take, replicate}
 use Rattle.reads.specs.Search.{longest}
 use Rattle.plan_record.specs.Record.{partsOf}
 use Rattle.plan_record.specs.Form.{roomWords}
-use Rattle.plan_blocks.specs.Table.{cell, Tabled}
+use Rattle.plan_rows.specs.Columns as col
+use Rattle.plan_rows.specs.Rows.{rowBase, cellAt}
+use Rattle.plan_blocks.specs.Table.{Tabled}
 use Rattle.plan_blocks.specs.Fill.{tabledRoom}
 use Rattle.plan_reads.specs.PartReads.{partLanes}
 use Rattle.plan_reads.specs.Answers.{roundRows}
@@ -18,9 +20,9 @@ use Rattle.plan_checks.specs.Refusals.{planRefusal}
 
 -- what the room holds once a plan is accepted
 pub record Ready (d room : List ℕ) : Type 0 where
-  pub wide : 65536 + 16 * partsOf d ≤ length room
+  pub wide : rowBase (partsOf d) ≤ length room
   pub tabled : Tabled d room
-  pub rounds : (p : ℕ) → p < partsOf d → getD room (cell p 10) 0 ≡ longest (partLanes 256 d p)
+  pub rounds : (p : ℕ) → p < partsOf d → cellAt room p col.rounds ≡ longest (partLanes 256 d p)
   pub front : take 65536 room ≡ replicate 65536 0
 
 -- which words these are, of a room of n words: the part table with the rounds, and zeros

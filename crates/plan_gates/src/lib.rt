@@ -8,13 +8,15 @@ ghost use lib.Dec.{ltb, eqb};
 ghost use lib.ListN.{length};
 ghost use Rattle.sort.specs.Search.{least};
 ghost use Rattle.pinmap.specs.PinMap.{look};
-ghost use Rattle.plan_record.specs.Record.{gatesOf, gatePin, gateFirst, gateSecond};
+ghost use Rattle.plan_record.specs.Record.{gatesOf, gatePin};
 ghost use Rattle.words.specs.Found.{itemOf};
 ghost use Rattle.plan_gates.specs.Gates.{pinBefore, gateRight, badGate, gateOf, value};
 ghost use Rattle.plan_gates.specs.Values.{gateFoundOf, gateWords, storeBit, Given, Askable, ValuedBelow, Ready, Fillable};
 use pinmap::Found;
-use plan_record::places::gate_base;
-use plan_record::places::word_at;
+use plan_record::numbers::gate_first;
+use plan_record::numbers::gate_pin;
+use plan_record::numbers::gate_second;
+use plan_record::numbers::gates_of;
 use std::num::wrapping_sub_u32;
 use words::bits::bit_at;
 use words::bits::set_bit;
@@ -26,25 +28,6 @@ use words::units::PinIv;
 pub enum GateFound {
     Gate(u32),
     Missing,
-}
-
-// The pin of a gate, and its fan-ins.
-pub fn gate_pin(d: &[u8], g: u32) -> Pin
-    ensures { λ r. ⌜ r .0 ≡ gatePin (now (d .entry)) g ⌝ }
-{
-    Pin(word_at(d, gate_base(d) + 3 * (g as usize)))
-}
-
-pub fn gate_first(d: &[u8], g: u32) -> PinIv
-    ensures { λ r. ⌜ r .0 ≡ gateFirst (now (d .entry)) g ⌝ }
-{
-    PinIv(word_at(d, gate_base(d) + 3 * (g as usize) + 1))
-}
-
-pub fn gate_second(d: &[u8], g: u32) -> PinIv
-    ensures { λ r. ⌜ r .0 ≡ gateSecond (now (d .entry)) g ⌝ }
-{
-    PinIv(word_at(d, gate_base(d) + 3 * (g as usize) + 2))
 }
 
 // Whether gate g stands above the gate before it and above its fan-ins.
@@ -68,7 +51,7 @@ fn gate_right(d: &[u8], before: Pin, g: u32) -> bool
 pub fn check_gates(d: &[u8]) -> Item
     ensures { λ r. ⌜ r ≡ itemOf (badGate (now (d .entry))) ⌝ }
 {
-    let gates = word_at(d, 2);
+    let gates = gates_of(d);
     let mut before = Pin(0);
     let mut g = 0;
     while g < gates {
@@ -88,7 +71,7 @@ fn first_not_below(d: &[u8], pin: Pin) -> u32
     ensures { λ r. ⌜ r ≡ least (gatePin (now (d .entry))) (gatesOf (now (d .entry))) (pin .0) ⌝ }
 {
     let mut low = 0;
-    let mut high = word_at(d, 2);
+    let mut high = gates_of(d);
     while low < high {
         let middle = low + (high - low) / 2;
         if gate_pin(d, middle).0 < pin.0 {
@@ -104,7 +87,7 @@ fn first_not_below(d: &[u8], pin: Pin) -> u32
 fn has_pin(d: &[u8], g: u32, pin: Pin) -> bool
     ensures { λ r. ⌜ r ≡ (ltb g (gatesOf (now (d .entry))) && eqb (gatePin (now (d .entry)) g) (pin .0)) ⌝ }
 {
-    g < word_at(d, 2) && gate_pin(d, g).0 == pin.0
+    g < gates_of(d) && gate_pin(d, g).0 == pin.0
 }
 
 // The gate of a pin. Gates' pins are nearly always consecutive numbers, so that the gate they give is looked at first.
@@ -173,7 +156,7 @@ pub fn all_values(d: &[u8], known: &[u32], bits: &mut [u32])
     ensures { λ _. ⌜ now (bits .exit) ≡ gateWords (now (d .entry)) (look (now (known .entry))) (length (now (bits .entry))) ⌝ }
 {
     clear(bits);
-    let gates = word_at(d, 2);
+    let gates = gates_of(d);
     let mut g = 0;
     while g < gates {
         store_gate(d, known, bits, g);

@@ -11,31 +11,31 @@ use borrow.Author.Tests.{eq-eqb, ne-eqb, eqb-true, eqb-false}
 use lib.Dec.{ltb, eqb}
 use lib.ListN.{length, getD, take, drop, replicate, take-append-drop, length-append, length-drop}
 use lib.Seq.{sets, sets-eq, length-take-le, take-at, drop-at, getD-append-add, getD-drop}
-use Rattle.words.specs.Sum.{sumTo}
-use Rattle.words.proofs.SumLaws.{sum-more}
 use Rattle.pinmap.specs.declared.Found.{Found}
 use Rattle.pinmap.specs.declared.Found.the-variants.{Value, Missing}
 use Rattle.pinmap.specs.PinMap.{look, foundOf}
 use Rattle.plan_record.specs.declared.bodies.Body.{Body}
-use Rattle.plan_record.specs.Record.{wordAt, partsBefore, partsOf, layoutOf, positionBase, positionPlace, positionStaged, slotAt}
+use Rattle.plan_record.specs.Record.{partsBefore, partsOf, slotAt}
 use Rattle.words.specs.Pins.{empty}
 use Rattle.plan_record.specs.Body.{BodyOf}
 use Rattle.words.specs.Tests.{allBelow, someBelow}
 use Rattle.words.proofs.TestLaws.{not-both, all-at, some-at, not-at}
 use Rattle.plan_record.proofs.FormLaws.{Formed, formed}
-use Rattle.plan_counts.specs.Counts.{writeOuts}
 use Rattle.words.specs.Found.{itemOf}
 use Rattle.words.specs.declared.found.Item.the-variants as item
-use Rattle.plan_blocks.specs.Blocks.{stateOf, stateWords}
-use Rattle.plan_blocks.specs.Table.{cell, rankOf, Counted, Allotted, Tabled}
+use Rattle.plan_blocks.specs.Blocks.{stateWords}
+use Rattle.plan_rows.specs.Rows.{cell}
+use Rattle.plan_blocks.specs.Fill.{Tallied}
+use Rattle.plan_blocks.specs.Table.{rankOf, Counted, Allotted, Tabled}
 use Rattle.plan_slots.specs.Slots.{readsPin}
 use Rattle.plan_slots.specs.Puts.{filled, readPuts, readPin, firstPins, readPins, AllPins}
 use Rattle.plan_slots.proofs.PutLaws.{reads-hold, reads-look, filled-length}
 use Rattle.plan_slots.proofs.ListedLaws.{Among, listed-among, FromSlot, listed-from}
+use Rattle.plan_positions.specs.declared.winners.Planned as code
 use Rattle.plan_positions.specs.Positions.{Planned, majorOf, normalWord, placeRight, twelveRight}
-use Rattle.plan_positions.specs.Winners.{winner, plannedBy, positionNumber, winnerPuts}
+use Rattle.plan_positions.specs.Winners.{winner, plannedBy, positionOf, winnerPuts}
 use Rattle.plan_positions.specs.Places.{badSlot, holdsWord, Ranked, placeIn, plannedTable, Held, ListHeld, pinRight, Searched, SlotsReady, Judgeable, PartReady}
-use Rattle.plan_positions.proofs.WinnerLaws.{by-none, by-layout, by-position, planned-winner, mark-is, renewals-length, winners-look, winners-missing, listed}
+use Rattle.plan_positions.proofs.WinnerLaws.{by-none, planned-winner, renewals-length, winners-look, winners-missing, listed}
 use Rattle.plan_positions.proofs.MajorLaws.{MajorAt, major-at}
 use Rattle.plan_positions.proofs.RankLaws.{ranked, normal-is}
 
@@ -51,10 +51,6 @@ module _ (d : List ℕ) (n : ℕ) where
   unfolding placeIn
   place-none w h = rw (h, by-none)
 
-  pub place-layout : (w : ℕ) → 0 < w → w ≤ layoutOf d → ltb ((w - 1) / 32) (stateWords d) ≡ placeIn d n (plannedBy d w)
-  unfolding placeIn
-  place-layout w p l = rw (by-layout d w p l)
-
   in-state : (y : Planned) → y .staged ≡ 0 → placeIn d n (some y) ≡ ltb (y .place / 32) (stateWords d)
   unfolding placeIn
   in-state y h = rw (eq-eqb (y .staged) 0 h, placeIn)
@@ -62,13 +58,6 @@ module _ (d : List ℕ) (n : ℕ) where
   in-normal : (y : Planned) → (y .staged ≡ 0 → ⊥) → placeIn d n (some y) ≡ normalWord d n (y .place / 32)
   unfolding placeIn
   in-normal y h = rw (ne-eqb (y .staged) 0 h, placeIn)
-
-  module _ (i : ℕ) where
-    pub place-unstaged : positionStaged d i ≡ 0 → ltb (positionPlace d i / 32) (stateWords d) ≡ placeIn d n (plannedBy d (positionNumber d i))
-    place-unstaged h = sym (ap (placeIn d n) (by-position d (positionNumber d i) i refl) ∙ in-state _ h)
-
-    pub place-staged : (positionStaged d i ≡ 0 → ⊥) → normalWord d n (positionPlace d i / 32) ≡ placeIn d n (plannedBy d (positionNumber d i))
-    place-staged h = sym (ap (placeIn d n) (by-position d (positionNumber d i) i refl) ∙ in-normal _ h)
 
 -- ---- a slot is right
 
@@ -100,27 +89,14 @@ planned-length d p m = renewals-length (filled m (readPuts d p)) (winnerPuts d) 
 
 -- ---- the same as the code reads it
 
--- entry i of the positions, which begin at word `base`: a and m are its place and its mark, w its word
-module _ (d room : List ℕ) (state n : ℕ) (ready : Searched d room state n) (base i a w m : ℕ) (at : base ≡ positionBase d)
-    (read : a ≡ wordAt d (base + 3 * i + 1)) (word : w ≡ a / 32) (mark : m ≡ wordAt d (base + 3 * i + 2)) where
-  word-is : w ≡ positionPlace d i / 32
-  word-is = word ∙ ap (λ (x : ℕ). x / 32) (read ∙ ap (λ (b : ℕ). wordAt d (b + 3 * i + 1)) at)
+-- entry w, which gives position x; v is its word
+module _ (d room : List ℕ) (state n : ℕ) (ready : Searched d room state n) (w : ℕ) (x : code.Planned) (by : plannedBy d w ≡ some (positionOf x))
+    (v : ℕ) (word : v ≡ x .place .0 / 32) where
+  pub unstaged-right : x .staged ≡ 0 → ltb v state ≡ placeIn d n (plannedBy d w)
+  unstaged-right h = ap₂ ltb word (ready .size) ∙ sym (ap (placeIn d n) by ∙ in-state d n (positionOf x) h)
 
-  pub unstaged-right : m ≡ 0 → ltb w state ≡ placeIn d n (plannedBy d (positionNumber d i))
-  unstaged-right h = ap₂ ltb word-is (ready .size) ∙ place-unstaged d n i (sym (mark-is d base i m at mark) ∙ h)
-
-  pub staged-right : (r : Bool) → (m ≡ 0 → ⊥) → r ≡ someBelow (holdsWord room w) n → r ≡ placeIn d n (plannedBy d (positionNumber d i))
-  staged-right r h e = e ∙ (ready .finds w ∙ (ap (normalWord d n) word-is ∙ place-staged d n i (λ z. h (mark-is d base i m at mark ∙ z))))
-
--- entry w
-module _ (d room : List ℕ) (state n : ℕ) (ready : Searched d room state n) (w layout : ℕ) (read : layout ≡ layoutOf d) where
-  pub layout-right : (x : ℕ) → 0 < w → w ≤ layout → x ≡ (w - 1) / 32 → ltb x state ≡ placeIn d n (plannedBy d w)
-  layout-right x p l e = ap₂ ltb e (ready .size) ∙ place-layout d n w p (omega arith)
-
-  pub entry-right : (r : Bool) → layout < w → r ≡ placeIn d n (plannedBy d (positionNumber d (w - 1 - layout))) → r ≡ placeIn d n (plannedBy d w)
-  entry-right r l e =
-      let k : positionNumber d (w - 1 - layout) ≡ w = omega arith in
-      e ∙ ap (λ (v : ℕ). placeIn d n (plannedBy d v)) k
+  pub staged-right : (r : Bool) → (x .staged ≡ 0 → ⊥) → r ≡ someBelow (holdsWord room v) n → r ≡ placeIn d n (plannedBy d w)
+  staged-right r h e = e ∙ ready .finds v ∙ ap (normalWord d n) word ∙ sym (ap (placeIn d n) by ∙ in-normal d n (positionOf x) h)
 
 -- pin x, whose entry the table has
 module _ (d room : List ℕ) (n x : ℕ) (held : Held d room x) where
@@ -192,19 +168,10 @@ module _ (d : List ℕ) (p : ℕ) (list : List ℕ) (m : ℕ) (list′ : List �
   pub list-small : AllPins (readPins d p) → AllPins (take m list′)
   list-small h = rw list-front h
 
--- ---- the size of the state, part by part
+-- ---- what the size of the state asks for
 
-pub state-none : (d : List ℕ) (x : ℕ) → x ≡ layoutOf d → (x + 31) / 32 ≡ (layoutOf d + 31) / 32 + sumTo (writeOuts d) 0
-unfolding sumTo
-state-none d x h = omega (arith, ap (λ (y : ℕ). (y + 31) / 32) h)
-
-pub state-part : (d room : List ℕ) (p sum : ℕ) → Judgeable d room → p < partsOf d → sum ≡ (layoutOf d + 31) / 32 + sumTo (writeOuts d) p
-    → sum + getD room (cell p 5) 0 ≡ (layoutOf d + 31) / 32 + sumTo (writeOuts d) (p + 1)
-state-part d room p sum j l h = omega (arith, sum-more (writeOuts d) p, j .table .counted p l .write-outs)
-
-pub state-whole : (d : List ℕ) (p sum : ℕ) → p ≡ partsOf d → sum ≡ (layoutOf d + 31) / 32 + sumTo (writeOuts d) p → sum ≡ stateWords d
-unfolding stateOf
-state-whole d p sum e h = h ∙ ap (λ (n : ℕ). (layoutOf d + 31) / 32 + sumTo (writeOuts d) n) e
+pub tallied : (d room : List ℕ) → Judgeable d room → Tallied d room
+tallied d room j = record { ready = record { form = j .form; inside = j .wide }; counted = j .table .counted }
 
 -- ---- the part table stays where the first words of the room change
 

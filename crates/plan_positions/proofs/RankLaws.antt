@@ -5,7 +5,7 @@ use mathlib.Core.Path.{_≡_, refl, sym, ap, _∙_, subst}
 use mathlib.Core.Bool.{Bool, true, false, _&&_, and-false}
 use mathlib.Core.List.{List}
 use mathlib.Core.Logic.{⊎-elim}
-use Prim.Native.Nat.{ℕ, _+_, _*_, _-_, _≤_, _<_}
+use Prim.Native.Nat.{ℕ, _+_, _-_, _≤_, _<_}
 use native.Mathlib.Omega.{arith}
 use borrow.Author.Tests.{le-leb, lt-leb, lt-ltb, le-ltb, ltb-true, ltb-false}
 use lib.Dec.{leb, ltb}
@@ -17,7 +17,9 @@ use Rattle.words.specs.Tests.{someBelow}
 use Rattle.plan_record.specs.Record.{majorsOf, countAt, partsBefore, partsOf, locationsOf}
 use Rattle.words.proofs.TestLaws.{not-both, some-found, some-at, some-false}
 use Rattle.plan_counts.specs.Counts.{writeOuts}
-use Rattle.plan_blocks.specs.Table.{cell, rankOf, Counted, Allotted, Tabled}
+use Rattle.plan_rows.specs.Columns as col
+use Rattle.plan_rows.specs.Rows.{rowBase, cellAt}
+use Rattle.plan_blocks.specs.Table.{rankOf, Counted, Allotted, Tabled}
 use Rattle.plan_blocks.proofs.TotalLaws.{three}
 use Rattle.plan_blocks.proofs.StartLaws.{parts-mono, parts-next, part-split, rank-in, rank-all, state-order}
 use Rattle.plan_positions.specs.Positions.{startOf, normalWord}
@@ -101,8 +103,8 @@ module _ (d room : List ℕ) (table : Tabled d room) where
       let c : Counted d room (partsBefore d s + i) = table .counted (partsBefore d s + i) (omega (arith, parts-next d s, parts-mono d (s + 1) (majorsOf d) (omega arith))) in
       record {
         is = a .ranked;
-        start = ap (λ (p : ℕ). getD room (cell p 7) 0) (a .ranked) ∙ (a .state-start ∙ sym (start-is d s i l h));
-        locations = ap (λ (p : ℕ). getD room (cell p 2) 0) (a .ranked) ∙ c .locations;
+        start = ap (λ (p : ℕ). cellAt room p col.stateStart) (a .ranked) ∙ (a .state-start ∙ sym (start-is d s i l h));
+        locations = ap (λ (p : ℕ). cellAt room p col.locations) (a .ranked) ∙ c .locations;
       }
 
   module _ (n : ℕ) (few : n ≤ majorsOf d) where
@@ -137,7 +139,7 @@ module _ (d room : List ℕ) (table : Tabled d room) where
           state-order d s t i x b v (omega arith),
         )
 
-    pub ranked : partsOf d ≤ 262144 → 65536 + 16 * partsOf d ≤ length room → Ranked room (partsBefore d n)
+    pub ranked : partsOf d ≤ 262144 → rowBase (partsOf d) ≤ length room → Ranked room (partsBefore d n)
     ranked m wide =
         let l : partsBefore d n ≤ partsOf d = parts-mono d n (majorsOf d) few in
         record {

@@ -1,6 +1,6 @@
 -- What the entries put in order leave for a pin is the number of the entry that wins for it, and that entry gives its planned position.
 -- Assumes nothing.
-use mathlib.Core.Path.{_≡_, refl, sym, ap, _∙_}
+use mathlib.Core.Path.{_≡_, refl, sym, ap, ap₂, _∙_}
 use mathlib.Core.Bool.{Bool, true, false, not, _&&_, and-false}
 use mathlib.Core.Option.{Option, none, some}
 use mathlib.Core.List.{List, [], _∷_, _++_}
@@ -13,7 +13,7 @@ use lib.ListN.{length}
 use Rattle.pinmap.specs.PinMap.{look, putThere, Entry, entry, replaced, lastFrom, renewed, afterRenewals, Holds}
 use Rattle.pinmap.proofs.PinMapLaws.{replaced-same, replaced-other, there-length}
 use Rattle.pinmap.proofs.HoldsLaws.{renewed-none, renewed-all}
-use Rattle.plan_record.specs.Record.{wordAt, layoutOf, layoutBase, layoutPin, positionsOf, positionBase, positionPin, positionPlace, positionStaged}
+use Rattle.plan_record.specs.Record.{layoutOf, layoutPin, positionsOf, positionPin, positionPlace, positionStaged}
 use Rattle.words.specs.Pins.{empty}
 use Rattle.plan_record.specs.Form.{planForm}
 use Rattle.words.proofs.TestLaws.{and-true}
@@ -117,37 +117,25 @@ unfolding chosenPuts
 chosen-more t u chosen pin number n h = rw (h, add-one, chosenPuts, renewals-append)
 
 -- entry i of the layout, read as x
-module _ (d t : List ℕ) (base i x : ℕ) (at : base ≡ layoutBase d) (read : x ≡ wordAt d (base + i)) where
-  layout-is : x ≡ layoutPin d i
-  layout-is = read ∙ ap (λ (b : ℕ). wordAt d (b + i)) at
-
+module _ (d t : List ℕ) (i x : ℕ) (read : x ≡ layoutPin d i) where
   pub layout-empty : x ≡ empty → t ≡ afterRenewals t (chosenPut (inUse d i) (layoutPin d i) (layoutNumber i))
-  layout-empty h = chosen-out t (inUse d i) (layoutPin d i) (layoutNumber i) (ap not (eq-eqb _ _ (sym layout-is ∙ h)))
+  layout-empty h = chosen-out t (inUse d i) (layoutPin d i) (layoutNumber i) (ap not (eq-eqb _ _ (sym read ∙ h)))
 
   pub layout-put : (u : List ℕ) → (x ≡ empty → ⊥) → u ≡ putThere t x (1 + i) → u ≡ afterRenewals t (chosenPut (inUse d i) (layoutPin d i) (layoutNumber i))
   layout-put u h e =
-      e
-      ∙ (ap (λ (y : ℕ). putThere t y (1 + i)) layout-is
-      ∙ chosen-in t (inUse d i) (layoutPin d i) (layoutNumber i) (ap not (ne-eqb _ _ (λ z. h (layout-is ∙ z)))))
+      let used = ap not (ne-eqb _ _ (λ z. h (read ∙ z))) in
+      e ∙ ap (λ (y : ℕ). putThere t y (1 + i)) read ∙ chosen-in t (inUse d i) (layoutPin d i) (layoutNumber i) used
 
--- the mark of entry i of the positions, read as m
-pub mark-is : (d : List ℕ) (base i m : ℕ) → base ≡ positionBase d → m ≡ wordAt d (base + 3 * i + 2) → m ≡ positionStaged d i
-mark-is d base i m at read = read ∙ ap (λ (b : ℕ). wordAt d (b + 3 * i + 2)) at
-
-module _ (d t : List ℕ) (base i k m : ℕ) (at : base ≡ positionBase d) (read : m ≡ wordAt d (base + 3 * i + 2)) where
+-- entry i of the positions, whose mark is read as m
+module _ (d t : List ℕ) (i k m : ℕ) (read : m ≡ positionStaged d i) where
   pub position-other : (m ≡ k → ⊥) → t ≡ afterRenewals t (chosenPut (marked d k i) (positionPin d i) (positionNumber d i))
-  position-other h = chosen-out t (marked d k i) (positionPin d i) (positionNumber d i) (ne-eqb _ _ (λ z. h (mark-is d base i m at read ∙ z)))
+  position-other h = chosen-out t (marked d k i) (positionPin d i) (positionNumber d i) (ne-eqb _ _ (λ z. h (read ∙ z)))
 
-  pub position-is : (x : ℕ) → x ≡ wordAt d (base + 3 * i) → x ≡ positionPin d i
-  position-is x h = h ∙ ap (λ (b : ℕ). wordAt d (b + 3 * i)) at
-
-  pub position-put : (u : List ℕ) (x first : ℕ) → m ≡ k → x ≡ wordAt d (base + 3 * i) → first ≡ 1 + layoutOf d → u ≡ putThere t x (first + i)
+  pub position-put : (u : List ℕ) (x first : ℕ) → m ≡ k → x ≡ positionPin d i → first ≡ 1 + layoutOf d → u ≡ putThere t x (first + i)
       → u ≡ afterRenewals t (chosenPut (marked d k i) (positionPin d i) (positionNumber d i))
   position-put u x first h w f e =
-      e
-      ∙ (ap (λ (y : ℕ). putThere t y (first + i)) (position-is x w)
-      ∙ (ap (λ (y : ℕ). putThere t (positionPin d i) (y + i)) f
-      ∙ chosen-in t (marked d k i) (positionPin d i) (positionNumber d i) (eq-eqb _ _ (sym (mark-is d base i m at read) ∙ h))))
+      let chosen = eq-eqb _ _ (sym read ∙ h) in
+      e ∙ ap₂ (λ (y z : ℕ). putThere t y (z + i)) w f ∙ chosen-in t (marked d k i) (positionPin d i) (positionNumber d i) chosen
 
 -- all three lists
 pub winners-put : (d t a b e : List ℕ) → a ≡ afterRenewals t (markedPuts d 1 (positionsOf d)) → b ≡ afterRenewals a (layoutPuts d (layoutOf d))

@@ -5,7 +5,7 @@ use mathlib.Core.Path.{_≡_}
 use mathlib.Core.Bool.{Bool, true, false, _&&_}
 use mathlib.Core.Option.{Option, none, some}
 use mathlib.Core.List.{List}
-use Prim.Native.Nat.{ℕ, _+_, _*_, _-_, _/_, _^_, _≤_, _<_}
+use Prim.Native.Nat.{ℕ, _+_, _-_, _/_, _^_, _≤_, _<_}
 use lib.Dec.{leb, ltb, eqb}
 use lib.ListN.{length, getD, take, replicate}
 use Rattle.pinmap.specs.PinMap.{look, afterRenewals}
@@ -15,7 +15,9 @@ use Rattle.plan_record.specs.Record.{partsOf, partsBefore}
 use Rattle.plan_record.specs.Form.{planForm}
 use Rattle.plan_record.specs.Body.{BodyOf}
 use Rattle.plan_blocks.specs.Blocks.{stateWords}
-use Rattle.plan_blocks.specs.Table.{cell, Tabled}
+use Rattle.plan_rows.specs.Columns as col
+use Rattle.plan_rows.specs.Rows.{rowBase, cell, cellAt}
+use Rattle.plan_blocks.specs.Table.{Tabled}
 use Rattle.plan_slots.specs.Puts.{filled, readPuts}
 use Rattle.plan_positions.specs.Positions.{Planned, majorOf, normalWord, twelveRight, thirteenRight}
 use Rattle.plan_positions.specs.Winners.{winner, plannedBy, winnerPuts, Listed}
@@ -29,13 +31,13 @@ badEntry d p = firstNot (thirteenRight d p) 16384
 
 -- the part that is k-th in the order of the state, its start and its locations
 abbrev pub partAt : List ℕ → ℕ → ℕ
-partAt room k = getD room (cell k 9) 0
+partAt room k = cellAt room k col.ranked
 
 abbrev pub startAt : List ℕ → ℕ → ℕ
-startAt room k = getD room (cell (partAt room k) 7) 0
+startAt room k = cellAt room (partAt room k) col.stateStart
 
 abbrev pub locationsAt : List ℕ → ℕ → ℕ
-locationsAt room k = getD room (cell (partAt room k) 2) 0
+locationsAt room k = cellAt room (partAt room k) col.locations
 
 -- word w is one of its normal words
 unfoldable pub holdsWord : List ℕ → ℕ → ℕ → Bool
@@ -102,7 +104,7 @@ pub record SlotsReady (d : List ℕ) (p : ℕ) (b : Body) (room : List ℕ) (sta
 pub record Judgeable (d room : List ℕ) : Type 0 where
   pub form : planForm d ≡ true
   pub table : Tabled d room
-  pub wide : 65536 + 16 * partsOf d ≤ length room
+  pub wide : rowBase (partsOf d) ≤ length room
   pub clear : take 32768 room ≡ replicate 32768 0
 
 pub record PartReady (d : List ℕ) (p : ℕ) (b : Body) (room : List ℕ) (state : ℕ) : Type 0 where

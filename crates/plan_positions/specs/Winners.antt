@@ -10,6 +10,7 @@ use lib.Dec.{ltb, eqb}
 use Rattle.pinmap.specs.PinMap.{Entry, entry}
 use Rattle.plan_record.specs.Record.{layoutOf, layoutBase, layoutPin, positionsOf, positionBase, positionPin, positionPlace, positionStaged}
 use Rattle.words.specs.Pins.{empty}
+use Rattle.plan_positions.specs.declared.winners.Planned as code
 use Rattle.plan_positions.specs.Positions.{Planned, inLayout, inPositions}
 
 abbrev pub layoutNumber : ℕ → ℕ
@@ -37,6 +38,10 @@ plannedBy d (suc i) =
       | true ↦ some (record { staged = 0; place = i })
       | false ↦ some (record { staged = positionStaged d (i - layoutOf d); place = positionPlace d (i - layoutOf d) })
     ]
+
+-- a position as the code hands it over
+abbrev pub positionOf : code.Planned → Planned
+positionOf x = record { staged = x .staged; place = x .place .0 }
 
 -- ---- the entries, each for its pin
 

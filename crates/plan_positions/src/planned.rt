@@ -6,24 +6,23 @@ ghost use lib.ListN.{length};
 ghost use lib.Seq.{sets};
 ghost use Rattle.words.specs.Tests.{allBelow};
 ghost use Rattle.plan_record.specs.Body.{BodyOf};
-ghost use Rattle.plan_blocks.specs.Blocks.{stateWords};
 ghost use Rattle.words.specs.Found.{itemOf, lowestOf};
 ghost use Rattle.plan_slots.specs.Puts.{readPins, AllPins};
 ghost use Rattle.plan_positions.specs.Positions.{twelveRight};
-ghost use Rattle.plan_positions.specs.Winners.{Listed, winner, plannedBy, positionNumber};
+ghost use Rattle.plan_positions.specs.Winners.{Listed, winner, plannedBy};
 ghost use Rattle.plan_positions.specs.Places.{badSlot, placeIn, plannedTable, Held, ListHeld, pinRight, Searched, SlotsReady, Judgeable, PartReady};
 use crate::ranks::is_normal;
 use crate::ranks::parts_earlier;
 use crate::winners::fill_winners;
+use crate::winners::planned_by;
 use pinmap::Found;
 use pinmap::look_up;
+use plan_blocks::totals::state_words;
 use plan_record::bodies::Body;
 use plan_record::bodies::body_at;
 use plan_record::bodies::first_body;
 use plan_record::bodies::parts_of;
 use plan_record::bodies::slot;
-use plan_record::places::position_base;
-use plan_record::places::word_at;
 use plan_slots::tables::fill_reads;
 use plan_slots::tables::list_reads;
 use words::clear::clear;
@@ -31,47 +30,22 @@ use words::found::Item;
 use words::found::Lowest;
 use words::units::EMPTY_PIN;
 use words::units::Pin;
-use words::units::StatePosition;
 
-// How many words the state has: those of the input layout, and the write-out words of all parts.
-pub fn state_words(d: &[u8], room: &[u32]) -> usize
-    requires { ⌜ Judgeable (now d) (now room) ⌝ }
-    ensures { λ r. ⌜ r ≡ stateWords (now (d .entry)) ⌝ }
-{
-    let parts = parts_of(d);
-    let mut sum = (word_at(d, 3) as usize + 31) / 32;
-    for p in 0..parts {
-        sum += room[65536 + 16 * p + 5] as usize;
-    }
-    sum
-}
-
-// Whether entry i of the positions is right, where the earlier major stages have n parts.
-fn position_right(d: &[u8], room: &[u32], state: usize, n: usize, i: u32) -> bool
-    requires { ⌜ Searched (now d) (now room) state n ⌝ }
-    ensures { λ r. ⌜ r ≡ placeIn (now (d .entry)) n (plannedBy (now (d .entry)) (positionNumber (now (d .entry)) i)) ⌝ }
-{
-    let at = position_base(d) + 3 * (i as usize);
-    let word = StatePosition(word_at(d, at + 1)).word();
-    if word_at(d, at + 2) == 0 {
-        return (word as usize) < state;
-    }
-    is_normal(room, n, word)
-}
-
-// Whether the position that entry w gives is right.
+// Whether the position that entry w gives is right, where the earlier major stages have n parts.
 fn place_right(d: &[u8], room: &[u32], state: usize, n: usize, w: u32) -> bool
     requires { ⌜ Searched (now d) (now room) state n ⌝ }
     ensures { λ r. ⌜ r ≡ placeIn (now (d .entry)) n (plannedBy (now (d .entry)) w) ⌝ }
 {
-    let layout = word_at(d, 3);
     if w == 0 {
         return false;
     }
-    if w <= layout {
-        return (StatePosition(w - 1).word() as usize) < state;
+    let x = planned_by(d, w);
+    let place = x.place;
+    let word = place.word();
+    if x.staged == 0 {
+        return (word as usize) < state;
     }
-    position_right(d, room, state, n, w - 1 - layout)
+    is_normal(room, n, word)
 }
 
 // Whether the position of a pin is right, whose entry the table in the first words of the room has.
@@ -211,7 +185,7 @@ pub fn refusal12(d: &[u8], room: &mut [u32]) -> Lowest
     ensures { λ r. ⌜ r ≡ lowestOf (Rattle.plan_positions.specs.Positions.refusal12 (now (d .entry))) ⌝ }
     ensures { λ _. ⌜ now (room .exit) ≡ now (room .entry) ⌝ }
 {
-    let state = state_words(d, room);
+    let state = state_words(d, room) as usize;
     let parts = parts_of(d);
     let mut at = first_body(d);
     let mut p = 0;

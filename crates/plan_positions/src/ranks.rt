@@ -6,15 +6,18 @@ ghost use Rattle.words.specs.Tests.{someBelow};
 ghost use Rattle.plan_record.specs.Record.{majorsOf, partsBefore};
 ghost use Rattle.plan_positions.specs.Positions.{majorOf};
 ghost use Rattle.plan_positions.specs.Places.{startAt, locationsAt, holdsWord, latest, RowIn, Ranked};
-use plan_record::places::word_at;
+use plan_record::numbers::count_at;
+use plan_record::numbers::majors_of;
+use plan_rows::Column;
+use plan_rows::cell_at;
 
 // The state start of the part that is k-th in the order of the state.
 fn start_at(room: &[u32], k: usize) -> u32
     requires { ⌜ RowIn (now room) k ⌝ }
     ensures { λ r. ⌜ r ≡ startAt (now (room .entry)) k ⌝ }
 {
-    let p = room[65536 + 16 * k + 9] as usize;
-    room[65536 + 16 * p + 7]
+    let p = cell_at(room, k, Column::RANKED) as usize;
+    cell_at(room, p, Column::STATE_START)
 }
 
 // How many locations it has.
@@ -22,8 +25,8 @@ fn locations_at(room: &[u32], k: usize) -> u32
     requires { ⌜ RowIn (now room) k ⌝ }
     ensures { λ r. ⌜ r ≡ locationsAt (now (room .entry)) k ⌝ }
 {
-    let p = room[65536 + 16 * k + 9] as usize;
-    room[65536 + 16 * p + 2]
+    let p = cell_at(room, k, Column::RANKED) as usize;
+    cell_at(room, p, Column::LOCATIONS)
 }
 
 // How many of the first n parts start at word w or before it.
@@ -72,12 +75,12 @@ pub fn parts_earlier(d: &[u8], p: usize) -> usize
     requires { ⌜ majorsOf (now d) ≤ 64 ⌝ }
     ensures { λ r. ⌜ r ≡ partsBefore (now (d .entry)) (majorOf (now (d .entry)) p) ⌝ }
 {
-    let majors = word_at(d, 1) as usize;
+    let majors = majors_of(d) as usize;
     let mut first = 0;
     let mut next = 0;
     for s in 0..majors {
         first = later_first(p, first, next);
-        next += word_at(d, 5 + s) as usize;
+        next += count_at(d, s) as usize;
     }
     first
 }

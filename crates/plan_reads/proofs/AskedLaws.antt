@@ -13,37 +13,26 @@ use Rattle.words.proofs.BitLaws.{lt-or-ge}
 use Rattle.pinmap.specs.PinMap.{look, foundOf}
 use Rattle.pinmap.specs.declared.Found.{Found}
 use Rattle.pinmap.specs.declared.Found.the-variants.{Value, Missing}
-use Rattle.plan_record.specs.Record.{wordAt, slotAt, layoutOf, positionBase, positionPlace, positionStaged}
+use Rattle.plan_record.specs.Record.{slotAt, layoutOf}
 use Rattle.words.specs.Pins.{empty}
 use Rattle.plan_positions.specs.Positions.{Planned, inLayout, inPositions, planned}
-use Rattle.plan_positions.specs.Winners.{winner, plannedBy}
+use Rattle.plan_positions.specs.declared.winners.Planned as code
+use Rattle.plan_positions.specs.Winners.{winner, plannedBy, positionOf}
 use Rattle.plan_positions.proofs.WinnerLaws.{by-layout, by-position, planned-winner}
 use Rattle.plan_reads.specs.PartReads.{orZero, askedBy, askedTo}
 use Rattle.plan_reads.specs.Ready.{numberOf, Narrow, AllNarrow, EntryOf, Won}
 
 -- ---- the bit of an entry
 
-module _ (d : List ℕ) (w l : ℕ) (e : EntryOf d w) (is : l ≡ layoutOf d) where
-  pub entry-layout : w ≤ l → w < 2 ^ 32 → (w - 1 ≡ numberOf (plannedBy d w)) × Narrow (w - 1)
-  entry-layout h s =
-      let q = by-layout d w (e .some-entry) (omega arith) in
-      (omega (arith, ap numberOf q), record { small = omega arith; place = omega arith })
+-- entry w gives position x, whose place in the state is q
+module _ (d : List ℕ) (w : ℕ) (e : EntryOf d w) (x : code.Planned) (by : plannedBy d w ≡ some (positionOf x)) (q : ℕ) (is : q ≡ x .place .0) (small : q < 2 ^ 32) where
+  pub entry-unstaged : x .staged ≡ 0 → (q ≡ numberOf (plannedBy d w)) × Narrow q
+  entry-unstaged z = (omega (arith, ap numberOf by), record { small = omega arith; place = omega arith })
 
-  module _ (base place mark : ℕ) (after : l < w) (begins : base ≡ positionBase d) (placed : place ≡ wordAt d (base + 3 * (w - 1 - l) + 1)) (marked : mark ≡ wordAt d (base + 3 * (w - 1 - l) + 2)) (small : place < 2 ^ 32) where
-    by-words : plannedBy d w ≡ some (record { staged = mark; place = place })
-    by-words =
-        let i = w - 1 - l in
-        let m : positionStaged d i ≡ mark = ap (λ (b : ℕ). wordAt d (b + 3 * (w - 1 - l) + 2)) (sym begins) ∙ sym marked in
-        let q : positionPlace d i ≡ place = ap (λ (b : ℕ). wordAt d (b + 3 * (w - 1 - l) + 1)) (sym begins) ∙ sym placed in
-        by-position d w i (omega arith) ∙ rw (m, q)
-
-    pub entry-unstaged : mark ≡ 0 → (place ≡ numberOf (plannedBy d w)) × Narrow place
-    entry-unstaged z = (omega (arith, ap numberOf by-words), record { small = omega arith; place = omega arith })
-
-    pub entry-staged : (mark ≡ 0 → ⊥) → (2 ^ 36 + place ≡ numberOf (plannedBy d w)) × Narrow (2 ^ 36 + place)
-    entry-staged z =
-        let one : mark ≡ 1 = omega (arith, e .marked _ by-words, z) in
-        (omega (arith, ap numberOf by-words), record { small = omega arith; place = omega arith })
+  pub entry-staged : (x .staged ≡ 0 → ⊥) → (2 ^ 36 + q ≡ numberOf (plannedBy d w)) × Narrow (2 ^ 36 + q)
+  entry-staged z =
+      let one : x .staged ≡ 1 = omega (arith, e .marked _ by, z) in
+      (omega (arith, ap numberOf by), record { small = omega arith; place = omega arith })
 
 -- ---- what a look into the table of pins tells
 

@@ -19,7 +19,8 @@ use Rattle.rounds.specs.Rounds.{Solvable}
 use Rattle.plan_record.specs.Record.{partsOf, bodyAt}
 use Rattle.words.specs.Tests.{Place, lowestFrom}
 use Rattle.words.proofs.TestLaws.{some-not-none, lowest-fault, lowest-next, lowest-end}
-use Rattle.plan_blocks.specs.Table.{cell}
+use Rattle.plan_rows.specs.Columns as col
+use Rattle.plan_rows.specs.Rows.{cell}
 use Rattle.plan_blocks.proofs.FillLaws.{put-more, put-long, put-low}
 use Rattle.plan_reads.specs.PartReads.{lanesIn, askedTo, readWords, partReads, partLanes, badReads, refusedReads}
 use Rattle.plan_reads.specs.Ready.{AllNarrow, SetRoom, InForm, ClearRoom}
@@ -242,10 +243,10 @@ module _ (d room₀ room : List ℕ) (p : ℕ) (is : room ≡ roundRows d room�
           let u : i < 32768 = omega (arith, long) in
           getD-take 32768 (roundRows d room₀ p) i 0 u ∙ (put-low room₀ 10 (λ q. q) (roundsIn d) p i (omega arith) ∙ sym (getD-take 32768 room₀ i 0 u)))
 
-  pub row-inside : ClearRoom d room₀ → p < partsOf d → cell p 10 < length room
+  pub row-inside : ClearRoom d room₀ → p < partsOf d → cell p col.rounds < length room
   row-inside c l = omega (arith, rows-long, c .wide)
 
-  pub rows-more : (r : Reads) → r ≡ readsOf (partReads 256 d p) → (n : ℕ) → n ≡ roundsOf r → set room (cell p 10) n ≡ roundRows d room₀ (p + 1)
+  pub rows-more : (r : Reads) → r ≡ readsOf (partReads 256 d p) → (n : ℕ) → n ≡ roundsOf r → set room (cell p col.rounds) n ≡ roundRows d room₀ (p + 1)
   rows-more r e n f =
       let m : n ≡ roundsIn d p = f ∙ (ap roundsOf e ∙ rounds-are (partReads 256 d p)) in
       rw (is, m) (sym (put-more room₀ 10 (λ q. q) (roundsIn d) p))

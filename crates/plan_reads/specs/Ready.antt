@@ -4,13 +4,14 @@ use mathlib.Core.Path.{_≡_}
 use mathlib.Core.Bool.{true}
 use mathlib.Core.Option.{Option, none, some}
 use mathlib.Core.List.{List, map}
-use Prim.Native.Nat.{ℕ, _+_, _*_, _-_, _%_, _^_, _≤_, _<_}
+use Prim.Native.Nat.{ℕ, _+_, _-_, _%_, _^_, _≤_, _<_}
 use lib.ListN.{length, getD, take, replicate}
 use Rattle.reads.specs.ReadSet.{pairsOf, broken}
 use Rattle.pinmap.specs.PinMap.{look}
 use Rattle.plan_record.specs.Record.{partsOf, slotAt}
 use Rattle.words.specs.Pins.{empty}
 use Rattle.plan_record.specs.Form.{planForm}
+use Rattle.plan_rows.specs.Rows.{rowBase}
 use Rattle.plan_positions.specs.Positions.{Planned, planned, refusal12}
 use Rattle.plan_positions.specs.Winners.{winner, plannedBy}
 use Rattle.plan_slots.specs.Puts.{readPins}
@@ -71,7 +72,7 @@ pub record InForm (ws : List ℕ) : Type 0 where
 
 -- a room that has the part table, the first words of which are clear
 pub record ClearRoom (d room : List ℕ) : Type 0 where
-  pub wide : 65536 + 16 * partsOf d ≤ length room
+  pub wide : rowBase (partsOf d) ≤ length room
   pub clear : take 32768 room ≡ replicate 32768 0
 
 -- a plan that was refused neither by 5 nor by 12, with such a room

@@ -12,9 +12,8 @@ ghost use Rattle.plan_reads.specs.PartReads.{orZero, askedTo, readWords}
 ghost use Rattle.plan_reads.specs.Ready.{numberOf, bitsOf, partBits, Narrow, AllNarrow, EntryOf, Won, ListWon, AllPlanned, SetRoom};
 use pinmap::Found;
 use plan_positions::planned::list_planned;
+use plan_positions::winners::planned_by;
 use plan_record::bodies::Body;
-use plan_record::places::position_base;
-use plan_record::places::word_at;
 use words::units::Pin;
 
 // The bit of the position that entry w gives: a staged one's has bit 36, bit 31 of its word.
@@ -22,17 +21,13 @@ pub fn bit_of_entry(d: &[u8], w: u32) -> u64
     requires { ⌜ EntryOf (now d) w ⌝ }
     ensures { λ r. ⌜ (r ≡ numberOf (plannedBy (now (d .entry)) w)) × Narrow r ⌝ }
 {
-    let layout = word_at(d, 3);
-    if w <= layout {
-        return (w - 1) as u64;
+    let x = planned_by(d, w);
+    let place = x.place;
+    let bit = place.0 as u64;
+    if x.staged == 0 {
+        return bit;
     }
-    let i = (w - 1 - layout) as usize;
-    let at = position_base(d) + 3 * i;
-    let place = word_at(d, at + 1) as u64;
-    if word_at(d, at + 2) == 0 {
-        return place;
-    }
-    0x10_0000_0000 + place
+    0x10_0000_0000 + bit
 }
 
 // The entry that wins for a pin, 0 where the table has none.

@@ -3,7 +3,8 @@ ghost use mathlib.Core.Path.{_≡_};
 ghost use Prim.Native.Nat.{_<_};
 ghost use lib.ListN.{length, set};
 ghost use Rattle.plan_record.specs.Body.{BodyOf};
-ghost use Rattle.plan_blocks.specs.Table.{cell};
+ghost use Rattle.plan_rows.specs.Columns as col;
+ghost use Rattle.plan_rows.specs.Rows.{cell};
 ghost use Rattle.plan_positions.specs.Winners.{Listed};
 ghost use Rattle.plan_reads.specs.PartReads.{partReads, refusedReads};
 ghost use Rattle.plan_reads.specs.Ready.{AllPlanned, SetRoom, ClearRoom, Searchable};
@@ -15,6 +16,8 @@ use plan_record::bodies::Body;
 use plan_record::bodies::body_at;
 use plan_record::bodies::first_body;
 use plan_record::bodies::parts_of;
+use plan_rows::Column;
+use plan_rows::put_cell;
 use words::clear::clear;
 use words::edition::Edition;
 
@@ -103,15 +106,15 @@ fn rounds_of(reads: Reads) -> u32
     }
 }
 
-// Word 10 of the row of part p: its rounds.
+// The rounds of part p into its row.
 fn put_rounds(room: &mut [u32], p: usize, reads: Reads)
-    requires { ⌜ (p < 262144) × (cell p 10 < length (now room)) ⌝ }
-    ensures { λ _. ⌜ now (room .exit) ≡ set (now (room .entry)) (cell p 10) (roundsOf reads) ⌝ }
+    requires { ⌜ (p < 262144) × (cell p col.rounds < length (now room)) ⌝ }
+    ensures { λ _. ⌜ now (room .exit) ≡ set (now (room .entry)) (cell p col.rounds) (roundsOf reads) ⌝ }
 {
-    room[65536 + 16 * p + 10] = rounds_of(reads);
+    put_cell(room, p, Column::ROUNDS, rounds_of(reads));
 }
 
-// Refusals 3 and 4. Word 10 of each part's row then has its rounds; the first part with nothing to read ends it. What keys, scratch and set
+// Refusals 3 and 4. Each part's row then has its rounds; the first part with nothing to read ends it. What keys, scratch and set
 // hold afterwards is left open.
 pub fn check_reads(
     d: &[u8],

@@ -13,7 +13,8 @@ use Rattle.words.proofs.BitLaws.{lt-or-ge}
 use Rattle.plan_record.specs.Record.{majorsOf, countAt, partsBefore, partsOf, bodyAt, locationsOf}
 use Rattle.plan_counts.specs.Counts.{srams, duplicates}
 use Rattle.plan_blocks.specs.Blocks.{blockOf, stateStart, totalsFit}
-use Rattle.plan_blocks.specs.Table.{cell, rankOf, Counted, Allotted, Tabled}
+use Rattle.plan_rows.specs.Rows.{rowBase, cell}
+use Rattle.plan_blocks.specs.Table.{rankOf, Counted, Allotted, Tabled}
 use Rattle.plan_blocks.specs.Fill.{putCells, stageRows, allotRows, countRow, countRows, countedRoom, tabledRoom, allottedRoom}
 use Rattle.plan_blocks.proofs.FillLaws.{cell-same, put-long, put-other, put-here, put-word}
 use Rattle.plan_blocks.proofs.StartLaws.{parts-mono, parts-next, rank-in, rank-same, rank-all}
@@ -45,7 +46,7 @@ module _ (d room : List ℕ) (s : ℕ) where
       ∙ put-other blocksPut 9 _ _ (countAt d s) x (λ i l. h (rankOf d s i) 9 (rank-in d s i l .0) (rank-in d s i l .1) (omega arith) (omega arith))
       ∙ put-other room 6 _ _ (countAt d s) x (λ i l. h (partsBefore d s + i) 6 (omega arith) (omega (arith, parts-next d s)) (omega arith) (omega arith))
 
-  pub stage-allotted : 65536 + 16 * partsBefore d (s + 1) ≤ length room → (i : ℕ) → i < countAt d s → Allotted d (stageRows d room s) s i
+  pub stage-allotted : rowBase (partsBefore d (s + 1)) ≤ length room → (i : ℕ) → i < countAt d s → Allotted d (stageRows d room s) s i
   unfolding stageRows
   stage-allotted h i l =
       let n : partsBefore d (s + 1) ≡ partsBefore d s + countAt d s = parts-next d s in
@@ -95,7 +96,7 @@ module _ (d room : List ℕ) where
       stage-other d (allotRows d room n) n x (λ r k a b. h r k (rw add-one at b))
       ∙ allot-other n x (λ r k a. h r k (omega (arith, parts-mono d n (suc n) (omega arith))))
 
-  pub allot-allotted : (n s i : ℕ) → 65536 + 16 * partsBefore d n ≤ length room → s < n → i < countAt d s → Allotted d (allotRows d room n) s i
+  pub allot-allotted : (n s i : ℕ) → rowBase (partsBefore d n) ≤ length room → s < n → i < countAt d s → Allotted d (allotRows d room n) s i
   unfolding allotRows
   allot-allotted zero s i h l m = absurd (omega arith)
   allot-allotted (suc n) s i h l m =
@@ -148,7 +149,7 @@ module _ (d : List ℕ) where
       ∙ getD-set-other r0 (cell p 1) x _ 0 (h 1 (omega arith))
       ∙ getD-set-other room (cell p 0) x _ 0 (h 0 (omega arith))
 
-  row-counted : (room : List ℕ) (p : ℕ) → 65536 + 16 * p + 16 ≤ length room → Counted d (countRow d room p) p
+  row-counted : (room : List ℕ) (p : ℕ) → rowBase p + 16 ≤ length room → Counted d (countRow d room p) p
   unfolding countRow
   row-counted room p h =
       let r0 : List ℕ = set room (cell p 0) (bodyAt d p % 2 ^ 32) in
@@ -197,7 +198,7 @@ module _ (d : List ℕ) where
     count-other (suc n) x h =
         row-other (countRows d room n) n x (λ k. h n k (omega arith)) ∙ count-other n x (λ p k l. h p k (omega arith))
 
-    pub count-counted : (n p : ℕ) → 65536 + 16 * n ≤ length room → p < n → Counted d (countRows d room n) p
+    pub count-counted : (n p : ℕ) → rowBase n ≤ length room → p < n → Counted d (countRows d room n) p
     unfolding countRows
     count-counted zero p h l = absurd (omega arith)
     count-counted (suc n) p h l =
@@ -212,7 +213,7 @@ module _ (d : List ℕ) where
 
 -- ---- the whole table
 
-module _ (d room : List ℕ) (h : 65536 + 16 * partsOf d ≤ length room) where
+module _ (d room : List ℕ) (h : rowBase (partsOf d) ≤ length room) where
   pub counted-room : (p : ℕ) → p < partsOf d → Counted d (countedRoom d room) p
   unfolding countedRoom
   counted-room p l = count-counted d room (partsOf d) p h l

@@ -1,18 +1,17 @@
 -- All parts of a plan: counting them row by row, their totals, and the rows of all major stages.
 -- Assumes nothing.
-use mathlib.Core.Path.{_≡_, refl, sym, ap, ap₂, _∙_}
+use mathlib.Core.Path.{_≡_, refl, sym, ap, _∙_}
 use mathlib.Core.Bool.{Bool, true, false, _&&_}
 use mathlib.Core.Option.{none}
 use mathlib.Core.List.{List}
-use Prim.Native.Nat.{ℕ, _+_, _*_, _-_, _/_, _%_, _^_, _≤_, _<_, min}
+use Prim.Native.Nat.{ℕ, _+_, _-_, _/_, _%_, _^_, _≤_, _<_, min}
 use native.Mathlib.Nat.{min-eq-left}
 use native.Mathlib.Numerals.{add-one}
 use native.Mathlib.Omega.{arith}
 use borrow.Author.Tests.{le-leb, lt-leb}
 use lib.Dec.{leb}
-use lib.ListN.{length, getD, set}
+use lib.ListN.{length, set}
 use Rattle.words.specs.Sum.{sumTo}
-use Rattle.words.proofs.SumLaws.{sum-ext}
 use Rattle.plan_record.specs.declared.bodies.Body.{Body}
 use Rattle.plan_record.specs.Record.{blocksOf, majorsOf, layoutOf, countAt, partsBefore, partsOf}
 use Rattle.plan_record.specs.Body.{BodyOf}
@@ -23,10 +22,11 @@ use Rattle.plan_counts.specs.Counts.{srams, duplicates, writeOuts, refusal7}
 use Rattle.plan_counts.specs.Parts.{CountsOf}
 use Rattle.plan_counts.proofs.PartLaws.{countable, passed}
 use Rattle.plan_blocks.specs.declared.firsts.Firsts.{Firsts}
+use Rattle.plan_rows.specs.Columns as col
+use Rattle.plan_rows.specs.Rows.{cell}
 use Rattle.plan_blocks.specs.Blocks.{stateOf, sramOf, stateWords, sramWords, totalsFit}
-use Rattle.plan_blocks.specs.Table.{cell, Tabled}
+use Rattle.plan_blocks.specs.Table.{Tabled}
 use Rattle.plan_blocks.specs.Fill.{stageRows, allotRows, countRow, countRows, countedRoom, tabledRoom, allottedRoom, FirstsOf, StageReady, Fillable, RowReady, Tallied, Allottable}
-use Rattle.plan_blocks.proofs.TotalLaws.{sum-scale}
 use Rattle.plan_blocks.proofs.StartLaws.{state-first, sram-first}
 use Rattle.plan_table.proofs.TableLaws.{allot-long, allot-counted, count-long, counted-room, counted-long, tabled-room}
 
@@ -74,33 +74,13 @@ pub three-cells : (r r1 r2 r3 : List ℕ) (i j k a b c : ℕ) → r1 ≡ set r i
 three-cells r r1 r2 r3 i j k a b c e f g = cc
 
 pub row-filled : (d room bodied filled : List ℕ) (p : ℕ) (b : Body) (c : Counts)
-    → bodied ≡ set (set (set room (cell p 0) (b .at % 2 ^ 32)) (cell p 1) (b .at / 2 ^ 32)) (cell p 2) (b .locations)
-    → filled ≡ set (set (set bodied (cell p 3) (c .srams)) (cell p 4) (c .duplicates)) (cell p 5) (c .words)
+    → bodied ≡ set (set (set room (cell p col.bodyLow) (b .at % 2 ^ 32)) (cell p col.bodyHigh) (b .at / 2 ^ 32)) (cell p col.locations) (b .locations)
+    → filled ≡ set (set (set bodied (cell p col.srams) (c .srams)) (cell p col.duplicates) (c .duplicates)) (cell p col.writeOuts) (c .words)
     → BodyOf d p b → CountsOf d p c → filled ≡ countRow d room p
 unfolding countRow
 row-filled d room bodied filled p b c e f h g = f ∙ rw (e, h .place, h .locations, g .srams-are, g .duplicates-are, g .words-are)
 
 -- ---- totals
-
-module _ (d room : List ℕ) (t : Tallied d room) (parts : ℕ) (all : parts ≡ partsOf d) where
-  pub parts-few : parts ≤ 262144
-  parts-few = omega (arith, formed d (t .ready .form) .sizes .headed .parts)
-
-  pub rows-inside : 65536 + 16 * parts ≤ length room
-  rows-inside = omega (arith, t .ready .inside)
-
-  pub state-sum : (layout sum : ℕ) → layout ≡ layoutOf d → sum ≡ sumTo (λ p. getD room (cell p 5) 0) parts → (layout + 31) / 32 + sum ≡ stateWords d
-  unfolding stateOf
-  state-sum layout sum l s =
-      ap₂ (λ (x y : ℕ). (x + 31) / 32 + y) l
-      (s ∙ ap (sumTo (λ p. getD room (cell p 5) 0)) all ∙ sum-ext _ _ (partsOf d) (λ p u. t .counted p u .write-outs))
-
-  pub sram-sum : (sum : ℕ) → sum ≡ sumTo (λ p. getD room (cell p 3) 0) parts → 8192 * sum ≡ sramWords d
-  unfolding sramOf
-  sram-sum sum s =
-      ap (λ (x : ℕ). 8192 * x) (s ∙ ap (sumTo (λ p. getD room (cell p 3) 0)) all)
-      ∙ sym (sum-scale 8192 _ (partsOf d))
-      ∙ sum-ext _ _ (partsOf d) (λ p u. ap (λ (x : ℕ). 8192 * x) (t .counted p u .sram-count))
 
 pub state-over : (d : List ℕ) → 134217728 < stateWords d → false ≡ totalsFit d
 unfolding totalsFit

@@ -10,6 +10,7 @@ use crate::starts::rank_parts;
 use crate::starts::take_starts;
 use plan_blocks::costs::give_blocks;
 use plan_blocks::firsts::Firsts;
+use plan_rows::Column;
 
 // The blocks and the ranks of these parts, with the blocks' part counts in lent words.
 fn rank_stage(d: &[u8], room: &mut [u32], counts: &mut [u32], base: usize, count: usize)
@@ -93,8 +94,26 @@ pub fn allot_stage(
     ensures { λ r. ⌜ now (room .exit) ≡ stageRows (now (d .entry)) (now (room .entry)) s ⌝ }
 {
     place_stage(d, room, blocks, at.parts, count);
-    let state = give_starts(room, blocks, at.parts, count, 5, 1, 7, at.state);
-    let sram = give_starts(room, blocks, at.parts, count, 3, 8192, 8, at.sram);
+    let state = give_starts(
+        room,
+        blocks,
+        at.parts,
+        count,
+        Column::WRITE_OUTS,
+        1,
+        Column::STATE_START,
+        at.state,
+    );
+    let sram = give_starts(
+        room,
+        blocks,
+        at.parts,
+        count,
+        Column::SRAMS,
+        8192,
+        Column::SRAM_START,
+        at.sram,
+    );
     Firsts {
         parts: at.parts + count,
         state,

@@ -1,51 +1,51 @@
 // The part table: the parts' counts, then their blocks, ranks and starts where the totals fit.
 ghost use mathlib.Core.Path.{_≡_};
 ghost use mathlib.Core.Bool.{true};
-ghost use Prim.Native.Nat.{_+_, _*_, _/_, _%_, _^_, _<_, _≤_};
-ghost use lib.ListN.{length, getD, set};
-ghost use Rattle.words.specs.Sum.{sumTo};
+ghost use Prim.Native.Nat.{_+_, _/_, _%_, _^_, _<_, _≤_};
+ghost use lib.ListN.{length, set};
 ghost use Rattle.plan_record.specs.Record.{majorsOf};
+ghost use Rattle.plan_rows.specs.Columns as col;
+ghost use Rattle.plan_rows.specs.Rows.{rowBase, cell};
 ghost use Rattle.plan_blocks.specs.Blocks.{totalsFit};
-ghost use Rattle.plan_blocks.specs.Table.{cell, Tabled};
+ghost use Rattle.plan_blocks.specs.Table.{Tabled};
 ghost use Rattle.plan_blocks.specs.Fill.{Fillable, RowReady, Tallied, Allottable, countRow, countedRoom, allotRows, allottedRoom};
 use crate::stages::allot_stage;
 use plan_blocks::firsts::Firsts;
+use plan_blocks::totals::sram_words;
+use plan_blocks::totals::state_words;
 use plan_counts::counts_of;
 use plan_record::bodies::Body;
 use plan_record::bodies::body_at;
 use plan_record::bodies::first_body;
 use plan_record::bodies::parts_of;
-use plan_record::places::word_at;
+use plan_record::numbers::blocks_of;
+use plan_record::numbers::count_at;
+use plan_record::numbers::layout_of;
+use plan_record::numbers::majors_of;
+use plan_rows::Column;
+use plan_rows::put_cell;
 
-// Word k of the row of part p becomes x.
-fn put_cell(room: &mut [u32], p: usize, k: usize, x: u32)
-    requires { ⌜ (p < 262144) × (k < 16) × (65536 + 16 * p + 16 ≤ length (now room)) ⌝ }
-    ensures { λ _. ⌜ now (room .exit) ≡ set (now (room .entry)) (cell p k) x ⌝ }
-{
-    room[65536 + 16 * p + k] = x;
-}
-
-// Where the body of part p begins, and its locations: words 0 to 2 of its row.
+// Where the body of part p begins, and its locations.
 fn put_body(room: &mut [u32], p: usize, at: usize, locations: usize)
-    requires { ⌜ (p < 262144) × (65536 + 16 * p + 16 ≤ length (now room)) × (locations ≤ 256) ⌝ }
-    ensures { λ _. ⌜ now (room .exit) ≡ set (set (set (now (room .entry)) (cell p 0) (at % 2 ^ 32)) (cell p 1) (at / 2 ^ 32)) (cell p 2) locations ⌝ }
+    requires { ⌜ (p < 262144) × (rowBase p + 16 ≤ length (now room)) × (locations ≤ 256) ⌝ }
+    ensures { λ _. ⌜ now (room .exit) ≡ set (set (set (now (room .entry)) (cell p col.bodyLow) (at % 2 ^ 32)) (cell p col.bodyHigh) (at / 2 ^ 32)) (cell p col.locations) locations ⌝ }
 {
-    put_cell(room, p, 0, (at % 4294967296) as u32);
-    put_cell(room, p, 1, (at / 4294967296) as u32);
-    put_cell(room, p, 2, locations as u32);
+    put_cell(room, p, Column::BODY_LOW, (at % 4294967296) as u32);
+    put_cell(room, p, Column::BODY_HIGH, (at / 4294967296) as u32);
+    put_cell(room, p, Column::LOCATIONS, locations as u32);
 }
 
-// The counts of part p: words 3 to 5 of its row.
+// The counts of part p.
 fn put_counts(room: &mut [u32], p: usize, srams: u32, duplicates: u32, words: usize)
-    requires { ⌜ (p < 262144) × (65536 + 16 * p + 16 ≤ length (now room)) × (words ≤ 256) ⌝ }
-    ensures { λ _. ⌜ now (room .exit) ≡ set (set (set (now (room .entry)) (cell p 3) srams) (cell p 4) duplicates) (cell p 5) words ⌝ }
+    requires { ⌜ (p < 262144) × (rowBase p + 16 ≤ length (now room)) × (words ≤ 256) ⌝ }
+    ensures { λ _. ⌜ now (room .exit) ≡ set (set (set (now (room .entry)) (cell p col.srams) srams) (cell p col.duplicates) duplicates) (cell p col.writeOuts) words ⌝ }
 {
-    put_cell(room, p, 3, srams);
-    put_cell(room, p, 4, duplicates);
-    put_cell(room, p, 5, words as u32);
+    put_cell(room, p, Column::SRAMS, srams);
+    put_cell(room, p, Column::DUPLICATES, duplicates);
+    put_cell(room, p, Column::WRITE_OUTS, words as u32);
 }
 
-// What the record says of part p: words 0 to 5 of its row.
+// What the record says of part p.
 fn fill_row(d: &[u8], room: &mut [u32], p: usize, body: Body)
     requires { ⌜ RowReady (now d) (now room) p body ⌝ }
     ensures { λ _. ⌜ now (room .exit) ≡ countRow (now (d .entry)) (now (room .entry)) p ⌝ }
@@ -71,49 +71,32 @@ pub fn fill_counts(d: &[u8], room: &mut [u32])
     }
 }
 
-// The sum of word k over the rows of the first parts.
-pub fn column_sum(room: &[u32], parts: usize, k: usize) -> u64
-    requires { ⌜ (parts ≤ 262144) × (k < 16) × (65536 + 16 * parts ≤ length (now room)) ⌝ }
-    ensures { λ r. ⌜ (r ≡ sumTo (λ p. getD (now (room .entry)) (cell p k) 0) parts) × (r < 2 ^ 50) ⌝ }
-{
-    let mut sum: u64 = 0;
-    let mut p = 0;
-    while p < parts {
-        sum += room[65536 + 16 * p + k] as u64;
-        p += 1;
-    }
-    sum
-}
-
 // Refusal 8 is given exactly when this is false. The parts are counted.
 pub fn totals_fit(d: &[u8], room: &[u32]) -> bool
     requires { ⌜ Tallied (now d) (now room) ⌝ }
     ensures { λ r. ⌜ r ≡ totalsFit (now (d .entry)) ⌝ }
 {
-    let parts = parts_of(d);
-    let state = (word_at(d, 3) as u64 + 31) / 32 + column_sum(room, parts, 5);
-    if state > 134217728 {
+    if state_words(d, room) > 134217728 {
         return false;
     }
-    let sram = 8192 * column_sum(room, parts, 3);
-    sram <= 4294967295
+    sram_words(d, room) <= 4294967295
 }
 
-// The blocks, ranks and starts of every part: words 6 to 9 of the rows.
+// The blocks, ranks and starts of every part.
 pub fn allot_stages(d: &[u8], room: &mut [u32])
     requires { ⌜ Allottable (now d) (now room) ⌝ }
     ensures { λ _. ⌜ now (room .exit) ≡ allotRows (now (d .entry)) (now (room .entry)) (majorsOf (now (d .entry))) ⌝ }
 {
-    let blocks = word_at(d, 0) as usize;
-    let majors = word_at(d, 1) as usize;
+    let blocks = blocks_of(d) as usize;
+    let majors = majors_of(d) as usize;
     let mut at = Firsts {
         parts: 0,
-        state: (word_at(d, 3) + 31) / 32,
+        state: (layout_of(d) + 31) / 32,
         sram: 0,
     };
     let mut s = 0;
     while s < majors {
-        at = allot_stage(d, room, s, blocks, word_at(d, 5 + s) as usize, at);
+        at = allot_stage(d, room, s, blocks, count_at(d, s) as usize, at);
         s += 1;
     }
 }

@@ -9,9 +9,10 @@ use Rattle.words.specs.Edition.{partWords}
 use Rattle.words.specs.Sum.{sumTo}
 use Rattle.reads.specs.Search.{longest}
 use Rattle.plan_record.specs.Record.{blocksOf, countAt, partsBefore, stagesOf}
+use Rattle.plan_rows.specs.Columns as col
+use Rattle.plan_rows.specs.Rows.{cellAt}
 use Rattle.plan_blocks.specs.Blocks.{blockOf}
 use Rattle.plan_blocks.specs.Sums.{inBlock}
-use Rattle.plan_blocks.specs.Table.{cell}
 use Rattle.plan_reads.specs.PartReads.{partLanes}
 use Rattle.script_assembly.specs.Assembly.{blockParts, wordsOfPart, blockStart}
 
@@ -42,7 +43,7 @@ firstRank d s b = partsBefore d s + sumTo (λ x. inBlock (blockOf d s) (λ i. 1)
 
 -- the part of rank k, as the table says
 abbrev pub rankedAt : List ℕ → ℕ → ℕ
-rankedAt room k = getD room (cell k 9) 0
+rankedAt room k = cellAt room k col.ranked
 
 -- the empty blocks of the first s major stages
 unfoldable pub emptyBlocks : List ℕ → ℕ → ℕ

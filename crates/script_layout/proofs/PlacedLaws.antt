@@ -146,18 +146,20 @@ module _ (d room : List ℕ) (s b from : ℕ) (q : BlockAt d room s b from) wher
               fits = omega (arith, part-next, most, ap length (step.parts-all 256 d s xs (omega (arith, j-lt))));
             }
 
-        -- the same, in a room that is as it was
-        module _ (room₁ : List ℕ) (same : room₁ ≡ room) (old new : List ℕ) (stored : new ≡ sets old at (partsWords 256 d s xs j)) where
-          pub turn-room : at + length (blockWords 256 d s xs) ≤ length old → PartRoom d room₁ (rankedAt room₁ k) next (length new)
-          turn-room fits = rw same (part-room (length new) (omega (arith, stored-length old new at (partsWords 256 d s xs j) stored)))
+        -- the same, in a room that is as it was, of part p that its row names
+        module _ (room₁ : List ℕ) (same : room₁ ≡ room) (p : ℕ) (named : p ≡ rankedAt room₁ k) (old new : List ℕ) (stored : new ≡ sets old at (partsWords 256 d s xs j)) where
+          ranked : p ≡ rankedAt room k
+          ranked = named ∙ ap (λ (r : List ℕ). rankedAt r k) same
 
-          pub turn-next : (end : ℕ) → end ≡ next + lengthOf 256 d (rankedAt room₁ k) → end ≡ at + length (partsWords 256 d s xs (k + 1 - from))
-          turn-next end e = e ∙ ap (λ (r : List ℕ). next + lengthOf 256 d (rankedAt r k)) same ∙ part-next
+          pub turn-room : at + length (blockWords 256 d s xs) ≤ length old → PartRoom d room₁ p next (length new)
+          turn-room fits = rw (same, ranked) (part-room (length new) (omega (arith, stored-length old new at (partsWords 256 d s xs j) stored)))
 
-          pub turn-stored : (l₂ : List ℕ) (mark : ℕ) → mark ≡ lastMark to k → l₂ ≡ sets new next (rowScript d room₁ (rankedAt room₁ k) mark)
+          pub turn-next : (end : ℕ) → end ≡ next + lengthOf 256 d p → end ≡ at + length (partsWords 256 d s xs (k + 1 - from))
+          turn-next end e = e ∙ ap (λ (x : ℕ). next + lengthOf 256 d x) ranked ∙ part-next
+
+          pub turn-stored : (l₂ : List ℕ) (mark : ℕ) → mark ≡ lastMark to k → l₂ ≡ sets new next (rowScript d room₁ p mark)
               → l₂ ≡ sets old at (partsWords 256 d s xs (k + 1 - from))
-          turn-stored l₂ mark m e =
-              part-stored old new l₂ (rankedAt room k) mark refl m stored (e ∙ ap (λ (r : List ℕ). sets new next (rowScript d r (rankedAt r k) mark)) same)
+          turn-stored l₂ mark m e = part-stored old new l₂ p mark ranked m stored (e ∙ ap (λ (r : List ℕ). sets new next (rowScript d r p mark)) same)
 
   -- before the first part, and after the last
   pub none-stored : (l : List ℕ) (at : ℕ) → l ≡ sets l at (partsWords 256 d s xs (from - from))

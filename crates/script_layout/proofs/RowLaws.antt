@@ -3,18 +3,18 @@
 use mathlib.Core.Path.{_≡_, sym, ap, ap₂, _∙_}
 use mathlib.Core.List.{List, _++_}
 use Prim.Native.Nat.{ℕ, _+_, _*_, _-_, _≤_, _<_}
-use native.Mathlib.Nat.{add-zero}
 use native.Mathlib.Omega.{arith}
 use borrow.Rule.Slice.PartMut.{putMid, mid-len}
-use lib.ListN.{length, getD, take, drop, replicate, take-append-drop}
+use lib.ListN.{length, take, drop, replicate, take-append-drop}
 use lib.Seq.{sets}
 use Rattle.words.specs.Edition.{partWords}
 use Rattle.words.proofs.ListLaws.{put-sets}
 use Rattle.plan_record.specs.declared.bodies.Body.{Body}
-use Rattle.plan_record.specs.Record.{partsOf, bodyAt}
+use Rattle.plan_record.specs.Record.{partsOf}
 use Rattle.plan_record.specs.Body.{BodyReady, BodyOf}
 use Rattle.plan_record.proofs.FormLaws.{Formed, formed, body-ready}
-use Rattle.plan_blocks.specs.Table.{cell}
+use Rattle.plan_rows.specs.Columns as col
+use Rattle.plan_rows.specs.Rows.{cellAt, CellIn}
 use Rattle.script.specs.declared.head.Numbers.{Numbers}
 use Rattle.script.specs.Script.{partScript}
 use Rattle.script.specs.Writers.{NumbersOf}
@@ -38,19 +38,16 @@ module _ (d room : List ℕ) (h : Sound d room) where
   room-same after e = e ∙ ap (λ (l : List ℕ). l ++ drop 65536 room) (sym (h .ready .front)) ∙ take-append-drop 65536 room
 
   module _ (p : ℕ) (l : p < partsOf d) where
-    pub row-in : 65536 + 16 * p + 16 ≤ length room
-    row-in = omega (arith, h .ready .wide)
+    pub cell-in : (k : ℕ) → k < 16 → CellIn room p k
+    cell-in k u = record { part = omega (arith, parts-few); column = u; inside = omega (arith, h .ready .wide) }
 
-    body-place : (low : ℕ) → low ≡ getD room (65536 + 16 * p) 0 → low + 4294967296 * getD room (cell p 1) 0 ≡ bodyAt d p
-    body-place low e =
+    pub body-there : (low high : ℕ) → low ≡ cellAt room p col.bodyLow → high ≡ cellAt room p col.bodyHigh → BodyReady d p (low + 4294967296 * high)
+    body-there low high e f =
         let c = h .ready .tabled .counted p l in
-        omega (arith, e ∙ ap (λ (i : ℕ). getD room i 0) (sym (add-zero (65536 + 16 * p))) ∙ c .body-low, c .body-high)
+        body-ready d (plan-formed .sizes) p _ l (omega (arith, e ∙ c .body-low, f ∙ c .body-high))
 
-    pub body-there : (low : ℕ) → low ≡ getD room (65536 + 16 * p) 0 → BodyReady d p (low + 4294967296 * getD room (cell p 1) 0)
-    body-there low e = body-ready d (plan-formed .sizes) p _ l (body-place low e)
-
-    pub row-numbers : (b : Body) → BodyOf d p b → (x : Numbers) → x .stages ≡ b .stages → x .writeouts ≡ getD room (cell p 5) 0 → x .srams ≡ getD room (cell p 3) 0
-        → x .rounds ≡ getD room (cell p 10) 0 → x .duplicates ≡ getD room (cell p 4) 0 → NumbersOf d p x
+    pub row-numbers : (b : Body) → BodyOf d p b → (x : Numbers) → x .stages ≡ b .stages → x .writeouts ≡ cellAt room p col.writeOuts → x .srams ≡ cellAt room p col.srams
+        → x .rounds ≡ cellAt room p col.rounds → x .duplicates ≡ cellAt room p col.duplicates → NumbersOf d p x
     row-numbers b is x s w r o u =
         let c = h .ready .tabled .counted p l in
         record {
@@ -89,9 +86,9 @@ module _ (d room : List ℕ) (h : Sound d room) where
         pub lent-long : length (take (next - at) (drop at words)) ≡ partWords 256 (x .rounds) (x .stages)
         lent-long = mid-len at next words next-in ∙ omega (arith, is, sized)
 
-        pub part-written : (last : ℕ) → (x .last ≡ last) × (x .state ≡ getD room (cell p 7) 0) × (x .sram ≡ getD room (cell p 8) 0) → (out : List ℕ)
+        pub part-written : (last : ℕ) → (x .last ≡ last) × (x .state ≡ cellAt room p col.stateStart) × (x .sram ≡ cellAt room p col.sramStart) → (out : List ℕ)
             → length out ≡ length (take (next - at) (drop at words)) → out ≡ partScript 256 d p (x .last) (x .state) (x .sram)
             → putMid at (next - at) words out ≡ sets words at (rowScript d room p last)
         part-written last (a, b, c) out kept e =
             put-sets words at (next - at) out (omega (arith, is, next-in)) (kept ∙ mid-len at next words next-in)
-            ∙ ap (sets words at) (e ∙ ap₂ (λ (u v : ℕ). partScript 256 d p u v (x .sram)) a b ∙ ap (partScript 256 d p last (getD room (cell p 7) 0)) c)
+            ∙ ap (sets words at) (e ∙ ap₂ (λ (u v : ℕ). partScript 256 d p u v (x .sram)) a b ∙ ap (partScript 256 d p last (cellAt room p col.stateStart)) c)

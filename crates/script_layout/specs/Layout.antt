@@ -4,9 +4,10 @@ use mathlib.Core.Path.{_≡_}
 use mathlib.Core.Option.{none}
 use mathlib.Core.List.{List, _∷_}
 use Prim.Native.Nat.{ℕ, _+_, _≤_, _<_}
-use lib.ListN.{length, getD, replicate}
+use lib.ListN.{length, replicate}
 use Rattle.plan_record.specs.Record.{blocksOf, majorsOf, partsOf, partsBefore}
-use Rattle.plan_blocks.specs.Table.{cell}
+use Rattle.plan_rows.specs.Columns as col
+use Rattle.plan_rows.specs.Rows.{cellAt}
 use Rattle.script.specs.Script.{partScript}
 use Rattle.plan_checks.specs.Refusals.{planRefusal}
 use Rattle.plan_checks.specs.Ready.{Ready}
@@ -21,7 +22,7 @@ pub record Sound (d room : List ℕ) : Type 0 where
 
 -- the script of part p, its starts as its row says
 abbrev pub rowScript : List ℕ → List ℕ → ℕ → ℕ → List ℕ
-rowScript d room p last = partScript 256 d p last (getD room (cell p 7) 0) (getD room (cell p 8) 0)
+rowScript d room p last = partScript 256 d p last (cellAt room p col.stateStart) (cellAt room p col.sramStart)
 
 -- part p, and room for its script from word `at` on, in a list of m words
 pub record PartRoom (d room : List ℕ) (p at m : ℕ) : Type 0 where

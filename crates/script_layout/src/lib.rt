@@ -11,7 +11,8 @@ ghost use Rattle.script_assembly.specs.Assembly.{stageWords, majorWords, script
 ghost use Rattle.script_layout.specs.Layout.{NextOf, StageRoom, PlanRoom};
 use placed::Next;
 use placed::write_block;
-use plan_record::places::word_at;
+use plan_record::numbers::blocks_of;
+use plan_record::numbers::majors_of;
 use words::clear::clear;
 
 // Writes major stage s, and where its blocks begin, from start number `first` on. What comes next.
@@ -30,7 +31,7 @@ fn write_stage(
     ensures { λ _. ⌜ now (starts .exit) ≡ sets (now (starts .entry)) first (stageStarts 256 (now (d .entry)) s (blocksOf (now (d .entry)))) ⌝ }
     ensures { λ _. ⌜ now (words .exit) ≡ sets (now (words .entry)) (at .at) (stageWords 256 (now (d .entry)) s (blocksOf (now (d .entry)))) ⌝ }
 {
-    let blocks = word_at(d, 0) as usize;
+    let blocks = blocks_of(d) as usize;
     let mut next = at;
     let mut b = 0;
     while b < blocks {
@@ -49,8 +50,8 @@ fn write_stages(d: &[u8], room: &mut [u32], starts: &mut [u64], words: &mut [u32
     ensures { λ _. ⌜ now (starts .exit) ≡ sets (now (starts .entry)) 0 (majorStarts 256 (now (d .entry)) (majorsOf (now (d .entry)))) ⌝ }
     ensures { λ _. ⌜ now (words .exit) ≡ sets (now (words .entry)) 0 (majorWords 256 (now (d .entry)) (majorsOf (now (d .entry)))) ⌝ }
 {
-    let blocks = word_at(d, 0) as usize;
-    let majors = word_at(d, 1) as usize;
+    let blocks = blocks_of(d) as usize;
+    let majors = majors_of(d) as usize;
     let mut next = Next { rank: 0, at: 0 };
     let mut s = 0;
     while s < majors {
@@ -68,7 +69,7 @@ pub fn write_plan(d: &[u8], room: &mut [u32], starts: &mut [u64], words: &mut [u
     ensures { λ _. ⌜ now (words .exit) ≡ sets (now (words .entry)) 0 (scriptWords 256 (now (d .entry))) ⌝ }
 {
     let end = write_stages(d, room, starts, words);
-    let last = word_at(d, 0) as usize * (word_at(d, 1) as usize);
+    let last = blocks_of(d) as usize * (majors_of(d) as usize);
     starts[last] = end as u64;
     clear(&mut words[end..end + 2048]);
 }

@@ -1,16 +1,19 @@
 // One part's script, in its place among the words.
 ghost use mathlib.Core.Path.{_≡_};
 ghost use Prim.Native.Nat.{_+_, _<_};
-ghost use lib.ListN.{length, getD};
+ghost use lib.ListN.{length};
 ghost use lib.Seq.{sets};
 ghost use Rattle.plan_record.specs.Record.{partsOf};
 ghost use Rattle.plan_record.specs.Body.{BodyOf};
-ghost use Rattle.plan_blocks.specs.Table.{cell};
+ghost use Rattle.plan_rows.specs.Columns as col;
+ghost use Rattle.plan_rows.specs.Rows.{cellAt};
 ghost use Rattle.script.specs.Writers.{NumbersOf};
 ghost use Rattle.script_assembly.specs.Steps.{lengthOf};
 ghost use Rattle.script_layout.specs.Layout.{Sound, PartRoom, rowScript};
 use plan_record::bodies::Body;
 use plan_record::bodies::body_at;
+use plan_rows::Column;
+use plan_rows::cell_at;
 use script::head::Numbers;
 use script_part::build_script;
 use words::edition::Edition;
@@ -20,8 +23,8 @@ fn body_of(d: &[u8], room: &[u32], p: usize) -> Body
     requires { ⌜ Sound (now d) (now room) × (p < partsOf (now d)) ⌝ }
     ensures { λ r. ⌜ BodyOf (now (d .entry)) p r ⌝ }
 {
-    let low = room[65536 + 16 * p] as usize;
-    let high = room[65536 + 16 * p + 1] as usize;
+    let low = cell_at(room, p, Column::BODY_LOW) as usize;
+    let high = cell_at(room, p, Column::BODY_HIGH) as usize;
     body_at(d, p, low + 4294967296 * high)
 }
 
@@ -29,18 +32,17 @@ fn body_of(d: &[u8], room: &[u32], p: usize) -> Body
 fn numbers_of(d: &[u8], room: &[u32], p: usize, body: Body, last: u32) -> Numbers
     requires { ⌜ Sound (now d) (now room) × (p < partsOf (now d)) × BodyOf (now d) p body ⌝ }
     ensures { λ r. ⌜ NumbersOf (now (d .entry)) p r ⌝ }
-    ensures { λ r. ⌜ (r .last ≡ last) × (r .state ≡ getD (now (room .entry)) (cell p 7) 0) × (r .sram ≡ getD (now (room .entry)) (cell p 8) 0) ⌝ }
+    ensures { λ r. ⌜ (r .last ≡ last) × (r .state ≡ cellAt (now (room .entry)) p col.stateStart) × (r .sram ≡ cellAt (now (room .entry)) p col.sramStart) ⌝ }
 {
-    let row = 65536 + 16 * p;
     Numbers {
         stages: body.stages as u32,
         last,
-        writeouts: room[row + 5],
-        state: room[row + 7],
-        srams: room[row + 3],
-        sram: room[row + 8],
-        rounds: room[row + 10],
-        duplicates: room[row + 4],
+        writeouts: cell_at(room, p, Column::WRITE_OUTS),
+        state: cell_at(room, p, Column::STATE_START),
+        srams: cell_at(room, p, Column::SRAMS),
+        sram: cell_at(room, p, Column::SRAM_START),
+        rounds: cell_at(room, p, Column::ROUNDS),
+        duplicates: cell_at(room, p, Column::DUPLICATES),
     }
 }
 

@@ -8,6 +8,8 @@ ghost use Rattle.script_assembly.specs.Steps.{lastMark, partsIn, firstRank};
 ghost use Rattle.script_layout.specs.Layout.{emptyWords, BlockAt, BlockRoom};
 use crate::parts::write_part;
 use plan_record::places::parts_before;
+use plan_rows::Column;
+use plan_rows::cell_at;
 use words::clear::clear;
 
 // The rank of the next part, and where the next words begin.
@@ -24,8 +26,8 @@ fn block_end(d: &[u8], room: &[u32], s: usize, b: usize, from: usize) -> usize
     let end = parts_before(d, s + 1);
     let mut k = from;
     while k < end {
-        let p = room[65536 + 16 * k + 9] as usize;
-        if room[65536 + 16 * p + 6] as usize != b {
+        let p = cell_at(room, k, Column::RANKED) as usize;
+        if cell_at(room, p, Column::BLOCK) as usize != b {
             return k;
         }
         k += 1;
@@ -60,7 +62,7 @@ fn write_parts(
     let mut k = from;
     let mut next = at;
     while k < to {
-        let p = room[65536 + 16 * k + 9] as usize;
+        let p = cell_at(room, k, Column::RANKED) as usize;
         next = write_part(d, room, p, last_mark(k, to), next, words);
         k += 1;
     }

@@ -4,18 +4,17 @@ use mathlib.Core.Path.{_≡_, refl, sym, ap, _∙_}
 use mathlib.Core.Bool.{Bool, true, false}
 use mathlib.Core.Option.{Option, none, some}
 use mathlib.Core.List.{List}
-use Prim.Native.Nat.{ℕ, _+_, _*_, _-_, _/_, _%_, _≤_, _<_}
+use Prim.Native.Nat.{ℕ, _/_, _%_, _≤_, _<_}
 use native.Mathlib.Omega.{arith}
 use borrow.Author.Tests.{eq-eqb, ne-eqb}
 use lib.Dec.{eqb}
 use lib.ListN.{length, List·getD-eq-default}
 use Rattle.words.specs.Bit.{bit, bitAt}
 use Rattle.words.proofs.BitLaws.{bit-zero, at-lt}
-use Rattle.plan_record.specs.Record.{wordAt, layoutOf, positionBase, positionPlace, positionStaged}
 use Rattle.plan_positions.specs.Positions.{Planned}
-use Rattle.plan_positions.specs.Winners.{plannedBy, positionNumber}
+use Rattle.plan_positions.specs.declared.winners.Planned as code
+use Rattle.plan_positions.specs.Winners.{plannedBy, positionOf}
 use Rattle.plan_positions.specs.Input.{plannedBit}
-use Rattle.plan_positions.proofs.WinnerLaws.{by-layout, by-position}
 
 -- ---- bits of a state
 
@@ -47,31 +46,10 @@ module _ (old new : List ℕ) where
       go true e = let k : bitAt old (y .place) ≡ v = cc in omega (arith, at-lt old (y .place), k)
       go false e = let k : bitAt new (y .place) ≡ v = cc in omega (arith, at-lt new (y .place), k)
 
--- entry i of the positions, which begin at word `base`: a and m are its place and its mark
-module _ (d old new : List ℕ) (base i a m : ℕ) (at : base ≡ positionBase d) (read : a ≡ wordAt d (base + 3 * i + 1)) (mark : m ≡ wordAt d (base + 3 * i + 2))
-  where
-    place-is : a ≡ positionPlace d i
-    place-is = read ∙ ap (λ (b : ℕ). wordAt d (b + 3 * i + 1)) at
+-- entry w gives position x, which is a in the state
+module _ (d old new : List ℕ) (w : ℕ) (x : code.Planned) (by : plannedBy d w ≡ some (positionOf x)) (a : ℕ) (is : a ≡ x .place .0) (r : ℕ) where
+  pub unstaged-bit : x .staged ≡ 0 → r ≡ bitAt old a → some r ≡ plannedBit old new (plannedBy d w)
+  unstaged-bit h e = ap some (e ∙ ap (bitAt old) is) ∙ sym (ap (plannedBit old new) by ∙ bit-old old new (positionOf x) h)
 
-    mark-is : m ≡ positionStaged d i
-    mark-is = mark ∙ ap (λ (b : ℕ). wordAt d (b + 3 * i + 2)) at
-
-    pub unstaged-bit : (r : ℕ) → m ≡ 0 → r ≡ bitAt old a → some r ≡ plannedBit old new (plannedBy d (positionNumber d i))
-    unstaged-bit r h e =
-        ap some (e ∙ ap (bitAt old) place-is) ∙ sym (ap (plannedBit old new) (by-position d (positionNumber d i) i refl) ∙ bit-old old new _ (sym mark-is ∙ h))
-
-    pub staged-bit : (r : ℕ) → (m ≡ 0 → ⊥) → r ≡ bitAt new a → some r ≡ plannedBit old new (plannedBy d (positionNumber d i))
-    staged-bit r h e =
-        ap some (e ∙ ap (bitAt new) place-is)
-        ∙ sym (ap (plannedBit old new) (by-position d (positionNumber d i) i refl) ∙ bit-new old new _ (λ z. h (mark-is ∙ z)))
-
--- entry w
-module _ (d old new : List ℕ) (w layout : ℕ) (read : layout ≡ layoutOf d) where
-  pub layout-bit : (r : ℕ) → 0 < w → w ≤ layout → r ≡ bitAt old (w - 1) → some r ≡ plannedBit old new (plannedBy d w)
-  layout-bit r p l e = ap some e ∙ sym (ap (plannedBit old new) (by-layout d w p (omega arith)) ∙ bit-old old new _ refl)
-
-  pub entry-bit : (r : ℕ) → layout < w → some r ≡ plannedBit old new (plannedBy d (positionNumber d (w - 1 - layout)))
-      → some r ≡ plannedBit old new (plannedBy d w)
-  entry-bit r l e =
-      let k : positionNumber d (w - 1 - layout) ≡ w = omega arith in
-      e ∙ ap (λ (v : ℕ). plannedBit old new (plannedBy d v)) k
+  pub staged-bit : (x .staged ≡ 0 → ⊥) → r ≡ bitAt new a → some r ≡ plannedBit old new (plannedBy d w)
+  staged-bit h e = ap some (e ∙ ap (bitAt new) is) ∙ sym (ap (plannedBit old new) by ∙ bit-new old new (positionOf x) h)

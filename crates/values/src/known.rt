@@ -11,19 +11,18 @@ ghost use Rattle.plan_record.specs.Record.{partsOf, slotAt};
 ghost use Rattle.plan_record.specs.Form.{planForm};
 ghost use Rattle.plan_record.specs.Body.{BodyOf};
 ghost use Rattle.plan_slots.specs.Puts.{filled};
-ghost use Rattle.plan_positions.specs.Winners.{plannedBy, positionNumber};
+ghost use Rattle.plan_positions.specs.Winners.{plannedBy};
 ghost use Rattle.plan_positions.specs.Input.{plannedBit};
 ghost use Rattle.values.specs.Known.{heldBit, foundPut, bitPuts, knownPuts, Clear, Numbered};
 use pinmap::Found;
 use pinmap::look_up;
 use plan_positions::planned::fill_planned;
+use plan_positions::winners::planned_by;
 use plan_record::bodies::Body;
 use plan_record::bodies::body_at;
 use plan_record::bodies::first_body;
 use plan_record::bodies::parts_of;
 use plan_record::bodies::slot;
-use plan_record::places::position_base;
-use plan_record::places::word_at;
 use words::bits::bit_at;
 use words::units::EMPTY_PIN;
 use words::units::Pin;
@@ -39,28 +38,18 @@ fn state_bit(state: &[u32], at: usize) -> u32
     }
 }
 
-// The bit that entry i of the positions gives: a staged one is in the new state.
-fn position_bit(d: &[u8], old: &[u32], new: &[u32], i: u32) -> u32
-    ensures { λ r. ⌜ some r ≡ plannedBit (now (old .entry)) (now (new .entry)) (plannedBy (now (d .entry)) (positionNumber (now (d .entry)) i)) ⌝ }
-{
-    let at = position_base(d) + 3 * (i as usize);
-    let place = word_at(d, at + 1) as usize;
-    if word_at(d, at + 2) == 0 {
-        return state_bit(old, place);
-    }
-    state_bit(new, place)
-}
-
-// The bit that entry w gives.
+// The bit that entry w gives: a staged one is in the new state.
 fn planned_bit(d: &[u8], old: &[u32], new: &[u32], w: u32) -> u32
     requires { ⌜ 0 < w ⌝ }
     ensures { λ r. ⌜ some r ≡ plannedBit (now (old .entry)) (now (new .entry)) (plannedBy (now (d .entry)) w) ⌝ }
 {
-    let layout = word_at(d, 3);
-    if w <= layout {
-        return state_bit(old, (w - 1) as usize);
+    let x = planned_by(d, w);
+    let place = x.place;
+    let at = place.0 as usize;
+    if x.staged == 0 {
+        return state_bit(old, at);
     }
-    position_bit(d, old, new, w - 1 - layout)
+    state_bit(new, at)
 }
 
 // Puts the bit that entry w gives, if it is one.

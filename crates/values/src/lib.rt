@@ -9,8 +9,8 @@ ghost use Rattle.values.specs.Values.{bitWords, pinValue, gateValues, le
 use known::fill_known;
 use plan_gates::check_gates;
 use plan_record::form::plan_form;
+use plan_record::numbers::gates_of;
 use plan_record::places::room_words;
-use plan_record::places::word_at;
 use words::clear::clear;
 use words::found::Item;
 use words::refusals::GATE_ORDER;
@@ -31,7 +31,7 @@ pub enum Valued {
 fn bit_words(d: &[u8]) -> usize
     ensures { λ r. ⌜ r ≡ bitWords (now (d .entry)) ⌝ }
 {
-    (word_at(d, 2) as usize + 31) / 32
+    (gates_of(d) as usize + 31) / 32
 }
 
 // The values of all gates into `bits`, and the value of a pin. The empty pin is no pin. The room is clear before and after.
@@ -53,7 +53,7 @@ fn fill_bits(
     plan_gates::all_values(plan, &room[..32768], bits);
     let mut bit = 0;
     if pin.0 != EMPTY_PIN {
-        bit = plan_gates::value(plan, &room[..32768], bits, word_at(plan, 2), pin);
+        bit = plan_gates::value(plan, &room[..32768], bits, gates_of(plan), pin);
     }
     clear(room);
     bit

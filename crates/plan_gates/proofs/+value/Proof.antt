@@ -12,8 +12,8 @@ use Rattle.plan_gates.proofs.value.Kinds as value-kinds
 use Rattle.plan_gates.proofs.+value.Lts-value as value-lts
 use Rattle.plan_gates.proofs.and_gate.Reads as and-gate-reads
 use Rattle.plan_gates.proofs.find_gate.Reads as find-gate-reads
-use Rattle.plan_gates.proofs.gate_first.Reads as gate-first-reads
-use Rattle.plan_gates.proofs.gate_second.Reads as gate-second-reads
+use Rattle.plan_record.proofs.numbers.gate_first.Reads as gate-first-reads
+use Rattle.plan_record.proofs.numbers.gate_second.Reads as gate-second-reads
 use Rattle.pinmap.proofs.look_up.Reads as look-up-reads
 use Rattle.words.proofs.bits.bit_at.Reads as bit-at-reads
 use Rattle.words.proofs.units.PinIv.pin.Reads as pin-reads

@@ -27,8 +27,8 @@ room c = omega (arith, cleared c, c .before .before .before .before .before .pre
 clear-requires : tie.Need-clear-requires Inv-loop μ-loop
 clear-requires c κs = search needs
 
-word-at-requires : tie.Need-word-at-requires Inv-loop μ-loop
-word-at-requires c κs = search needs
+gates-of-requires : tie.Need-gates-of-requires Inv-loop μ-loop
+gates-of-requires c κs = search needs
 
 loop-holds : tie.Need-loop-holds Inv-loop μ-loop
 loop-holds c =
@@ -80,7 +80,7 @@ all-values-spec =
     Inv-loop
     μ-loop
     clear-requires
-    word-at-requires
+    gates-of-requires
     loop-holds
     store-gate-requires
     add-g

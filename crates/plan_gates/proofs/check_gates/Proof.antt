@@ -19,8 +19,8 @@ Inv-loop d gates before₀ g₀ before g =
 abbrev μ-loop : tie.MeasureT-loop
 μ-loop d gates before₀ g₀ before g = gates - g
 
-word-at-requires : tie.Need-word-at-requires Inv-loop μ-loop
-word-at-requires c κs = search needs
+gates-of-requires : tie.Need-gates-of-requires Inv-loop μ-loop
+gates-of-requires c κs = search needs
 
 loop-holds : tie.Need-loop-holds Inv-loop μ-loop
 loop-holds c = (omega arith, sym (before-first _), bad-from _)
@@ -67,7 +67,7 @@ check-gates-spec =
     (tie.spec
     Inv-loop
     μ-loop
-    word-at-requires
+    gates-of-requires
     loop-holds
     gate-right-requires
     gate-pin-requires

@@ -17,8 +17,8 @@ Inv-loop d pin low₀ high₀ low high = Between (gatePin d) (gatesOf d) (pin .0
 abbrev μ-loop : tie.MeasureT-loop
 μ-loop d pin low₀ high₀ low high = high - low
 
-word-at-requires : tie.Need-word-at-requires Inv-loop μ-loop
-word-at-requires c κs = search needs
+gates-of-requires : tie.Need-gates-of-requires Inv-loop μ-loop
+gates-of-requires c κs = search needs
 
 loop-holds : tie.Need-loop-holds Inv-loop μ-loop
 loop-holds c = search needs
@@ -66,7 +66,7 @@ first-not-below-spec =
     (tie.spec
     Inv-loop
     μ-loop
-    word-at-requires
+    gates-of-requires
     loop-holds
     sub-middle
     add-middle

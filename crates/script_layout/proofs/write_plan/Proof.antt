@@ -13,14 +13,14 @@ use Rattle.script_layout.proofs.write_plan.Tie as tie
 write-stages-requires : tie.Need-write-stages-requires
 write-stages-requires c κs = search needs
 
-word-at-requires : tie.Need-word-at-requires
-word-at-requires c κs = search needs
+blocks-of-requires : tie.Need-blocks-of-requires
+blocks-of-requires c κs = search needs
 
 cast-last : tie.Need-cast-last
 cast-last c = search needs
 
-word-at-requires-2 : tie.Need-word-at-requires-2
-word-at-requires-2 c κs = search needs
+majors-of-requires : tie.Need-majors-of-requires
+majors-of-requires c κs = search needs
 
 cast-last-2 : tie.Need-cast-last-2
 cast-last-2 c = search needs
@@ -28,18 +28,18 @@ cast-last-2 c = search needs
 mul-last : tie.Need-mul-last
 mul-last c =
     let a = c .before .before .before .before .before .before .before .before .before .before .before .before .before .before .before .before in
-    omega (arith, last-in (a .args .d .now) (a .args .room .now) _ _ (a .pre) _ _ (c .before .word-at .ensures) (c .word-at2 .ensures))
+    omega (arith, last-in (a .args .d .now) (a .args .room .now) _ _ (a .pre) _ _ (c .before .blocks-of .ensures) (c .majors-of .ensures))
 
 mul-starts : tie.Need-mul-starts
 mul-starts c =
     let a = c .before .before .before .before .before .before .before .before .before .before .before .before .before .before .before .before in
-    omega (arith, last-in (a .args .d .now) (a .args .room .now) _ _ (a .pre) _ _ (c .before .word-at .ensures) (c .word-at2 .ensures))
+    omega (arith, last-in (a .args .d .now) (a .args .room .now) _ _ (a .pre) _ _ (c .before .blocks-of .ensures) (c .majors-of .ensures))
 
 slice-write-starts : tie.Need-slice-write-starts
 slice-write-starts c =
     let a = c .before .before .before .before .before .before .before .before .before .before .before .before .before .before .before .before in
     let w = c .before .before .before .before .before .before .before .before .write-stages in
-    omega (arith, last-in (a .args .d .now) (a .args .room .now) _ _ (a .pre) _ _ (c .before .word-at .ensures) (c .word-at2 .ensures), w .kept .1 .1 .0)
+    omega (arith, last-in (a .args .d .now) (a .args .room .now) _ _ (a .pre) _ _ (c .before .blocks-of .ensures) (c .majors-of .ensures), w .kept .1 .1 .0)
 
 add-clear : tie.Need-add-clear
 add-clear c =
@@ -87,7 +87,7 @@ returns c =
     let w = c .before .before .before .before .before .before .before .before .before .before .before .before .write-stages in (
       w .ensures .1 .0,
       (
-        last-start (a .args .d .now) (a .args .room .now) _ _ (a .pre) (w .result) (w .ensures .0) _ _ (c .before .before .before .before .before .word-at .ensures) (c .before .before .before .before .word-at2 .ensures) (a .args .starts .now) (w .last .1 .1 .0) (w .ensures .1 .1 .0),
+        last-start (a .args .d .now) (a .args .room .now) _ _ (a .pre) (w .result) (w .ensures .0) _ _ (c .before .before .before .before .before .blocks-of .ensures) (c .before .before .before .before .majors-of .ensures) (a .args .starts .now) (w .last .1 .1 .0) (w .ensures .1 .1 .0),
         last-words (a .args .d .now) (a .args .room .now) _ _ (a .pre) (w .result) (w .ensures .0) (a .args .words .now) (w .last .1 .1 .1 .0) _ refl (w .ensures .1 .1 .1) (c .before .before .clear .ensures),
       ),
     )
@@ -97,9 +97,9 @@ write-plan-spec =
     tie.close
     (tie.spec
     write-stages-requires
-    word-at-requires
+    blocks-of-requires
     cast-last
-    word-at-requires-2
+    majors-of-requires
     cast-last-2
     mul-last
     mul-starts

@@ -25,8 +25,8 @@ Inv-loop d room₀ s first starts₀ words₀ blocks next₀ b₀ room starts wo
 abbrev μ-loop : tie.MeasureT-loop
 μ-loop d room₀ s first starts₀ words₀ blocks next₀ b₀ room starts words next b = blocks - b
 
-word-at-requires : tie.Need-word-at-requires Inv-loop μ-loop
-word-at-requires c κs = search needs
+blocks-of-requires : tie.Need-blocks-of-requires Inv-loop μ-loop
+blocks-of-requires c κs = search needs
 
 cast-blocks : tie.Need-cast-blocks Inv-loop μ-loop
 cast-blocks c = search needs
@@ -46,13 +46,13 @@ slice-write-starts : tie.Need-slice-write-starts Inv-loop μ-loop
 slice-write-starts c =
     let a = c .before .before .before .before .before .before .before in
     let l = c .before .loop in
-    omega (arith, a .pre .starts, c .before .before .word-at .ensures, stored-length (a .args .starts .now) (l .starts) (a .args .first) (stageStarts 256 (a .args .d .now) (a .args .s) (l .b)) (l .inv .4))
+    omega (arith, a .pre .starts, c .before .before .blocks-of .ensures, stored-length (a .args .starts .now) (l .starts) (a .args .first) (stageStarts 256 (a .args .d .now) (a .args .s) (l .b)) (l .inv .4))
 
 write-block-requires : tie.Need-write-block-requires Inv-loop μ-loop
 write-block-requires c κs =
     let a = c .before .before .before .before .before .before .before .before .before in
     let l = c .before .before .before .loop in
-    block-room (a .args .d .now) (a .args .room .now) _ _ _ _ _ (a .pre) (l .b) (omega (arith, c .before .before .before .before .word-at .ensures)) (l .next .rank) (l .next .at) (l .inv .2) (l .inv .3) (l .room) (l .inv .1) _ (stored-length (a .args .words .now) (l .words) (a .args .at .at) (stageWords 256 (a .args .d .now) (a .args .s) (l .b)) (l .inv .5))
+    block-room (a .args .d .now) (a .args .room .now) _ _ _ _ _ (a .pre) (l .b) (omega (arith, c .before .before .before .before .blocks-of .ensures)) (l .next .rank) (l .next .at) (l .inv .2) (l .inv .3) (l .room) (l .inv .1) _ (stored-length (a .args .words .now) (l .words) (a .args .at .at) (stageWords 256 (a .args .d .now) (a .args .s) (l .b)) (l .inv .5))
 
 add-b : tie.Need-add-b Inv-loop μ-loop
 add-b c = search needs
@@ -68,9 +68,9 @@ loop-again c =
       omega arith,
       w .ensures .1 .0 ∙ l .inv .1,
       w .ensures .0 .0,
-      at-next (a .args .d .now) (a .args .room .now) _ _ _ _ _ (a .pre) (l .b) (omega (arith, c .before .before .before .before .before .before .before .before .before .word-at .ensures)) (l .next .rank) (l .next .at) (l .inv .2) (l .inv .3) _ (w .ensures .0 .1),
-      starts-next (a .args .d .now) (a .args .room .now) _ _ _ _ _ (a .pre) (l .b) (omega (arith, c .before .before .before .before .before .before .before .before .before .word-at .ensures)) (l .next .rank) (l .next .at) (l .inv .2) (l .inv .3) (a .args .starts .now) (l .starts) (l .inv .4),
-      words-next (a .args .d .now) (a .args .room .now) _ _ _ _ _ (a .pre) (l .b) (omega (arith, c .before .before .before .before .before .before .before .before .before .word-at .ensures)) (l .next .rank) (l .next .at) (l .inv .2) (l .inv .3) (a .args .words .now) (l .words) _ (l .inv .5) (w .ensures .1 .1),
+      at-next (a .args .d .now) (a .args .room .now) _ _ _ _ _ (a .pre) (l .b) (omega (arith, c .before .before .before .before .before .before .before .before .before .blocks-of .ensures)) (l .next .rank) (l .next .at) (l .inv .2) (l .inv .3) _ (w .ensures .0 .1),
+      starts-next (a .args .d .now) (a .args .room .now) _ _ _ _ _ (a .pre) (l .b) (omega (arith, c .before .before .before .before .before .before .before .before .before .blocks-of .ensures)) (l .next .rank) (l .next .at) (l .inv .2) (l .inv .3) (a .args .starts .now) (l .starts) (l .inv .4),
+      words-next (a .args .d .now) (a .args .room .now) _ _ _ _ _ (a .pre) (l .b) (omega (arith, c .before .before .before .before .before .before .before .before .before .blocks-of .ensures)) (l .next .rank) (l .next .at) (l .inv .2) (l .inv .3) (a .args .words .now) (l .words) _ (l .inv .5) (w .ensures .1 .1),
     )
 
 same-length : tie.Need-same-length Inv-loop μ-loop
@@ -92,7 +92,7 @@ returns : tie.Need-returns Inv-loop μ-loop
 returns c =
     let a = c .before .before .before .before .before .before .before in
     let l = c .before .loop in
-    let e : l .b ≡ blocksOf (a .args .d .now) = omega (arith, c .before .before .word-at .ensures) in (
+    let e : l .b ≡ blocksOf (a .args .d .now) = omega (arith, c .before .before .blocks-of .ensures) in (
       stage-next (a .args .d .now) (a .args .room .now) _ _ _ _ _ (a .pre) (l .b) (l .next) e (l .inv .2) (l .inv .3),
       (
         l .inv .1,
@@ -109,7 +109,7 @@ write-stage-spec =
     (tie.spec
     Inv-loop
     μ-loop
-    word-at-requires
+    blocks-of-requires
     cast-blocks
     loop-holds
     add-starts

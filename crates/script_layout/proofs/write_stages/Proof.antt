@@ -25,14 +25,14 @@ Inv-loop d room₀ starts₀ words₀ blocks majors next₀ s₀ room starts wor
 abbrev μ-loop : tie.MeasureT-loop
 μ-loop d room₀ starts₀ words₀ blocks majors next₀ s₀ room starts words next s = majors - s
 
-word-at-requires : tie.Need-word-at-requires Inv-loop μ-loop
-word-at-requires c κs = search needs
+blocks-of-requires : tie.Need-blocks-of-requires Inv-loop μ-loop
+blocks-of-requires c κs = search needs
 
 cast-blocks : tie.Need-cast-blocks Inv-loop μ-loop
 cast-blocks c = search needs
 
-word-at-requires-2 : tie.Need-word-at-requires-2 Inv-loop μ-loop
-word-at-requires-2 c κs = search needs
+majors-of-requires : tie.Need-majors-of-requires Inv-loop μ-loop
+majors-of-requires c κs = search needs
 
 cast-majors : tie.Need-cast-majors Inv-loop μ-loop
 cast-majors c = search needs
@@ -46,13 +46,13 @@ mul-write-stage : tie.Need-mul-write-stage Inv-loop μ-loop
 mul-write-stage c =
     let a = c .before .before .before .before .before .before .before .before .before in
     let l = c .before .before .loop in
-    omega (arith, start-few (a .args .d .now) (a .args .room .now) _ _ (a .pre) (l .s) _ (omega (arith, c .before .before .before .word-at2 .ensures)) (c .before .before .before .before .word-at .ensures))
+    omega (arith, start-few (a .args .d .now) (a .args .room .now) _ _ (a .pre) (l .s) _ (omega (arith, c .before .before .before .majors-of .ensures)) (c .before .before .before .before .blocks-of .ensures))
 
 write-stage-requires : tie.Need-write-stage-requires Inv-loop μ-loop
 write-stage-requires c κs =
     let a = c .before .before .before .before .before .before .before .before .before .before .before in
     let l = c .before .before .before .before .loop in
-    stage-room (a .args .d .now) (a .args .room .now) _ _ (a .pre) (l .s) _ (omega (arith, c .before .before .before .before .before .word-at2 .ensures)) (c .before .before .before .before .before .before .word-at .ensures) (l .next) (l .inv .2) (l .room) (l .inv .1) _ _ (stored-length (a .args .starts .now) (l .starts) 0 (majorStarts 256 (a .args .d .now) (l .s)) (l .inv .3)) (stored-length (a .args .words .now) (l .words) 0 (majorWords 256 (a .args .d .now) (l .s)) (l .inv .4))
+    stage-room (a .args .d .now) (a .args .room .now) _ _ (a .pre) (l .s) _ (omega (arith, c .before .before .before .before .before .majors-of .ensures)) (c .before .before .before .before .before .before .blocks-of .ensures) (l .next) (l .inv .2) (l .room) (l .inv .1) _ _ (stored-length (a .args .starts .now) (l .starts) 0 (majorStarts 256 (a .args .d .now) (l .s)) (l .inv .3)) (stored-length (a .args .words .now) (l .words) 0 (majorWords 256 (a .args .d .now) (l .s)) (l .inv .4))
 
 add-s : tie.Need-add-s Inv-loop μ-loop
 add-s c = search needs
@@ -68,8 +68,8 @@ loop-again c =
       omega arith,
       w .ensures .1 .0 ∙ l .inv .1,
       w .ensures .0,
-      stage-starts-stored (a .args .d .now) (a .args .room .now) _ _ (a .pre) (l .s) _ (omega (arith, c .before .before .before .before .before .before .before .before .before .before .before .before .word-at2 .ensures)) (c .before .before .before .before .before .before .before .before .before .before .before .before .before .word-at .ensures) (a .args .starts .now) (l .starts) _ (l .inv .3) (w .ensures .1 .1 .0),
-      stage-words (a .args .d .now) (a .args .room .now) _ _ (a .pre) (l .s) _ (omega (arith, c .before .before .before .before .before .before .before .before .before .before .before .before .word-at2 .ensures)) (c .before .before .before .before .before .before .before .before .before .before .before .before .before .word-at .ensures) (l .next) (l .inv .2) (a .args .words .now) (l .words) _ (l .inv .4) (w .ensures .1 .1 .1),
+      stage-starts-stored (a .args .d .now) (a .args .room .now) _ _ (a .pre) (l .s) _ (omega (arith, c .before .before .before .before .before .before .before .before .before .before .before .before .majors-of .ensures)) (c .before .before .before .before .before .before .before .before .before .before .before .before .before .blocks-of .ensures) (a .args .starts .now) (l .starts) _ (l .inv .3) (w .ensures .1 .1 .0),
+      stage-words (a .args .d .now) (a .args .room .now) _ _ (a .pre) (l .s) _ (omega (arith, c .before .before .before .before .before .before .before .before .before .before .before .before .majors-of .ensures)) (c .before .before .before .before .before .before .before .before .before .before .before .before .before .blocks-of .ensures) (l .next) (l .inv .2) (a .args .words .now) (l .words) _ (l .inv .4) (w .ensures .1 .1 .1),
     )
 
 same-length : tie.Need-same-length Inv-loop μ-loop
@@ -91,7 +91,7 @@ returns : tie.Need-returns Inv-loop μ-loop
 returns c =
     let a = c .before .before .before .before .before .before .before .before in
     let l = c .before .loop in
-    let e : l .s ≡ majorsOf (a .args .d .now) = omega (arith, c .before .before .word-at2 .ensures) in (
+    let e : l .s ≡ majorsOf (a .args .d .now) = omega (arith, c .before .before .majors-of .ensures) in (
       l .inv .2 .at ∙ ap (λ (n : ℕ). length (majorWords 256 (a .args .d .now) n)) e,
       (
         l .inv .1,
@@ -108,9 +108,9 @@ write-stages-spec =
     (tie.spec
     Inv-loop
     μ-loop
-    word-at-requires
+    blocks-of-requires
     cast-blocks
-    word-at-requires-2
+    majors-of-requires
     cast-majors
     loop-holds
     mul-write-stage

@@ -44,7 +44,7 @@ value-requires c κs =
     let valued = all-valued (o .plan .now) (o .part) (o .old .now) (o .new .now) _ (f .fill-known .ensures) (s .pre .0 .form) (s .pre .0 .gates) _ _
     (s .pre .1)
     (v .all-values .ensures) in
-    (good, search needs, rw (c .word-at .ensures) valued)
+    (good, search needs, rw (c .gates-of .ensures) valued)
 
 returns : tie.Need-returns
 returns c =

@@ -16,11 +16,11 @@ Inv-loop d room blocks majors sum₀ s₀ sum s = (s ≤ majors) × (sum ≡ emp
 abbrev μ-loop : tie.MeasureT-loop
 μ-loop d room blocks majors sum₀ s₀ sum s = majors - s
 
-word-at-requires : tie.Need-word-at-requires Inv-loop μ-loop
-word-at-requires c κs = search needs
+blocks-of-requires : tie.Need-blocks-of-requires Inv-loop μ-loop
+blocks-of-requires c κs = search needs
 
-word-at-requires-2 : tie.Need-word-at-requires-2 Inv-loop μ-loop
-word-at-requires-2 c κs = search needs
+majors-of-requires : tie.Need-majors-of-requires Inv-loop μ-loop
+majors-of-requires c κs = search needs
 
 cast-majors : tie.Need-cast-majors Inv-loop μ-loop
 cast-majors c = search needs
@@ -28,11 +28,8 @@ cast-majors c = search needs
 loop-holds : tie.Need-loop-holds Inv-loop μ-loop
 loop-holds c = (omega arith, empty-none (c .before .before .before .before .args .d .now), omega arith)
 
-add-word-at : tie.Need-add-word-at Inv-loop μ-loop
-add-word-at c = search needs
-
-word-at-requires-3 : tie.Need-word-at-requires-3 Inv-loop μ-loop
-word-at-requires-3 c κs = search needs
+count-at-requires : tie.Need-count-at-requires Inv-loop μ-loop
+count-at-requires c κs = search needs
 
 blocks-left-requires : tie.Need-blocks-left-requires Inv-loop μ-loop
 blocks-left-requires c κs = search needs
@@ -51,17 +48,20 @@ loop-less c = search needs
 
 loop-again : tie.Need-loop-again Inv-loop μ-loop
 loop-again c =
-    let l = c .before .before .before .loop in (
+    let l = c .before .before .before in
+    let blocks = l .before .before in
+    let d = blocks .before .before .before .args .d .now in (
       omega arith,
-      empty-more (c .before .before .before .before .before .before .before .before .args .d .now) (l .s) (l .sum) (c .blocks-left .result) _ _ (l .inv .1) (c .before .before .before .before .before .word-at .ensures) (c .before .word-at3 .ensures) (c .blocks-left .ensures),
-      omega (arith, l .inv .2),
+      empty-more d (l .loop .s) (l .loop .sum) (c .blocks-left .result) _ _ (l .loop .inv .1) (blocks .blocks-of .ensures) (c .before .count-at .ensures) (c .blocks-left .ensures),
+      omega (arith, l .loop .inv .2),
     )
 
 returns : tie.Need-returns Inv-loop μ-loop
 returns c =
     let l = c .before .loop in
-    let e : l .s ≡ majorsOf (c .before .before .before .before .before .before .args .d .now) = omega (arith, c .before .before .word-at2 .ensures) in
-    (l .inv .1 ∙ ap (emptyBlocks (c .before .before .before .before .before .before .args .d .now)) e, omega (arith, l .inv .2, majors-few (c .before .before .before .before .before .before .args .d .now) (c .before .before .before .before .before .before .args .room .now) (c .before .before .before .before .before .before .pre)))
+    let a = c .before .before .before .before .before .before in
+    let e : l .s ≡ majorsOf (a .args .d .now) = omega (arith, c .before .before .majors-of .ensures) in
+    (l .inv .1 ∙ ap (emptyBlocks (a .args .d .now)) e, omega (arith, l .inv .2, majors-few (a .args .d .now) (a .args .room .now) (a .pre)))
 
 pub empty-blocks-spec : {M : Type 1} → statement M
 empty-blocks-spec =
@@ -69,12 +69,11 @@ empty-blocks-spec =
     (tie.spec
     Inv-loop
     μ-loop
-    word-at-requires
-    word-at-requires-2
+    blocks-of-requires
+    majors-of-requires
     cast-majors
     loop-holds
-    add-word-at
-    word-at-requires-3
+    count-at-requires
     blocks-left-requires
     cast-sum
     add-sum

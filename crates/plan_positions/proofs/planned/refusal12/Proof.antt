@@ -11,7 +11,7 @@ use Rattle.words.specs.Tests.{lowestFrom}
 use Rattle.words.proofs.FoundLaws.{pass-start, pass-fault, pass-next, pass-end}
 use Rattle.plan_positions.specs.Places.{badSlot}
 use Rattle.plan_positions.specs.Positions as positions
-use Rattle.plan_positions.proofs.PlannedLaws.{part-ready}
+use Rattle.plan_positions.proofs.PlannedLaws.{tallied, part-ready}
 use Rattle.plan_positions.proofs.planned.refusal12.Statement.{statement}
 use Rattle.plan_positions.proofs.planned.refusal12.Tie as tie
 
@@ -26,7 +26,7 @@ among : (c : tie.In-loop Inv-loop μ-loop) → c .before .loop .p < partsOf (c .
 among c = omega (arith, c .loop-test .taken, c .before .before .before .parts-of .ensures .0)
 
 state-words-requires : tie.Need-state-words-requires Inv-loop μ-loop
-state-words-requires c κs = search needs
+state-words-requires c κs = tallied _ _ (c .before .before .before .pre)
 
 parts-of-requires : tie.Need-parts-of-requires Inv-loop μ-loop
 parts-of-requires c κs = formed _ (c .before .before .before .before .pre .form) .head .majors

@@ -17,8 +17,8 @@ Inv-loop d p majors first₀ next₀ s₀ first next s = (s ≤ majors) × (firs
 abbrev μ-loop : tie.MeasureT-loop
 μ-loop d p majors first₀ next₀ s₀ first next s = majors - s
 
-word-at-requires : tie.Need-word-at-requires Inv-loop μ-loop
-word-at-requires c κs = search needs
+majors-of-requires : tie.Need-majors-of-requires Inv-loop μ-loop
+majors-of-requires c κs = search needs
 
 cast-majors : tie.Need-cast-majors Inv-loop μ-loop
 cast-majors c = search needs
@@ -31,11 +31,8 @@ loop-holds c =
 later-first-requires : tie.Need-later-first-requires Inv-loop μ-loop
 later-first-requires c κs = search needs
 
-add-word-at : tie.Need-add-word-at Inv-loop μ-loop
-add-word-at c = search needs
-
-word-at-requires-2 : tie.Need-word-at-requires-2 Inv-loop μ-loop
-word-at-requires-2 c κs = search needs
+count-at-requires : tie.Need-count-at-requires Inv-loop μ-loop
+count-at-requires c κs = search needs
 
 cast-next : tie.Need-cast-next Inv-loop μ-loop
 cast-next c = search needs
@@ -55,7 +52,7 @@ loop-again c =
     let l = c .before .before .before .loop in (
       omega arith,
       c .before .later-first .ensures ∙ earlier-more (s .d .now) (s .p) (l .s) (l .first) (l .next) (l .inv .1) (l .inv .2),
-      omega (arith, l .inv .2, c .word-at2 .ensures, parts-more (s .d .now) (l .s)),
+      omega (arith, l .inv .2, c .count-at .ensures, parts-more (s .d .now) (l .s)),
       omega (arith, l .inv .3),
     )
 
@@ -63,7 +60,7 @@ returns : tie.Need-returns Inv-loop μ-loop
 returns c =
     let s = c .before .before .before .before .args in
     let l = c .before .loop in
-    let e : l .s ≡ majorsOf (s .d .now) = omega (arith, c .before .before .word-at .ensures) in
+    let e : l .s ≡ majorsOf (s .d .now) = omega (arith, c .before .before .majors-of .ensures) in
     l .inv .1 ∙ ap (λ (n : ℕ). partsBefore (s .d .now) (majorTo (s .d .now) (s .p) n)) e
 
 pub parts-earlier-spec : {M : Type 1} → statement M
@@ -72,12 +69,11 @@ parts-earlier-spec =
     (tie.spec
     Inv-loop
     μ-loop
-    word-at-requires
+    majors-of-requires
     cast-majors
     loop-holds
     later-first-requires
-    add-word-at
-    word-at-requires-2
+    count-at-requires
     cast-next
     add-next
     add-s

@@ -21,8 +21,8 @@ abbrev μ-loop : tie.MeasureT-loop
 layout-base-requires : tie.Need-layout-base-requires Inv-loop μ-loop
 layout-base-requires c κs = search needs
 
-word-at-requires : tie.Need-word-at-requires Inv-loop μ-loop
-word-at-requires c κs = search needs
+layout-of-requires : tie.Need-layout-of-requires Inv-loop μ-loop
+layout-of-requires c κs = search needs
 
 loop-holds : tie.Need-loop-holds Inv-loop μ-loop
 loop-holds c =
@@ -52,7 +52,7 @@ same-length c = ap length (c .before .loop .inv .1) ∙ renewals-length _ _
 returns : tie.Need-returns Inv-loop μ-loop
 returns c =
     let s = c .before .before .before .before .before .before .args in
-    let e : c .before .loop .i ≡ layoutOf (s .d .now) = omega (arith, c .before .before .word-at .ensures) in
+    let e : c .before .loop .i ≡ layoutOf (s .d .now) = omega (arith, c .before .before .layout-of .ensures) in
     c .before .loop .inv .1 ∙ ap (λ (n : ℕ). afterRenewals (s .table .now) (layoutPuts (s .d .now) n)) e
 
 pub fill-layout-spec : {M : Type 1} → statement M
@@ -62,7 +62,7 @@ fill-layout-spec =
     Inv-loop
     μ-loop
     layout-base-requires
-    word-at-requires
+    layout-of-requires
     loop-holds
     renew-layout-requires
     add-i

@@ -21,14 +21,14 @@ abbrev μ-loop : tie.MeasureT-loop
 position-base-requires : tie.Need-position-base-requires Inv-loop μ-loop
 position-base-requires c κs = search needs
 
-word-at-requires : tie.Need-word-at-requires Inv-loop μ-loop
-word-at-requires c κs = search needs
+layout-of-requires : tie.Need-layout-of-requires Inv-loop μ-loop
+layout-of-requires c κs = search needs
 
 add-first : tie.Need-add-first Inv-loop μ-loop
 add-first c = search needs
 
-word-at-requires-2 : tie.Need-word-at-requires-2 Inv-loop μ-loop
-word-at-requires-2 c κs = search needs
+positions-of-requires : tie.Need-positions-of-requires Inv-loop μ-loop
+positions-of-requires c κs = search needs
 
 loop-holds : tie.Need-loop-holds Inv-loop μ-loop
 loop-holds c =
@@ -41,10 +41,10 @@ renew-position-requires c κs =
     record {
       begins = c .before .before .before .before .before .position-base .ensures .0;
       inside = c .before .before .before .before .before .position-base .ensures .1;
-      after = ap (λ (x : ℕ). 1 + x) (c .before .before .before .before .word-at .ensures);
-      few = omega (arith, s .pre .layout, c .before .before .before .before .word-at .ensures);
-      within = omega (arith, s .pre .positions, c .before .before .before .word-at2 .ensures);
-      pin = s .pre .pins (c .before .before .loop .i) (omega (arith, c .before .before .before .word-at2 .ensures));
+      after = ap (λ (x : ℕ). 1 + x) (c .before .before .before .before .layout-of .ensures);
+      few = omega (arith, s .pre .layout, c .before .before .before .before .layout-of .ensures);
+      within = omega (arith, s .pre .positions, c .before .before .before .positions-of .ensures);
+      pin = s .pre .pins (c .before .before .loop .i) (omega (arith, c .before .before .before .positions-of .ensures));
     }
 
 add-i : tie.Need-add-i Inv-loop μ-loop
@@ -67,7 +67,7 @@ same-length c = ap length (c .before .loop .inv .1) ∙ renewals-length _ _
 returns : tie.Need-returns Inv-loop μ-loop
 returns c =
     let s = c .before .before .before .before .before .before .before .args in
-    let e : c .before .loop .i ≡ positionsOf (s .d .now) = omega (arith, c .before .before .word-at2 .ensures) in
+    let e : c .before .loop .i ≡ positionsOf (s .d .now) = omega (arith, c .before .before .positions-of .ensures) in
     c .before .loop .inv .1 ∙ ap (λ (n : ℕ). afterRenewals (s .table .now) (markedPuts (s .d .now) (s .mark) n)) e
 
 pub fill-marked-spec : {M : Type 1} → statement M
@@ -77,9 +77,9 @@ fill-marked-spec =
     Inv-loop
     μ-loop
     position-base-requires
-    word-at-requires
+    layout-of-requires
     add-first
-    word-at-requires-2
+    positions-of-requires
     loop-holds
     renew-position-requires
     add-i

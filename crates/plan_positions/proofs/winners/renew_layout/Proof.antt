@@ -5,16 +5,11 @@ use Rattle.plan_positions.proofs.WinnerLaws.{layout-empty, layout-put}
 use Rattle.plan_positions.proofs.winners.renew_layout.Statement.{statement}
 use Rattle.plan_positions.proofs.winners.renew_layout.Tie as tie
 
-add-word-at : tie.Need-add-word-at
-add-word-at c = search needs
-
-word-at-requires : tie.Need-word-at-requires
-word-at-requires c κs = search needs
+layout-pin-requires : tie.Need-layout-pin-requires
+layout-pin-requires c κs = search needs
 
 returns : tie.Need-returns
-returns c =
-    let s = c .before .before .before .before in
-    layout-empty (s .args .d .now) (s .args .table .now) (s .args .base) (s .args .i) _ (s .pre .begins) (c .before .word-at .ensures) (c .if1 .taken)
+returns c = let s = c .before .before .before .before .before .args in layout-empty (s .d .now) (s .table .now) (s .i) _ (c .before .before .layout-pin .ensures) (c .if1 .taken)
 
 add-put-where-there : tie.Need-add-put-where-there
 add-put-where-there c = search needs
@@ -27,15 +22,16 @@ same-length c = search needs
 
 returns-2 : tie.Need-returns-2
 returns-2 c =
-    let s = c .before .before .before .before .before .before .before .before in
-    layout-put (s .args .d .now) (s .args .table .now) (s .args .base) (s .args .i) _ (s .pre .begins) (c .before .before .before .before .before .word-at .ensures) _ (c .before .before .before .before .if1 .left) (c .before .before .put-where-there .ensures)
+    let left = c .before .before .before .before in
+    let read = left .before .before in
+    let s = read .before .before .before .args in
+    layout-put (s .d .now) (s .table .now) (s .i) _ (read .layout-pin .ensures) _ (left .if1 .left) (c .before .before .put-where-there .ensures)
 
 pub renew-layout-spec : {M : Type 1} → statement M
 renew-layout-spec =
     tie.close
     (tie.spec
-    add-word-at
-    word-at-requires
+    layout-pin-requires
     returns
     add-put-where-there
     put-where-there-requires

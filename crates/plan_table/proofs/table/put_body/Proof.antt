@@ -1,7 +1,8 @@
 -- `plan_blocks::table::put_body` meets its contract: three cells, one after the other.
 -- Assumes nothing.
 use Prim.Native.Nat.{_/_, _%_, _^_}
-use Rattle.plan_blocks.specs.Table.{cell}
+use Rattle.plan_rows.specs.Columns as col
+use Rattle.plan_rows.specs.Rows.{cell}
 use Rattle.plan_table.proofs.WholeLaws.{three-cells}
 use borrow.Author.Needs.{needs}
 use Rattle.plan_table.proofs.table.put_body.Statement.{statement}
@@ -32,7 +33,7 @@ returns : tie.Need-returns
 returns c =
     let a = c .before .before .before .before .before .before .before .before .before .before .before .before .before .args in
     three-cells (a .room .now) (c .before .before .before .before .before .before .before .before .before .before .put-cell .last .0) (c .before .before .before .before .before .before .put-cell2 .last .0) (c .before .before .put-cell3 .last .0)
-    (cell (a .p) 0) (cell (a .p) 1) (cell (a .p) 2) (a .at % 2 ^ 32) (a .at / 2 ^ 32) (a .locations)
+    (cell (a .p) col.bodyLow) (cell (a .p) col.bodyHigh) (cell (a .p) col.locations) (a .at % 2 ^ 32) (a .at / 2 ^ 32) (a .locations)
     (c .before .before .before .before .before .before .before .before .before .before .put-cell .ensures) (c .before .before .before .before .before .before .put-cell2 .ensures) (c .before .before .put-cell3 .ensures)
 
 pub put-body-spec : {M : Type 1} → statement M

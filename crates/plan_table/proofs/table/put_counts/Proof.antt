@@ -1,6 +1,7 @@
 -- `plan_blocks::table::put_counts` meets its contract: three cells, one after the other.
 -- Assumes nothing.
-use Rattle.plan_blocks.specs.Table.{cell}
+use Rattle.plan_rows.specs.Columns as col
+use Rattle.plan_rows.specs.Rows.{cell}
 use Rattle.plan_table.proofs.WholeLaws.{three-cells}
 use borrow.Author.Needs.{needs}
 use Rattle.plan_table.proofs.table.put_counts.Statement.{statement}
@@ -25,7 +26,7 @@ returns : tie.Need-returns
 returns c =
     let a = c .before .before .before .before .before .before .before .before .before .before .before .before .before .args in
     three-cells (a .room .now) (c .before .before .before .before .before .before .before .before .before .before .put-cell .last .0) (c .before .before .before .before .before .before .put-cell2 .last .0) (c .before .before .put-cell3 .last .0)
-    (cell (a .p) 3) (cell (a .p) 4) (cell (a .p) 5) (a .srams) (a .duplicates) (a .words)
+    (cell (a .p) col.srams) (cell (a .p) col.duplicates) (cell (a .p) col.writeOuts) (a .srams) (a .duplicates) (a .words)
     (c .before .before .before .before .before .before .before .before .before .before .put-cell .ensures) (c .before .before .before .before .before .before .put-cell2 .ensures) (c .before .before .put-cell3 .ensures)
 
 pub put-counts-spec : {M : Type 1} → statement M

@@ -1,101 +1,40 @@
--- The row's words are the part's numbers.
+-- The cells of a row are the part's numbers.
 -- Assumes nothing.
 use mathlib.Core.Path.{refl}
-use Prim.Native.Nat.{_-_}
-use Rattle.script_layout.proofs.RowLaws.{row-numbers}
+use native.Mathlib.Omega.{arith}
+use Rattle.script_layout.proofs.RowLaws.{cell-in, row-numbers}
 use borrow.Author.Needs.{needs}
 use Rattle.script_layout.proofs.parts.numbers_of.Statement.{statement}
 use Rattle.script_layout.proofs.parts.numbers_of.Tie as tie
 
-mul-row : tie.Need-mul-row
-mul-row c = search needs
+cell-at-requires : tie.Need-cell-at-requires
+cell-at-requires c κs = let a = c .before .before .before .pre in cell-in _ _ (a .0) _ (a .1) _ (omega arith)
 
-add-row : tie.Need-add-row
-add-row c = search needs
+cell-at-requires-2 : tie.Need-cell-at-requires-2
+cell-at-requires-2 c κs = let a = c .before .before .before .before .pre in cell-in _ _ (a .0) _ (a .1) _ (omega arith)
 
-cast-t8 : tie.Need-cast-t8
-cast-t8 c = search needs
+cell-at-requires-3 : tie.Need-cell-at-requires-3
+cell-at-requires-3 c κs = let a = c .before .before .before .before .before .pre in cell-in _ _ (a .0) _ (a .1) _ (omega arith)
 
-add-t7 : tie.Need-add-t7
-add-t7 c = search needs
+cell-at-requires-4 : tie.Need-cell-at-requires-4
+cell-at-requires-4 c κs = let a = c .before .before .before .before .before .before .pre in cell-in _ _ (a .0) _ (a .1) _ (omega arith)
 
-mul-t9 : tie.Need-mul-t9
-mul-t9 c = search needs
+cell-at-requires-5 : tie.Need-cell-at-requires-5
+cell-at-requires-5 c κs = let a = c .before .before .before .before .before .before .before .pre in cell-in _ _ (a .0) _ (a .1) _ (omega arith)
 
-shared-slice-read-t11 : tie.Need-shared-slice-read-t11
-shared-slice-read-t11 c = search needs
-
-add-t12 : tie.Need-add-t12
-add-t12 c = search needs
-
-mul-t13 : tie.Need-mul-t13
-mul-t13 c = search needs
-
-shared-slice-read-t15 : tie.Need-shared-slice-read-t15
-shared-slice-read-t15 c = search needs
-
-add-t16 : tie.Need-add-t16
-add-t16 c = search needs
-
-mul-t17 : tie.Need-mul-t17
-mul-t17 c = search needs
-
-shared-slice-read-t19 : tie.Need-shared-slice-read-t19
-shared-slice-read-t19 c = search needs
-
-add-t20 : tie.Need-add-t20
-add-t20 c = search needs
-
-mul-t21 : tie.Need-mul-t21
-mul-t21 c = search needs
-
-shared-slice-read-t23 : tie.Need-shared-slice-read-t23
-shared-slice-read-t23 c = search needs
-
-add-t24 : tie.Need-add-t24
-add-t24 c = search needs
-
-mul-t25 : tie.Need-mul-t25
-mul-t25 c = search needs
-
-shared-slice-read-t27 : tie.Need-shared-slice-read-t27
-shared-slice-read-t27 c = search needs
-
-add-t28 : tie.Need-add-t28
-add-t28 c = search needs
-
-mul-t29 : tie.Need-mul-t29
-mul-t29 c = search needs
-
-shared-slice-read-t31 : tie.Need-shared-slice-read-t31
-shared-slice-read-t31 c = search needs
+cell-at-requires-6 : tie.Need-cell-at-requires-6
+cell-at-requires-6 c κs = let a = c .before .before .before .before .before .before .before .before .pre in cell-in _ _ (a .0) _ (a .1) _ (omega arith)
 
 returns : tie.Need-returns
-returns c = let a = c .before .before .before .before .before .before .before in (row-numbers (a .args .d .now) (a .args .room .now) (a .pre .0) (a .args .p) (a .pre .1) (a .args .body) (a .pre .2) _ refl refl refl refl refl, (refl, refl, refl))
+returns c =
+    let sram = c .before .before in
+    let state = sram .before .before in
+    let a = state .before .before .before .before .before in (
+      row-numbers _ _ (a .pre .0) _ (a .pre .1) _ (a .pre .2) _ refl (state .before .cell-at .ensures) (sram .before .cell-at3 .ensures) (c .before .cell-at5 .ensures) (c .cell-at6 .ensures),
+      (refl, state .cell-at2 .ensures, sram .cell-at4 .ensures),
+    )
 
 pub numbers-of-spec : {M : Type 1} → statement M
 numbers-of-spec =
     tie.close
-    (tie.spec
-    mul-row
-    add-row
-    cast-t8
-    add-t7
-    mul-t9
-    shared-slice-read-t11
-    add-t12
-    mul-t13
-    shared-slice-read-t15
-    add-t16
-    mul-t17
-    shared-slice-read-t19
-    add-t20
-    mul-t21
-    shared-slice-read-t23
-    add-t24
-    mul-t25
-    shared-slice-read-t27
-    add-t28
-    mul-t29
-    shared-slice-read-t31
-    returns)
+    (tie.spec (λ c. search needs) cell-at-requires cell-at-requires-2 cell-at-requires-3 cell-at-requires-4 cell-at-requires-5 cell-at-requires-6 returns)

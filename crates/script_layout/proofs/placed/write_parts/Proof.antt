@@ -1,16 +1,18 @@
 -- The loop's invariant: the words of the parts before rank k stand from word `at` on.
 -- Assumes nothing.
 use mathlib.Core.Path.{_≡_, refl, ap, _∙_}
-use Prim.Native.Nat.{ℕ, _+_, _*_, _-_, _≤_, _<_}
+use Prim.Native.Nat.{ℕ, _+_, _-_, _≤_, _<_}
 use native.Mathlib.Omega.{arith}
 use lib.ListN.{length}
 use lib.Seq.{sets}
 use Rattle.script_assembly.specs.Steps.{lastMark, partsWords, partsIn, firstRank}
-use Rattle.script_layout.proofs.RowLaws.{row-in, parts-few}
+use Rattle.script_layout.proofs.RowLaws.{cell-in}
 use Rattle.script_layout.proofs.StoreLaws.{stored-length}
 use Rattle.script_layout.proofs.PlacedLaws.{end-in, to-in, turn-room, turn-next, turn-stored, none-stored, none-long, all-words}
 use mathlib.Core.List.{List}
 use Rattle.plan_record.specs.Record.{partsOf}
+use Rattle.plan_rows.specs.Columns as col
+use Rattle.plan_rows.specs.Rows.{CellIn}
 use borrow.Author.Needs.{needs}
 use Rattle.script_layout.proofs.placed.write_parts.Statement.{statement}
 use Rattle.script_layout.proofs.placed.write_parts.Tie as tie
@@ -31,42 +33,30 @@ before-to : (c : tie.In-loop Inv-loop μ-loop) → c .before .loop .k < firstRan
 before-to c = omega (arith, c .before .before .before .before .before .pre .2)
 
 -- and its row is in the room
-rank-few : (c : tie.In-loop Inv-loop μ-loop) → (c .before .loop .k < 262144) × (65536 + 16 * c .before .loop .k + 16 ≤ length (c .before .before .before .before .before .args .room .now))
+rank-few : (c : tie.In-loop Inv-loop μ-loop) → CellIn (c .before .loop .room) (c .before .loop .k) col.ranked
 rank-few c =
     let a = c .before .before .before .before .before in
     let h = a .pre .0 .place in
     let l : c .before .loop .k < partsOf (a .args .d .now) = omega (arith, before-to c, to-in _ _ _ _ _ h, end-in _ _ _ _ _ h) in
-    (omega (arith, parts-few _ _ (h .sound)), row-in _ _ (h .sound) _ l)
+    rw (c .before .loop .inv .2) (cell-in _ _ (h .sound) _ l _ (omega arith))
 
 loop-holds : tie.Need-loop-holds Inv-loop μ-loop
 loop-holds c = let a = c .before .before .before in (omega arith, omega arith, refl, none-long (a .args .d .now) (a .args .room .now) _ _ _ (a .pre .0 .place) _, none-stored (a .args .d .now) (a .args .room .now) _ _ _ (a .pre .0 .place) _ _)
 
-mul-p : tie.Need-mul-p Inv-loop μ-loop
-mul-p c = omega (arith, rank-few c)
-
-add-p : tie.Need-add-p Inv-loop μ-loop
-add-p c = omega (arith, rank-few c)
-
-add-p-2 : tie.Need-add-p-2 Inv-loop μ-loop
-add-p-2 c = omega (arith, rank-few c)
-
-mul-p-2 : tie.Need-mul-p-2 Inv-loop μ-loop
-mul-p-2 c = omega (arith, rank-few c)
-
-slice-read-p : tie.Need-slice-read-p Inv-loop μ-loop
-slice-read-p c = omega (arith, rank-few (c .before), ap length (c .before .before .loop .inv .2))
-
-cast-p : tie.Need-cast-p Inv-loop μ-loop
-cast-p c = omega (arith, c .slice-known3 .given (65536 + 16 * c .before .before .loop .k + 9))
+cell-at-requires : tie.Need-cell-at-requires Inv-loop μ-loop
+cell-at-requires c κs = rank-few (c .before)
 
 last-mark-requires : tie.Need-last-mark-requires Inv-loop μ-loop
 last-mark-requires c κs = search needs
 
 write-part-requires : tie.Need-write-part-requires Inv-loop μ-loop
 write-part-requires c κs =
-    let a = c .before .before .before .before .before .before .before .before .before in
-    let l = c .before .before .before .before .before .loop in
-    turn-room (a .args .d .now) (a .args .room .now) _ _ _ (a .pre .0 .place) (l .k) (l .inv .0) (before-to (c .before .before .before .before)) (a .args .at) (l .next) (l .inv .3) (l .room) (l .inv .2) (a .args .words .now) (l .words) (l .inv .4) (a .pre .0 .fits)
+    let read = c .before .before .before in
+    let turn = read .before .before in
+    let l = turn .before .loop in
+    let a = turn .before .before .before .before .before in
+    turn-room (a .args .d .now) (a .args .room .now) _ _ _ (a .pre .0 .place) (l .k) (l .inv .0) (before-to turn) (a .args .at) (l .next) (l .inv .3)
+    (l .room) (l .inv .2) _ (read .cell-at .ensures) (a .args .words .now) (l .words) (l .inv .4) (a .pre .0 .fits)
 
 add-k : tie.Need-add-k Inv-loop μ-loop
 add-k c = search needs
@@ -76,14 +66,21 @@ loop-less c = search needs
 
 loop-again : tie.Need-loop-again Inv-loop μ-loop
 loop-again c =
-    let a = c .before .before .before .before .before .before .before .before .before .before .before .before .before .before in
-    let l = c .before .before .before .before .before .before .before .before .before .before .loop in
-    let w = c .before .before .before .before .write-part in (
+    let w = c .before .before .before .before in
+    let marked = w .before .before in
+    let read = marked .before .before in
+    let turn = read .before .before in
+    let l = turn .before .loop in
+    let a = turn .before .before .before .before .before in
+    let k = before-to turn in (
       omega arith,
       omega arith,
-      w .ensures .1 .0 ∙ l .inv .2,
-      turn-next (a .args .d .now) (a .args .room .now) _ _ _ (a .pre .0 .place) (l .k) (l .inv .0) (before-to (c .before .before .before .before .before .before .before .before .before)) (a .args .at) (l .next) (l .inv .3) (l .room) (l .inv .2) (a .args .words .now) (l .words) (l .inv .4) _ (w .ensures .0),
-      turn-stored (a .args .d .now) (a .args .room .now) _ _ _ (a .pre .0 .place) (l .k) (l .inv .0) (before-to (c .before .before .before .before .before .before .before .before .before)) (a .args .at) (l .next) (l .inv .3) (l .room) (l .inv .2) (a .args .words .now) (l .words) (l .inv .4) _ _ (c .before .before .before .before .before .before .last-mark .ensures ∙ ap (λ (x : ℕ). lastMark x (l .k)) (a .pre .2)) (w .ensures .1 .1),
+      w .write-part .ensures .1 .0 ∙ l .inv .2,
+      turn-next (a .args .d .now) (a .args .room .now) _ _ _ (a .pre .0 .place) (l .k) (l .inv .0) k (a .args .at) (l .next) (l .inv .3)
+          (l .room) (l .inv .2) _ (read .cell-at .ensures) (a .args .words .now) (l .words) (l .inv .4) _ (w .write-part .ensures .0),
+      turn-stored (a .args .d .now) (a .args .room .now) _ _ _ (a .pre .0 .place) (l .k) (l .inv .0) k (a .args .at) (l .next) (l .inv .3)
+          (l .room) (l .inv .2) _ (read .cell-at .ensures) (a .args .words .now) (l .words) (l .inv .4) _ _
+          (marked .last-mark .ensures ∙ ap (λ (x : ℕ). lastMark x (l .k)) (a .pre .2)) (w .write-part .ensures .1 .1),
     )
 
 same-length : tie.Need-same-length Inv-loop μ-loop
@@ -109,12 +106,8 @@ write-parts-spec =
     Inv-loop
     μ-loop
     loop-holds
-    mul-p
-    add-p
-    add-p-2
-    mul-p-2
-    slice-read-p
-    cast-p
+    cell-at-requires
+    (λ c. search needs)
     last-mark-requires
     write-part-requires
     add-k
