@@ -60,15 +60,38 @@ cargo_build() {
 }
 
 # Proves the crates below capi, as many at once as there are processors (rt staticlib would take one at a time), and makes the
-# archive. Says each crate that it proved; $OUT/archive.log has all that rt printed.
+# archive. Says each crate that it proved, and which of how many it is; $OUT/archive.log has all that rt printed.
 build_archive() {
     local log=$OUT/archive.log below
     below=$(sed -n 's/^capi: //p' crates.txt)
     # shellcheck disable=SC2086
-    if ! (export TMPDIR=$ROOM && rt check $below && rt staticlib capi) 2>&1 | tee "$log" | sed -un 's/^rt: \(.* s)\)$/  \1/p'; then
+    if ! (export TMPDIR=$ROOM && rt check $below && rt staticlib capi) 2>&1 | tee "$log" | numbered "$(crates_below capi)"; then
         cat "$log" >&2
         return 1
     fi
+}
+
+# numbered COUNT: rt's lines of crates that it proved, each as `crate n of COUNT`. Those that were proved before are counted too.
+numbered() {
+    awk -v all="$1" '/^rt: [a-z0-9_]+ proved/ && !($2 in seen) {
+        seen[$2]
+        n++
+        if (/ s\)$/) { printf "  crate %d of %d: %s\n", n, all, substr($0, 5); fflush() }
+    }'
+}
+
+# crates_below NAME: how many crates it stands on, and itself.
+crates_below() {
+    awk -F': *' -v name="$1" '
+        function visit(name, list, i, count) {
+            if (name in seen || !(name in needs)) return
+            seen[name]
+            all++
+            count = split(needs[name], list, " ")
+            for (i = 1; i <= count; i++) visit(list[i])
+        }
+        !/^#/ && NF { needs[$1] = $2 }
+        END { visit(name); print all }' crates.txt
 }
 
 # build_juolgesot MAKER REFERENCE: the program juolgesot.
