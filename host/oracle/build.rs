@@ -1,6 +1,6 @@
 //! Copies GEM's files, from GEM_SRC or from ../shared/docs/src beside the repository, to where cargo builds, as they are, and
 //! puts the tails behind them. `flatten_given.rs` is flatten.rs once more with one call renamed, so that tables can be given
-//! (tails/flatten_given.rs); `one_bit.rs` is cut out of pe.rs.
+//! (tails/flatten_given.rs); `one_bit.rs` is cut out of pe.rs. host/gem's file for GEM is put beside flatten.rs, as it says itself.
 
 use std::path::{Path, PathBuf};
 use std::{env, fs, process};
@@ -11,6 +11,9 @@ const WITH_TAILS: [&str; 3] = ["flatten", "flatten_given", "one_bit"];
 /// The call that is renamed for flatten_given.rs.
 const CALL: [&str; 2] =
     ["flattening_parts[part_id].make_inputs_outputs(", "flattening_parts[part_id].oracle_given("];
+
+/// What host/gem/juolgesot_plan.rs asks for at the end of flatten.rs.
+const CREW: &str = "\n#[path = \"juolgesot_plan.rs\"]\npub mod juolgesot_plan;\n";
 
 fn main() {
     let here = PathBuf::from(env::var_os("CARGO_MANIFEST_DIR").expect("cargo sets it"));
@@ -33,6 +36,10 @@ fn main() {
         let tail = read(&here.join("tails").join(name).with_extension("rs"));
         write(&out, name, read(&out.join(name).with_extension("rs")) + &tail);
     }
+    let crew = here.join("../gem/juolgesot_plan.rs");
+    println!("cargo:rerun-if-changed={}", crew.display());
+    write(&out, "juolgesot_plan", read(&crew));
+    write(&out, "flatten", read(&out.join("flatten.rs")) + CREW);
     write(&out, "modules", modules(&out));
 }
 

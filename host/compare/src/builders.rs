@@ -1,7 +1,7 @@
 //! Both builders on one plan: ours and GEM's, or where GEM cannot be asked, the model.
 
 use crate::plan_checker::{difference, same_script, Expected, More, PlanChecker};
-use model::record;
+use model::{record, Refused};
 use plan::stored::Case;
 use plan::{Endpoint, Gate, Part, Plan, Position, Script, Stage, Tables, EMPTY};
 use reference::Flattened;
@@ -10,10 +10,28 @@ use reference::Flattened;
 pub enum Outcome {
     /// Every word, start and size is the same.
     Equal,
-    /// Both refuse: ours with this number, GEM by a panic or by having no such check.
-    Refused(u32),
-    /// The first difference, in words.
+    /// We refuse it, and GEM does this.
+    Refused(Refused, Gem),
+    /// How many differences there are, and the first, in words.
     Differs(String),
+}
+
+/// What GEM does with a plan that we refuse.
+#[derive(Debug, Clone, Copy, PartialEq, Eq)]
+pub enum Gem {
+    Builds,
+    Panics,
+    NotAsked,
+}
+
+impl Gem {
+    pub fn sentence(self) -> &'static str {
+        match self {
+            Gem::Builds => "GEM builds it",
+            Gem::Panics => "GEM panics on it",
+            Gem::NotAsked => "GEM was not asked",
+        }
+    }
 }
 
 /// A plan, what it is and what became of it.
@@ -22,17 +40,19 @@ pub struct Line {
     pub outcome: Outcome,
 }
 
+/// A plan and the script that GEM made of it.
+pub fn pair(checker: &mut PlanChecker, record: &[u8], script: &Script) -> Line {
+    let expected = Expected::of(record);
+    let outcome = match &expected.answer {
+        Ok(made) => same(made, script, record),
+        Err(refused) => Outcome::Refused(*refused, Gem::Builds),
+    };
+    finish(checker, record, &expected, outcome)
+}
+
 /// A design that GEM staged, partitioned and flattened.
 pub fn design(checker: &mut PlanChecker, case: &Case) -> Line {
-    let expected = Expected::of(&case.record);
-    let outcome = match &expected.answer {
-        Ok(made) => same(made, &case.script, &case.record),
-        Err(found) if case.staged_duplicate && found.number == 12 => Outcome::Refused(12),
-        Err(found) => {
-            Outcome::Differs(format!("refused {} at part {}, item {}", found.number, found.part, found.item))
-        }
-    };
-    finish(checker, &case.record, &expected, outcome)
+    pair(checker, &case.record, &case.script)
 }
 
 /// A plan record of any kind. GEM is given its tables and positions.
@@ -47,7 +67,9 @@ pub fn record(checker: &mut PlanChecker, bytes: &[u8]) -> Line {
         (Ok(made), Flattened::Script(script)) => same(made, &script, bytes),
         (Ok(_), Flattened::Panicked) => Outcome::Differs("GEM panicked".to_string()),
         (Ok(_), Flattened::NotAsked) => Outcome::Equal,
-        (Err(refused), _) => Outcome::Refused(refused.number),
+        (Err(refused), Flattened::Script(_)) => Outcome::Refused(*refused, Gem::Builds),
+        (Err(refused), Flattened::Panicked) => Outcome::Refused(*refused, Gem::Panics),
+        (Err(refused), Flattened::NotAsked) => Outcome::Refused(*refused, Gem::NotAsked),
     };
     finish(checker, bytes, &expected, outcome)
 }
@@ -59,7 +81,7 @@ fn same(made: &Script, gems: &Script, record: &[u8]) -> Outcome {
 /// Where the model and GEM agree, our library is held to them.
 fn finish(checker: &mut PlanChecker, record: &[u8], expected: &Expected, outcome: Outcome) -> Line {
     let outcome = match outcome {
-        Outcome::Differs(what) => Outcome::Differs(format!("host/model and {}: {}", reference::NAME, what)),
+        Outcome::Differs(what) => Outcome::Differs(format!("host/model and GEM: {}", what)),
         agreed => match difference(record, expected, More::default()) {
             Ok(number) => {
                 checker.count_answer(number);

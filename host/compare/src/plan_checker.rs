@@ -118,32 +118,45 @@ impl PlanChecker {
     }
 }
 
-/// The scripts word by word; the first difference with its place.
+/// The scripts word by word: how many differences there are, and the first with its place.
 pub fn same_script(found: &Script, expected: &Script, record: &[u8]) -> Result<(), String> {
-    if found.starts != expected.starts {
-        let at = found.starts.iter().zip(&expected.starts).position(|(one, other)| one != other);
-        return Err(format!(
-            "{} starts, expected {}; the first that differs is {:?}",
-            found.starts.len(),
-            expected.starts.len(),
-            at
-        ));
+    let mut differences = Vec::new();
+    let sizes = [
+        ("blocks", found.blocks as u64, expected.blocks as u64),
+        ("starts", found.starts.len() as u64, expected.starts.len() as u64),
+        ("words", found.words.len() as u64, expected.words.len() as u64),
+        ("state words", found.state_words, expected.state_words),
+        ("SRAM words", found.sram_words, expected.sram_words),
+    ];
+    for (name, one, other) in sizes.iter().filter(|(_, one, other)| one != other) {
+        differences.push(format!("{} {}, expected {}", one, name, other));
     }
-    if (found.state_words, found.sram_words) != (expected.state_words, expected.sram_words) {
-        return Err(format!(
-            "state {} and SRAM {}, expected {} and {}",
-            found.state_words, found.sram_words, expected.state_words, expected.sram_words
-        ));
+    let starts: Vec<usize> = differing(&found.starts, &expected.starts);
+    differences.extend(
+        starts
+            .iter()
+            .map(|&at| format!("start {} is {}, expected {}", at, found.starts[at], expected.starts[at])),
+    );
+    let words: Vec<usize> = differing(&found.words, &expected.words);
+    if let (Some(&at), true) = (words.first(), differences.is_empty()) {
+        differences.push(word_difference(record, at as isize, found.words[at], expected.words[at]));
     }
-    if found.words.len() != expected.words.len() {
-        return Err(format!("{} words, expected {}", found.words.len(), expected.words.len()));
+    let sizes = sizes.iter().filter(|(_, one, other)| one != other).count();
+    match differences.first() {
+        None => Ok(()),
+        Some(first) => Err(format!(
+            "sizes that differ: {}, starts: {}, words: {}; the first: {}",
+            sizes,
+            starts.len(),
+            words.len(),
+            first
+        )),
     }
-    if found.words != expected.words {
-        let at =
-            (0..found.words.len()).find(|&at| found.words[at] != expected.words[at]).expect("they differ");
-        return Err(word_difference(record, at as isize, found.words[at], expected.words[at]));
-    }
-    Ok(())
+}
+
+/// Where two lists differ, as far as both go.
+fn differing<T: PartialEq>(found: &[T], expected: &[T]) -> Vec<usize> {
+    (0..found.len().min(expected.len())).filter(|&at| found[at] != expected[at]).collect()
 }
 
 fn word_difference(record: &[u8], at: isize, found: u32, expected: u32) -> String {

@@ -96,12 +96,8 @@ impl Filter {
         Filter { hashes: hashes(), set: [false; REGISTERS] }
     }
 
-    fn registers(&self, key: u32) -> Vec<usize> {
-        self.hashes.iter().map(|hash| register(hash, key)).collect()
-    }
-
     pub fn look_up(&self, key: u32) -> Answer {
-        if self.registers(key).iter().all(|&register| self.set[register]) {
+        if self.hashes.iter().all(|hash| self.set[register(hash, key)]) {
             Answer::Maybe
         } else {
             Answer::No
@@ -119,8 +115,8 @@ impl Filter {
             return answers;
         }
         if cycle.insert {
-            for register in self.registers(cycle.ports[0].0) {
-                self.set[register] = true;
+            for hash in &self.hashes {
+                self.set[register(hash, cycle.ports[0].0)] = true;
             }
         }
         if cycle.clear {

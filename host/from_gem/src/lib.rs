@@ -3,7 +3,7 @@
 use netlistdb::Direction;
 use netlists::designs::{Clusters, Design, Layout};
 use oracle::aig::{DriverType, EndpointGroup, AIG};
-use oracle::flatten::{oracle_inputs_outputs, FlattenedScriptV1, OraclePlaces, OracleTables};
+use oracle::flatten::{juolgesot_plan, oracle_inputs_outputs, FlattenedScriptV1, OraclePlaces, OracleTables};
 use oracle::pe::{process_partitions, BoomerangStage, Partition};
 use oracle::staging::{build_staged_aigs, StagedAIG};
 use plan::{Endpoint, Gate, Part, Plan, Position, Script, Stage, Tables, EMPTY};
@@ -63,16 +63,46 @@ pub enum Place {
     None,
 }
 
+/// What GEM has of a design once it is flattened.
+struct Flattened {
+    aig: AIG,
+    stages: Vec<StagedAIG>,
+    parts: Vec<Vec<Partition>>,
+    layout: Vec<usize>,
+    script: FlattenedScriptV1,
+}
+
+fn flattened(design: &Design, random: &mut Random) -> Flattened {
+    let aig = AIG::from_netlistdb(&design.netlist);
+    let stages: Vec<StagedAIG> =
+        build_staged_aigs(&aig, &design.splits).into_iter().map(|(_, _, stage)| stage).collect();
+    let parts: Vec<Vec<Partition>> =
+        stages.iter().map(|stage| partitions(&aig, stage, design.clusters, random)).collect();
+    let layout = layout(&aig, design.layout, random);
+    let (stage_list, part_lists) = lists(&stages, &parts);
+    let script = FlattenedScriptV1::from(&aig, &stage_list, &part_lists, design.blocks, layout.clone());
+    Flattened { aig, stages, parts, layout, script }
+}
+
+/// The same as lists of what is lent, as GEM takes them.
+fn lists<'a>(
+    stages: &'a [StagedAIG],
+    parts: &'a [Vec<Partition>],
+) -> (Vec<&'a StagedAIG>, Vec<&'a [Partition]>) {
+    (stages.iter().collect(), parts.iter().map(|parts| &parts[..]).collect())
+}
+
+/// What host/gem's file for GEM writes of a design: BASE.plan and BASE.script.
+pub fn write_pair(design: &Design, base: &str) -> std::io::Result<()> {
+    let Flattened { aig, stages, parts, script, .. } = flattened(design, &mut Random::new(design.seed));
+    let (stages, parts) = lists(&stages, &parts);
+    juolgesot_plan::write(base, &aig, &stages, &parts, &script)
+}
+
 pub fn make(design: &Design) -> Made {
     let mut random = Random::new(design.seed);
-    let aig = AIG::from_netlistdb(&design.netlist);
-    let staged = build_staged_aigs(&aig, &design.splits);
-    let stages: Vec<&StagedAIG> = staged.iter().map(|(_, _, stage)| stage).collect();
-    let parts: Vec<Vec<Partition>> =
-        stages.iter().map(|stage| partitions(&aig, stage, design.clusters, &mut random)).collect();
-    let slices: Vec<&[Partition]> = parts.iter().map(|parts| &parts[..]).collect();
-    let layout = layout(&aig, design.layout, &mut random);
-    let script = FlattenedScriptV1::from(&aig, &stages, &slices, design.blocks, layout.clone());
+    let Flattened { aig, stages, parts, layout, script } = flattened(design, &mut random);
+    let (stages, slices) = lists(&stages, &parts);
     let (unstaged, staged_pins, tables, places) = oracle_inputs_outputs(&aig, &stages, &slices, &script);
 
     let mut positions: Vec<Position> = Vec::new();

@@ -22,6 +22,12 @@ pub fn bytes(script: &Script) -> Vec<u8> {
     bytes
 }
 
+/// Whether a file says that it is a script.
+#[must_use]
+pub fn begins(bytes: &[u8]) -> bool {
+    bytes.starts_with(MARK)
+}
+
 /// "Plan ranges": blocks and major stages of a plan, and words of a state.
 const MOST_BLOCKS: u64 = 1024;
 const MOST_STAGES: u64 = 64;

@@ -24,6 +24,8 @@ pub enum Failure {
     Usage(String),
     /// It was, and something is not as it should be.
     Failed(String),
+    /// All is well but for plans that are refused.
+    Refused(String),
 }
 
 type Outcome = Result<(), Failure>;
@@ -114,6 +116,10 @@ fn main() -> ExitCode {
             tell!("juolgesot {}: {}", name, what);
             ExitCode::from(1)
         }
+        Err(Failure::Refused(what)) => {
+            tell!("juolgesot {}: {}", name, what);
+            ExitCode::from(3)
+        }
     }
 }
 
@@ -122,7 +128,7 @@ fn overview() -> String {
     for verb in &VERBS {
         text += &format!("  {:8} {}\n", verb.name, verb.summary);
     }
-    text + "\nExit status: 0 all is well; 1 it is not; 2 not asked rightly."
+    text + "\nExit status: 0 all is well; 1 it is not; 2 not asked rightly; 3 compare: a plan is refused."
 }
 
 /// The words of a call: those that stand by themselves, and the values of options (`--name VALUE`).

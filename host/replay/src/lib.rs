@@ -1,17 +1,23 @@
 //! The replay: traffic through a Bloom filter's gates, cycle by cycle, beside a software model of the filter.
 
+pub mod any;
+mod by_gates;
+mod filter_ports;
 pub mod gates;
 pub mod machine;
 pub mod ports;
+pub mod report;
 pub mod traffic;
+pub mod vcd;
 
-use filter::{Answer, Cycle, Filter, Holding};
-use gates::Cone;
-use juolgesot::{Pin, PinIv, Script};
+use by_gates::ByGates;
+use filter::{Answer, Cycle, Filter, Holding, PORTS};
+use filter_ports::FilterPorts;
+use juolgesot::{Pin, Script};
 use machine::Machine;
 use plan::packed;
 use ports::{Place, Ports, Register};
-use std::collections::HashSet;
+use std::collections::{BTreeSet, HashSet};
 
 /// A filter that comes with the replay, as GEM staged and placed it (host/oracle/bin/make_filter.rs): the packed plan,
 /// and the ports.
@@ -50,7 +56,7 @@ impl Netlist {
     }
 
     /// The plan's number of major stages, the second word.
-    fn stages(&self) -> usize {
+    pub fn stages(&self) -> usize {
         self.word(1)
     }
 
@@ -76,24 +82,35 @@ pub struct Counts {
     pub false_maybe: u64,
     pub flash_reads: u64,
     pub found_in_flash: u64,
-    /// Bits of registers that were not enabled while their data differed.
+    /// Bits of registers that were not enabled while their data differed, and that were stored inverted: known after
+    /// `look`.
     pub held: u64,
-    /// Bits of registers that were stored inverted.
     pub inverted: u64,
 }
 
-/// What a register holds before a cycle, and what the gates give it.
-struct Given {
-    before: bool,
-    data: bool,
-    enabled: bool,
+/// What is seen of a look-up: the gates' answer and, where it was maybe, whether flash holds the key.
+#[derive(Debug, Clone, Copy, PartialEq, Eq)]
+pub struct Looked {
+    pub port: usize,
+    pub key: u32,
+    pub answer: Answer,
+    pub in_flash: bool,
+}
+
+/// A state before a cycle, with the cycle's inputs, and after it; the cycles so far, this one among them.
+pub struct States<'a> {
+    pub before: &'a [u32],
+    pub after: &'a [u32],
+    pub cycles: u64,
 }
 
 pub struct Replay {
     machine: Machine,
-    ports: Ports,
-    /// The gates below the registers' data and enables.
-    cone: Cone,
+    names: Ports,
+    ports: FilterPorts,
+    by_gates: ByGates,
+    /// The state's words that have registers, by number, and what they held when they were last found to be as expected.
+    same_words: Vec<(usize, u32)>,
     filter: Filter,
     /// The keys that were put in: flash, which alone says yes.
     flash: HashSet<u32>,
@@ -103,40 +120,70 @@ pub struct Replay {
 impl Replay {
     /// `script` is that of the netlist's plan.
     pub fn new(netlist: &Netlist, script: Script) -> Result<Self, String> {
-        let ports = Ports::read(&netlist.ports, script.state_words as usize)?;
-        let pins = |register: &Register| [register.data, register.enable];
-        let wanted: Vec<PinIv> = ports.registers().iter().flat_map(pins).collect();
-        let cone = Cone::of(&netlist.record, &wanted)?;
+        let names = Ports::read(&netlist.ports, script.state_words as usize)?;
+        let ports = FilterPorts::of(&names)?;
+        names.belong_to(&gates::positions(&netlist.record)?)?;
+        let by_gates = ByGates::of(&netlist.record, &[], ports.registers())?;
+        let words: BTreeSet<usize> =
+            ports.registers().iter().map(|register| register.output.position.word()).collect();
+        // At the start all is 0, as in an empty filter.
+        let same_words = words.into_iter().map(|word| (word, 0)).collect();
         let machine = Machine::new(script, netlist.blocks(), netlist.stages())?;
         let (filter, flash, counts) = (Filter::new(), HashSet::new(), Counts::default());
-        Ok(Replay { machine, ports, cone, filter, flash, counts })
+        Ok(Replay { machine, names, ports, by_gates, same_words, filter, flash, counts })
     }
 
-    /// One cycle, or the first difference that it shows.
-    pub fn cycle(&mut self, cycle: &Cycle) -> Result<(), String> {
+    /// The ports by name.
+    pub fn ports(&self) -> &Ports {
+        &self.names
+    }
+
+    /// The states of the last cycle.
+    pub fn states(&self) -> States<'_> {
+        self.machine.states()
+    }
+
+    /// How many registers are set, and how many keys flash holds.
+    pub fn fill(&self) -> (usize, usize) {
+        (self.filter.registers_set().iter().filter(|&&set| set).count(), self.flash.len())
+    }
+
+    /// One cycle, and what was looked up in it; or the first difference that it, or one of the 63 before it, shows.
+    pub fn cycle(&mut self, cycle: &Cycle) -> Result<[Option<Looked>; PORTS], String> {
+        match self.try_cycle(cycle) {
+            Ok(looked) => Ok(looked),
+            Err(what) => self.by_gates.look().and(Err(what)),
+        }
+    }
+
+    fn try_cycle(&mut self, cycle: &Cycle) -> Result<[Option<Looked>; PORTS], String> {
         self.ports.put(cycle, self.machine.old());
-        let given = self.given();
         self.machine.cycle().map_err(|trouble| format!("cycle {}, {}", self.counts.cycles, trouble))?;
-        self.stored_as_given(&given)?;
-        let was_empty = !self.filter.registers_set().contains(&true);
+        self.by_gates.take(&self.machine.states())?;
+        let empties = cycle.clock && cycle.clear && self.filter.registers_set().contains(&true);
         let expected = self.filter.cycle(cycle);
-        self.same_answers(cycle, &expected)?;
-        self.same_registers()?;
+        let looked = self.same_answers(cycle, &expected)?;
+        self.same_registers(cycle.insert || cycle.clear)?;
         if cycle.clock && cycle.insert {
             self.flash.insert(cycle.ports[0].0);
             self.counts.inserts += 1;
         }
         if cycle.clock && cycle.clear {
             self.flash.clear();
-            self.counts.emptied += !was_empty as u64;
+            self.counts.emptied += empties as u64;
         }
         self.counts.cycles += 1;
         self.counts.without_edge += !cycle.clock as u64;
-        Ok(())
+        Ok(looked)
     }
 
-    fn same_answers(&mut self, cycle: &Cycle, expected: &[Option<Answer>]) -> Result<(), String> {
+    fn same_answers(
+        &mut self,
+        cycle: &Cycle,
+        expected: &[Option<Answer>],
+    ) -> Result<[Option<Looked>; PORTS], String> {
         let number = self.counts.cycles;
+        let mut looked = [None; PORTS];
         for (port, (expected, (key, _))) in expected.iter().zip(cycle.ports).enumerate() {
             let place = self.ports.maybe(port);
             let at_port = |what: String| format!("cycle {}, port {}, {}", number, port, what);
@@ -146,45 +193,19 @@ impl Replay {
             }
             if expected.is_some() {
                 let answer = if maybe { Answer::Maybe } else { Answer::No };
-                self.go_on(answer, key).map_err(|what| at_port(format!("{}: {}", place.pin, what)))?;
+                let in_flash =
+                    self.go_on(answer, key).map_err(|what| at_port(format!("{}: {}", place.pin, what)))?;
+                looked[port] = Some(Looked { port, key, answer, in_flash });
             }
         }
-        Ok(())
+        Ok(looked)
     }
 
-    /// What the gates give each register in the cycle that is about to run.
-    fn given(&mut self) -> Vec<Given> {
-        let old = self.machine.old();
-        let values = self.cone.values(old);
-        let given = |(register, values): (&Register, &[bool])| Given {
-            before: register.output.get(old),
-            data: values[0],
-            enabled: values[1],
-        };
-        self.ports.registers().iter().zip(values.chunks(2)).map(given).collect()
-    }
-
-    /// An enabled register took its data, inverted where they are; another one holds its bit.
-    fn stored_as_given(&mut self, given: &[Given]) -> Result<(), String> {
-        for (number, (register, given)) in self.ports.registers().iter().zip(given).enumerate() {
-            let stored = register.output.get(self.machine.old());
-            if stored != if given.enabled { given.data } else { given.before } {
-                return Err(format!(
-                    "cycle {}, register {}, {} ({}): held {}, enable {}, data {} ({}), and {} is stored",
-                    self.counts.cycles,
-                    number,
-                    register.output.pin,
-                    register.output.position,
-                    given.before as u8,
-                    given.enabled as u8,
-                    given.data as u8,
-                    register.data,
-                    stored as u8
-                ));
-            }
-            self.counts.held += (!given.enabled && given.data != given.before) as u64;
-            self.counts.inverted += (given.enabled && register.data.is_inverted()) as u64;
-        }
+    /// Looks at the last cycles: registers are held to the gates 64 cycles at a time.
+    pub fn look(&mut self) -> Result<(), String> {
+        self.by_gates.look()?;
+        self.counts.held = self.by_gates.seen.held;
+        self.counts.inverted = self.by_gates.seen.inverted;
         Ok(())
     }
 
@@ -202,30 +223,36 @@ impl Replay {
         Ok(())
     }
 
-    /// What follows an answer of the gates: no ends it, and flash must not hold the key; a maybe goes on to flash.
-    fn go_on(&mut self, answer: Answer, key: u32) -> Result<(), String> {
+    /// What follows an answer of the gates: no ends it, and flash must not hold the key; a maybe goes on to flash. Gives
+    /// whether flash holds the key.
+    fn go_on(&mut self, answer: Answer, key: u32) -> Result<bool, String> {
         self.counts.looked_up += 1;
+        let in_flash = self.flash.contains(&key);
         match answer {
             Answer::No => {
                 self.counts.no += 1;
-                if self.flash.contains(&key) {
+                if in_flash {
                     return Err(format!("no for key {:#010x}, which flash holds", key));
                 }
             }
             Answer::Maybe => {
                 self.counts.maybe += 1;
                 self.counts.flash_reads += 1;
-                if self.flash.contains(&key) {
-                    self.counts.found_in_flash += 1;
-                } else {
-                    self.counts.false_maybe += 1;
-                }
+                self.counts.found_in_flash += in_flash as u64;
+                self.counts.false_maybe += !in_flash as u64;
             }
         }
-        Ok(())
+        Ok(in_flash)
     }
 
-    fn same_registers(&mut self) -> Result<(), String> {
+    /// Where nothing was asked of the software model's registers, and the words of ours are as they were when they were
+    /// found to be the same, they are the same still.
+    fn same_registers(&mut self, is_asked: bool) -> Result<(), String> {
+        let state = self.machine.old();
+        let same = |&(word, held): &(usize, u32)| state[word] == held;
+        if !is_asked && self.same_words.iter().all(same) {
+            return Ok(());
+        }
         let expected = self.filter.registers_set();
         for (number, Register { output, .. }) in self.ports.registers().iter().enumerate() {
             if output.get(self.machine.old()) != expected[number] {
@@ -240,6 +267,8 @@ impl Replay {
                 ));
             }
         }
+        let state = self.machine.old();
+        self.same_words.iter_mut().for_each(|(word, held)| *held = state[*word]);
         Ok(())
     }
 }

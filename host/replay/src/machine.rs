@@ -4,6 +4,7 @@
 //! output where its input is stored, so the new state of a cycle is the old state of the next once the next inputs are
 //! put in. Staged bits are read from the new state, and only where an earlier major stage of the cycle stored them.
 
+use crate::States;
 use juolgesot::{finishing_turns, run_into, Refusal, Script, BLOCK_ROOM};
 
 pub struct Machine {
@@ -14,6 +15,8 @@ pub struct Machine {
     old: Vec<u32>,
     new: Vec<u32>,
     room: Vec<u32>,
+    /// Cycles that came to their end.
+    cycles: u64,
 }
 
 /// Why a cycle did not come to its end.
@@ -52,12 +55,17 @@ impl Machine {
             .collect();
         let state = vec![0; script.state_words as usize];
         let room = vec![0; BLOCK_ROOM * blocks];
-        Ok(Machine { blocks, turns, old: state.clone(), new: state, room, script })
+        Ok(Machine { blocks, turns, old: state.clone(), new: state, room, script, cycles: 0 })
     }
 
     /// The state that the next cycle reads.
     pub fn old(&mut self) -> &mut [u32] {
         &mut self.old
+    }
+
+    /// The states before and after the last cycle that came to its end; the cycles that did, this one among them.
+    pub fn states(&self) -> States<'_> {
+        States { before: &self.new, after: &self.old, cycles: self.cycles }
     }
 
     /// Runs one cycle. Afterwards `old` is what it stored.
@@ -72,6 +80,7 @@ impl Machine {
             }
         }
         std::mem::swap(&mut self.old, &mut self.new);
+        self.cycles += 1;
         Ok(())
     }
 }

@@ -1,8 +1,16 @@
-//! Where the filter's ports and registers are in the state: what `make_filter` wrote.
+//! Where the ports and registers of a netlist are in the state, by name: a ports file, as `make_filter` writes them.
+//!
+//! ```text
+//! in NAME: PIN POSITION
+//! out NAME: PIN POSITION
+//! register NAME: PIN POSITION DATA ENABLE
+//! # ..
+//! ```
+//!
+//! PIN, DATA and ENABLE are twice a pin's number, plus 1 where it is inverted; POSITION is a bit of the state.
 
-use filter::{Cycle, KEY_BITS, PORTS, REGISTERS};
+use crate::gates::Positions;
 use juolgesot::{PinIv, StatePosition};
-use std::collections::HashMap;
 
 /// A bit of the state and the pin that it carries, inverted or not.
 #[derive(Debug, Clone, Copy)]
@@ -18,107 +26,132 @@ impl Place {
     }
 }
 
+/// An input or an output.
+#[derive(Debug, Clone)]
+pub struct Port {
+    pub name: String,
+    pub place: Place,
+}
+
 /// A register: its output, and what the gates give it.
-#[derive(Debug, Clone, Copy)]
+#[derive(Debug, Clone)]
 pub struct Register {
+    pub name: String,
     pub output: Place,
     pub data: PinIv,
     pub enable: PinIv,
 }
 
-struct PortPlaces {
-    look: Place,
-    key: Vec<Place>,
-    maybe: Place,
-}
-
+#[derive(Debug, Default)]
 pub struct Ports {
-    clock: Place,
-    clear: Place,
-    insert: Place,
-    ports: Vec<PortPlaces>,
-    registers: Vec<Register>,
-}
-
-/// The numbers of a line: two of a port, four of a register.
-struct Line {
-    place: Place,
-    more: Option<(PinIv, PinIv)>,
+    pub inputs: Vec<Port>,
+    pub outputs: Vec<Port>,
+    pub registers: Vec<Register>,
 }
 
 impl Ports {
-    /// Reads lines `NAME: PIN POSITION`, or `NAME: PIN POSITION DATA ENABLE` for a register; `#` begins a comment.
+    /// Reads a ports file, or says what is wrong with it.
     pub fn read(text: &str, state_words: usize) -> Result<Self, String> {
-        let mut lines = HashMap::new();
+        let mut ports = Ports::default();
         for (number, line) in text.lines().enumerate() {
             let line = line.split('#').next().unwrap_or("").trim();
             if !line.is_empty() {
-                let (name, line) = read_line(line)
-                    .ok_or_else(|| format!("line {}: not NAME: PIN POSITION [DATA ENABLE]", number + 1))?;
-                let position = line.place.position;
-                if position.word() >= state_words {
-                    return Err(format!("line {}: {} is outside the state", number + 1, position));
+                let read = ports.read_line(line, state_words);
+                read.map_err(|what| format!("line {}: {}", number + 1, what))?;
+            }
+        }
+        Ok(ports)
+    }
+
+    fn read_line(&mut self, line: &str, state_words: usize) -> Result<(), String> {
+        let not_in_form =
+            || "it is no in NAME: PIN POSITION, out likewise, or register NAME: PIN POSITION DATA ENABLE";
+        let (front, numbers) = line.split_once(':').ok_or_else(not_in_form)?;
+        let (kind, name) = front.trim().split_once(' ').ok_or_else(not_in_form)?;
+        let name = name.trim().to_string();
+        let numbers: Option<Vec<u32>> = numbers.split_whitespace().map(|word| word.parse().ok()).collect();
+        let numbers = numbers.ok_or_else(not_in_form)?;
+        let place = |pin: u32, position: u32| {
+            let place = Place { pin: PinIv(pin), position: StatePosition(position) };
+            match place.position.word() < state_words {
+                true => Ok(place),
+                false => Err(format!("{} is outside the state of {} words", place.position, state_words)),
+            }
+        };
+        match (kind, &numbers[..]) {
+            ("in", &[pin, position]) => self.inputs.push(Port { name, place: place(pin, position)? }),
+            ("out", &[pin, position]) => self.outputs.push(Port { name, place: place(pin, position)? }),
+            ("register", &[pin, position, data, enable]) => self.registers.push(Register {
+                name,
+                output: place(pin, position)?,
+                data: PinIv(data),
+                enable: PinIv(enable),
+            }),
+            _ => return Err(not_in_form().to_string()),
+        }
+        Ok(())
+    }
+
+    /// Inputs and registers are where the plan has them; else the first that is not.
+    pub fn belong_to(&self, positions: &Positions) -> Result<(), String> {
+        let inputs = self.inputs.iter().map(|port| ("in", &port.name, port.place));
+        let registers = self.registers.iter().map(|register| ("register", &register.name, register.output));
+        for (kind, name, place) in inputs.chain(registers) {
+            match positions.get(&place.pin.pin()) {
+                Some(&position) if position == place.position => {}
+                Some(position) => {
+                    return Err(format!("'{} {}': the plan has {} at {}", kind, name, place.pin, position))
                 }
-                lines.insert(name.to_string(), line);
+                None => return Err(format!("'{} {}': the plan has no {}", kind, name, place.pin)),
             }
         }
-        let line = |name: &str| lines.get(name).ok_or(format!("the ports have no '{}'", name));
-        let find = |name: String| line(&name).map(|line| line.place);
-        let register = |number: usize| {
-            let name = format!("register {}", number);
-            let Line { place: output, more } = *line(&name)?;
-            let (data, enable) = more.ok_or(format!("'{}' has no data and enable", name))?;
-            Ok(Register { output, data, enable })
-        };
-        let port = |port: usize| {
-            Ok(PortPlaces {
-                look: find(format!("in look {}", port))?,
-                key: (0..KEY_BITS)
-                    .map(|bit| find(format!("in key {} {}", port, bit)))
-                    .collect::<Result<_, String>>()?,
-                maybe: find(format!("out maybe {}", port))?,
-            })
-        };
-        Ok(Ports {
-            clock: find("in clock".to_string())?,
-            clear: find("in clear".to_string())?,
-            insert: find("in insert".to_string())?,
-            ports: (0..PORTS).map(port).collect::<Result<_, String>>()?,
-            registers: (0..REGISTERS).map(register).collect::<Result<_, String>>()?,
-        })
-    }
-
-    /// Puts a cycle's inputs into the state that the cycle reads.
-    pub fn put(&self, cycle: &Cycle, state: &mut [u32]) {
-        self.clock.position.set(state, cycle.clock);
-        self.clear.position.set(state, cycle.clear);
-        self.insert.position.set(state, cycle.insert);
-        for (places, (key, looks_up)) in self.ports.iter().zip(cycle.ports) {
-            places.look.position.set(state, looks_up);
-            for (bit, place) in places.key.iter().enumerate() {
-                place.position.set(state, key >> bit & 1 == 1);
-            }
-        }
-    }
-
-    /// Where the gates say maybe, or not, for a port.
-    pub fn maybe(&self, port: usize) -> Place {
-        self.ports[port].maybe
-    }
-
-    pub fn registers(&self) -> &[Register] {
-        &self.registers
+        Ok(())
     }
 }
 
-fn read_line(line: &str) -> Option<(&str, Line)> {
-    let (name, numbers) = line.split_once(':')?;
-    let numbers: Vec<u32> =
-        numbers.split_whitespace().map(|word| word.parse().ok()).collect::<Option<_>>()?;
-    let (pin, position, more) = match numbers[..] {
-        [pin, position] => (pin, position, None),
-        [pin, position, data, enable] => (pin, position, Some((PinIv(data), PinIv(enable)))),
-        _ => return None,
-    };
-    Some((name.trim(), Line { place: Place { pin: PinIv(pin), position: StatePosition(position) }, more }))
+/// Bits that belong together: NAME 0, NAME 1 .. by their names, or one alone.
+#[derive(Debug, Clone)]
+pub struct Bus {
+    pub name: String,
+    /// Least bit first.
+    pub bits: Vec<StatePosition>,
+}
+
+impl Bus {
+    /// The buses of some named bits, in the order of their first bits.
+    pub fn all<'a>(named: impl Iterator<Item = (&'a str, StatePosition)>) -> Vec<Bus> {
+        let mut buses: Vec<Bus> = Vec::new();
+        for (name, position) in named {
+            let (front, index) = match name.rsplit_once(' ').unwrap_or(("", name)) {
+                (front, digits) => match digits.parse::<usize>() {
+                    Ok(index) => (front, index),
+                    Err(_) => (name, 0),
+                },
+            };
+            let last = buses.iter_mut().rev().find(|bus| bus.name == front && bus.bits.len() == index);
+            match last {
+                Some(bus) if index > 0 => bus.bits.push(position),
+                _ if index == 0 => buses.push(Bus { name: front.to_string(), bits: vec![position] }),
+                _ => buses.push(Bus { name: name.to_string(), bits: vec![position] }),
+            }
+        }
+        buses
+    }
+
+    pub fn of_inputs(ports: &Ports) -> Vec<Bus> {
+        Bus::all(ports.inputs.iter().map(|port| (port.name.as_str(), port.place.position)))
+    }
+
+    pub fn of_outputs(ports: &Ports) -> Vec<Bus> {
+        Bus::all(ports.outputs.iter().map(|port| (port.name.as_str(), port.place.position)))
+    }
+
+    pub fn of_registers(ports: &Ports) -> Vec<Bus> {
+        Bus::all(ports.registers.iter().map(|register| (register.name.as_str(), register.output.position)))
+    }
+
+    /// The bits as digits, the highest first.
+    pub fn digits(&self, state: &[u32]) -> String {
+        self.bits.iter().rev().map(|bit| if bit.get(state) { '1' } else { '0' }).collect()
+    }
 }

@@ -24,10 +24,38 @@ fn main() {
     damaged_sets(&mut checker, random);
     short_results(&mut checker, random);
     short_rooms(&mut checker, random);
+    last_try(&mut checker, random);
+    all_came(&checker);
 
     checker.tries.sort();
     checker.rounds.sort();
     comparison.finish("read sets", &[&checker.kinds, &checker.answers, &checker.tries, &checker.rounds]);
+}
+
+/// 4096 pairs of 1 bit and 3 bits in turn: pieces of two pairs or more have equal totals, so that their order stays, and a pair
+/// of 3 is left without room; single pairs, the larger first, fill all lanes. No set has a later try: one of 8192 pairs has a bit in
+/// each and wins at once.
+fn last_try(checker: &mut Checker, random: &mut Random) {
+    for _ in 0..LATE {
+        let set = sets::with_bits(random, &[1, 3].repeat(2048));
+        checker.check("1 bit and 3 bits in turn", &set, any_lent(random));
+    }
+}
+
+/// Times that each try is to win, and each refusal to come.
+const LATE: u64 = 5;
+const REFUSED: u64 = 50;
+
+/// Ends the program where a try or a refusal did not come often enough.
+fn all_came(checker: &Checker) {
+    for tried in 1..=13 {
+        let times = checker.tries.times(&format!("try {:2}", tried));
+        assert!(times >= LATE, "try {} won {} times", tried, times);
+    }
+    for number in [1, 2, 3, 4, 14, 32] {
+        let times = checker.answers.times(&format!("refused {}", number));
+        assert!(times >= REFUSED, "refusal {} came {} times", number, times);
+    }
 }
 
 /// Any room but a short one, any result room that is enough.
