@@ -20,10 +20,16 @@ cell-at-requires-4 : tie.Need-cell-at-requires-4
 cell-at-requires-4 c κs = let a = c .before .before .before .before .before .before .pre in cell-in _ _ (a .0) _ (a .1) _ (omega arith)
 
 cell-at-requires-5 : tie.Need-cell-at-requires-5
-cell-at-requires-5 c κs = let a = c .before .before .before .before .before .before .before .pre in cell-in _ _ (a .0) _ (a .1) _ (omega arith)
+cell-at-requires-5 c κs =
+    let read = c .before .before .before in
+    let a = read .before .before .before .before .pre in
+    cell-in _ _ (a .0) _ (a .1) _ (omega arith)
 
 cell-at-requires-6 : tie.Need-cell-at-requires-6
-cell-at-requires-6 c κs = let a = c .before .before .before .before .before .before .before .before .pre in cell-in _ _ (a .0) _ (a .1) _ (omega arith)
+cell-at-requires-6 c κs =
+    let read = c .before .before .before in
+    let a = read .before .before .before .before .before .pre in
+    cell-in _ _ (a .0) _ (a .1) _ (omega arith)
 
 returns : tie.Need-returns
 returns c =

@@ -31,8 +31,12 @@ named c =
     let s = turn .before .before .before .before .before in
     omega (arith, c .cell-at .ensures, rank-in _ _ _ _ _ (s .pre) (l .k) (l .inv .0) (omega (arith, turn .before .before .parts-before .ensures .0)))
 
-block : (c : tie.After-cell-at2 Inv-loop μ-loop) → c .cell-at2 .result ≡ cellAt (c .before .before .before .before .before .before .before .args .room .now) (rankedAt (c .before .before .before .before .before .before .before .args .room .now) (c .before .before .before .loop .k)) col.block
-block c = c .cell-at2 .ensures ∙ ap (λ (p : ℕ). cellAt (c .before .before .before .before .before .before .before .args .room .now) p col.block) (c .before .cell-at .ensures)
+abbrev start : tie.In-loop Inv-loop μ-loop → tie.Start Inv-loop μ-loop
+start c = c .before .before .before .before .before
+
+block : (c : tie.After-cell-at2 Inv-loop μ-loop)
+    → c .cell-at2 .result ≡ cellAt (start (c .before .before) .args .room .now) (rankedAt (start (c .before .before) .args .room .now) (c .before .before .before .loop .k)) col.block
+block c = c .cell-at2 .ensures ∙ ap (λ (p : ℕ). cellAt (start (c .before .before) .args .room .now) p col.block) (c .before .cell-at .ensures)
 
 add-parts-before : tie.Need-add-parts-before Inv-loop μ-loop
 add-parts-before c = omega (arith, plan-formed _ _ (c .before .before .pre .sound) .head .majors, c .before .before .pre .stage)
