@@ -96,9 +96,9 @@ fn finish(checker: &mut PlanChecker, record: &[u8], expected: &Expected, outcome
 /// Parts, words and rounds of a plan and its script.
 pub fn shape(record: &[u8], expected: &Expected) -> String {
     let words = record::words(record);
-    let plan = match record::plan(record.len(), &words) {
-        Some(plan) => plan,
-        None => return format!("{:8} bytes, no plan", record.len()),
+    let plan = match record::read(record.len(), &words) {
+        Ok(plan) => plan,
+        Err(what) => return format!("{:8} bytes, no plan: {}", record.len(), what),
     };
     let stages: Vec<usize> = plan.parts.iter().map(|part| part.stages.len()).collect();
     let of_plan = format!(
