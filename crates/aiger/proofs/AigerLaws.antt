@@ -17,13 +17,13 @@ use Rattle.plan_record.specs.Form.{gateForm}
 use Rattle.words.specs.Tests.{allBelow}
 use Rattle.words.proofs.TestLaws.{and-true, true-and, all-at, all-true, not-none, none-not}
 use Rattle.gatelist.specs.GateList.{beforeOver, rightOver, badOver}
-use Rattle.gatelist.specs.Words.{listPin, listFirst, listSecond, wholeGates, allGates, listRight, badList}
+use Rattle.gatelist.specs.ListWords.{listPin, listFirst, listSecond, wholeGates, allGates, listRight, badList}
 use Rattle.words.specs.Answer.{good, refused, nowhere}
 use Rattle.words.proofs.AnswerLaws.{refused-good}
-use Rattle.aiger.specs.Reading.{Header, lastVariable, Start, startOf, Gates, found, gatesFrom, gatesOf, Read, gates, listed, readAiger}
+use Rattle.aiger.specs.Reading.{Header, lastVariable, Start, gatesStart, Gates, found, gatesFrom, gatesBehind, Read, gates, gatesListed, readAiger}
 use Rattle.aiger.specs.Writing.{headerText, gatesBytes, follows, gateWritable, isNone, writable, inputsOf, textOf, writeAiger}
 use Rattle.aiger.proofs.StandLaws.{Stands, stands-made, stands-then, Bytes}
-use Rattle.aiger.proofs.GateLaws.{GateAs, ListAs, list-read, gates-read, gates-written}
+use Rattle.aiger.proofs.AigerGateLaws.{GateAs, ListAs, list-read, gates-read, gates-written}
 use Rattle.aiger.proofs.HeaderLaws.{header-read, header-written, start-read, start-written, start-fits}
 
 -- ---- a list that may be written, gate by gate
@@ -138,18 +138,18 @@ module _ (l : List ℕ) (W : ListWritable l) where
 
 -- ---- a file that is read, a list that is written
 
-read-start : (bs : List ℕ) (s : Start) → startOf bs ≡ some s → readAiger bs ≡ listed (s .header) (gatesOf bs s)
+read-start : (bs : List ℕ) (s : Start) → gatesStart bs ≡ some s → readAiger bs ≡ gatesListed (s .header) (gatesBehind bs s)
 unfolding readAiger
 read-start bs s e = rw (e, readAiger)
 
 record FileRead (bs : List ℕ) (h : Header) (l : List ℕ) : Type 0 where
   start : Start
   next : ℕ
-  start-is : startOf bs ≡ some start
-  gates-are : gatesOf bs start ≡ found l next
+  start-is : gatesStart bs ≡ some start
+  gates-are : gatesBehind bs start ≡ found l next
   header-is : h ≡ start .header
 
-listed-parts : (k : Header) (r : Gates) (h : Header) (l : List ℕ) → listed k r ≡ gates h l → (k ≡ h) × ((next : ℕ) × (r ≡ found l next))
+listed-parts : (k : Header) (r : Gates) (h : Header) (l : List ℕ) → gatesListed k r ≡ gates h l → (k ≡ h) × ((next : ℕ) × (r ≡ found l next))
 listed-parts k (found m at) h l e =
     let is : _≡_ {A = Read} (record { header = k; list = m }) (record { header = h; list = l }) = cc in
     (ap (λ (x : Read). x .header) is, (at, ap (λ (x : Read). found (x .list) at) is))
@@ -157,13 +157,13 @@ listed-parts k (Gates.refused n) h l e = let z : _≡_ {A = ℕ} 0 1 = cc in abs
 
 file-parts : (bs : List ℕ) (h : Header) (l : List ℕ) → readAiger bs ≡ gates h l → FileRead bs h l
 unfolding readAiger
-file-parts bs h l e = go (startOf bs) refl
+file-parts bs h l e = go (gatesStart bs) refl
   where
-    go : (o : Option Start) → startOf bs ≡ o → FileRead bs h l
+    go : (o : Option Start) → gatesStart bs ≡ o → FileRead bs h l
     go none p =
         refused-good (nowhere 18) (record { header = h; list = l }) (rw (p, readAiger) at e)
     go (some s) p =
-        let both = listed-parts (s .header) (gatesOf bs s) h l (sym (read-start bs s p) ∙ e) in
+        let both = listed-parts (s .header) (gatesBehind bs s) h l (sym (read-start bs s p) ∙ e) in
         record { start = s; next = both .1 .0; start-is = p; gates-are = both .1 .1; header-is = sym (both .0) }
 
 pub write-good : (l : List ℕ) → writable l ≡ true → writeAiger l ≡ good (textOf l)
@@ -209,7 +209,7 @@ text-read l W =
     let variable : inputsOf l + 0 + 1 ≡ inputsOf l + 1 + 0 = omega arith in
     let list : gatesFrom bs n (inputsOf l + 0 + 1) (length head) ≡ found l (length head + length body) =
     ap (λ (v : ℕ). gatesFrom bs n v (length head)) variable ∙ gates-read l bs n (inputsOf l + 1) n 0 (list-as l W) (omega arith) (omega arith) second in
-    read-start bs (record { header = ownHeader l; next = length head }) start ∙ ap (listed (ownHeader l)) list
+    read-start bs (record { header = ownHeader l; next = length head }) start ∙ ap (gatesListed (ownHeader l)) list
 
 pub read-of-write : (l t : List ℕ) → writeAiger l ≡ good t → readAiger t ≡ gates (ownHeader l) l
 read-of-write l t e = let P = write-parts l t e in ap readAiger (P .is) ∙ text-read l (list-writable l (P .good))
@@ -259,7 +259,7 @@ module _ (n v : ℕ) (l : List ℕ) (L : ListAs n v l) where
           let pin = G .pin in
           record { fits = omega arith; next = as-follows g h; under = G .second }
 
-module _ (bs : List ℕ) (s : Start) (l : List ℕ) (next : ℕ) (e : startOf bs ≡ some s) (f : gatesOf bs s ≡ found l next) where
+module _ (bs : List ℕ) (s : Start) (l : List ℕ) (next : ℕ) (e : gatesStart bs ≡ some s) (f : gatesBehind bs s ≡ found l next) where
   pub gates-as : ListAs (s .header .gates) (s .header .inputs + s .header .latches + 1) l
   gates-as = list-read bs (s .header .gates) (s .header .inputs + s .header .latches + 1) (s .next) l next f
 
@@ -326,7 +326,7 @@ stands-slice text bs {at} {next} f =
     let long : next - at ≡ length text = omega (arith, f .ends) in
     rw (long, f .is) (take-append-seam text (drop next bs))
 
-module _ (bs : List ℕ) (s : Start) (l : List ℕ) (next : ℕ) (B : Bytes bs) (e : startOf bs ≡ some s) (f : gatesOf bs s ≡ found l next) (p : 0 < s .header .gates) where
+module _ (bs : List ℕ) (s : Start) (l : List ℕ) (next : ℕ) (B : Bytes bs) (e : gatesStart bs ≡ some s) (f : gatesBehind bs s ≡ found l next) (p : 0 < s .header .gates) where
   own-count : wholeGates l ≡ s .header .gates
   own-count = let long = gates-as bs s l next e f .long in omega arith
 

@@ -11,7 +11,7 @@ use lib.Dec.{leb, eqb, lit<}
 use lib.ListN.{getD}
 use Rattle.words.proofs.TestLaws.{and-true, some-not-none}
 use Rattle.text.specs.Text.{decimal, field}
-use Rattle.aiger.specs.Reading.{Number, fieldAt, Header, lastVariable, Start, startWith, isMarked, fieldsOf, headerOf, linesFrom, startOf}
+use Rattle.aiger.specs.Reading.{Number, fieldAt, Header, lastVariable, Start, startWith, isMarked, fieldsOf, headerOf, linesFrom, gatesStart}
 use Rattle.aiger.specs.Writing.{headerText}
 use Rattle.aiger.proofs.StandLaws.{Stands, stands-then, stands-first, stands-second, byte-stands}
 use Rattle.aiger.proofs.NumberLaws.{field-read, field-written}
@@ -163,8 +163,8 @@ pub record StartRead (bs : List ℕ) (s : Start) : Type 0 where
   pub lines-are : linesFrom bs (2 * lastVariable (head .header) + 1) (head .header .latches + head .header .outputs) (head .next) ≡ some (s .next)
   pub is : s .header ≡ head .header
 
-pub before-parts : (bs : List ℕ) (s : Start) → startOf bs ≡ some s → StartRead bs s
-unfolding startOf
+pub before-parts : (bs : List ℕ) (s : Start) → gatesStart bs ≡ some s → StartRead bs s
+unfolding gatesStart
 before-parts bs s e =
     let H = bind-eq-some-iff (headerOf bs) _ .0 e in
     let L = bind-eq-some-iff (linesFrom bs (2 * lastVariable (H .0 .header) + 1) (H .0 .header .latches + H .0 .header .outputs) (H .0 .next)) _ .0 (H .2) in
@@ -176,16 +176,16 @@ before-parts bs s e =
       is = sym (ap (λ (x : Start). x .header) same);
     }
 
-pub start-fits : (bs : List ℕ) (s : Start) → startOf bs ≡ some s → lastVariable (s .header) ≤ 2 ^ 30
+pub start-fits : (bs : List ℕ) (s : Start) → gatesStart bs ≡ some s → lastVariable (s .header) ≤ 2 ^ 30
 start-fits bs s e = let S = before-parts bs s e in rw (S .is) (header-fits bs (S .head) (S .header-is))
 
 -- no latches, no outputs: no lines
 pub start-read : (bs : List ℕ) (h : Header) (next : ℕ) → headerOf bs ≡ some (record { header = h; next = next }) → h .latches + h .outputs ≡ 0
-    → startOf bs ≡ some (record { header = h; next = next })
-unfolding startOf linesFrom bind
+    → gatesStart bs ≡ some (record { header = h; next = next })
+unfolding gatesStart linesFrom bind
 start-read bs h next e z = rw (e, z)
 
-pub start-written : (bs : List ℕ) (s : Start) → startOf bs ≡ some s → s .header .latches ≡ 0 → s .header .outputs ≡ 0 → headerOf bs ≡ some s
+pub start-written : (bs : List ℕ) (s : Start) → gatesStart bs ≡ some s → s .header .latches ≡ 0 → s .header .outputs ≡ 0 → headerOf bs ≡ some s
 unfolding linesFrom
 start-written bs s e p q =
     let S = before-parts bs s e in

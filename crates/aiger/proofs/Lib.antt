@@ -1,6 +1,6 @@
 pub mod StandLaws
 pub mod NumberLaws
 pub mod DifferenceLaws
-pub mod GateLaws
+pub mod AigerGateLaws
 pub mod HeaderLaws
 pub mod AigerLaws

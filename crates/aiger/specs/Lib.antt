@@ -1,4 +1,4 @@
 pub mod Reading
 pub mod Writing
-pub mod Outcome
+pub mod AigerAnswer
 pub mod Examples

@@ -92,8 +92,8 @@ linesFrom bs most (suc n) at = do
   linesFrom bs most n i
 
 -- all that stands before the gates, and the gates' first byte
-unfoldable pub startOf : List ℕ → Option Start
-startOf bs = do
+unfoldable pub gatesStart : List ℕ → Option Start
+gatesStart bs = do
   s ← headerOf bs
   at ← linesFrom bs (2 * lastVariable (s .header) + 1) (s .header .latches + s .header .outputs) (s .next)
   some (record { header = s .header; next = at })
@@ -144,16 +144,16 @@ literalOf top least cut = refused 20
 
 -- a gate's two literals and the byte behind it, or a refusal's number
 pub data Gate : Type 0 where
-  gate : ℕ → ℕ → ℕ → Gate
+  gateRead : ℕ → ℕ → ℕ → Gate
   refused : ℕ → Gate
 
 abbrev pub behind : ℕ → Literal → Gate
-behind a (literal b at) = gate a b at
+behind a (literal b at) = gateRead a b at
 behind a (refused n) = refused n
 
 -- "literals are twice the variable plus inversion, each gate two differences": the gate's own literal less the first one's, and that less the second's
-unfoldable pub gateAt : List ℕ → ℕ → ℕ → Gate
-gateAt bs v at =
+unfoldable pub gateFrom : List ℕ → ℕ → ℕ → Gate
+gateFrom bs v at =
     elim (literalOf (2 * v) 1 (differenceAt bs at)) [ refused n ↦ refused n | literal a i ↦ behind a (literalOf a 0 (differenceAt bs i)) ]
 
 -- a list of gates, three words each, and the byte behind it; or a refusal's number
@@ -161,14 +161,14 @@ pub data Gates : Type 0 where
   found : List ℕ → ℕ → Gates
   refused : ℕ → Gates
 
-abbrev pub before : ℕ → ℕ → ℕ → Gates → Gates
-before v a b (found l at) = found (v ∷ a ∷ b ∷ l) at
-before v a b (refused n) = refused n
+abbrev pub gateBefore : ℕ → ℕ → ℕ → Gates → Gates
+gateBefore v a b (found l at) = found (v ∷ a ∷ b ∷ l) at
+gateBefore v a b (refused n) = refused n
 
 -- n gates, of the variables from v on
 unfoldable pub gatesFrom : List ℕ → ℕ → ℕ → ℕ → Gates
 gatesFrom bs zero v at = found [] at
-gatesFrom bs (suc n) v at = elim (gateAt bs v at) [ refused k ↦ refused k | gate a b i ↦ before v a b (gatesFrom bs n (v + 1) i) ]
+gatesFrom bs (suc n) v at = elim (gateFrom bs v at) [ refused k ↦ refused k | gateRead a b i ↦ gateBefore v a b (gatesFrom bs n (v + 1) i) ]
 
 -- ---- the file
 
@@ -180,13 +180,13 @@ pub record Read : Type 0 where
 abbrev pub gates : Header → List ℕ → Answer Read
 gates h l = Answer.good (record { header = h; list = l })
 
-abbrev pub listed : Header → Gates → Answer Read
-listed h (found l at) = gates h l
-listed h (refused n) = Answer.refused (nowhere n)
+abbrev pub gatesListed : Header → Gates → Answer Read
+gatesListed h (found l at) = gates h l
+gatesListed h (refused n) = Answer.refused (nowhere n)
 
 -- the gates of a file whose header and lines are good: their variables come after the inputs and latches. "What follows the gates is skipped."
-abbrev pub gatesOf : List ℕ → Start → Gates
-gatesOf bs s = gatesFrom bs (s .header .gates) (s .header .inputs + s .header .latches + 1) (s .next)
+abbrev pub gatesBehind : List ℕ → Start → Gates
+gatesBehind bs s = gatesFrom bs (s .header .gates) (s .header .inputs + s .header .latches + 1) (s .next)
 
 unfoldable pub readAiger : List ℕ → Answer Read
-readAiger bs = elim (startOf bs) [ none ↦ Answer.refused (nowhere 18) | some s ↦ listed (s .header) (gatesOf bs s) ]
+readAiger bs = elim (gatesStart bs) [ none ↦ Answer.refused (nowhere 18) | some s ↦ gatesListed (s .header) (gatesBehind bs s) ]

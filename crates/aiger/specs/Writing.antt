@@ -8,7 +8,7 @@ use lib.Dec.{leb, ltb, eqb}
 use Rattle.words.specs.Answer.{Answer, good, refused, nowhere}
 use Rattle.words.specs.Tests.{allBelow}
 use Rattle.text.specs.Text.{decimal, field}
-use Rattle.gatelist.specs.Words.{listPin, listFirst, listSecond, wholeGates, badList}
+use Rattle.gatelist.specs.ListWords.{listPin, listFirst, listSecond, wholeGates, badList}
 
 -- a difference "in seven-bit groups, least first", no more than k of them
 unfoldable pub groupBytes : ℕ → ℕ → List ℕ

@@ -12,7 +12,7 @@ use lib.ListN.{length, getD, drop, drop-of-length-le, List·getD-eq-default}
 use lib.Seq.{drop-cons}
 use Rattle.aiger.specs.Reading.{Number, isDigit, digitsFrom, numberIn, endedBy, fieldAt}
 use Rattle.aiger.proofs.NumberLaws.{digit-is, is-digit, digits-on, digits-end, digits-grow, number-zero, number-digits, number-none, ended-by, ended-other}
-use Rattle.aiger_read.specs.Told.{digitOf, fieldOf}
+use Rattle.aiger_read.specs.ReadTold.{digitOf, fieldOf}
 use Rattle.aiger_read.specs.declared.fields.Field.{Field}
 use Rattle.aiger_read.specs.declared.fields.Field.the-variants.{Number as Value, Wrong}
 

@@ -10,10 +10,10 @@ use lib.Arith.{digits-lt}
 use lib.Dec.{lit<}
 use lib.ListN.{length, getD, drop}
 use Rattle.words.specs.declared.units.PinIv.{PinIv}
-use Rattle.aiger.specs.Reading.{Difference, whole, wrong, cut, above, groupsIn, differenceIn, differenceAt, Literal, literal, literalOf, behind, gateAt}
+use Rattle.aiger.specs.Reading.{Difference, whole, wrong, cut, above, groupsIn, differenceIn, differenceAt, Literal, literal, literalOf, behind, gateFrom}
 use Rattle.aiger.proofs.DifferenceLaws.{groups-none, groups-empty, groups-last, groups-zero, groups-more, difference-one, difference-more}
-use Rattle.aiger.proofs.GateLaws.{literal-good, literal-low, literal-high, gate-good, gate-bad}
-use Rattle.aiger_read.specs.Told.{differenceOf, literalTold, gateTold}
+use Rattle.aiger.proofs.AigerGateLaws.{literal-good, literal-low, literal-high, gate-good, gate-bad}
+use Rattle.aiger_read.specs.ReadTold.{differenceOf, literalTold, gateTold}
 use Rattle.aiger_read.specs.declared.differences.Difference.{Difference as DifferenceRead}
 use Rattle.aiger_read.specs.declared.differences.Difference.the-variants.{Whole, Wrong as NoDifference, Cut}
 use Rattle.aiger_read.specs.declared.differences.Literal.{Literal as LiteralRead}
@@ -176,16 +176,16 @@ module _ (bs : List ℕ) (v w at : ℕ) (own : w ≡ 2 * v + 0) where
   first-of : (d : Literal) → literalOf w 1 (differenceAt bs at) ≡ d → literalOf (2 * v) 1 (differenceAt bs at) ≡ d
   first-of d e = let same : 2 * v ≡ w = omega arith in ap (λ (top : ℕ). literalOf top 1 (differenceAt bs at)) same ∙ e
 
-  pub gate-first : (r : LiteralRead) (n : ℕ) → r ≡ literalTold (literalOf w 1 (differenceAt bs at)) → r ≡ NoLiteral n → NoGate n ≡ gateTold (gateAt bs v at)
+  pub gate-first : (r : LiteralRead) (n : ℕ) → r ≡ literalTold (literalOf w 1 (differenceAt bs at)) → r ≡ NoLiteral n → NoGate n ≡ gateTold (gateFrom bs v at)
   gate-first r n e f = ap gateTold (sym (gate-bad bs v at n (first-of _ (refused-is _ n (sym e ∙ f)))))
 
   module _ (r : LiteralRead) (a i : ℕ) (e : r ≡ literalTold (literalOf w 1 (differenceAt bs at))) (f : r ≡ LiteralAt (record { 0 = a }) i) where
-    behind-first : gateAt bs v at ≡ behind a (literalOf a 0 (differenceAt bs i))
+    behind-first : gateFrom bs v at ≡ behind a (literalOf a 0 (differenceAt bs i))
     behind-first = gate-good bs v at a i (first-of _ (literal-is _ a i (sym e ∙ f)))
 
-    pub gate-second : (q : LiteralRead) (n : ℕ) → q ≡ literalTold (literalOf a 0 (differenceAt bs i)) → q ≡ NoLiteral n → NoGate n ≡ gateTold (gateAt bs v at)
+    pub gate-second : (q : LiteralRead) (n : ℕ) → q ≡ literalTold (literalOf a 0 (differenceAt bs i)) → q ≡ NoLiteral n → NoGate n ≡ gateTold (gateFrom bs v at)
     gate-second q n g h = ap gateTold (sym (behind-first ∙ ap (behind a) (refused-is (literalOf a 0 (differenceAt bs i)) n (sym g ∙ h))))
 
     pub gate-both : (q : LiteralRead) (b j : ℕ) → q ≡ literalTold (literalOf a 0 (differenceAt bs i)) → q ≡ LiteralAt (record { 0 = b }) j
-        → GateIs (record { 0 = a }) (record { 0 = b }) j ≡ gateTold (gateAt bs v at)
+        → GateIs (record { 0 = a }) (record { 0 = b }) j ≡ gateTold (gateFrom bs v at)
     gate-both q b j g h = ap gateTold (sym (behind-first ∙ ap (behind a) (literal-is (literalOf a 0 (differenceAt bs i)) b j (sym g ∙ h))))

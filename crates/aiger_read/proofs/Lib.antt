@@ -1,4 +1,4 @@
 pub mod FieldLaws
-pub mod StartLaws
+pub mod HeaderReadLaws
 pub mod GroupLaws
-pub mod ListLaws
+pub mod ReadPassLaws

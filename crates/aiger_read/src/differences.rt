@@ -2,8 +2,8 @@
 ghost use mathlib.Core.Path.{_≡_};
 ghost use Prim.Native.Nat.{_^_, _<_, _≤_};
 ghost use lib.ListN.{drop};
-ghost use Rattle.aiger.specs.Reading.{above, groupsIn, differenceAt, literalOf, gateAt};
-ghost use Rattle.aiger_read.specs.Told.{differenceOf, literalTold, gateTold};
+ghost use Rattle.aiger.specs.Reading.{above, groupsIn, differenceAt, literalOf, gateFrom};
+ghost use Rattle.aiger_read.specs.ReadTold.{differenceOf, literalTold, gateTold};
 use words::refusals::CUT_GATES;
 use words::refusals::DIFFERENCE;
 use words::units::Pin;
@@ -99,7 +99,7 @@ fn literal_at(bytes: &[u8], at: usize, top: PinIv, least: u64) -> Literal
 // The gate of a pin.
 pub fn gate_at(bytes: &[u8], pin: Pin, at: usize) -> Gate
     requires { ⌜ pin .0 ≤ 2 ^ 30 ⌝ }
-    ensures { λ r. ⌜ r ≡ gateTold (gateAt (now (bytes .entry)) (pin .0) at) ⌝ }
+    ensures { λ r. ⌜ r ≡ gateTold (gateFrom (now (bytes .entry)) (pin .0) at) ⌝ }
 {
     match literal_at(bytes, at, pin.inverted(0), 1) {
         Literal::Refused(n) => Gate::Refused(n),

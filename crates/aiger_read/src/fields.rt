@@ -4,7 +4,7 @@ ghost use mathlib.Core.Option.{some};
 ghost use Prim.Native.Nat.{_<_};
 ghost use lib.ListN.{drop};
 ghost use Rattle.aiger.specs.Reading.{digitsFrom, numberIn, fieldAt};
-ghost use Rattle.aiger_read.specs.Told.{digitOf, fieldOf};
+ghost use Rattle.aiger_read.specs.ReadTold.{digitOf, fieldOf};
 
 // A number and the byte behind it; or none, also where one is larger than was asked for.
 pub enum Field {

@@ -7,8 +7,8 @@ pub mod start;
 ghost use mathlib.Core.Path.{_≡_};
 ghost use lib.ListN.{length};
 ghost use Rattle.aiger.specs.Reading.{readAiger};
-ghost use Rattle.aiger.specs.Outcome.{fitting, listAfter};
-ghost use Rattle.aiger_read.specs.Told.{gatesTold};
+ghost use Rattle.aiger.specs.AigerAnswer.{fitting, gateListAfter};
+ghost use Rattle.aiger_read.specs.ReadTold.{gatesReadOf};
 use lists::Judged;
 use lists::fill;
 use lists::judge;
@@ -38,8 +38,8 @@ fn refused(number: u32) -> Gates
 
 // The gates of a binary AIGER file, three words each: pin, first and second inverted pin number.
 pub fn read_gates(bytes: &[u8], out: &mut [u32]) -> Gates
-    ensures { λ r. ⌜ r ≡ gatesTold (fitting (length (now (out .entry))) (readAiger (now (bytes .entry)))) ⌝ }
-    ensures { λ _. ⌜ now (out .exit) ≡ listAfter (fitting (length (now (out .entry))) (readAiger (now (bytes .entry)))) (now (out .entry)) ⌝ }
+    ensures { λ r. ⌜ r ≡ gatesReadOf (fitting (length (now (out .entry))) (readAiger (now (bytes .entry)))) ⌝ }
+    ensures { λ _. ⌜ now (out .exit) ≡ gateListAfter (fitting (length (now (out .entry))) (readAiger (now (bytes .entry)))) (now (out .entry)) ⌝ }
 {
     match start_of(bytes) {
         Start::Wrong => refused(BEFORE_GATES),

@@ -4,7 +4,7 @@ ghost use Prim.Native.Nat.{_+_, _^_, _≤_};
 ghost use lib.ListN.{length};
 ghost use lib.Seq.{sets};
 ghost use Rattle.aiger.specs.Reading.{gatesFrom};
-ghost use Rattle.aiger_read.specs.Told.{judgedOf, listIn, Fillable};
+ghost use Rattle.aiger_read.specs.ReadTold.{gatesJudged, listIn, GatesFillable};
 use crate::differences::Gate;
 use crate::differences::gate_at;
 use words::units::Pin;
@@ -17,7 +17,7 @@ pub enum Judged {
 
 pub fn judge(bytes: &[u8], gates: u64, first: Pin, at: usize) -> Judged
     requires { ⌜ first .0 + gates ≤ 2 ^ 30 + 1 ⌝ }
-    ensures { λ r. ⌜ r ≡ judgedOf (gatesFrom (now (bytes .entry)) gates (first .0) at) ⌝ }
+    ensures { λ r. ⌜ r ≡ gatesJudged (gatesFrom (now (bytes .entry)) gates (first .0) at) ⌝ }
 {
     let mut left = gates;
     let mut pin = first.0;
@@ -37,7 +37,7 @@ pub fn judge(bytes: &[u8], gates: u64, first: Pin, at: usize) -> Judged
 
 // The list of good gates, from the start of `out`.
 pub fn fill(bytes: &[u8], out: &mut [u32], gates: u64, first: Pin, at: usize)
-    requires { ⌜ Fillable (now bytes) (length (now out)) gates (first .0) at ⌝ }
+    requires { ⌜ GatesFillable (now bytes) (length (now out)) gates (first .0) at ⌝ }
     ensures { λ _. ⌜ now (out .exit) ≡ sets (now (out .entry)) 0 (listIn (gatesFrom (now (bytes .entry)) gates (first .0) at)) ⌝ }
 {
     let mut left = gates;

@@ -1,8 +1,8 @@
 // What stands before the gates: the header, and the lines that are passed over.
 ghost use mathlib.Core.Path.{_≡_};
 ghost use lib.ListN.{length};
-ghost use Rattle.aiger.specs.Reading.{isMarked, fieldsOf, headerOf, linesFrom, startOf};
-ghost use Rattle.aiger_read.specs.Told.{headerTold, linesOf, startTold};
+ghost use Rattle.aiger.specs.Reading.{isMarked, fieldsOf, headerOf, linesFrom, gatesStart};
+ghost use Rattle.aiger_read.specs.ReadTold.{headerTold, linesOf, startTold};
 use crate::fields::Field;
 use crate::fields::field_at;
 
@@ -110,7 +110,7 @@ fn lines_from(bytes: &[u8], most: u64, lines: u64, at: usize) -> Lines
 
 // All that stands before the gates, and the gates' first byte.
 pub fn start_of(bytes: &[u8]) -> Start
-    ensures { λ r. ⌜ r ≡ startTold (startOf (now (bytes .entry))) ⌝ }
+    ensures { λ r. ⌜ r ≡ startTold (gatesStart (now (bytes .entry))) ⌝ }
 {
     match header_of(bytes) {
         Start::Wrong => Start::Wrong,

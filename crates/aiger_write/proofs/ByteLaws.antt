@@ -9,8 +9,8 @@ use native.Mathlib.Omega.{arith}
 use borrow.Author.Tests.{ltb-true, ltb-false}
 use lib.Dec.{ltb}
 use lib.ListN.{length, length-append}
-use Rattle.text.specs.Writing.{Put}
-use Rattle.text.proofs.WritingLaws.{Going, going-start, going-more, going-done, put-then}
+use Rattle.text.specs.TextPut.{Put}
+use Rattle.text.proofs.WritingLaws.{TextGoing, going-start, going-more, going-done, put-then}
 use Rattle.aiger.specs.Writing.{groupBytes, differenceBytes}
 use Rattle.aiger.proofs.DifferenceLaws.{group-last, group-more}
 
@@ -98,7 +98,7 @@ group-short (suc k) x = go (ltb x 128) refl (group-short k (x / 128))
 -- the bytes that are put, with those of the rest, make the whole
 pub record Putting (x : ℕ) (old : List ℕ) (at : ℕ) (new : List ℕ) (end rest : ℕ) : Type 0 where
   pub small : rest < 2 ^ 32
-  pub going : Going (differenceBytes rest) (differenceBytes x) (length (differenceBytes x) - length (differenceBytes rest)) old at new end
+  pub going : TextGoing (differenceBytes rest) (differenceBytes x) (length (differenceBytes x) - length (differenceBytes rest)) old at new end
   pub less : length (differenceBytes rest) ≤ length (differenceBytes x)
 
 pub putting-start : (x : ℕ) (old : List ℕ) (at : ℕ) → x < 2 ^ 32 → Putting x old at old at x
@@ -124,5 +124,5 @@ module _ {x : ℕ} {old : List ℕ} {at : ℕ} {new : List ℕ} {end rest : ℕ}
       let here : differenceBytes rest ≡ rest ∷ [] = group-last 4 rest h in
       let one : length (differenceBytes rest) ≡ 1 = ap length here in
       let all = group-short 5 x in
-      let end : Going [] (differenceBytes x) (length (differenceBytes x)) old at new′ end′ = going-more (P .going) (rest ∷ []) [] here f (omega arith) in
+      let end : TextGoing [] (differenceBytes x) (length (differenceBytes x)) old at new′ end′ = going-more (P .going) (rest ∷ []) [] here f (omega arith) in
       going-done end 5 refl all

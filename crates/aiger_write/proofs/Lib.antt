@@ -1,2 +1,2 @@
 pub mod ByteLaws
-pub mod ListLaws
+pub mod WritePassLaws

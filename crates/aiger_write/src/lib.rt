@@ -5,8 +5,8 @@ pub mod lists;
 ghost use mathlib.Core.Path.{_≡_};
 ghost use lib.ListN.{length};
 ghost use Rattle.aiger.specs.Writing.{writeAiger};
-ghost use Rattle.aiger.specs.Outcome.{holding, textAfter};
-ghost use Rattle.aiger_write.specs.Told.{textTold};
+ghost use Rattle.aiger.specs.AigerAnswer.{holding, fileAfter};
+ghost use Rattle.aiger_write.specs.WriteTold.{textWrittenOf};
 use lists::Judged;
 use lists::judge;
 use lists::put_text;
@@ -32,8 +32,8 @@ fn refused(number: u32) -> Text
 
 // A gate list, three words a gate, as binary AIGER.
 pub fn write_gates(gates: &[u32], out: &mut [u8]) -> Text
-    ensures { λ r. ⌜ r ≡ textTold (holding (length (now (out .entry))) (writeAiger (now (gates .entry)))) ⌝ }
-    ensures { λ _. ⌜ now (out .exit) ≡ textAfter (holding (length (now (out .entry))) (writeAiger (now (gates .entry)))) (now (out .entry)) ⌝ }
+    ensures { λ r. ⌜ r ≡ textWrittenOf (holding (length (now (out .entry))) (writeAiger (now (gates .entry)))) ⌝ }
+    ensures { λ _. ⌜ now (out .exit) ≡ fileAfter (holding (length (now (out .entry))) (writeAiger (now (gates .entry)))) (now (out .entry)) ⌝ }
 {
     match judge(gates) {
         Judged::Other => refused(NOT_WRITABLE),

@@ -4,10 +4,10 @@ ghost use mathlib.Core.Bool.{true};
 ghost use Prim.Native.Nat.{_+_, _*_, _^_, _<_, _≤_};
 ghost use lib.ListN.{length};
 ghost use lib.Seq.{sets};
-ghost use Rattle.text.specs.Writing.{Put};
-ghost use Rattle.gatelist.specs.Words.{wholeGates};
+ghost use Rattle.text.specs.TextPut.{Put};
+ghost use Rattle.gatelist.specs.ListWords.{wholeGates};
 ghost use Rattle.aiger.specs.Writing.{headerText, gatesBytes, inputsOf, writable, textOf, writeAiger};
-ghost use Rattle.aiger_write.specs.Told.{judgedOf, rightOf, InRange};
+ghost use Rattle.aiger_write.specs.WriteTold.{listJudged, rightOf, InRange};
 use crate::bytes::gate_length;
 use crate::bytes::put_gate;
 use gatelist::first_of;
@@ -76,7 +76,7 @@ fn is_right(pin: Pin, own: Pin, first: PinIv, second: PinIv) -> bool
 // Whether the gates behind so many inputs are right, and how long the text is.
 fn judge_gates(gates: &[u32], inputs: u32) -> Judged
     requires { ⌜ InRange (now gates) inputs ⌝ }
-    ensures { λ r. ⌜ r ≡ judgedOf (writeAiger (now (gates .entry))) ⌝ }
+    ensures { λ r. ⌜ r ≡ listJudged (writeAiger (now (gates .entry))) ⌝ }
 {
     let count = gates.len() / 3;
     let mut bytes = header_length(inputs as u64, count as u64);
@@ -98,7 +98,7 @@ fn judge_gates(gates: &[u32], inputs: u32) -> Judged
 
 // Whether a list is written, and how long its text is.
 pub fn judge(gates: &[u32]) -> Judged
-    ensures { λ r. ⌜ r ≡ judgedOf (writeAiger (now (gates .entry))) ⌝ }
+    ensures { λ r. ⌜ r ≡ listJudged (writeAiger (now (gates .entry))) ⌝ }
 {
     let cut = gates.len() % 3;
     if cut != 0 {

@@ -12,7 +12,7 @@ use Rattle.words.specs.Answer.{Answer, refused, atItem, nowhere, handed}
 use Rattle.words.specs.declared.refusals.Refusal.{Refusal}
 use Rattle.words.proofs.AnswerLaws.{refused-good, handed-zero}
 use Rattle.run_machine.specs.Room.{blockRoom}
-use Rattle.run_machine.specs.Run.{Ran, ran, outcome, newAfter, allLeft, badBlock, badTurn, runTurns}
+use Rattle.run_machine.specs.Run.{Ran, ran, runAnswer, newAfter, allLeft, badBlock, badTurn, runTurns}
 use Rattle.promise.proofs.PromiseLaws.{as-run}
 use Rattle.capi.specs.Exported.{turnCount}
 use Rattle.capi.specs.Promised.{Promised}
@@ -35,10 +35,10 @@ numbered true none none k new q e = refused-good q _ (sym e)
 
 module _ (W starts turns old new : List ℕ) (room : ℕ) where
   abbrev is : Answer Ran
-  is = outcome 256 13 W starts turns old new room
+  is = runAnswer 256 13 W starts turns old new room
 
   refused-some : (q : Refusal) → is ≡ refused q → 0 < q .number
-  unfolding outcome
+  unfolding runAnswer
   refused-some q e =
       let x = runTurns 256 13 W starts turns old new in
       numbered (leb (blockRoom * (length starts - 1)) room) (badBlock 256 W starts (length old) (length new)) (badTurn starts turns) (allLeft 256 W (x .blocks)) (x .new) q e

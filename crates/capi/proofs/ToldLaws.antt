@@ -9,14 +9,14 @@ use Rattle.rounds.specs.Rounds.{roundsOf}
 use Rattle.listing.specs.Listing.{listedOf}
 use Rattle.values.specs.Values.{Bits, valuedOf}
 use Rattle.run_machine.specs.Run.{Ran}
-use Rattle.run.specs.Answers.{ranOf}
+use Rattle.run.specs.RanAnswer.{ranOf}
 use Rattle.flatten.specs.Flatten.{Sizes}
-use Rattle.flatten.specs.Answers.{flattenedOf}
-use Rattle.repair_nodes.specs.Outcome.{Repair}
+use Rattle.flatten.specs.FlattenedAnswer.{flattenedOf}
+use Rattle.repair_nodes.specs.RepairAnswer.{Repair}
 use Rattle.repair_settle.specs.Settle.{repairedOf}
 use Rattle.aiger.specs.Reading.{Read}
-use Rattle.aiger_read.specs.Told.{gatesTold as gatesOf}
-use Rattle.aiger_write.specs.Told.{textTold as textOf}
+use Rattle.aiger_read.specs.ReadTold.{gatesReadOf as gatesOf}
+use Rattle.aiger_write.specs.WriteTold.{textWrittenOf as textOf}
 use Rattle.capi.specs.Exported.{roundCount, textLength, ownBit, turnCount, planSize, entryCount, gateCounts}
 use Rattle.capi.specs.Numbers.{roundsNumbers, listedNumbers, valuedNumbers, ranNumbers, repairedNumbers, textNumbers, flattenedNumbers, gatesNumbers}
 

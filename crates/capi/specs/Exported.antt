@@ -6,16 +6,16 @@ use Prim.Native.Nat.{ℕ}
 use lib.ListN.{length}
 use Rattle.words.specs.Answer.{handed}
 use Rattle.reads.specs.Search.{Lane, longest}
-use Rattle.reads.specs.Outcome.{outcome as rounds, resultAfter, roomAfter}
+use Rattle.reads.specs.SetAnswer.{setAnswer as rounds, resultAfter, setRoomAfter}
 use Rattle.listing.specs.Listing.{listed, textAfter}
-use Rattle.values.specs.Values.{Bits, outcome as valued, bitsAfter, roomAfter as planRoomAfter}
-use Rattle.run_machine.specs.Run.{Ran, outcome as ranAs, newAfter, roomAfter as runRoomAfter}
-use Rattle.flatten.specs.Flatten.{Sizes, sizing, building, laid, roomAfter as builtRoomAfter}
+use Rattle.values.specs.Values.{Bits, valueAnswer as valued, bitsAfter, valueRoomAfter as planRoomAfter}
+use Rattle.run_machine.specs.Run.{Ran, runAnswer as ranAs, newAfter, runRoomAfter}
+use Rattle.flatten.specs.Flatten.{Sizes, sizing, building, laid, buildRoomAfter as builtRoomAfter}
 use Rattle.script_assembly.specs.Assembly.{scriptWords, scriptStarts}
 use Rattle.aiger.specs.Reading.{Read, readAiger}
 use Rattle.aiger.specs.Writing.{writeAiger}
-use Rattle.aiger.specs.Outcome.{fitting, listAfter as gatesAfter, holding, textAfter as aigerAfter}
-use Rattle.repair_nodes.specs.Outcome.{Repair, placed, cleared, slotsAfter, listAfter, roomAfter as repairRoomAfter}
+use Rattle.aiger.specs.AigerAnswer.{fitting, gateListAfter as gatesAfter, holding, fileAfter as aigerAfter}
+use Rattle.repair_nodes.specs.RepairAnswer.{Repair, placed, cleared, slotsAfter, countListAfter, repairRoomAfter}
 
 -- ---- the numbers of a good answer, after 0
 
@@ -52,12 +52,12 @@ gateCounts x = x .header .gates ∷ x .header .inputs ∷ x .header .latches ∷
 unfoldable pub afterReadRounds : (set room out : List ℕ) → List (List ℕ)
 afterReadRounds set room out =
     let o = rounds 256 set (length out) (length room) in
-    handed 2 roundCount o ∷ roomAfter room ∷ resultAfter o out ∷ []
+    handed 2 roundCount o ∷ setRoomAfter room ∷ resultAfter o out ∷ []
 
 unfoldable pub afterList : (records room out : List ℕ) → List (List ℕ)
 afterList records room out =
     let o = listed records (length out) (length room) in
-    handed 2 textLength o ∷ roomAfter room ∷ textAfter o out ∷ []
+    handed 2 textLength o ∷ setRoomAfter room ∷ textAfter o out ∷ []
 
 unfoldable pub afterValue : (plan room old new bits : List ℕ) (part pin : ℕ) → List (List ℕ)
 afterValue plan room old new bits part pin =
@@ -80,12 +80,12 @@ afterBuild plan room starts words =
 unfoldable pub afterPlaceBit : (gates levels counts slots after room : List ℕ) (level slot node : ℕ) → List (List ℕ)
 afterPlaceBit gates levels counts slots after room level slot node =
     let o = placed 13 gates levels counts slots (length after) (length room) level slot node in
-    handed 2 entryCount o ∷ slotsAfter o slots ∷ listAfter o after ∷ repairRoomAfter counts room ∷ []
+    handed 2 entryCount o ∷ slotsAfter o slots ∷ countListAfter o after ∷ repairRoomAfter counts room ∷ []
 
 unfoldable pub afterPurgeBit : (counts slots after room : List ℕ) (level slot : ℕ) → List (List ℕ)
 afterPurgeBit counts slots after room level slot =
     let o = cleared 13 counts slots (length after) (length room) level slot in
-    handed 2 entryCount o ∷ slotsAfter o slots ∷ listAfter o after ∷ repairRoomAfter counts room ∷ []
+    handed 2 entryCount o ∷ slotsAfter o slots ∷ countListAfter o after ∷ repairRoomAfter counts room ∷ []
 
 unfoldable pub afterReadAiger : (bytes out : List ℕ) → List (List ℕ)
 afterReadAiger bytes out =

@@ -2,7 +2,7 @@
 -- Assumes nothing.
 use mathlib.Core.List.{List, [], _∷_}
 use Prim.Native.Nat.{ℕ}
-use Rattle.words.specs.Answer.{numbers}
+use Rattle.words.specs.Answer.{refusalNumbers}
 use Rattle.words.specs.declared.refusals.Refusal.{Refusal}
 use Rattle.rounds.specs.declared.Rounds.{Rounds}
 use Rattle.rounds.specs.declared.Rounds.the-variants as rounds
@@ -24,27 +24,27 @@ use Rattle.aiger_write.specs.declared.Text.the-variants as text
 -- two numbers beside the one that is returned
 abbrev pub roundsNumbers : Rounds → List ℕ
 roundsNumbers (rounds.Placed n) = 0 ∷ n ∷ 0 ∷ []
-roundsNumbers (rounds.Refused q) = numbers q
+roundsNumbers (rounds.Refused q) = refusalNumbers q
 
 abbrev pub listedNumbers : Listed → List ℕ
 listedNumbers (listed.Text n) = 0 ∷ n ∷ 0 ∷ []
-listedNumbers (listed.Refused q) = numbers q
+listedNumbers (listed.Refused q) = refusalNumbers q
 
 abbrev pub valuedNumbers : Valued → List ℕ
 valuedNumbers (valued.Bit b) = 0 ∷ b ∷ 0 ∷ []
-valuedNumbers (valued.Refused q) = numbers q
+valuedNumbers (valued.Refused q) = refusalNumbers q
 
 abbrev pub ranNumbers : Ran → List ℕ
 ranNumbers (ran.Left n) = 0 ∷ n ∷ 0 ∷ []
-ranNumbers (ran.Refused q) = numbers q
+ranNumbers (ran.Refused q) = refusalNumbers q
 
 abbrev pub repairedNumbers : Repaired → List ℕ
 repairedNumbers (repaired.Listed n) = 0 ∷ n ∷ 0 ∷ []
-repairedNumbers (repaired.Refused q) = numbers q
+repairedNumbers (repaired.Refused q) = refusalNumbers q
 
 abbrev pub textNumbers : Text → List ℕ
 textNumbers (text.Bytes n) = 0 ∷ n ∷ 0 ∷ []
-textNumbers (text.Refused q) = numbers q
+textNumbers (text.Refused q) = refusalNumbers q
 
 -- four
 abbrev pub four : Refusal → List ℕ

@@ -1,2 +1,2 @@
-pub mod SizeLaws
-pub mod AnswerLaws
+pub mod ScriptSizeLaws
+pub mod BuildAnswerLaws

@@ -9,7 +9,7 @@ use lib.ListN.{length, replicate}
 use lib.Seq.{sets}
 use Rattle.words.specs.Answer.{Answer, good, refused, nowhere}
 use Rattle.plan_record.specs.Record.{blocksOf, majorsOf}
-use Rattle.plan_record.specs.Form.{roomWords}
+use Rattle.plan_record.specs.Form.{planRoomWords}
 use Rattle.plan_blocks.specs.Blocks.{stateWords, sramWords}
 use Rattle.plan_checks.specs.Refusals.{planVerdict}
 use Rattle.script_assembly.specs.Assembly.{scriptWords, scriptStarts}
@@ -57,5 +57,5 @@ startsAfter n d r starts words = laid (building n d r (length starts) (length wo
 abbrev pub wordsAfter : ℕ → List ℕ → ℕ → List ℕ → List ℕ → List ℕ
 wordsAfter n d r starts words = laid (building n d r (length starts) (length words)) (scriptWords n d) words
 
-unfoldable pub roomAfter : List ℕ → List ℕ → List ℕ
-roomAfter d room = elim (leb (roomWords d) (length room)) [ false ↦ room | true ↦ replicate (length room) 0 ]
+unfoldable pub buildRoomAfter : List ℕ → List ℕ → List ℕ
+buildRoomAfter d room = elim (leb (planRoomWords d) (length room)) [ false ↦ room | true ↦ replicate (length room) 0 ]

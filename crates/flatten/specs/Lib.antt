@@ -1,2 +1,2 @@
 pub mod Flatten
-pub mod Answers
+pub mod FlattenedAnswer

@@ -7,9 +7,9 @@ ghost use lib.Dec.{leb};
 ghost use lib.ListN.{length, replicate};
 ghost use Rattle.words.specs.Answer.{good};
 ghost use Rattle.script_assembly.specs.Assembly.{scriptWords, scriptStarts};
-ghost use Rattle.script_layout.specs.Layout.{Sound};
-ghost use Rattle.flatten.specs.Flatten.{sizesOf, sizing, fits, ifFits, building, laid, startsAfter, wordsAfter, roomAfter};
-ghost use Rattle.flatten.specs.Answers.{flattenedOf};
+ghost use Rattle.script_layout.specs.Layout.{AcceptedTabled};
+ghost use Rattle.flatten.specs.Flatten.{sizesOf, sizing, fits, ifFits, building, laid, startsAfter, wordsAfter, buildRoomAfter};
+ghost use Rattle.flatten.specs.FlattenedAnswer.{flattenedOf};
 use plan_checks::Verdict;
 use plan_checks::check_plan;
 use script_layout::write_plan;
@@ -27,7 +27,7 @@ pub enum Flattened {
 
 // The sizes of an accepted plan. The room is clear afterwards.
 fn size_accepted(plan: &[u8], room: &mut [u32]) -> Flattened
-    requires { ⌜ Sound (now plan) (now room) ⌝ }
+    requires { ⌜ AcceptedTabled (now plan) (now room) ⌝ }
     ensures { λ r. ⌜ r ≡ flattenedOf (good (sizesOf 256 (now (plan .entry)))) ⌝ }
     ensures { λ _. ⌜ now (room .exit) ≡ replicate (length (now (room .entry))) 0 ⌝ }
 {
@@ -39,7 +39,7 @@ fn size_accepted(plan: &[u8], room: &mut [u32]) -> Flattened
 // How much room a plan's result takes.
 pub fn plan_sizes(plan: &[u8], room: &mut [u32]) -> Flattened
     ensures { λ r. ⌜ r ≡ flattenedOf (sizing 256 (now (plan .entry)) (length (now (room .entry)))) ⌝ }
-    ensures { λ _. ⌜ now (room .exit) ≡ roomAfter (now (plan .entry)) (now (room .entry)) ⌝ }
+    ensures { λ _. ⌜ now (room .exit) ≡ buildRoomAfter (now (plan .entry)) (now (room .entry)) ⌝ }
 {
     match check_plan(plan, room) {
         Verdict::Refused(x) => Flattened::Refused(x),
@@ -56,7 +56,7 @@ fn enough(sizes: Sizes, starts: usize, words: usize) -> bool
 
 // The result of an accepted plan, or refusal 14. The room is clear afterwards.
 fn build_accepted(plan: &[u8], room: &mut [u32], starts: &mut [u64], words: &mut [u32]) -> Flattened
-    requires { ⌜ Sound (now plan) (now room) ⌝ }
+    requires { ⌜ AcceptedTabled (now plan) (now room) ⌝ }
     ensures { λ r. ⌜ r ≡ flattenedOf (ifFits (fits (sizesOf 256 (now (plan .entry))) (length (now (starts .entry))) (length (now (words .entry)))) (sizesOf 256 (now (plan .entry)))) ⌝ }
     ensures { λ _. ⌜ now (room .exit) ≡ replicate (length (now (room .entry))) 0 ⌝ }
     ensures { λ _. ⌜ now (starts .exit) ≡ laid (ifFits (fits (sizesOf 256 (now (plan .entry))) (length (now (starts .entry))) (length (now (words .entry)))) (sizesOf 256 (now (plan .entry)))) (scriptStarts 256 (now (plan .entry))) (now (starts .entry)) ⌝ }
@@ -84,7 +84,7 @@ pub fn build_flattened_script_v1(
     words: &mut [u32],
 ) -> Flattened
     ensures { λ r. ⌜ r ≡ flattenedOf (building 256 (now (plan .entry)) (length (now (room .entry))) (length (now (starts .entry))) (length (now (words .entry)))) ⌝ }
-    ensures { λ _. ⌜ now (room .exit) ≡ roomAfter (now (plan .entry)) (now (room .entry)) ⌝ }
+    ensures { λ _. ⌜ now (room .exit) ≡ buildRoomAfter (now (plan .entry)) (now (room .entry)) ⌝ }
     ensures { λ _. ⌜ now (starts .exit) ≡ startsAfter 256 (now (plan .entry)) (length (now (room .entry))) (now (starts .entry)) (now (words .entry)) ⌝ }
     ensures { λ _. ⌜ now (words .exit) ≡ wordsAfter 256 (now (plan .entry)) (length (now (room .entry))) (now (starts .entry)) (now (words .entry)) ⌝ }
 {

@@ -5,10 +5,10 @@ ghost use lib.ListN.{length};
 ghost use Rattle.words.specs.Sum.{sumTo};
 ghost use Rattle.plan_record.specs.Record.{majorsOf, partsOf};
 ghost use Rattle.script_assembly.specs.Assembly.{scriptWords};
-ghost use Rattle.script_assembly.specs.Steps.{lengthOf, emptyBlocks};
-ghost use Rattle.script_layout.specs.Layout.{Sound};
+ghost use Rattle.script_assembly.specs.WrittenSoFar.{lengthOf, emptyBlocks};
+ghost use Rattle.script_layout.specs.Layout.{AcceptedTabled};
 ghost use Rattle.flatten.specs.Flatten.{sizesOf};
-ghost use Rattle.flatten.specs.Answers.{sizesIn};
+ghost use Rattle.flatten.specs.FlattenedAnswer.{sizesIn};
 use plan_blocks::totals::sram_words;
 use plan_blocks::totals::state_words;
 use plan_record::bodies::parts_of;
@@ -38,7 +38,7 @@ fn blocks_left(blocks: u32, parts: u32) -> u32
 
 // The empty blocks of all major stages.
 fn empty_blocks(d: &[u8], room: &[u32]) -> u64
-    requires { ⌜ Sound (now d) (now room) ⌝ }
+    requires { ⌜ AcceptedTabled (now d) (now room) ⌝ }
     ensures { λ r. ⌜ (r ≡ emptyBlocks (now (d .entry)) (majorsOf (now (d .entry)))) × (r ≤ 2 ^ 38) ⌝ }
 {
     let blocks = blocks_of(d);
@@ -54,7 +54,7 @@ fn empty_blocks(d: &[u8], room: &[u32]) -> u64
 
 // The words of all parts' scripts.
 fn parts_words(d: &[u8], room: &[u32]) -> u64
-    requires { ⌜ Sound (now d) (now room) ⌝ }
+    requires { ⌜ AcceptedTabled (now d) (now room) ⌝ }
     ensures { λ r. ⌜ (r ≡ sumTo (lengthOf 256 (now (d .entry))) (partsOf (now (d .entry)))) × (r ≤ 2 ^ 63) ⌝ }
 {
     let parts = parts_of(d);
@@ -71,7 +71,7 @@ fn parts_words(d: &[u8], room: &[u32]) -> u64
 
 // The words of the whole script.
 fn script_words(d: &[u8], room: &[u32]) -> u64
-    requires { ⌜ Sound (now d) (now room) ⌝ }
+    requires { ⌜ AcceptedTabled (now d) (now room) ⌝ }
     ensures { λ r. ⌜ r ≡ length (scriptWords 256 (now (d .entry))) ⌝ }
 {
     parts_words(d, room) + 256 * empty_blocks(d, room) + 2048
@@ -79,7 +79,7 @@ fn script_words(d: &[u8], room: &[u32]) -> u64
 
 // The sizes of an accepted plan, whose part table stands in the room.
 pub fn sizes_of(d: &[u8], room: &[u32]) -> Sizes
-    requires { ⌜ Sound (now d) (now room) ⌝ }
+    requires { ⌜ AcceptedTabled (now d) (now room) ⌝ }
     ensures { λ r. ⌜ r ≡ sizesIn (sizesOf 256 (now (d .entry))) ⌝ }
 {
     let blocks = blocks_of(d) as u64;

@@ -9,8 +9,8 @@ use native.Mathlib.Numerals.{add-one}
 use native.Mathlib.Omega.{arith}
 use borrow.Author.Tests.{ltb-true, lt-ltb, le-ltb, eq-eqb, ne-eqb, eqb-true, not-false}
 use lib.Dec.{ltb, eqb}
-use Rattle.sort.specs.Search.{Monotone, Between, least}
-use Rattle.sort.proofs.SearchLaws.{monotone-steps, least-between, search-found}
+use Rattle.sort.specs.HalfSearch.{Monotone, Between, least}
+use Rattle.sort.proofs.HalfSearchLaws.{monotone-steps, least-between, search-found}
 use Rattle.words.proofs.TestLaws.{not-both, and-true, true-and, not-at, not-none, none-not, not-is}
 use Rattle.gatelist.specs.GateList.{beforeOver, rightOver, badOver, gateOver}
 

@@ -1,2 +1,2 @@
 pub mod GateListLaws
-pub mod WordLaws
+pub mod ListWordLaws

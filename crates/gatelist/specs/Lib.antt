@@ -1,2 +1,2 @@
 pub mod GateList
-pub mod Words
+pub mod ListWords

@@ -4,9 +4,9 @@ ghost use mathlib.Core.Bool.{_&&_};
 ghost use mathlib.Core.Option.{none};
 ghost use Prim.Native.Nat.{_<_};
 ghost use lib.Dec.{ltb, eqb};
-ghost use Rattle.sort.specs.Search.{least};
+ghost use Rattle.sort.specs.HalfSearch.{least};
 ghost use Rattle.gatelist.specs.GateList.{beforeOver, rightOver};
-ghost use Rattle.gatelist.specs.Words.{listPin, listFirst, listSecond, wholeGates, badList, gateIn, listedOf};
+ghost use Rattle.gatelist.specs.ListWords.{listPin, listFirst, listSecond, wholeGates, badList, gateIn, gateListedOf};
 ghost use Rattle.words.specs.Found.{itemOf};
 use std::num::wrapping_sub_u32;
 use words::found::Item;
@@ -114,7 +114,7 @@ fn guess(l: &[u32], pin: Pin) -> usize {
 // The gate of a pin. Gates' pins are nearly always consecutive numbers, so that the gate they give is looked at first.
 pub fn find_in(l: &[u32], pin: Pin) -> Listed
     requires { ⌜ badList (now l) ≡ none ⌝ }
-    ensures { λ r. ⌜ r ≡ listedOf (gateIn (now (l .entry)) (pin .0)) ⌝ }
+    ensures { λ r. ⌜ r ≡ gateListedOf (gateIn (now (l .entry)) (pin .0)) ⌝ }
 {
     let near = guess(l, pin);
     if has_pin(l, near, pin) {

@@ -11,18 +11,18 @@ use Rattle.words.specs.declared.refusals.Refusal.{Refusal}
 use Rattle.reads.specs.Search.{Lane, longest}
 use Rattle.reads.specs.Asked.{readSetOf}
 use Rattle.words.specs.Answer.{Answer, good, refused}
-use Rattle.reads.specs.Outcome.{outcome, resultAfter}
-use Rattle.reads_asked.proofs.FormLaws.{set-length-le}
-use Rattle.reads_asked.proofs.StoreLaws.{take-front}
+use Rattle.reads.specs.SetAnswer.{setAnswer, resultAfter}
+use Rattle.reads_asked.proofs.AskedFormLaws.{set-length-le}
+use Rattle.reads_asked.proofs.FrontStoreLaws.{take-front}
 use Rattle.rounds.specs.Rounds.{roundsOf}
 use Rattle.rounds.specs.declared.Rounds.the-variants.{Placed, Refused as Denied}
 use Rattle.listing.specs.Records.{Parsed}
-use Rattle.listing.specs.Reading.{setOf, setAfter}
-use Rattle.listing.specs.Answer.{answered, found, answerTo, sectionAfter}
+use Rattle.listing.specs.RecordsRead.{setOf, setAfter}
+use Rattle.listing.specs.ListingAnswer.{answered, recordsAnswer, answerTo, sectionAfter}
 use Rattle.listing.specs.declared.records.Read.the-variants.{Asked}
 use Rattle.listing.specs.declared.answer.Said.the-variants.{Rounds, Refused, Bad}
-use Rattle.listing.proofs.KeyLaws.{asked-in}
-use Rattle.listing.proofs.ListLaws.{room-enough}
+use Rattle.listing.proofs.RecordBitLaws.{read-asked}
+use Rattle.listing.proofs.ListedTextLaws.{room-enough}
 
 pub to-bad : (p : Parsed) (b : ℕ) (section : List ℕ) → p .fault ≡ some b → (Bad b ≡ answerTo p) × (section ≡ sectionAfter p section)
 unfolding answerTo sectionAfter
@@ -41,10 +41,10 @@ as-refused (refused q) f e = let s : f ≡ q = cc in ap (λ (g : Refusal). Refus
 -- the set at the front of 16384 words that held zeros
 module _ (p : Parsed) (small : length (p .keys) ≤ 8192) {set : List ℕ} (held : set ≡ setAfter p (replicate 16384 0)) (n : ℕ) (asked : Asked n ≡ setOf p) where
   right : p .fault ≡ none
-  right = asked-in (p .fault) (length (readSetOf (p .keys))) n asked .0
+  right = read-asked (p .fault) (length (readSetOf (p .keys))) n asked .0
 
   count : n ≡ length (readSetOf (p .keys))
-  count = asked-in (p .fault) (length (readSetOf (p .keys))) n asked .1
+  count = read-asked (p .fault) (length (readSetOf (p .keys))) n asked .1
 
   is : set ≡ sets (replicate 16384 0) 0 (readSetOf (p .keys))
   unfolding setAfter
@@ -62,19 +62,19 @@ module _ (p : Parsed) (small : length (p .keys) ≤ 8192) {set : List ℕ} (held
       ap (λ (m : ℕ). take m set) count ∙ ap (take (length (readSetOf (p .keys)))) is ∙ take-front (replicate 16384 0) (readSetOf (p .keys)) h
 
   module _ (o r : ℕ) (size : o ≡ 16384) (room : 16384 ≤ r) where
-    same : outcome 256 (take n set) o r ≡ found p
+    same : setAnswer 256 (take n set) o r ≡ recordsAnswer p
     same = (rw (to-set, size)) ∙ room-enough (readSetOf (p .keys)) 16384 r room
 
-    answer-is : answered (found p) ≡ answerTo p
+    answer-is : answered (recordsAnswer p) ≡ answerTo p
     unfolding answerTo
     answer-is = rw (right, answerTo)
 
-    pub to-rounds : (k : ℕ) → Placed k ≡ roundsOf (outcome 256 (take n set) o r) → Rounds k ≡ answerTo p
-    to-rounds k e = as-rounds (found p) k (e ∙ ap roundsOf same) ∙ answer-is
+    pub to-rounds : (k : ℕ) → Placed k ≡ roundsOf (setAnswer 256 (take n set) o r) → Rounds k ≡ answerTo p
+    to-rounds k e = as-rounds (recordsAnswer p) k (e ∙ ap roundsOf same) ∙ answer-is
 
-    pub to-refused : (f : Refusal) → Denied f ≡ roundsOf (outcome 256 (take n set) o r) → Refused (f .number) ≡ answerTo p
-    to-refused f e = as-refused (found p) f (e ∙ ap roundsOf same) ∙ answer-is
+    pub to-refused : (f : Refusal) → Denied f ≡ roundsOf (setAnswer 256 (take n set) o r) → Refused (f .number) ≡ answerTo p
+    to-refused f e = as-refused (recordsAnswer p) f (e ∙ ap roundsOf same) ∙ answer-is
 
-    pub to-section : (s new : List ℕ) → new ≡ resultAfter (outcome 256 (take n set) o r) s → new ≡ sectionAfter p s
+    pub to-section : (s new : List ℕ) → new ≡ resultAfter (setAnswer 256 (take n set) o r) s → new ≡ sectionAfter p s
     unfolding sectionAfter
     to-section s new e = e ∙ ap (λ (x : Answer (List Lane)). resultAfter x s) same ∙ (rw (right, sectionAfter))

@@ -7,8 +7,8 @@ use Rattle.words.specs.Bit.{popIn, withBit}
 use Rattle.reads.specs.ReadSet.{total, pairsFrom, pairForm, brokenFrom}
 use Rattle.reads.specs.Asked.{ask, readSetOf}
 use Rattle.reads.specs.Search.{piecesIn, insertPiece, ordered, joined, firstRoom, tryFrom, firstWin, longest}
-use Rattle.reads.specs.Outcome.{packed, readSet, fitted, outcome}
-use Rattle.listing.specs.Records.{numberAt, positionAt, endAt, kindAt, recordAt, recordsFrom}
+use Rattle.reads.specs.SetAnswer.{packed, readSet, setFitted, setAnswer}
+use Rattle.listing.specs.Records.{numberAt, positionAt, endRecordAt, kindAt, recordAt, recordsFrom}
 use Rattle.text.specs.Text.{decimalIn}
 use Rattle.listing.specs.Line.{hexDigit, hexIn, kindLetter, line}
 use Rattle.listing.specs.Listing.{laneLines, lines, printed, printedAt, said, listing}
@@ -26,5 +26,5 @@ exactly =
 
 pub example-right : listing example ≡ exactly
 unfolding example exactly popIn withBit total pairsFrom pairForm brokenFrom ask readSetOf piecesIn insertPiece ordered joined firstRoom tryFrom firstWin longest packed
-    readSet fitted outcome numberAt positionAt endAt kindAt recordAt recordsFrom decimalIn hexDigit hexIn kindLetter line laneLines lines printed printedAt said listing
+    readSet setFitted setAnswer numberAt positionAt endRecordAt kindAt recordAt recordsFrom decimalIn hexDigit hexIn kindLetter line laneLines lines printed printedAt said listing
 example-right = refl

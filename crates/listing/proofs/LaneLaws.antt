@@ -12,31 +12,31 @@ use lib.Seq.{sets, sets-eq, getD-drop}
 use Rattle.words.proofs.ListLaws.{zeros-at}
 use Rattle.reads.specs.ReadSet.{Pair, pairsOf, broken}
 use Rattle.reads.specs.Search.{Lane, longest}
-use Rattle.reads.specs.Words.{readSection}
+use Rattle.reads.specs.ReadSection.{readSection}
 use Rattle.reads.specs.Local.{wordIn, maskIn}
 use Rattle.reads.specs.Packing.{Packing}
 use Rattle.words.specs.Answer.{good}
-use Rattle.reads.specs.Outcome.{readSet, fitted}
+use Rattle.reads.specs.SetAnswer.{readSet, setFitted}
 use Rattle.reads.proofs.SetLaws.{times-at, mask-some}
-use Rattle.reads.proofs.RoundLaws.{in-lanes, longest-ge}
+use Rattle.reads.proofs.RoundCountLaws.{in-lanes, longest-ge}
 use Rattle.reads.proofs.SectionWordLaws.{section-length, section-word, section-mask}
 use Rattle.reads.proofs.PackingLaws.{lanes-packing}
-use Rattle.reads.proofs.OutcomeLaws.{Passed, placed-passed, fitted-placed}
-use Rattle.listing.specs.Section.{placeOf, lanePlaces, places}
+use Rattle.reads.proofs.SetAnswerLaws.{SetPassed, placed-passed, fitted-placed}
+use Rattle.listing.specs.SectionLines.{pairStart, laneRoundLines, sectionLines}
 use Rattle.listing.specs.Listing.{laneLines, lines}
-use Rattle.listing.proofs.SectionLaws.{no-line, one-line}
+use Rattle.listing.proofs.SectionLineLaws.{no-line, one-line}
 
 -- ---- from words to lanes
 
 -- the words of a lane from round r on, for t rounds, are those of the list of pairs
-pub record Stands (n : ℕ) (s : List ℕ) (i r t : ℕ) (l : Lane) : Type 0 where
-  pub word : (k : ℕ) → k < t → getD s (placeOf n i (r + k)) 0 ≡ wordIn l k
-  pub mask : (k : ℕ) → k < t → getD s (placeOf n i (r + k) + 1) 0 ≡ maskIn l k
+pub record LaneStands (n : ℕ) (s : List ℕ) (i r t : ℕ) (l : Lane) : Type 0 where
+  pub word : (k : ℕ) → k < t → getD s (pairStart n i (r + k)) 0 ≡ wordIn l k
+  pub mask : (k : ℕ) → k < t → getD s (pairStart n i (r + k) + 1) 0 ≡ maskIn l k
   pub full : (k : ℕ) → k < length l → 0 < maskIn l k
   pub fits : length l ≤ t
 
 module _ (n : ℕ) (s : List ℕ) (i : ℕ) where
-  next-none : (r t : ℕ) → Stands n s i r (suc t) [] → Stands n s i (r + 1) t []
+  next-none : (r t : ℕ) → LaneStands n s i r (suc t) [] → LaneStands n s i (r + 1) t []
   unfolding wordIn maskIn
   next-none r t S =
       record {
@@ -46,7 +46,7 @@ module _ (n : ℕ) (s : List ℕ) (i : ℕ) where
         fits = omega arith;
       }
 
-  next-some : (r t : ℕ) (p : Pair) (l : Lane) → Stands n s i r (suc t) (p ∷ l) → Stands n s i (r + 1) t l
+  next-some : (r t : ℕ) (p : Pair) (l : Lane) → LaneStands n s i r (suc t) (p ∷ l) → LaneStands n s i (r + 1) t l
   unfolding wordIn maskIn
   next-some r t p l S =
       record {
@@ -56,24 +56,24 @@ module _ (n : ℕ) (s : List ℕ) (i : ℕ) where
         fits = omega (arith, S .fits);
       }
 
-  pub lane-lines : (t r : ℕ) (l : Lane) → Stands n s i r t l → lanePlaces n s i t r ≡ laneLines i r l
-  unfolding lanePlaces laneLines wordIn maskIn
+  pub lane-lines : (t r : ℕ) (l : Lane) → LaneStands n s i r t l → laneRoundLines n s i t r ≡ laneLines i r l
+  unfolding laneRoundLines laneLines wordIn maskIn
   lane-lines zero r [] S = refl
   lane-lines zero r (p ∷ l) S = absurd (not-suc-le-zero (S .fits))
   lane-lines (suc t) r [] S =
-      let m : getD s (placeOf n i r + 1) 0 ≡ 0 = (rw add-zero at (S .mask 0 (omega arith))) in
+      let m : getD s (pairStart n i r + 1) 0 ≡ 0 = (rw add-zero at (S .mask 0 (omega arith))) in
       rw (← (no-line n s i r m)) (lane-lines t (r + 1) [] (next-none r t S))
   lane-lines (suc t) r (p ∷ l) S =
-      let w : p .word ≡ getD s (placeOf n i r) 0 = sym (rw add-zero at (S .word 0 (omega arith))) in
-      let m : p .mask ≡ getD s (placeOf n i r + 1) 0 = sym (rw add-zero at (S .mask 0 (omega arith))) in
+      let w : p .word ≡ getD s (pairStart n i r) 0 = sym (rw add-zero at (S .word 0 (omega arith))) in
+      let m : p .mask ≡ getD s (pairStart n i r + 1) 0 = sym (rw add-zero at (S .mask 0 (omega arith))) in
       let z : 0 < p .mask = S .full 0 (omega arith) in
       rw (← (one-line n s i r (p .word) (p .mask) w m (λ e. absurd (omega arith))), lane-lines t (r + 1) l (next-some r t p l S))
 
-pub lane-all : (n : ℕ) (s : List ℕ) (t i : ℕ) (ls : List Lane) → ((j : ℕ) → j < length ls → Stands n s (i + j) 0 t (getD ls j [])) → places n s t (length ls) i ≡ lines i ls
-unfolding places lines
+pub lane-all : (n : ℕ) (s : List ℕ) (t i : ℕ) (ls : List Lane) → ((j : ℕ) → j < length ls → LaneStands n s (i + j) 0 t (getD ls j [])) → sectionLines n s t (length ls) i ≡ lines i ls
+unfolding sectionLines lines
 lane-all n s t i [] S = refl
 lane-all n s t i (l ∷ ls) S =
-    let here : Stands n s i 0 t l = (rw add-zero at (S 0 (omega arith))) in
+    let here : LaneStands n s i 0 t l = (rw add-zero at (S 0 (omega arith))) in
     rw (
       lane-lines n s i t 0 l here,
       lane-all n s t (i + 1) ls (λ j h. (rw (add-one i, suc-add i j, ← (add-suc i j)) (S (suc j) (omega arith)))),
@@ -109,7 +109,7 @@ masks-some n ps lanes packing form i k h =
     (rw (← (packing .once ((getD l k d) .word) ((getD l k d) .mask))) (in-lanes ((getD l k d) .word) ((getD l k d) .mask) lanes i (times-at l k d h))))
 
 section-stands : (o : ℕ) (lanes : List Lane) → length (readSection lanes) ≤ o → ((i k : ℕ) → k < length (getD lanes i []) → 0 < maskIn (getD lanes i []) k)
-    → (j : ℕ) → j < length lanes → Stands (length lanes) (sets (replicate o 0) 0 (readSection lanes)) (0 + j) 0 (longest lanes) (getD lanes j [])
+    → (j : ℕ) → j < length lanes → LaneStands (length lanes) (sets (replicate o 0) 0 (readSection lanes)) (0 + j) 0 (longest lanes) (getD lanes j [])
 section-stands o lanes long full j h =
     record {
       word = λ k g. (rw (zero-add, zero-add) (zeros-hold o (readSection lanes) _ long ∙ section-word (length lanes) lanes refl k j h));
@@ -118,11 +118,11 @@ section-stands o lanes long full j h =
       fits = longest-ge lanes j;
     }
 
-pub placed-lines : (n o : ℕ) (ws : List ℕ) (lanes : List Lane) → 0 < n → fitted n o (readSet n (pairsOf ws)) ≡ good lanes
-    → places n (sets (replicate o 0) 0 (readSection lanes)) (longest lanes) n 0 ≡ lines 0 lanes
+pub placed-lines : (n o : ℕ) (ws : List ℕ) (lanes : List Lane) → 0 < n → setFitted n o (readSet n (pairsOf ws)) ≡ good lanes
+    → sectionLines n (sets (replicate o 0) 0 (readSection lanes)) (longest lanes) n 0 ≡ lines 0 lanes
 placed-lines n o ws lanes pos e =
     let f = fitted-placed n o (readSet n (pairsOf ws)) lanes e in
-    let p : Passed n (pairsOf ws) lanes = placed-passed n (pairsOf ws) lanes (f .0) in
+    let p : SetPassed n (pairsOf ws) lanes = placed-passed n (pairsOf ws) lanes (f .0) in
     let q : Packing n (pairsOf ws) lanes = lanes-packing n (pairsOf ws) lanes (p .found) pos in
     let long : length (readSection lanes) ≤ o = (rw (section-length n lanes (q .wide)) (f .1)) in
     rw (← (q .wide))

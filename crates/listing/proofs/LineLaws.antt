@@ -8,7 +8,7 @@ use native.Mathlib.Numerals.{sub-one}
 use borrow.Author.Tests.{lt-ltb, le-ltb}
 use lib.ListN.{length}
 use Rattle.text.specs.Text.{field}
-use Rattle.text.specs.Writing.{Put}
+use Rattle.text.specs.TextPut.{Put}
 use Rattle.text.proofs.WritingLaws.{put-then}
 use Rattle.listing.specs.Line.{hexDigit, hexIn, hex, kindLetter, line}
 

@@ -13,16 +13,16 @@ use lib.Dec.{leb}
 use lib.ListN.{length, getD, take}
 use lib.Seq.{take-all, length-take-le, getD-take}
 use Rattle.words.proofs.BitLaws.{lt-or-ge}
-use Rattle.listing.specs.Records.{numberAt, positionAt, endAt, kindAt, recordAt, recordsFrom, records, stopped, before}
+use Rattle.listing.specs.Records.{numberAt, positionAt, endRecordAt, kindAt, recordAt, recordsFrom, records, stopped, keyBefore}
 use Rattle.listing.specs.Listing.{said, listing}
 use Rattle.listing.specs.declared.records.Record.{Record}
 use Rattle.listing.specs.declared.records.Record.the-variants.{Position, End, Bad}
-use Rattle.listing.proofs.RecordLaws.{by-kind, stop-end, stop-bad, one-more}
+use Rattle.listing.proofs.ListingRecordLaws.{by-kind, stop-end, stop-bad, one-more}
 
 -- where bytes come after, an end is refused there
-end-refused : (bs : List ℕ) (at : ℕ) → at + 1 < length bs → endAt bs at ≡ Bad (at + 1)
-unfolding endAt
-end-refused bs at h = rw (lt-ltb _ _ h, endAt)
+end-refused : (bs : List ℕ) (at : ℕ) → at + 1 < length bs → endRecordAt bs at ≡ Bad (at + 1)
+unfolding endRecordAt
+end-refused bs at h = rw (lt-ltb _ _ h, endRecordAt)
 
 whole-body : (bs : List ℕ) (at flag : ℕ) → at + 5 ≤ length bs → positionAt bs at flag ≡ Position (flag + numberAt bs (at + 1))
 unfolding positionAt
@@ -83,7 +83,7 @@ module _ (N : ℕ) (bs : List ℕ) (long : N < length bs) where
 
       go : (x : Record) → recordAt bs at ≡ x → recordsFrom n (take N bs) (at + 5) ≡ recordsFrom n bs (at + 5) → recordsFrom (suc n) (take N bs) at ≡ recordsFrom (suc n) bs at
       go (Position q) e r =
-          one-more (suc n) (take N bs) at q (here ∙ e) (omega arith) ∙ (rw sub-one (ap (before q) r)) ∙ sym (one-more (suc n) bs at q e (omega arith))
+          one-more (suc n) (take N bs) at q (here ∙ e) (omega arith) ∙ (rw sub-one (ap (keyBefore q) r)) ∙ sym (one-more (suc n) bs at q e (omega arith))
       go End e r = stop-end (suc n) (take N bs) at (here ∙ e) ∙ sym (stop-end (suc n) bs at e)
       go (Bad b) e r = stop-bad (suc n) (take N bs) at b (here ∙ e) ∙ sym (stop-bad (suc n) bs at b e)
 

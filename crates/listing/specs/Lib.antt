@@ -1,6 +1,6 @@
 pub mod Records
-pub mod Reading
+pub mod RecordsRead
 pub mod Line
 pub mod Listing
-pub mod Section
-pub mod Answer
+pub mod SectionLines
+pub mod ListingAnswer

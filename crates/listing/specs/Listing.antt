@@ -10,7 +10,7 @@ use lib.Seq.{sets}
 use Rattle.reads.specs.Search.{Lane, longest}
 use Rattle.reads.specs.Asked.{readSetOf}
 use Rattle.words.specs.Answer.{Answer, good, refused, nowhere}
-use Rattle.reads.specs.Outcome.{outcome}
+use Rattle.reads.specs.SetAnswer.{setAnswer}
 use Rattle.listing.specs.Records.{Parsed, records}
 use Rattle.text.specs.Text.{decimal}
 use Rattle.listing.specs.Line.{line}
@@ -48,7 +48,7 @@ printedAt b = refusedWord ++ (atWord ++ (decimal b ++ (10 ∷ [])))
 
 -- The text that records give. Rounds are at most 32, so 16384 result words and the working room that a read set asks for are enough.
 unfoldable pub said : Parsed → List ℕ
-said p = elim (p .fault) [ some b ↦ printedAt b | none ↦ printed (outcome 256 (readSetOf (p .keys)) 16384 16384) ]
+said p = elim (p .fault) [ some b ↦ printedAt b | none ↦ printed (setAnswer 256 (readSetOf (p .keys)) 16384 16384) ]
 
 unfoldable pub listing : List ℕ → List ℕ
 listing bs = said (records bs)

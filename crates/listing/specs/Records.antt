@@ -19,12 +19,12 @@ unfoldable pub positionAt : List ℕ → ℕ → ℕ → Record
 positionAt bs at flag = elim (leb (at + 5) (length bs)) [ true ↦ Position (flag + numberAt bs (at + 1)) | false ↦ Bad at ]
 
 -- "0: end, no body". "bytes after the end" are refused at "the first one's" byte.
-unfoldable pub endAt : List ℕ → ℕ → Record
-endAt bs at = elim (ltb (at + 1) (length bs)) [ true ↦ Bad (at + 1) | false ↦ End ]
+unfoldable pub endRecordAt : List ℕ → ℕ → Record
+endRecordAt bs at = elim (ltb (at + 1) (length bs)) [ true ↦ Bad (at + 1) | false ↦ End ]
 
 -- the record at a byte, by its kind; an "unknown kind" is refused
 unfoldable pub kindAt : List ℕ → ℕ → ℕ → Record
-kindAt bs at zero = endAt bs at
+kindAt bs at zero = endRecordAt bs at
 kindAt bs at (suc zero) = positionAt bs at 0
 kindAt bs at (suc (suc zero)) = positionAt bs at (2 ^ 36)
 kindAt bs at (suc (suc (suc k))) = Bad at
@@ -41,14 +41,14 @@ pub record Parsed : Type 0 where
 abbrev pub stopped : Option ℕ → Parsed
 stopped f = record { keys = []; fault = f }
 
-abbrev pub before : ℕ → Parsed → Parsed
-before q p = record { keys = q ∷ p .keys; fault = p .fault }
+abbrev pub keyBefore : ℕ → Parsed → Parsed
+keyBefore q p = record { keys = q ∷ p .keys; fault = p .fault }
 
 -- the records from a byte on, where n more positions may come: one more is refused at its record
 unfoldable pub recordsFrom : ℕ → List ℕ → ℕ → Parsed
 recordsFrom zero bs at = elim (recordAt bs at) [ Position q ↦ stopped (some at) | End ↦ stopped none | Bad b ↦ stopped (some b) ]
 recordsFrom (suc n) bs at =
-    elim (recordAt bs at) [ Position q ↦ before q (recordsFrom n bs (at + 5)) | End ↦ stopped none | Bad b ↦ stopped (some b) ]
+    elim (recordAt bs at) [ Position q ↦ keyBefore q (recordsFrom n bs (at + 5)) | End ↦ stopped none | Bad b ↦ stopped (some b) ]
 
 -- "over 8192 positions"
 abbrev pub records : List ℕ → Parsed

@@ -2,9 +2,9 @@
 ghost use mathlib.Core.List.{[], _∷_, _++_};
 ghost use Prim.Native.Nat.{_^_};
 ghost use Rattle.text.specs.Text.{decimal};
-ghost use Rattle.text.specs.Writing.{Put};
+ghost use Rattle.text.specs.TextPut.{Put};
 ghost use Rattle.listing.specs.Listing.{refusedWord, atWord};
-ghost use Rattle.listing.specs.Answer.{answerText};
+ghost use Rattle.listing.specs.ListingAnswer.{answerText};
 use crate::lines::put_lanes;
 use text::put_bytes;
 use text::put_number;

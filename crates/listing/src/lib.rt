@@ -8,9 +8,9 @@ ghost use mathlib.Core.Path.{_≡_};
 ghost use Prim.Native.Nat.{_≤_};
 ghost use lib.ListN.{length, take, replicate};
 ghost use lib.Seq.{sets};
-ghost use Rattle.reads.specs.Outcome.{roomAfter};
+ghost use Rattle.reads.specs.SetAnswer.{setRoomAfter};
 ghost use Rattle.listing.specs.Records.{records};
-ghost use Rattle.listing.specs.Answer.{answerTo, sectionAfter, answerText};
+ghost use Rattle.listing.specs.ListingAnswer.{answerTo, sectionAfter, answerText};
 ghost use Rattle.listing.specs.Listing.{listing, listed, listedOf, textAfter};
 use answer::Said;
 use answer::put_answer;
@@ -59,7 +59,7 @@ fn text_length(answer: Said, section: &[u32]) -> usize
 // What the listing program prints for the bytes of its standard input.
 pub fn list(records: &[u8], room: &mut [u32], out: &mut [u8]) -> Listed
     ensures { λ r. ⌜ r ≡ listedOf (listed (now (records .entry)) (length (now (out .entry))) (length (now (room .entry)))) ⌝ }
-    ensures { λ _. ⌜ now (room .exit) ≡ roomAfter (now (room .entry)) ⌝ }
+    ensures { λ _. ⌜ now (room .exit) ≡ setRoomAfter (now (room .entry)) ⌝ }
     ensures { λ _. ⌜ now (out .exit) ≡ textAfter (listed (now (records .entry)) (length (now (out .entry))) (length (now (room .entry)))) (now (out .entry)) ⌝ }
 {
     if room.len() < 16384 {

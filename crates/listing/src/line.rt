@@ -1,7 +1,7 @@
 // A line as text: its writers put their text as those of crate `text` do.
 ghost use mathlib.Core.Path.{_≡_};
 ghost use Prim.Native.Nat.{_^_, _<_};
-ghost use Rattle.text.specs.Writing.{Put};
+ghost use Rattle.text.specs.TextPut.{Put};
 ghost use Rattle.listing.specs.Line.{hexDigit, hex, kindLetter, line};
 use text::put;
 use text::put_number;

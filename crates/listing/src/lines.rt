@@ -2,8 +2,8 @@
 ghost use mathlib.Core.Path.{_≡_};
 ghost use Prim.Native.Nat.{_*_, _^_, _<_};
 ghost use lib.ListN.{getD};
-ghost use Rattle.listing.specs.Section.{placeLine, lanePlaces, places};
-ghost use Rattle.text.specs.Writing.{Put};
+ghost use Rattle.listing.specs.SectionLines.{pairLine, laneRoundLines, sectionLines};
+ghost use Rattle.text.specs.TextPut.{Put};
 use crate::line::put_line;
 use words::edition::Edition;
 
@@ -20,7 +20,7 @@ fn word_at(section: &[u32], i: usize) -> u32
 // The line of a lane in a round; none where the mask is 0.
 pub fn put_place(out: &mut [u8], at: usize, section: &[u32], lane: usize, round: usize) -> usize
     requires { ⌜ (at < 2 ^ 60) × (lane < 2 ^ 32) × (round < 2 ^ 32) ⌝ }
-    ensures { λ r. ⌜ Put 74 (placeLine 256 (now (section .entry)) lane round) (now (out .entry)) at (now (out .exit)) r ⌝ }
+    ensures { λ r. ⌜ Put 74 (pairLine 256 (now (section .entry)) lane round) (now (out .entry)) at (now (out .exit)) r ⌝ }
 {
     let place = 2 * Edition::LANES * round + 2 * lane;
     let mask = word_at(section, place + 1);
@@ -33,7 +33,7 @@ pub fn put_place(out: &mut [u8], at: usize, section: &[u32], lane: usize, round:
 // The lines of a lane.
 pub fn put_lane(out: &mut [u8], at: usize, section: &[u32], lane: usize, rounds: u32) -> usize
     requires { ⌜ (at < 2 ^ 59) × (lane < 2 ^ 32) ⌝ }
-    ensures { λ r. ⌜ Put (74 * 2 ^ 32) (lanePlaces 256 (now (section .entry)) lane rounds 0) (now (out .entry)) at (now (out .exit)) r ⌝ }
+    ensures { λ r. ⌜ Put (74 * 2 ^ 32) (laneRoundLines 256 (now (section .entry)) lane rounds 0) (now (out .entry)) at (now (out .exit)) r ⌝ }
 {
     let mut end = at;
     let mut round = 0;
@@ -47,7 +47,7 @@ pub fn put_lane(out: &mut [u8], at: usize, section: &[u32], lane: usize, rounds:
 // All lines.
 pub fn put_lanes(out: &mut [u8], at: usize, section: &[u32], rounds: u32) -> usize
     requires { ⌜ at < 2 ^ 58 ⌝ }
-    ensures { λ r. ⌜ Put (256 * (74 * 2 ^ 32)) (places 256 (now (section .entry)) rounds 256 0) (now (out .entry)) at (now (out .exit)) r ⌝ }
+    ensures { λ r. ⌜ Put (256 * (74 * 2 ^ 32)) (sectionLines 256 (now (section .entry)) rounds 256 0) (now (out .entry)) at (now (out .exit)) r ⌝ }
 {
     let mut end = at;
     let mut lane = 0;

@@ -4,7 +4,7 @@ ghost use Prim.Native.Nat.{_+_, _^_, _≤_, _<_};
 ghost use lib.ListN.{length};
 ghost use lib.Seq.{sets};
 ghost use Rattle.listing.specs.Records.{numberAt, recordAt, recordsFrom, records};
-ghost use Rattle.listing.specs.Reading.{readOf, setOf, setAfter};
+ghost use Rattle.listing.specs.RecordsRead.{readOf, setOf, setAfter};
 
 // What stands at a byte: a position, as the bit it asks for; the end; or a record that is refused, with the byte it is told at.
 pub enum Record {

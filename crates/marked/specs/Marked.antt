@@ -6,22 +6,22 @@ use Prim.Native.Nat.{ℕ, _^_}
 use Rattle.words.specs.Bit.{popIn}
 use Rattle.reads.specs.ReadSet.{total, pairsFrom, pairForm, brokenFrom}
 use Rattle.reads.specs.Search.{piecesIn, insertPiece, ordered, joined, firstRoom, tryFrom, firstWin, longest}
-use Rattle.reads.specs.Local.{maskIn, later, localAt, roundFrom, spotFrom, localOf}
-use Rattle.reads.specs.Outcome.{packed, readSet, fitted, outcome}
+use Rattle.reads.specs.Local.{maskIn, later, localAt, roundFrom, laneRoundFrom, localOf}
+use Rattle.reads.specs.SetAnswer.{packed, readSet, setFitted, setAnswer}
 use Rattle.words.specs.Sum.{sumTo}
 use Rattle.words.specs.Section.{listOf}
 use Rattle.plan_counts.specs.Counts.{activationsOf, isIn, different, duplicatesIn}
 use Rattle.plan_blocks.specs.Blocks.{leastTo, blockFor, costsAfter, blockIn, comesBefore, takenBefore}
-use Rattle.marked.specs.Reads.{same, ask, positions, seen, readRounds}
+use Rattle.marked.specs.Reads.{alike, bitAsked, positions, seen, readRounds}
 use Rattle.words.specs.Section.{entryOf}
 use Rattle.marked.specs.Plans.{duplicateWords, stagesIn, blocksOfParts, startsOfParts}
 use Rattle.words.specs.Bit.{bit, bitAt, wordOf}
-use Rattle.words.specs.Section.{placeOf, halfOf}
+use Rattle.words.specs.Section.{wordOfEntry, halfOf}
 use Rattle.reads.specs.ReadTurn.{appended, laneWord}
 use Rattle.run_machine.specs.Part.{normalAt, endAt, locationIn, readWordAt, readMaskAt, sectionAt, entryAt, laneWordAt}
 use Rattle.run_machine.specs.Turn.{stateWord, readRow, gate, gateAt, levelBit, positionBit, stageRow, captured, begins, ended, afterRead, afterStage, afterStore, chosenBits, storedWord, stored, turned, written}
 use Rattle.run_machine.specs.Run.{blocksFrom, step, runFrom, turnsFrom, turnsAfter, turnsLeft, allLeft}
-use Rattle.marked.specs.Scripts.{locationsIn, locationsSeen, entrySeen, alwaysOn, gateThree, gateRun}
+use Rattle.marked.specs.Scripts.{markedLocations, locationsSeen, entrySeen, alwaysOn, gateThree, gateRun}
 
 -- what the definitions give, and what document 01 says
 pub record Example : Type 0 where
@@ -34,16 +34,16 @@ marked =
     record { got = readRounds [] []; said = 0 ∷ 3 ∷ 0 ∷ [] }
     -- M2 the listing's set: local positions 1, 0, 32, 64
     ∷ record {
-      got = readRounds (0 ∷ 3 ∷ 1 ∷ 32 ∷ 2 ^ 31 ∷ 1 ∷ []) (ask 0 0 ∷ ask 0 1 ∷ ask 1 5 ∷ ask (2 ^ 31) 0 ∷ []);
+      got = readRounds (0 ∷ 3 ∷ 1 ∷ 32 ∷ 2 ^ 31 ∷ 1 ∷ []) (bitAsked 0 0 ∷ bitAsked 0 1 ∷ bitAsked 1 5 ∷ bitAsked (2 ^ 31) 0 ∷ []);
       said = 1 ∷ 1 ∷ 0 ∷ 32 ∷ 64 ∷ [];
     }
     -- M3 256 words of 17 bits: one each
-    ∷ record { got = readRounds (same 256 0 131071) (ask 0 16 ∷ ask 1 16 ∷ ask 255 16 ∷ []); said = 1 ∷ 0 ∷ 32 ∷ 8160 ∷ [] }
+    ∷ record { got = readRounds (alike 256 0 131071) (bitAsked 0 16 ∷ bitAsked 1 16 ∷ bitAsked 255 16 ∷ []); said = 1 ∷ 0 ∷ 32 ∷ 8160 ∷ [] }
     -- M4 257 of them: 4
-    ∷ record { got = readRounds (same 257 0 131071) []; said = 0 ∷ 4 ∷ 0 ∷ [] }
+    ∷ record { got = readRounds (alike 257 0 131071) []; said = 0 ∷ 4 ∷ 0 ∷ [] }
     -- M5 words 0..255 of one bit, word 256 of 32 bits: word 256 in lane 0, word 255 in lane 1 round 1; rounds 2
     ∷ record {
-      got = readRounds (same 256 0 1 ++ (256 ∷ 4294967295 ∷ [])) (ask 256 31 ∷ ask 256 0 ∷ ask 255 0 ∷ ask 0 0 ∷ []);
+      got = readRounds (alike 256 0 1 ++ (256 ∷ 4294967295 ∷ [])) (bitAsked 256 31 ∷ bitAsked 256 0 ∷ bitAsked 255 0 ∷ bitAsked 0 0 ∷ []);
       said = 2 ∷ 0 ∷ 31 ∷ 32 ∷ 33 ∷ [];
     }
     -- M6 stage 0 locations 1, 2, stage 1 location 3: 0x00020001, 0xFFFF0103
@@ -69,10 +69,10 @@ told [] = []
 told (e ∷ es) = e .said ∷ told es
 
 pub marked-right : given marked ≡ told marked
-unfolding bit bitAt wordOf placeOf halfOf appended laneWord normalAt endAt locationIn readWordAt readMaskAt sectionAt entryAt laneWordAt stateWord readRow gate gateAt
+unfolding bit bitAt wordOf wordOfEntry halfOf appended laneWord normalAt endAt locationIn readWordAt readMaskAt sectionAt entryAt laneWordAt stateWord readRow gate gateAt
     levelBit positionBit stageRow captured begins ended afterRead afterStage afterStore chosenBits storedWord stored turned written blocksFrom step runFrom turnsFrom
-    turnsAfter turnsLeft allLeft entryOf locationsIn locationsSeen entrySeen alwaysOn gateThree gateRun sumTo listOf activationsOf isIn different duplicatesIn leastTo
-    blockFor costsAfter blockIn comesBefore takenBefore duplicateWords stagesIn blocksOfParts startsOfParts marked given told same positions seen popIn total pairsFrom
-    pairForm brokenFrom piecesIn insertPiece ordered joined firstRoom tryFrom firstWin longest maskIn later localAt roundFrom spotFrom localOf packed readSet fitted
-    outcome
+    turnsAfter turnsLeft allLeft entryOf markedLocations locationsSeen entrySeen alwaysOn gateThree gateRun sumTo listOf activationsOf isIn different duplicatesIn leastTo
+    blockFor costsAfter blockIn comesBefore takenBefore duplicateWords stagesIn blocksOfParts startsOfParts marked given told alike positions seen popIn total pairsFrom
+    pairForm brokenFrom piecesIn insertPiece ordered joined firstRoom tryFrom firstWin longest maskIn later localAt roundFrom laneRoundFrom localOf packed readSet setFitted
+    setAnswer
 marked-right = refl

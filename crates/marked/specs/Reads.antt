@@ -6,34 +6,34 @@ use Prim.Native.Nat.{ℕ, zero, suc, _+_}
 use Rattle.reads.specs.Search.{Lane, longest}
 use Rattle.reads.specs.Local.{localOf}
 use Rattle.words.specs.Answer.{Answer, good, refused}
-use Rattle.reads.specs.Outcome.{outcome}
+use Rattle.reads.specs.SetAnswer.{setAnswer}
 
 -- n pairs of the mask m, from the word w on
-unfoldable pub same : ℕ → ℕ → ℕ → List ℕ
-same zero w m = []
-same (suc n) w m = w ∷ m ∷ same n (w + 1) m
+unfoldable pub alike : ℕ → ℕ → ℕ → List ℕ
+alike zero w m = []
+alike (suc n) w m = w ∷ m ∷ alike n (w + 1) m
 
 -- a bit that is asked for: its word and its number
-pub record Asked : Type 0 where
+pub record BitAsked : Type 0 where
   pub word : ℕ
   pub bit : ℕ
 
-abbrev pub ask : ℕ → ℕ → Asked
-ask w k = record { word = w; bit = k }
+abbrev pub bitAsked : ℕ → ℕ → BitAsked
+bitAsked w k = record { word = w; bit = k }
 
 abbrev pub orNone : Option ℕ → ℕ
 orNone none = 9999
 orNone (some n) = n
 
-unfoldable pub positions : List Lane → List Asked → List ℕ
+unfoldable pub positions : List Lane → List BitAsked → List ℕ
 positions ls [] = []
 positions ls (b ∷ bs) = orNone (localOf ls (b .word) (b .bit)) ∷ positions ls bs
 
 -- what is seen of an outcome: the refusal's number and item after a 0; or the rounds, then the local positions of some bits
-unfoldable pub seen : Answer (List Lane) → List Asked → List ℕ
+unfoldable pub seen : Answer (List Lane) → List BitAsked → List ℕ
 seen (refused q) bs = 0 ∷ q .number ∷ q .item ∷ []
 seen (good ls) bs = longest ls ∷ positions ls bs
 
 -- a read set at 256 lanes, with working room and result room enough
-abbrev pub readRounds : List ℕ → List Asked → List ℕ
-readRounds ws bs = seen (outcome 256 ws 16384 16384) bs
+abbrev pub readRounds : List ℕ → List BitAsked → List ℕ
+readRounds ws bs = seen (setAnswer 256 ws 16384 16384) bs

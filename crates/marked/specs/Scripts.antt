@@ -3,21 +3,21 @@
 use mathlib.Core.List.{List, [], _∷_, _++_}
 use Prim.Native.Nat.{ℕ, zero, suc, _+_, _-_, _%_}
 use lib.ListN.{take, replicate}
-use Rattle.words.specs.Section.{placeOf, entryOf}
+use Rattle.words.specs.Section.{wordOfEntry, entryOf}
 use Rattle.script.specs.Script.{stageIn, halfIn, halfWords}
 use Rattle.run_machine.specs.Run.{runTurns, allLeft}
 
 -- M6: two locations in stage 0 and one in stage 1; the first two words
-unfoldable pub locationsIn : ℕ → ℕ
-locationsIn zero = 2
-locationsIn (suc s) = 1
+unfoldable pub markedLocations : ℕ → ℕ
+markedLocations zero = 2
+markedLocations (suc s) = 1
 
 unfoldable pub locationsSeen : List ℕ
-locationsSeen = take 2 (halfWords (halfIn (stageIn locationsIn 2) (λ l. l + 1) 3) 256)
+locationsSeen = take 2 (halfWords (halfIn (stageIn markedLocations 2) (λ l. l + 1) 3) 256)
 
 -- M9: the word of entry 33 and its half, and the entry in the high half of that word
 unfoldable pub entrySeen : List ℕ
-entrySeen = placeOf 256 33 ∷ 33 % 2 ∷ entryOf 256 4 1 ∷ []
+entrySeen = wordOfEntry 256 33 ∷ 33 % 2 ∷ entryOf 256 4 1 ∷ []
 
 -- the four words of m lanes with inv and set0 1 throughout, and data inv 0: always enabled
 unfoldable pub alwaysOn : ℕ → List ℕ

@@ -12,14 +12,14 @@ use lib.ListN.{length, replicate, length-append, length-replicate}
 use lib.Seq.{append-snoc}
 use Rattle.words.proofs.ListLaws.{zeros-at}
 use Rattle.pinmap.specs.declared.PutAnswer.the-variants.{Stored}
-use Rattle.pinmap.specs.PinMap.{capacity, look, putIn, putAnswer, putThere, usedTo, used, Good, Entry, entry, replaced, lastFrom, lastPut, renewed, afterPuts, afterRenewals, Holds, Renewed}
+use Rattle.pinmap.specs.PinMap.{capacity, look, putIn, putAnswer, putThere, usedTo, used, Findable, Entry, entry, replaced, lastFrom, lastPut, renewed, afterPuts, afterRenewals, Holds, Renewed}
 use Rattle.pinmap.proofs.ProbeLaws.{slot-taken}
 use Rattle.pinmap.proofs.PinMapLaws.{look-none, map-law, there-law, put-length, used-new, used-there, used-renewed, used-free-step, room-stored}
 
 -- ---- the empty map
 
-pub zeros-good : (n : ℕ) → Good (replicate n 0)
-unfolding Good
+pub zeros-good : (n : ℕ) → Findable (replicate n 0)
+unfolding Findable
 zeros-good n i q h e = absurd (omega (arith, e, zeros-at n (2 * i)))
 
 -- The cleared table finds nothing, and has no slot taken.

@@ -1,4 +1,4 @@
 pub mod ProbeLaws
 pub mod PinMapLaws
 pub mod HoldsLaws
-pub mod CodeLaws
+pub mod PinMapCodeLaws

@@ -15,7 +15,7 @@ use borrow.Author.Tests.{eqb-true, eqb-false, eq-eqb, ne-eqb}
 use Rattle.pinmap.specs.declared.Slot.{Slot}
 use Rattle.pinmap.specs.declared.Slot.the-variants.{Free, Taken, Nowhere}
 use Rattle.pinmap.specs.declared.PutAnswer.the-variants.{Stored}
-use Rattle.pinmap.specs.PinMap.{capacity, keyAt, valueAt, slotOf, lookAt, look, putAt, putIn, answerAt, putAnswer, putThereAt, putThere, usedTo, used, Good, Entry, entry, replaced, lastFrom, renewed}
+use Rattle.pinmap.specs.PinMap.{capacity, keyAt, valueAt, slotOf, lookAt, look, putAt, putIn, answerAt, putAnswer, putThereAt, putThere, usedTo, used, Findable, Entry, entry, replaced, lastFrom, renewed}
 use Rattle.pinmap.proofs.ProbeLaws.{slot-free, slot-taken, slot-nowhere, slot-kept, slot-given}
 
 -- ---- a table whose slot i has pin p and value v now, where the slot was free or p's
@@ -92,9 +92,9 @@ look-none t q n = go (slotOf t q) refl
     go (Taken i) e = absurd (n i e)
     go Nowhere e = refl
 
-module _ (t u : List ℕ) (p i v : ℕ) (good : Good t) (c : Changed t u p i v) (found : slotOf u p ≡ Taken i) where
-  changed-good : Good u
-  unfolding Good
+module _ (t u : List ℕ) (p i v : ℕ) (good : Findable t) (c : Changed t u p i v) (found : slotOf u p ≡ Taken i) where
+  changed-good : Findable u
+  unfolding Findable
   changed-good j q h k = go (eqb j i) refl
     where
       go : (x : Bool) → eqb j i ≡ x → slotOf u q ≡ Taken j
@@ -110,7 +110,7 @@ module _ (t u : List ℕ) (p i v : ℕ) (good : Good t) (c : Changed t u p i v) 
   apart q k n e same = n (omega (arith, (rw same at e), c .key))
 
   same-look : (q : ℕ) → (q ≡ p → ⊥) → look u q ≡ look t q
-  unfolding Good lookAt
+  unfolding Findable lookAt
   same-look q n = go (slotOf t q) refl
     where
       there : (k : ℕ) → slotOf t q ≡ Taken k → look u q ≡ look t q
@@ -156,8 +156,8 @@ stored t p v h = go (slotOf t p) refl h
     go Nowhere e a = let z : _≡_ {A = ℕ} 0 1 = cc in absurd (omega arith)
 
 -- After a put that is stored, its value is found for its pin, and for every other pin what was found before.
-pub map-law : (t : List ℕ) (p v : ℕ) → Good t → putAnswer t p ≡ Stored
-    → Good (putIn t p v) × ((q : ℕ) → look (putIn t p v) q ≡ elim (eqb q p) [ true ↦ some v | false ↦ look t q ])
+pub map-law : (t : List ℕ) (p v : ℕ) → Findable t → putAnswer t p ≡ Stored
+    → Findable (putIn t p v) × ((q : ℕ) → look (putIn t p v) q ≡ elim (eqb q p) [ true ↦ some v | false ↦ look t q ])
 map-law t p v good h =
     let (i, c, found) = stored t p v h in
     (changed-good t (putIn t p v) p i v good c found, changed-look t (putIn t p v) p i v good c found)
@@ -215,11 +215,11 @@ renew-there t p v q w h = go (eqb q p) refl
     go false e = replaced-other (entry p v) q (look t q) (eqb-false q p e) ∙ sym (renew-other p v q (look t q) (eqb-false q p e))
 
 -- After a put where the pin is there, the pins that are found are those of before, and just this one's value is new.
-pub there-law : (t : List ℕ) (p v : ℕ) → Good t → Good (putThere t p v) × ((q : ℕ) → look (putThere t p v) q ≡ renewed (look t q) (entry p v ∷ []) q)
+pub there-law : (t : List ℕ) (p v : ℕ) → Findable t → Findable (putThere t p v) × ((q : ℕ) → look (putThere t p v) q ≡ renewed (look t q) (entry p v ∷ []) q)
 unfolding putThereAt lookAt
 there-law t p v good = go (slotOf t p) refl
   where
-    go : (s : Slot) → slotOf t p ≡ s → Good (putThereAt t v s) × ((q : ℕ) → look (putThereAt t v s) q ≡ renewed (look t q) (entry p v ∷ []) q)
+    go : (s : Slot) → slotOf t p ≡ s → Findable (putThereAt t v s) × ((q : ℕ) → look (putThereAt t v s) q ≡ renewed (look t q) (entry p v ∷ []) q)
     go (Free i) e = (good, λ q. renew-none t p v q (rw e))
     go (Taken i) e =
         let at : (i < capacity t) × (keyAt t i ≡ p + 1) = slot-taken t p i e in

@@ -52,9 +52,9 @@ lookAt t Nowhere = none
 abbrev pub look : List ℕ → ℕ → Option ℕ
 look t p = lookAt t (slotOf t p)
 
-abbrev pub foundOf : Option ℕ → Found
-foundOf none = Missing
-foundOf (some v) = Value v
+abbrev pub lookAnswer : Option ℕ → Found
+lookAnswer none = Missing
+lookAnswer (some v) = Value v
 
 -- the words after a put of value v for pin p, and its answer
 unfoldable pub putAt : List ℕ → ℕ → ℕ → Slot → List ℕ
@@ -95,8 +95,8 @@ abbrev pub HasOther : List ℕ → ℕ → ℕ → Type 0
 HasOther t p i = (keyAt t i ≡ 0 → ⊥) × (keyAt t i ≡ p + 1 → ⊥)
 
 -- what every put keeps: probing for a pin that has a slot finds that slot
-unfoldable pub Good : List ℕ → Type 0
-Good t = (i q : ℕ) → i < capacity t → keyAt t i ≡ q + 1 → slotOf t q ≡ Taken i
+unfoldable pub Findable : List ℕ → Type 0
+Findable t = (i q : ℕ) → i < capacity t → keyAt t i ≡ q + 1 → slotOf t q ≡ Taken i
 
 -- ---- many puts, one after the other
 
@@ -134,12 +134,12 @@ afterRenewals t (e ∷ es) = afterRenewals (putThere t (e .pin) (e .value)) es
 
 -- a table that finds just what was put
 pub record Holds (t : List ℕ) (puts : List Entry) : Type 0 where
-  pub good : Good t
+  pub good : Findable t
   pub finds : (q : ℕ) → look t q ≡ lastPut puts q
   pub few : used t ≤ length puts
 
 -- the same where renewals came after the puts
 pub record Renewed (t : List ℕ) (puts renewals : List Entry) : Type 0 where
-  pub good : Good t
+  pub good : Findable t
   pub finds : (q : ℕ) → look t q ≡ renewed (lastPut puts q) renewals q
   pub few : used t ≤ length puts

@@ -2,7 +2,7 @@
 ghost use mathlib.Core.Path.{_≡_};
 ghost use Prim.Native.Nat.{_+_, _*_, _-_, _<_, _^_};
 ghost use lib.ListN.{set};
-ghost use Rattle.pinmap.specs.PinMap.{capacity, keyAt, valueAt, home, slotOf, putAnswer, putIn, putThere, look, foundOf};
+ghost use Rattle.pinmap.specs.PinMap.{capacity, keyAt, valueAt, home, slotOf, putAnswer, putIn, putThere, look, lookAnswer};
 use words::round::next_of;
 use words::units::Pin;
 
@@ -121,7 +121,7 @@ pub fn put(t: &mut [u32], p: Pin, v: u32) -> PutAnswer
 // The value of a pin.
 pub fn look_up(t: &[u32], p: Pin) -> Found
     requires { ⌜ p .0 < 2 ^ 32 - 1 ⌝ }
-    ensures { λ r. ⌜ r ≡ foundOf (look (now (t .entry)) (p .0)) ⌝ }
+    ensures { λ r. ⌜ r ≡ lookAnswer (look (now (t .entry)) (p .0)) ⌝ }
 {
     match probe(t, p) {
         Slot::Free(_) => Found::Missing,

@@ -1,9 +1,9 @@
 pub mod TotalLaws
-pub mod OrderLaws
-pub mod BlockLaws
-pub mod RecordLaws
-pub mod FillLaws
-pub mod StepLaws
-pub mod StartLaws
-pub mod StageLaws
+pub mod BlockOrderLaws
+pub mod LeastCostLaws
+pub mod BlockCostLaws
+pub mod CellLaws
+pub mod OnePartMoreLaws
+pub mod StateStartLaws
+pub mod MajorStageLaws
 pub mod TallyLaws

@@ -7,11 +7,11 @@ use native.Mathlib.Omega.{arith}
 use Rattle.words.specs.Sum.{sumTo}
 use Rattle.words.proofs.SumLaws.{sum-ext}
 use Rattle.plan_record.specs.Record.{layoutOf, majorsOf, partsOf}
-use Rattle.plan_record.proofs.FormLaws.{formed}
+use Rattle.plan_record.proofs.PlanFormLaws.{formed}
 use Rattle.plan_rows.specs.Columns as col
 use Rattle.plan_rows.specs.Rows.{cellAt, ColumnIn}
 use Rattle.plan_blocks.specs.Blocks.{stateOf, sramOf, stateWords, sramWords}
-use Rattle.plan_blocks.specs.Fill.{Tallied}
+use Rattle.plan_blocks.specs.TableFill.{Tallied}
 use Rattle.plan_blocks.proofs.TotalLaws.{sum-scale}
 
 module _ (d room : List ℕ) (t : Tallied d room) where

@@ -11,22 +11,22 @@ use borrow.Author.Tests.{eq-eqb, ne-eqb, lt-ltb, le-ltb}
 use lib.Dec.{eqb, ltb}
 use Rattle.words.specs.Sum.{sumTo}
 use Rattle.words.proofs.BitLaws.{lt-or-ge}
-use Rattle.plan_blocks.specs.Sums.{given}
+use Rattle.plan_blocks.specs.Sums.{whereTrue}
 
-pub three : (a b : ℕ) → (a < b) ⊎ ((a ≡ b) ⊎ (b < a))
-three a b = ⊎-elim (λ l. inl l) (λ g. ⊎-elim (λ l. inr (inr l)) (λ h. inr (inl (omega arith))) (lt-or-ge b a)) (lt-or-ge a b)
+pub three-ways : (a b : ℕ) → (a < b) ⊎ ((a ≡ b) ⊎ (b < a))
+three-ways a b = ⊎-elim (λ l. inl l) (λ g. ⊎-elim (λ l. inr (inr l)) (λ h. inr (inl (omega arith))) (lt-or-ge b a)) (lt-or-ge a b)
 
 pub same-or : (a b : ℕ) → (a ≡ b) ⊎ (a ≡ b → ⊥)
-same-or a b = ⊎-elim (λ l. inr (λ e. omega arith)) (λ r. ⊎-elim (λ e. inl e) (λ l. inr (λ e. omega arith)) r) (three a b)
+same-or a b = ⊎-elim (λ l. inr (λ e. omega arith)) (λ r. ⊎-elim (λ e. inl e) (λ l. inr (λ e. omega arith)) r) (three-ways a b)
 
-pub given-le : (b : Bool) (w : ℕ) → given b w ≤ w
+pub given-le : (b : Bool) (w : ℕ) → whereTrue b w ≤ w
 given-le true w = omega arith
 given-le false w = omega arith
 
-pub given-true : (b : Bool) (w : ℕ) → b ≡ true → given b w ≡ w
+pub given-true : (b : Bool) (w : ℕ) → b ≡ true → whereTrue b w ≡ w
 given-true b w e = rw e
 
-pub given-false : (b : Bool) (w : ℕ) → b ≡ false → given b w ≡ 0
+pub given-false : (b : Bool) (w : ℕ) → b ≡ false → whereTrue b w ≡ 0
 given-false b w e = rw e
 
 pub sum-zero : (f : ℕ → ℕ) (n : ℕ) → ((i : ℕ) → i < n → f i ≡ 0) → sumTo f n ≡ 0
@@ -71,7 +71,7 @@ sum-swap f zero n = sym (sum-zero (λ j. 0) n (λ i k. refl))
 sum-swap f (suc m) n = ap (λ (x : ℕ). x + sumTo (f m) n) (sum-swap f m n) ∙ sym (sum-add (λ j. sumTo (λ i. f i j) m) (f m) n)
 
 -- the term of one number alone
-pub sum-only : (f : ℕ → ℕ) (n k : ℕ) → k < n → sumTo (λ i. given (eqb i k) (f i)) n ≡ f k
+pub sum-only : (f : ℕ → ℕ) (n k : ℕ) → k < n → sumTo (λ i. whereTrue (eqb i k) (f i)) n ≡ f k
 unfolding sumTo
 sum-only f zero k h = absurd (not-suc-le-zero h)
 sum-only f (suc n) k h =
@@ -82,19 +82,19 @@ sum-only f (suc n) k h =
     let e : n ≡ k = omega arith in
     omega (
       arith,
-      sum-zero (λ i. given (eqb i k) (f i)) n (λ i g. given-false (eqb i k) (f i) (ne-eqb i k (omega arith))),
+      sum-zero (λ i. whereTrue (eqb i k) (f i)) n (λ i g. given-false (eqb i k) (f i) (ne-eqb i k (omega arith))),
       given-true (eqb n k) (f n) (eq-eqb n k e),
       ap f e,
     ))
     (lt-or-ge k n)
 
 -- a number k is met once by the numbers below n if it is below n, else never
-pub sum-meets : (w k n : ℕ) → sumTo (λ b. given (eqb k b) w) n ≡ given (ltb k n) w
+pub sum-meets : (w k n : ℕ) → sumTo (λ b. whereTrue (eqb k b) w) n ≡ whereTrue (ltb k n) w
 unfolding sumTo
 sum-meets w k zero = sym (given-false (ltb k 0) w (le-ltb k 0 (omega arith)))
-sum-meets w k (suc n) = ⊎-elim (below (sum-meets w k n)) (λ r. ⊎-elim (here (sum-meets w k n)) (above (sum-meets w k n)) r) (three k n)
+sum-meets w k (suc n) = ⊎-elim (below (sum-meets w k n)) (λ r. ⊎-elim (here (sum-meets w k n)) (above (sum-meets w k n)) r) (three-ways k n)
   where
-    below : sumTo (λ b. given (eqb k b) w) n ≡ given (ltb k n) w → k < n → sumTo (λ b. given (eqb k b) w) n + given (eqb k n) w ≡ given (ltb k (suc n)) w
+    below : sumTo (λ b. whereTrue (eqb k b) w) n ≡ whereTrue (ltb k n) w → k < n → sumTo (λ b. whereTrue (eqb k b) w) n + whereTrue (eqb k n) w ≡ whereTrue (ltb k (suc n)) w
     below r l =
         omega (
           arith,
@@ -103,7 +103,7 @@ sum-meets w k (suc n) = ⊎-elim (below (sum-meets w k n)) (λ r. ⊎-elim (here
           given-true (ltb k (suc n)) w (lt-ltb k (suc n) (omega arith)),
         )
 
-    here : sumTo (λ b. given (eqb k b) w) n ≡ given (ltb k n) w → k ≡ n → sumTo (λ b. given (eqb k b) w) n + given (eqb k n) w ≡ given (ltb k (suc n)) w
+    here : sumTo (λ b. whereTrue (eqb k b) w) n ≡ whereTrue (ltb k n) w → k ≡ n → sumTo (λ b. whereTrue (eqb k b) w) n + whereTrue (eqb k n) w ≡ whereTrue (ltb k (suc n)) w
     here r e =
         omega (
           arith,
@@ -112,7 +112,7 @@ sum-meets w k (suc n) = ⊎-elim (below (sum-meets w k n)) (λ r. ⊎-elim (here
           given-true (ltb k (suc n)) w (lt-ltb k (suc n) (omega arith)),
         )
 
-    above : sumTo (λ b. given (eqb k b) w) n ≡ given (ltb k n) w → n < k → sumTo (λ b. given (eqb k b) w) n + given (eqb k n) w ≡ given (ltb k (suc n)) w
+    above : sumTo (λ b. whereTrue (eqb k b) w) n ≡ whereTrue (ltb k n) w → n < k → sumTo (λ b. whereTrue (eqb k b) w) n + whereTrue (eqb k n) w ≡ whereTrue (ltb k (suc n)) w
     above r l =
         omega (
           arith,

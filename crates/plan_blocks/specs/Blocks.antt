@@ -2,7 +2,7 @@
 -- part i of major stage s is part partsBefore d s + i of the plan.
 -- Assumes nothing.
 use mathlib.Core.Bool.{Bool, true, false, _&&_, _||_}
-use mathlib.Core.List.{List, [], _∷_}
+use mathlib.Core.List.{List}
 use Prim.Native.Nat.{ℕ, zero, suc, _+_, _*_, _-_, _/_, _^_}
 use lib.Dec.{leb, ltb, eqb}
 use lib.ListN.{getD, set, replicate}

@@ -1,4 +1,4 @@
 pub mod Blocks
-pub mod Fill
+pub mod TableFill
 pub mod Sums
-pub mod Table
+pub mod PartTable

@@ -6,9 +6,9 @@ use lib.Dec.{eqb}
 use Rattle.words.specs.Sum.{sumTo}
 
 -- w where a test holds, else nothing
-abbrev pub given : Bool → ℕ → ℕ
-given b w = elim b [ true ↦ w | false ↦ 0 ]
+abbrev pub whereTrue : Bool → ℕ → ℕ
+whereTrue b w = elim b [ true ↦ w | false ↦ 0 ]
 
 -- what the first n parts, which take `words` each, take in block b
 unfoldable pub inBlock : (ℕ → ℕ) → (ℕ → ℕ) → ℕ → ℕ → ℕ
-inBlock block words b n = sumTo (λ j. given (eqb (block j) b) (words j)) n
+inBlock block words b n = sumTo (λ j. whereTrue (eqb (block j) b) (words j)) n

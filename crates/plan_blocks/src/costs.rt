@@ -6,7 +6,7 @@ ghost use Rattle.plan_record.specs.Record.{stagesOf};
 ghost use Rattle.plan_blocks.specs.Blocks.{leastTo, blockFor, costsAfter};
 ghost use Rattle.plan_rows.specs.Columns as col;
 ghost use Rattle.plan_rows.specs.Rows.{cell};
-ghost use Rattle.plan_blocks.specs.Fill.{Puttable, StagePlaceable, blank, costsOf, countsOf, withPart, lesser, placedRows, partCounts};
+ghost use Rattle.plan_blocks.specs.TableFill.{PartPuttable, StagePlaceable, blank, costsOf, blockPartCounts, withPart, lesser, placedRows, partCounts};
 use plan_record::numbers::stages_at;
 use plan_record::places::head_base;
 use plan_rows::Column;
@@ -28,7 +28,7 @@ pub fn no_parts() -> [BlockCost; 1024]
 
 // A part more in block b: the one place where a record changes.
 pub fn put_part(blocks: &mut [BlockCost], b: usize, cost: u32)
-    requires { ⌜ Puttable (now blocks) b cost ⌝ }
+    requires { ⌜ PartPuttable (now blocks) b cost ⌝ }
     ensures { λ _. ⌜ now (blocks .exit) ≡ withPart (now (blocks .entry)) b cost ⌝ }
 {
     blocks[b].parts += 1;
@@ -37,7 +37,7 @@ pub fn put_part(blocks: &mut [BlockCost], b: usize, cost: u32)
 
 // The records with a part more in block b: they are lent to `put_part` here alone.
 pub fn with_part(mut blocks: [BlockCost; 1024], b: usize, cost: u32) -> [BlockCost; 1024]
-    requires { ⌜ Puttable blocks b cost ⌝ }
+    requires { ⌜ PartPuttable blocks b cost ⌝ }
     ensures { λ r. ⌜ r ≡ withPart blocks b cost ⌝ }
 {
     put_part(&mut blocks, b, cost);
@@ -107,7 +107,7 @@ pub fn place_parts(
     requires { ⌜ StagePlaceable (now d) (now room) n base count × (blocks ≡ replicate 1024 blank) ⌝ }
     ensures { λ _. ⌜ now (room .exit) ≡ placedRows (now (d .entry)) (now (room .entry)) n base count ⌝ }
     ensures { λ r. ⌜ costsOf n r ≡ costsAfter n (λ i. stagesOf (now (d .entry)) (base + i)) count ⌝ }
-    ensures { λ r. ⌜ countsOf n r ≡ partCounts (now (d .entry)) n base count ⌝ }
+    ensures { λ r. ⌜ blockPartCounts n r ≡ partCounts (now (d .entry)) n base count ⌝ }
 {
     let mut placed = blocks;
     let mut i = 0;
@@ -124,7 +124,7 @@ pub fn place_parts(
 // The part counts of the first blocks alone.
 pub fn take_counts(blocks: [BlockCost; 1024], counts: &mut [u32])
     requires { ⌜ length (now counts) ≤ 1024 ⌝ }
-    ensures { λ _. ⌜ now (counts .exit) ≡ countsOf (length (now (counts .entry))) blocks ⌝ }
+    ensures { λ _. ⌜ now (counts .exit) ≡ blockPartCounts (length (now (counts .entry))) blocks ⌝ }
 {
     let mut b = 0;
     while b < counts.len() {

@@ -1,7 +1,7 @@
 // The sizes of the whole state and of all SRAM, by the part table.
 ghost use mathlib.Core.Path.{_≡_};
 ghost use Rattle.plan_blocks.specs.Blocks.{stateWords, sramWords};
-ghost use Rattle.plan_blocks.specs.Fill.{Tallied};
+ghost use Rattle.plan_blocks.specs.TableFill.{Tallied};
 use plan_record::bodies::parts_of;
 use plan_record::numbers::layout_of;
 use plan_rows::Column;

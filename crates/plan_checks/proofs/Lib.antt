@@ -1,5 +1,5 @@
 pub mod PassedLaws
 pub mod VerdictLaws
-pub mod PlaceLaws
-pub mod StepLaws
-pub mod RoomLaws
+pub mod RefusalPlaceLaws
+pub mod RefusalGroupLaws
+pub mod CheckedRoomLaws

@@ -8,7 +8,7 @@ use Rattle.words.specs.Tests.{Place}
 use Rattle.words.proofs.TestLaws.{not-both}
 use Rattle.words.specs.declared.refusals.Refusal.{Refusal}
 use Rattle.plan_checks.specs.Refusals.{orElse, unless}
-use Rattle.plan_checks.specs.Steps.{first}
+use Rattle.plan_checks.specs.RefusalGroups.{first}
 use Rattle.plan_checks.specs.Verdicts.{verdictOf, isRefused}
 use Rattle.plan_checks.specs.declared.Verdict.{Verdict}
 use Rattle.plan_checks.proofs.PassedLaws.{past, past-unless}

@@ -1,4 +1,4 @@
 pub mod Refusals
-pub mod Steps
+pub mod RefusalGroups
 pub mod Verdicts
-pub mod Ready
+pub mod CheckedRoom

@@ -8,7 +8,7 @@ use lib.Dec.{leb}
 use Rattle.words.specs.Answer.{at, nowhere}
 use Rattle.words.specs.Tests.{Place}
 use Rattle.words.specs.declared.refusals.Refusal.{Refusal}
-use Rattle.plan_record.specs.Form.{planForm, roomWords}
+use Rattle.plan_record.specs.Form.{planForm, planRoomWords}
 use Rattle.plan_gates.specs.Gates.{badGate}
 use Rattle.plan_counts.specs.Counts.{refusal7}
 use Rattle.plan_blocks.specs.Blocks.{totalsFit}
@@ -48,4 +48,4 @@ planRefusal n d =
 
 -- "working room too short; before all others": a room of r words
 unfoldable pub planVerdict : ℕ → List ℕ → ℕ → Option Refusal
-planVerdict n d r = elim (leb (roomWords d) r) [ true ↦ planRefusal n d | false ↦ some (nowhere 32) ]
+planVerdict n d r = elim (leb (planRoomWords d) r) [ true ↦ planRefusal n d | false ↦ some (nowhere 32) ]

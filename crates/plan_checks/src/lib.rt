@@ -10,7 +10,7 @@ ghost use mathlib.Core.Option.{none};
 ghost use lib.ListN.{length};
 ghost use Rattle.plan_checks.specs.Refusals.{planRefusal, planVerdict};
 ghost use Rattle.plan_checks.specs.Verdicts.{verdictOf};
-ghost use Rattle.plan_checks.specs.Ready.{Ready, Cleared, readyRoom, roomLeft};
+ghost use Rattle.plan_checks.specs.CheckedRoom.{PlanReady, Cleared, readyRoom, roomLeft};
 use lists::check_lists;
 use lists::check_totals;
 use pins::check_pins;
@@ -57,7 +57,7 @@ fn check_all(plan: &[u8], room: &mut [u32]) -> Verdict
 pub fn check_plan(plan: &[u8], room: &mut [u32]) -> Verdict
     ensures { λ r. ⌜ r ≡ verdictOf (planVerdict 256 (now (plan .entry)) (length (now (room .entry)))) ⌝ }
     ensures { λ _. ⌜ now (room .exit) ≡ roomLeft (now (plan .entry)) (now (room .entry)) ⌝ }
-    ensures { λ _. ⌜ (planVerdict 256 (now (plan .entry)) (length (now (room .entry))) ≡ none → Ready (now (plan .entry)) (now (room .exit))) ⌝ }
+    ensures { λ _. ⌜ (planVerdict 256 (now (plan .entry)) (length (now (room .entry))) ≡ none → PlanReady (now (plan .entry)) (now (room .exit))) ⌝ }
 {
     if room.len() < room_words(plan) {
         return Verdict::Refused(Refusal {

@@ -1,7 +1,7 @@
 // Refusals 5, 6 and 7, and 8 with the part table.
 ghost use mathlib.Core.Path.{_≡_};
-ghost use Rattle.plan_blocks.specs.Fill.{Fillable, allottedRoom};
-ghost use Rattle.plan_checks.specs.Steps.{listRefusal, totalRefusal};
+ghost use Rattle.plan_blocks.specs.TableFill.{TableFillable, allottedRoom};
+ghost use Rattle.plan_checks.specs.RefusalGroups.{listRefusal, totalRefusal};
 ghost use Rattle.plan_checks.specs.Verdicts.{verdictOf};
 use crate::Verdict;
 use crate::tell::is_refused;
@@ -33,7 +33,7 @@ pub fn check_lists(plan: &[u8]) -> Verdict
 
 // Refusal 8.
 pub fn check_totals(plan: &[u8], room: &mut [u32]) -> Verdict
-    requires { ⌜ Fillable (now plan) (now room) ⌝ }
+    requires { ⌜ TableFillable (now plan) (now room) ⌝ }
     ensures { λ r. ⌜ r ≡ verdictOf (totalRefusal (now (plan .entry))) ⌝ }
     ensures { λ _. ⌜ now (room .exit) ≡ allottedRoom (now (plan .entry)) (now (room .entry)) ⌝ }
 {

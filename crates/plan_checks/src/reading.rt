@@ -1,9 +1,9 @@
 // Refusals 3 and 4, and the rounds of each part.
 ghost use mathlib.Core.Path.{_≡_};
 ghost use Rattle.plan_reads.specs.PartReads.{refusedReads};
-ghost use Rattle.plan_reads.specs.Ready.{Searchable};
-ghost use Rattle.plan_reads.specs.Answers.{checkedOf, searchedRoom};
-ghost use Rattle.plan_checks.specs.Steps.{readRefusal};
+ghost use Rattle.plan_reads.specs.ReadsReady.{ReadsSearchable};
+ghost use Rattle.plan_reads.specs.PartReadAnswers.{checkedOf, searchedRoom};
+ghost use Rattle.plan_checks.specs.RefusalGroups.{readRefusal};
 ghost use Rattle.plan_checks.specs.Verdicts.{verdictOf};
 use crate::Verdict;
 use crate::tell::of_reads;
@@ -12,7 +12,7 @@ use plan_reads::check::check_reads;
 
 // The search over all parts, with room for its keys and sets.
 fn search_parts(plan: &[u8], room: &mut [u32]) -> Checked
-    requires { ⌜ Searchable (now plan) (now room) ⌝ }
+    requires { ⌜ ReadsSearchable (now plan) (now room) ⌝ }
     ensures { λ r. ⌜ r ≡ checkedOf (refusedReads 256 3 (now (plan .entry))) (refusedReads 256 4 (now (plan .entry))) ⌝ }
     ensures { λ _. ⌜ now (room .exit) ≡ searchedRoom (now (plan .entry)) (now (room .entry)) ⌝ }
 {
@@ -24,7 +24,7 @@ fn search_parts(plan: &[u8], room: &mut [u32]) -> Checked
 
 // Refusals 3 and 4.
 pub fn check_reading(plan: &[u8], room: &mut [u32]) -> Verdict
-    requires { ⌜ Searchable (now plan) (now room) ⌝ }
+    requires { ⌜ ReadsSearchable (now plan) (now room) ⌝ }
     ensures { λ r. ⌜ r ≡ verdictOf (readRefusal 256 (now (plan .entry))) ⌝ }
     ensures { λ _. ⌜ now (room .exit) ≡ searchedRoom (now (plan .entry)) (now (room .entry)) ⌝ }
 {

@@ -10,7 +10,7 @@ use lib.Seq.{sets, sets-eq, take-at, drop-append-add, drop-drop}
 use Rattle.plan_record.specs.Record.{endpointsOf, endpointKind, endpointX, endpointY}
 use Rattle.plan_counts.specs.Counts.{activationsOf, activationsTo, activations}
 use Rattle.plan_counts.specs.Parts.{activationsAt}
-use Rattle.plan_counts.proofs.KeyLaws.{no-key}
+use Rattle.plan_counts.proofs.ActivationLaws.{no-key}
 
 -- ---- one endpoint
 

@@ -1,4 +1,4 @@
 pub mod CollectLaws
-pub mod CountLaws
-pub mod KeyLaws
-pub mod PartLaws
+pub mod DifferentLaws
+pub mod ActivationLaws
+pub mod PartCountLaws

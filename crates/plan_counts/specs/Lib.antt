@@ -1,3 +1,3 @@
 pub mod Counts
 pub mod Parts
-pub mod Steps
+pub mod Neighbours

@@ -1,6 +1,6 @@
 -- Laws of a plan's gate list: those of `gatelist`, and on bits the code's operations are the definition's.
 -- Assumes nothing.
-use mathlib.Core.Path.{_≡_, refl, ap, ap₂, _∙_}
+use mathlib.Core.Path.{_≡_, refl, ap₂, _∙_}
 use mathlib.Core.Bool.{true, false, _&&_}
 use mathlib.Core.List.{List}
 use mathlib.Core.Option.{none, some}
@@ -9,7 +9,7 @@ use native.Mathlib.Omega.{arith}
 use lib.Bits.{bitAnd, bitXor, differ}
 use lib.Dec.{ltb, eqb}
 use Rattle.words.proofs.BitLaws.{differ-lt}
-use Rattle.sort.specs.Search.{Monotone, least}
+use Rattle.sort.specs.HalfSearch.{Monotone, least}
 use Rattle.plan_record.specs.Record.{gatesOf, gatePin, gateFirst, gateSecond}
 use Rattle.words.specs.Tests.{firstFrom}
 use Rattle.words.proofs.FoundLaws.{look-start}
@@ -19,13 +19,13 @@ use Rattle.plan_gates.specs.Gates.{pinBefore, gateRight, badGate, gateOf
 
 -- ---- refusal 6, gate by gate
 
-pub before-first : (d : List ℕ) → pinBefore d 0 ≡ 0
+pub pin-before-first : (d : List ℕ) → pinBefore d 0 ≡ 0
 unfolding pinBefore
-before-first d = over.before-first (gatePin d)
+pin-before-first d = over.before-first (gatePin d)
 
-pub before-next : (d : List ℕ) (g : ℕ) → pinBefore d (g + 1) ≡ gatePin d g
+pub pin-before-next : (d : List ℕ) (g : ℕ) → pinBefore d (g + 1) ≡ gatePin d g
 unfolding pinBefore
-before-next d g = over.before-next (gatePin d) g
+pin-before-next d g = over.before-next (gatePin d) g
 
 -- the answer from the first gate on
 pub bad-from : (d : List ℕ) → firstFrom (gateRight d) (gatesOf d - 0) 0 ≡ badGate d

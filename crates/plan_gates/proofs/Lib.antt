@@ -1,3 +1,3 @@
 pub mod GateLaws
 pub mod ValueLaws
-pub mod CodeLaws
+pub mod ValueCodeLaws

@@ -1,11 +1,10 @@
 -- The gate list: refusal 6, finding a gate by its pin, and the value of a pin. Document 01, table and "The run".
 -- Assumes nothing.
-use mathlib.Core.Bool.{Bool, true, false, not, _&&_}
+use mathlib.Core.Bool.{Bool}
 use mathlib.Core.Option.{Option, none, some}
 use mathlib.Core.List.{List}
 use Prim.Native.Nat.{ℕ, zero, suc, _/_, _%_, min}
 use lib.Bits.{differ}
-use lib.Dec.{ltb, eqb}
 use Rattle.plan_record.specs.Record.{gatesOf, gatePin, gateFirst, gateSecond}
 use Rattle.gatelist.specs.GateList.{beforeOver, rightOver, badOver, gateOver}
 

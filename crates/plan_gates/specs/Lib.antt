@@ -1,2 +1,2 @@
 pub mod Gates
-pub mod Values
+pub mod GateValues

@@ -6,12 +6,12 @@ ghost use Prim.Native.Nat.{_%_, _<_, min};
 ghost use lib.Bits.{differ};
 ghost use lib.Dec.{ltb, eqb};
 ghost use lib.ListN.{length};
-ghost use Rattle.sort.specs.Search.{least};
+ghost use Rattle.sort.specs.HalfSearch.{least};
 ghost use Rattle.pinmap.specs.PinMap.{look};
 ghost use Rattle.plan_record.specs.Record.{gatesOf, gatePin};
 ghost use Rattle.words.specs.Found.{itemOf};
 ghost use Rattle.plan_gates.specs.Gates.{pinBefore, gateRight, badGate, gateOf, value};
-ghost use Rattle.plan_gates.specs.Values.{gateFoundOf, gateWords, storeBit, Given, Askable, ValuedBelow, Ready, Fillable};
+ghost use Rattle.plan_gates.specs.GateValues.{gateFoundOf, gateWords, storeBit, Given, AskablePin, ValuedBelow, GateReady, ValuesFillable};
 use pinmap::Found;
 use plan_record::numbers::gate_first;
 use plan_record::numbers::gate_pin;
@@ -118,7 +118,7 @@ fn and_gate(a: u32, first: PinIv, b: u32, second: PinIv) -> u32
 // The value of a pin: what is known of it; else, for a gate, its bit in `bits` where it is one of the first `done` gates, and the AND of its
 // fan-ins' values where not; else 0. Fan-in pins are smaller.
 pub fn value(d: &[u8], known: &[u32], bits: &[u32], done: u32, pin: Pin) -> u32
-    requires { ⌜ Given (now d) (now known) × Askable (pin .0) × ValuedBelow (now d) (now known) (now bits) done ⌝ }
+    requires { ⌜ Given (now d) (now known) × AskablePin (pin .0) × ValuedBelow (now d) (now known) (now bits) done ⌝ }
     ensures { λ r. ⌜ (r ≡ value (now (d .entry)) (look (now (known .entry))) (pin .0)) × (r < 2) ⌝ }
 {
     match pinmap::look_up(known, pin) {
@@ -141,7 +141,7 @@ pub fn value(d: &[u8], known: &[u32], bits: &[u32], done: u32, pin: Pin) -> u32
 
 // Stores the value of gate g's pin in its bit, which is clear. The gates before it have theirs, so no call goes deeper than a fan-in.
 fn store_gate(d: &[u8], known: &[u32], bits: &mut [u32], g: u32)
-    requires { ⌜ Ready (now d) (now known) (now bits) g ⌝ }
+    requires { ⌜ GateReady (now d) (now known) (now bits) g ⌝ }
     ensures { λ _. ⌜ now (bits .exit) ≡ storeBit (now (bits .entry)) g (value (now (d .entry)) (look (now (known .entry))) (gatePin (now (d .entry)) g)) ⌝ }
 {
     if value(d, known, bits, g, gate_pin(d, g)) == 0 {
@@ -152,7 +152,7 @@ fn store_gate(d: &[u8], known: &[u32], bits: &mut [u32], g: u32)
 
 // The values of all gates in one pass up the list: bit g is the value of gate g's pin.
 pub fn all_values(d: &[u8], known: &[u32], bits: &mut [u32])
-    requires { ⌜ Fillable (now d) (now known) (now bits) ⌝ }
+    requires { ⌜ ValuesFillable (now d) (now known) (now bits) ⌝ }
     ensures { λ _. ⌜ now (bits .exit) ≡ gateWords (now (d .entry)) (look (now (known .entry))) (length (now (bits .entry))) ⌝ }
 {
     clear(bits);

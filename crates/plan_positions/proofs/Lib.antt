@@ -1,6 +1,6 @@
 pub mod WinnerLaws
 pub mod MajorLaws
-pub mod RankLaws
-pub mod EntryLaws
+pub mod StateOrderLaws
+pub mod TableEntryLaws
 pub mod PlannedLaws
 pub mod PositionLaws

@@ -13,8 +13,8 @@ use Rattle.words.specs.Sum.{sumTo}
 use Rattle.words.proofs.BitLaws.{lt-or-ge}
 use Rattle.plan_record.specs.Record.{majorsOf, countAt, partsBefore, partsOf}
 use Rattle.plan_blocks.specs.Blocks.{stateStart}
-use Rattle.plan_blocks.proofs.StartLaws.{parts-mono, parts-next, part-split}
-use Rattle.plan_positions.specs.Positions.{majorTo, majorOf, startOf}
+use Rattle.plan_blocks.proofs.StateStartLaws.{parts-mono, parts-next, part-split}
+use Rattle.plan_positions.specs.Positions.{majorTo, majorOf, partStateStart}
 use Rattle.plan_positions.specs.Places.{latest}
 
 module _ (d : List ℕ) where
@@ -37,8 +37,8 @@ module _ (d : List ℕ) where
   pub major-is : (s i : ℕ) → s < majorsOf d → i < countAt d s → majorOf d (partsBefore d s + i) ≡ s
   major-is s i l h = major-to s i (majorsOf d) l h
 
-  pub start-is : (s i : ℕ) → s < majorsOf d → i < countAt d s → startOf d (partsBefore d s + i) ≡ stateStart d s i
-  unfolding startOf
+  pub start-is : (s i : ℕ) → s < majorsOf d → i < countAt d s → partStateStart d (partsBefore d s + i) ≡ stateStart d s i
+  unfolding partStateStart
   start-is s i l h =
       let e : partsBefore d s + i - partsBefore d s ≡ i = omega arith in
       rw (major-is s i l h, e)

@@ -5,7 +5,7 @@ use mathlib.Core.Path.{_≡_, refl, sym, ap, ap₂, _∙_}
 use mathlib.Core.Bool.{Bool, true, false}
 use mathlib.Core.Option.{Option, none, some}
 use mathlib.Core.List.{List, _++_}
-use Prim.Native.Nat.{ℕ, _+_, _*_, _-_, _/_, _^_, _≤_, _<_}
+use Prim.Native.Nat.{ℕ, _+_, _-_, _/_, _^_, _≤_, _<_}
 use native.Mathlib.Omega.{arith}
 use borrow.Author.Tests.{eq-eqb, ne-eqb, eqb-true, eqb-false}
 use lib.Dec.{ltb, eqb}
@@ -13,51 +13,51 @@ use lib.ListN.{length, getD, take, drop, replicate, take-append-drop, length-app
 use lib.Seq.{sets, sets-eq, length-take-le, take-at, drop-at, getD-append-add, getD-drop}
 use Rattle.pinmap.specs.declared.Found.{Found}
 use Rattle.pinmap.specs.declared.Found.the-variants.{Value, Missing}
-use Rattle.pinmap.specs.PinMap.{look, foundOf}
+use Rattle.pinmap.specs.PinMap.{look, lookAnswer}
 use Rattle.plan_record.specs.declared.bodies.Body.{Body}
 use Rattle.plan_record.specs.Record.{partsBefore, partsOf, slotAt}
 use Rattle.words.specs.Pins.{empty}
 use Rattle.plan_record.specs.Body.{BodyOf}
 use Rattle.words.specs.Tests.{allBelow, someBelow}
 use Rattle.words.proofs.TestLaws.{not-both, all-at, some-at, not-at}
-use Rattle.plan_record.proofs.FormLaws.{Formed, formed}
+use Rattle.plan_record.proofs.PlanFormLaws.{Formed, formed}
 use Rattle.words.specs.Found.{itemOf}
 use Rattle.words.specs.declared.found.Item.the-variants as item
 use Rattle.plan_blocks.specs.Blocks.{stateWords}
 use Rattle.plan_rows.specs.Rows.{cell}
-use Rattle.plan_blocks.specs.Fill.{Tallied}
-use Rattle.plan_blocks.specs.Table.{rankOf, Counted, Allotted, Tabled}
+use Rattle.plan_blocks.specs.TableFill.{Tallied}
+use Rattle.plan_blocks.specs.PartTable.{rankOf, Counted, Allotted, Tabled}
 use Rattle.plan_slots.specs.Slots.{readsPin}
 use Rattle.plan_slots.specs.Puts.{filled, readPuts, readPin, firstPins, readPins, AllPins}
 use Rattle.plan_slots.proofs.PutLaws.{reads-hold, reads-look, filled-length}
 use Rattle.plan_slots.proofs.ListedLaws.{Among, listed-among, FromSlot, listed-from}
 use Rattle.plan_positions.specs.declared.winners.Planned as code
-use Rattle.plan_positions.specs.Positions.{Planned, majorOf, normalWord, placeRight, twelveRight}
+use Rattle.plan_positions.specs.Positions.{Planned, majorOf, normalWord, positionRight, twelveRight}
 use Rattle.plan_positions.specs.Winners.{winner, plannedBy, positionOf, winnerPuts}
-use Rattle.plan_positions.specs.Places.{badSlot, holdsWord, Ranked, placeIn, plannedTable, Held, ListHeld, pinRight, Searched, SlotsReady, Judgeable, PartReady}
-use Rattle.plan_positions.proofs.WinnerLaws.{by-none, planned-winner, renewals-length, winners-look, winners-missing, listed}
+use Rattle.plan_positions.specs.Places.{badSlot, holdsWord, Ranked, positionRightIn, plannedTable, WinnerHeld, ListHeld, listedPinRight, TableSearchable, SlotsReady, Judgeable, PartReady}
+use Rattle.plan_positions.proofs.WinnerLaws.{by-none, planned-winner, renewals-length, winners-look, listed}
 use Rattle.plan_positions.proofs.MajorLaws.{MajorAt, major-at}
-use Rattle.plan_positions.proofs.RankLaws.{ranked, normal-is}
+use Rattle.plan_positions.proofs.StateOrderLaws.{ranked, normal-is}
 
 -- ---- a position is right
 
-pub place-in : (d : List ℕ) (s : ℕ) (o : Option Planned) → placeRight d s o ≡ placeIn d (partsBefore d s) o
-unfolding placeRight placeIn
+pub place-in : (d : List ℕ) (s : ℕ) (o : Option Planned) → positionRight d s o ≡ positionRightIn d (partsBefore d s) o
+unfolding positionRight positionRightIn
 place-in d s none = refl
 place-in d s (some x) = refl
 
 module _ (d : List ℕ) (n : ℕ) where
-  pub place-none : (w : ℕ) → w ≡ 0 → false ≡ placeIn d n (plannedBy d w)
-  unfolding placeIn
+  pub place-none : (w : ℕ) → w ≡ 0 → false ≡ positionRightIn d n (plannedBy d w)
+  unfolding positionRightIn
   place-none w h = rw (h, by-none)
 
-  in-state : (y : Planned) → y .staged ≡ 0 → placeIn d n (some y) ≡ ltb (y .place / 32) (stateWords d)
-  unfolding placeIn
-  in-state y h = rw (eq-eqb (y .staged) 0 h, placeIn)
+  in-state : (y : Planned) → y .staged ≡ 0 → positionRightIn d n (some y) ≡ ltb (y .place / 32) (stateWords d)
+  unfolding positionRightIn
+  in-state y h = rw (eq-eqb (y .staged) 0 h, positionRightIn)
 
-  in-normal : (y : Planned) → (y .staged ≡ 0 → ⊥) → placeIn d n (some y) ≡ normalWord d n (y .place / 32)
-  unfolding placeIn
-  in-normal y h = rw (ne-eqb (y .staged) 0 h, placeIn)
+  in-normal : (y : Planned) → (y .staged ≡ 0 → ⊥) → positionRightIn d n (some y) ≡ normalWord d n (y .place / 32)
+  unfolding positionRightIn
+  in-normal y h = rw (ne-eqb (y .staged) 0 h, positionRightIn)
 
 -- ---- a slot is right
 
@@ -67,7 +67,7 @@ module _ (d : List ℕ) (p j : ℕ) where
   slot-empty h = rw (eq-eqb _ _ h)
 
   pub slot-held : (slotAt d p 0 (8192 + j) ≡ empty → ⊥)
-      → placeIn d (partsBefore d (majorOf d p)) (plannedBy d (winner d (slotAt d p 0 (8192 + j)))) ≡ twelveRight d p j
+      → positionRightIn d (partsBefore d (majorOf d p)) (plannedBy d (winner d (slotAt d p 0 (8192 + j)))) ≡ twelveRight d p j
   unfolding twelveRight
   slot-held h = rw (ne-eqb _ _ h, planned-winner d (slotAt d p 0 (8192 + j)), place-in d (majorOf d p))
 
@@ -81,49 +81,46 @@ module _ (d : List ℕ) (p x m : ℕ) (wide : 16384 ≤ m) (pin : x ≡ empty �
   pub planned-look : readsPin d p x ≡ true → look (plannedTable d p m) x ≡ some (winner d x)
   planned-look h = winners-look d (filled m (readPuts d p)) (readPuts d p) x (reads-hold d p m wide) (rw h at (reads-look d p x m wide pin)) pin
 
-  pub planned-absent : readsPin d p x ≡ false → look (plannedTable d p m) x ≡ none
-  planned-absent h = winners-missing d (filled m (readPuts d p)) (readPuts d p) x (reads-hold d p m wide) (rw h at (reads-look d p x m wide pin))
-
 pub planned-length : (d : List ℕ) (p m : ℕ) → length (plannedTable d p m) ≡ m
 planned-length d p m = renewals-length (filled m (readPuts d p)) (winnerPuts d) ∙ filled-length m (readPuts d p)
 
 -- ---- the same as the code reads it
 
 -- entry w, which gives position x; v is its word
-module _ (d room : List ℕ) (state n : ℕ) (ready : Searched d room state n) (w : ℕ) (x : code.Planned) (by : plannedBy d w ≡ some (positionOf x))
+module _ (d room : List ℕ) (state n : ℕ) (ready : TableSearchable d room state n) (w : ℕ) (x : code.Planned) (by : plannedBy d w ≡ some (positionOf x))
     (v : ℕ) (word : v ≡ x .place .0 / 32) where
-  pub unstaged-right : x .staged ≡ 0 → ltb v state ≡ placeIn d n (plannedBy d w)
-  unstaged-right h = ap₂ ltb word (ready .size) ∙ sym (ap (placeIn d n) by ∙ in-state d n (positionOf x) h)
+  pub unstaged-right : x .staged ≡ 0 → ltb v state ≡ positionRightIn d n (plannedBy d w)
+  unstaged-right h = ap₂ ltb word (ready .size) ∙ sym (ap (positionRightIn d n) by ∙ in-state d n (positionOf x) h)
 
-  pub staged-right : (r : Bool) → (x .staged ≡ 0 → ⊥) → r ≡ someBelow (holdsWord room v) n → r ≡ placeIn d n (plannedBy d w)
-  staged-right r h e = e ∙ ready .finds v ∙ ap (normalWord d n) word ∙ sym (ap (placeIn d n) by ∙ in-normal d n (positionOf x) h)
+  pub staged-right : (r : Bool) → (x .staged ≡ 0 → ⊥) → r ≡ someBelow (holdsWord room v) n → r ≡ positionRightIn d n (plannedBy d w)
+  staged-right r h e = e ∙ ready .finds v ∙ ap (normalWord d n) word ∙ sym (ap (positionRightIn d n) by ∙ in-normal d n (positionOf x) h)
 
 -- pin x, whose entry the table has
-module _ (d room : List ℕ) (n x : ℕ) (held : Held d room x) where
-  pub pin-value : (f : Found) (w : ℕ) (r : Bool) → f ≡ foundOf (look (take 32768 room) x) → f ≡ Value w → r ≡ placeIn d n (plannedBy d w)
-      → r ≡ placeIn d n (plannedBy d (winner d x))
+module _ (d room : List ℕ) (n x : ℕ) (held : WinnerHeld d room x) where
+  pub pin-value : (f : Found) (w : ℕ) (r : Bool) → f ≡ lookAnswer (look (take 32768 room) x) → f ≡ Value w → r ≡ positionRightIn d n (plannedBy d w)
+      → r ≡ positionRightIn d n (plannedBy d (winner d x))
   pin-value f w r a v e =
-      let k : Value w ≡ Value (winner d x) = sym v ∙ (a ∙ ap foundOf (held .found)) in
+      let k : Value w ≡ Value (winner d x) = sym v ∙ (a ∙ ap lookAnswer (held .found)) in
       let g : w ≡ winner d x = cc in
-      e ∙ ap (λ (y : ℕ). placeIn d n (plannedBy d y)) g
+      e ∙ ap (λ (y : ℕ). positionRightIn d n (plannedBy d y)) g
 
-  pub pin-missing : (f : Found) → f ≡ foundOf (look (take 32768 room) x) → f ≡ Missing → ⊥
+  pub pin-missing : (f : Found) → f ≡ lookAnswer (look (take 32768 room) x) → f ≡ Missing → ⊥
   pin-missing f a v =
-      let k : Missing ≡ Value (winner d x) = sym v ∙ (a ∙ ap foundOf (held .found)) in
+      let k : Missing ≡ Value (winner d x) = sym v ∙ (a ∙ ap lookAnswer (held .found)) in
       let z : _≡_ {A = ℕ} 0 1 = cc in
       omega arith
 
 -- the pins of a part whose table is there: slot j's is x, and all of them, listed
 module _ (d : List ℕ) (p : ℕ) (b : Body) (room : List ℕ) (state n : ℕ) (ready : SlotsReady d p b room state n) where
-  pub slot-there : (j x : ℕ) → j < 8192 → x ≡ slotAt d p 0 (8192 + j) → (x ≡ empty → ⊥) → x < 2 ^ 32 → Held d room x
+  pub slot-there : (j x : ℕ) → j < 8192 → x ≡ slotAt d p 0 (8192 + j) → (x ≡ empty → ⊥) → x < 2 ^ 32 → WinnerHeld d room x
   slot-there j x l read full s = record {
     small = omega (arith, full);
     found = ap (λ (t : List ℕ). look t x) (ready .table) ∙ planned-look d p x 32768 (omega arith) full (ap (readsPin d p) read ∙ slot-read d p j l);
   }
 
-  pub slot-by : (j x : ℕ) (r : Bool) → x ≡ slotAt d p 0 (8192 + j) → (x ≡ empty → ⊥) → r ≡ placeIn d n (plannedBy d (winner d x)) → r ≡ twelveRight d p j
+  pub slot-by : (j x : ℕ) (r : Bool) → x ≡ slotAt d p 0 (8192 + j) → (x ≡ empty → ⊥) → r ≡ positionRightIn d n (plannedBy d (winner d x)) → r ≡ twelveRight d p j
   slot-by j x r read full e =
-      e ∙ (ap₂ (λ (m v : ℕ). placeIn d m (plannedBy d (winner d v))) (ready .earlier) read ∙ slot-held d p j (λ z. full (read ∙ z)))
+      e ∙ (ap₂ (λ (m v : ℕ). positionRightIn d m (plannedBy d (winner d v))) (ready .earlier) read ∙ slot-held d p j (λ z. full (read ∙ z)))
 
   module _ (list : List ℕ) (is : list ≡ readPins d p) where
     pub list-held : AllPins list → ListHeld d room list
@@ -134,7 +131,7 @@ module _ (d : List ℕ) (p : ℕ) (b : Body) (room : List ℕ) (state n : ℕ) (
         slot-there (f .slot) (getD list i 0) (f .below) e (λ z. f .full (sym e ∙ z)) (omega (arith, small i l))
 
     -- where they all are right, each slot is
-    all-right : allBelow (pinRight d n list) (length list) ≡ true → (j : ℕ) → j < 8192 → twelveRight d p j ≡ true
+    all-right : allBelow (listedPinRight d n list) (length list) ≡ true → (j : ℕ) → j < 8192 → twelveRight d p j ≡ true
     unfolding readPins
     all-right right j l = go (eqb (readPin d p j) empty) refl
       where
@@ -144,9 +141,9 @@ module _ (d : List ℕ) (p : ℕ) (b : Body) (room : List ℕ) (state n : ℕ) (
             let a : Among (readPin d p) 8192 (readPin d p j) = listed-among (readPin d p) 8192 j l (eqb-false _ _ e) in
             let x : getD list (a .at) 0 ≡ readPin d p j = ap (λ (t : List ℕ). getD t (a .at) 0) is ∙ a .is in
             let k : a .at < length list = omega (arith, a .inside, ap length is) in
-            sym (slot-by j (getD list (a .at) 0) true x (λ z. eqb-false _ _ e (sym x ∙ z)) (sym (all-at (pinRight d n list) (length list) (a .at) right k)))
+            sym (slot-by j (getD list (a .at) 0) true x (λ z. eqb-false _ _ e (sym x ∙ z)) (sym (all-at (listedPinRight d n list) (length list) (a .at) right k)))
 
-    pub list-fine : allBelow (pinRight d n list) (length list) ≡ true → item.Fine ≡ itemOf (badSlot d p)
+    pub list-fine : allBelow (listedPinRight d n list) (length list) ≡ true → item.Fine ≡ itemOf (badSlot d p)
     list-fine right = ap itemOf (go (badSlot d p) refl)
       where
         go : (o : Option ℕ) → badSlot d p ≡ o → none ≡ o

@@ -10,31 +10,31 @@ use native.Mathlib.Omega.{arith}
 use borrow.Author.Tests.{eq-eqb, ne-eqb, eqb-true, leb-true, ltb-true, lt-ltb}
 use lib.Dec.{leb, ltb, eqb}
 use Rattle.words.specs.Bit.{bitAt}
-use Rattle.plan_record.specs.Record.{majorsOf, partsBefore, partsOf, positionPlace, locationsOf, slotAt, tableAt}
+use Rattle.plan_record.specs.Record.{majorsOf, partsBefore, partsOf, positionState, locationsOf, slotAt, tableAt}
 use Rattle.words.specs.Pins.{empty}
 use Rattle.words.proofs.TestLaws.{and-true, not-both, some-found, not-none, lowest-none}
 use Rattle.plan_counts.specs.Counts.{writeOuts}
 use Rattle.plan_blocks.specs.Blocks.{stateOf, stateWords}
-use Rattle.plan_blocks.proofs.StartLaws.{part-split, state-in, state-mono}
+use Rattle.plan_blocks.proofs.StateStartLaws.{part-split, state-in, state-mono}
 use Rattle.plan_slots.specs.Slots.{readsPin}
-use Rattle.plan_positions.specs.Positions.{Planned, inLayout, inPositions, planned, majorOf, startOf, normalWord, placeRight, twelveRight, refusal12, thirteenRight, refusal13}
+use Rattle.plan_positions.specs.Positions.{Planned, inLayout, inPositions, planned, majorOf, partStateStart, normalWord, positionRight, twelveRight, refusal12, thirteenRight, refusal13}
 use Rattle.plan_positions.specs.Input.{plannedBit, input}
 use Rattle.plan_positions.proofs.MajorLaws.{MajorAt, start-is, major-at}
-use Rattle.plan_positions.proofs.EntryLaws.{entry-low, entry-high}
+use Rattle.plan_positions.proofs.TableEntryLaws.{entry-low, entry-high}
 
 -- ---- a normal write-out word of one of the first n parts
 
 pub record NormalAt (d : List ℕ) (n w : ℕ) : Type 0 where
   pub part : ℕ
   pub earlier : part < n
-  pub from : startOf d part ≤ w
-  pub until : w < startOf d part + locationsOf d part
+  pub from : partStateStart d part ≤ w
+  pub until : w < partStateStart d part + locationsOf d part
 
 pub normal-at : (d : List ℕ) (n w : ℕ) → normalWord d n w ≡ true → NormalAt d n w
 unfolding normalWord
 normal-at d n w h =
     let (p, l, t) = some-found _ n h in
-    let (a, b) = and-true (leb (startOf d p) w) _ t in
+    let (a, b) = and-true (leb (partStateStart d p) w) _ t in
     record { part = p; earlier = l; from = leb-true _ _ a; until = ltb-true _ _ b }
 
 -- it stands before the state of the next major stage
@@ -45,7 +45,7 @@ normal-before d s w l h =
     omega (
       arith,
       h .until,
-      ap (startOf d) e,
+      ap (partStateStart d) e,
       ap (locationsOf d) e,
       start-is d t i (omega arith) b,
       state-in d t i b .1,
@@ -66,9 +66,9 @@ planned-mark d x y h = go (inPositions d 0 x) refl (inLayout d x) refl (inPositi
 
     go : (a : Option ℕ) → inPositions d 0 x ≡ a → (b : Option ℕ) → inLayout d x ≡ b → (e : Option ℕ) → inPositions d 1 x ≡ e
         → (y .staged ≡ 0) ⊎ (y .staged ≡ 1)
-    go (some i) p b q e r = inl (marked-as (record { staged = 0; place = positionPlace d i }) (rw (p, planned)))
+    go (some i) p b q e r = inl (marked-as (record { staged = 0; place = positionState d i }) (rw (p, planned)))
     go none p (some i) q e r = inl (marked-as (record { staged = 0; place = i }) (rw (p, q, planned)))
-    go none p none q (some i) r = inr (marked-as (record { staged = 1; place = positionPlace d i }) (rw (p, q, r, planned)))
+    go none p none q (some i) r = inr (marked-as (record { staged = 1; place = positionState d i }) (rw (p, q, r, planned)))
     go none p none q none r =
         let k : planned d x ≡ none = rw (p, q, r, planned) in
         let z : _≡_ {A = ℕ} 0 1 = cc in
@@ -83,16 +83,16 @@ pub record RightlyPlanned (d : List ℕ) (s x : ℕ) : Type 0 where
   pub staged : position .staged ≡ 1 → NormalAt d (partsBefore d s) (position .place / 32)
   pub before : position .staged ≡ 1 → position .place / 32 < stateOf d s
 
-right-unstaged : (d : List ℕ) (s : ℕ) (y : Planned) → placeRight d s (some y) ≡ true → y .staged ≡ 0 → y .place / 32 < stateWords d
-unfolding placeRight
-right-unstaged d s y h e = ltb-true _ _ (rw (eq-eqb (y .staged) 0 e, placeRight) at h)
+right-unstaged : (d : List ℕ) (s : ℕ) (y : Planned) → positionRight d s (some y) ≡ true → y .staged ≡ 0 → y .place / 32 < stateWords d
+unfolding positionRight
+right-unstaged d s y h e = ltb-true _ _ (rw (eq-eqb (y .staged) 0 e, positionRight) at h)
 
-right-staged : (d : List ℕ) (s : ℕ) (y : Planned) → placeRight d s (some y) ≡ true → y .staged ≡ 1 → normalWord d (partsBefore d s) (y .place / 32) ≡ true
-unfolding placeRight
-right-staged d s y h e = rw (ne-eqb (y .staged) 0 (λ z. omega arith), placeRight) at h
+right-staged : (d : List ℕ) (s : ℕ) (y : Planned) → positionRight d s (some y) ≡ true → y .staged ≡ 1 → normalWord d (partsBefore d s) (y .place / 32) ≡ true
+unfolding positionRight
+right-staged d s y h e = rw (ne-eqb (y .staged) 0 (λ z. omega arith), positionRight) at h
 
-right-some : (d : List ℕ) (s : ℕ) (o : Option Planned) → placeRight d s o ≡ true → (y : Planned) × (o ≡ some y)
-unfolding placeRight
+right-some : (d : List ℕ) (s : ℕ) (o : Option Planned) → positionRight d s o ≡ true → (y : Planned) × (o ≡ some y)
+unfolding positionRight
 right-some d s none h = absurd (not-both false h refl)
 right-some d s (some y) h = (y, refl)
 
@@ -100,19 +100,19 @@ twelve-at : (d : List ℕ) → refusal12 d ≡ none → (p j : ℕ) → p < part
 unfolding refusal12
 twelve-at d h p j l u = not-none (twelveRight d p) 8192 (lowest-none _ (partsOf d) h p l) j u
 
-twelve-place : (d : List ℕ) (p j x : ℕ) → twelveRight d p j ≡ true → slotAt d p 0 (8192 + j) ≡ x → (x ≡ empty → ⊥) → placeRight d (majorOf d p) (planned d x) ≡ true
+twelve-place : (d : List ℕ) (p j x : ℕ) → twelveRight d p j ≡ true → slotAt d p 0 (8192 + j) ≡ x → (x ≡ empty → ⊥) → positionRight d (majorOf d p) (planned d x) ≡ true
 unfolding twelveRight
 twelve-place d p j x h e n =
     let k : eqb (slotAt d p 0 (8192 + j)) empty ≡ false = ne-eqb _ _ (λ z. n (sym e ∙ z)) in
-    ap (λ (y : ℕ). placeRight d (majorOf d p) (planned d y)) (sym e) ∙ (rw k at h)
+    ap (λ (y : ℕ). positionRight d (majorOf d p) (planned d y)) (sym e) ∙ (rw k at h)
 
 pub read-planned : (d : List ℕ) → refusal12 d ≡ none → (p x : ℕ) → p < partsOf d → readsPin d p x ≡ true → (x ≡ empty → ⊥) → RightlyPlanned d (majorOf d p) x
 unfolding readsPin
 read-planned d none-refused p x l r n =
     let (j, u, e) = some-found _ 8192 r in
-    let right : placeRight d (majorOf d p) (planned d x) ≡ true = twelve-place d p j x (twelve-at d none-refused p j l u) (eqb-true _ _ e) n in
+    let right : positionRight d (majorOf d p) (planned d x) ≡ true = twelve-place d p j x (twelve-at d none-refused p j l u) (eqb-true _ _ e) n in
     let (y, is) = right-some d (majorOf d p) (planned d x) right in
-    let given : placeRight d (majorOf d p) (some y) ≡ true = rw is at right in
+    let given : positionRight d (majorOf d p) (some y) ≡ true = rw is at right in
     let normal : y .staged ≡ 1 → NormalAt d (partsBefore d (majorOf d p)) (y .place / 32) = λ m. normal-at d _ _ (right-staged d (majorOf d p) y given m) in
     let m : MajorAt d p (majorOf d p) = major-at d p l in
     record {

@@ -4,7 +4,7 @@ use mathlib.Core.Path.{_≡_, refl, sym, ap, ap₂, _∙_}
 use mathlib.Core.Bool.{Bool, true, false, not, _&&_, and-false}
 use mathlib.Core.Option.{Option, none, some}
 use mathlib.Core.List.{List, [], _∷_, _++_}
-use Prim.Native.Nat.{ℕ, zero, suc, _+_, _*_, _-_, _≤_, _<_}
+use Prim.Native.Nat.{ℕ, zero, suc, _+_, _-_, _≤_, _<_}
 use native.Mathlib.Numerals.{add-one}
 use native.Mathlib.Omega.{arith}
 use borrow.Author.Tests.{eq-eqb, ne-eqb, eqb-true, eqb-false, lt-ltb, le-ltb}
@@ -13,13 +13,13 @@ use lib.ListN.{length}
 use Rattle.pinmap.specs.PinMap.{look, putThere, Entry, entry, replaced, lastFrom, renewed, afterRenewals, Holds}
 use Rattle.pinmap.proofs.PinMapLaws.{replaced-same, replaced-other, there-length}
 use Rattle.pinmap.proofs.HoldsLaws.{renewed-none, renewed-all}
-use Rattle.plan_record.specs.Record.{layoutOf, layoutPin, positionsOf, positionPin, positionPlace, positionStaged}
+use Rattle.plan_record.specs.Record.{layoutOf, layoutPin, positionsOf, positionPin, positionState, positionStaged}
 use Rattle.words.specs.Pins.{empty}
 use Rattle.plan_record.specs.Form.{planForm}
 use Rattle.words.proofs.TestLaws.{and-true}
-use Rattle.plan_record.proofs.FormLaws.{formed}
+use Rattle.plan_record.proofs.PlanFormLaws.{formed}
 use Rattle.plan_positions.specs.Positions.{lastBelow, inLayout, inPositions, planned}
-use Rattle.plan_positions.specs.Winners.{layoutNumber, positionNumber, numbered, winner, plannedBy, chosenPut, chosenPuts, inUse, marked, layoutPuts, markedPuts, winnerPuts, Listed}
+use Rattle.plan_positions.specs.Winners.{layoutNumber, positionNumber, numbered, winner, plannedBy, chosenPut, chosenPuts, inUse, hasMark, layoutPuts, markedPuts, winnerPuts, ListsInRange}
 
 -- ---- the last that a test holds of
 
@@ -54,7 +54,7 @@ by-layout d (suc i) p l =
     let e : suc i - 1 ≡ i = omega arith in
     rw (lt-ltb i (layoutOf d) (omega arith), plannedBy, e)
 
-pub by-position : (d : List ℕ) (w i : ℕ) → w ≡ positionNumber d i → plannedBy d w ≡ some (record { staged = positionStaged d i; place = positionPlace d i })
+pub by-position : (d : List ℕ) (w i : ℕ) → w ≡ positionNumber d i → plannedBy d w ≡ some (record { staged = positionStaged d i; place = positionState d i })
 unfolding plannedBy
 by-position d zero i h = absurd (omega arith)
 by-position d (suc j) i h =
@@ -128,14 +128,14 @@ module _ (d t : List ℕ) (i x : ℕ) (read : x ≡ layoutPin d i) where
 
 -- entry i of the positions, whose mark is read as m
 module _ (d t : List ℕ) (i k m : ℕ) (read : m ≡ positionStaged d i) where
-  pub position-other : (m ≡ k → ⊥) → t ≡ afterRenewals t (chosenPut (marked d k i) (positionPin d i) (positionNumber d i))
-  position-other h = chosen-out t (marked d k i) (positionPin d i) (positionNumber d i) (ne-eqb _ _ (λ z. h (read ∙ z)))
+  pub position-other : (m ≡ k → ⊥) → t ≡ afterRenewals t (chosenPut (hasMark d k i) (positionPin d i) (positionNumber d i))
+  position-other h = chosen-out t (hasMark d k i) (positionPin d i) (positionNumber d i) (ne-eqb _ _ (λ z. h (read ∙ z)))
 
   pub position-put : (u : List ℕ) (x first : ℕ) → m ≡ k → x ≡ positionPin d i → first ≡ 1 + layoutOf d → u ≡ putThere t x (first + i)
-      → u ≡ afterRenewals t (chosenPut (marked d k i) (positionPin d i) (positionNumber d i))
+      → u ≡ afterRenewals t (chosenPut (hasMark d k i) (positionPin d i) (positionNumber d i))
   position-put u x first h w f e =
       let chosen = eq-eqb _ _ (sym read ∙ h) in
-      e ∙ ap₂ (λ (y z : ℕ). putThere t y (z + i)) w f ∙ chosen-in t (marked d k i) (positionPin d i) (positionNumber d i) chosen
+      e ∙ ap₂ (λ (y z : ℕ). putThere t y (z + i)) w f ∙ chosen-in t (hasMark d k i) (positionPin d i) (positionNumber d i) chosen
 
 -- all three lists
 pub winners-put : (d t a b e : List ℕ) → a ≡ afterRenewals t (markedPuts d 1 (positionsOf d)) → b ≡ afterRenewals a (layoutPuts d (layoutOf d))
@@ -166,7 +166,7 @@ module _ (chosen : ℕ → Bool) (pin number : ℕ → ℕ) (x : ℕ) where
       one true p false q = rw (p, q, lastBelow, chosenPut, lastFrom) (replaced-other (entry (pin n) (number n)) x _ (λ s. eqb-false _ _ q (sym s)))
       one false p e q = rw (p, lastBelow, chosenPut, lastFrom)
 
-marked-found : (d : List ℕ) (k x : ℕ) → lastBelow (λ i. marked d k i && eqb (positionPin d i) x) (positionsOf d) ≡ inPositions d k x
+marked-found : (d : List ℕ) (k x : ℕ) → lastBelow (λ i. hasMark d k i && eqb (positionPin d i) x) (positionsOf d) ≡ inPositions d k x
 unfolding inPositions
 marked-found d k x = refl
 
@@ -194,13 +194,13 @@ winner-last d x n =
     v = numbered layoutNumber (inLayout d x) w
 
     staged : lastFrom (some 0) (markedPuts d 1 (positionsOf d)) x ≡ some w
-    staged = chosen-last (marked d 1) (positionPin d) (positionNumber d) x (positionsOf d) 0 ∙ ap (λ (o : Option ℕ). some (numbered (positionNumber d) o 0)) (marked-found d 1 x)
+    staged = chosen-last (hasMark d 1) (positionPin d) (positionNumber d) x (positionsOf d) 0 ∙ ap (λ (o : Option ℕ). some (numbered (positionNumber d) o 0)) (marked-found d 1 x)
 
     laid : lastFrom (some w) (layoutPuts d (layoutOf d)) x ≡ some v
     laid = chosen-last (inUse d) (layoutPin d) layoutNumber x (layoutOf d) w ∙ ap (λ (o : Option ℕ). some (numbered layoutNumber o w)) (used-found d x n)
 
     unstaged : lastFrom (some v) (markedPuts d 0 (positionsOf d)) x ≡ some (numbered (positionNumber d) (inPositions d 0 x) v)
-    unstaged = chosen-last (marked d 0) (positionPin d) (positionNumber d) x (positionsOf d) v ∙ ap (λ (o : Option ℕ). some (numbered (positionNumber d) o v)) (marked-found d 0 x)
+    unstaged = chosen-last (hasMark d 0) (positionPin d) (positionNumber d) x (positionsOf d) v ∙ ap (λ (o : Option ℕ). some (numbered (positionNumber d) o v)) (marked-found d 0 x)
 
 -- a table whose pins all had 0 has the winner of each
 pub winners-look : (d t : List ℕ) (puts : List Entry) (x : ℕ) → Holds t puts → look t x ≡ some 0 → (x ≡ empty → ⊥) → look (afterRenewals t (winnerPuts d)) x ≡ some (winner d x)
@@ -209,13 +209,7 @@ winners-look d t puts x h z n =
     renewed-all t puts [] (winnerPuts d) (renewed-none t puts h) .finds x
     ∙ (ap (λ (o : Option ℕ). renewed o (winnerPuts d) x) (sym (h .finds x) ∙ z) ∙ winner-last d x n)
 
-pub winners-missing : (d t : List ℕ) (puts : List Entry) (x : ℕ) → Holds t puts → look t x ≡ none → look (afterRenewals t (winnerPuts d)) x ≡ none
-unfolding renewed
-winners-missing d t puts x h z =
-    renewed-all t puts [] (winnerPuts d) (renewed-none t puts h) .finds x
-    ∙ ap (λ (o : Option ℕ). renewed o (winnerPuts d) x) (sym (h .finds x) ∙ z)
-
 -- ---- a plan in form has its lists
 
-pub listed : (d : List ℕ) → planForm d ≡ true → Listed d
+pub listed : (d : List ℕ) → planForm d ≡ true → ListsInRange d
 listed d h = let f = formed d h in record { layout = f .head .layout; positions = f .head .positions; pins = λ i l. f .position i l .pin }

@@ -17,10 +17,10 @@ use Rattle.plan_record.specs.Body.{BodyOf}
 use Rattle.plan_blocks.specs.Blocks.{stateWords}
 use Rattle.plan_rows.specs.Columns as col
 use Rattle.plan_rows.specs.Rows.{rowBase, cell, cellAt}
-use Rattle.plan_blocks.specs.Table.{Tabled}
+use Rattle.plan_blocks.specs.PartTable.{Tabled}
 use Rattle.plan_slots.specs.Puts.{filled, readPuts}
 use Rattle.plan_positions.specs.Positions.{Planned, majorOf, normalWord, twelveRight, thirteenRight}
-use Rattle.plan_positions.specs.Winners.{winner, plannedBy, winnerPuts, Listed}
+use Rattle.plan_positions.specs.Winners.{winner, plannedBy, winnerPuts, ListsInRange}
 
 -- the lowest slot, and the lowest entry, of part p that is refused
 abbrev pub badSlot : List ℕ → ℕ → Option ℕ
@@ -30,32 +30,32 @@ abbrev pub badEntry : List ℕ → ℕ → Option ℕ
 badEntry d p = firstNot (thirteenRight d p) 16384
 
 -- the part that is k-th in the order of the state, its start and its locations
-abbrev pub partAt : List ℕ → ℕ → ℕ
-partAt room k = cellAt room k col.ranked
+abbrev pub rankedPart : List ℕ → ℕ → ℕ
+rankedPart room k = cellAt room k col.ranked
 
-abbrev pub startAt : List ℕ → ℕ → ℕ
-startAt room k = cellAt room (partAt room k) col.stateStart
+abbrev pub rankedStart : List ℕ → ℕ → ℕ
+rankedStart room k = cellAt room (rankedPart room k) col.stateStart
 
-abbrev pub locationsAt : List ℕ → ℕ → ℕ
-locationsAt room k = cellAt room (partAt room k) col.locations
+abbrev pub rankedLocations : List ℕ → ℕ → ℕ
+rankedLocations room k = cellAt room (rankedPart room k) col.locations
 
 -- word w is one of its normal words
 unfoldable pub holdsWord : List ℕ → ℕ → ℕ → Bool
-holdsWord room w k = leb (startAt room k) w && ltb w (startAt room k + locationsAt room k)
+holdsWord room w k = leb (rankedStart room k) w && ltb w (rankedStart room k + rankedLocations room k)
 
 -- its row, and the row that names it, are in the room
-pub record RowIn (room : List ℕ) (k : ℕ) : Type 0 where
+pub record RankedRowIn (room : List ℕ) (k : ℕ) : Type 0 where
   pub few : k < 262144
   pub inside : cell k 16 ≤ length room
-  pub part-few : partAt room k < 262144
-  pub part-inside : cell (partAt room k) 16 ≤ length room
+  pub part-few : rankedPart room k < 262144
+  pub part-inside : cell (rankedPart room k) 16 ≤ length room
 
 -- so it is for the first n parts, each of which ends before the next one starts
 pub record Ranked (room : List ℕ) (n : ℕ) : Type 0 where
   pub few : n ≤ 262144
   pub inside : cell n 0 ≤ length room
-  pub named : (k : ℕ) → k < n → partAt room k < n
-  pub apart : (j k : ℕ) → j < k → k < n → startAt room j + locationsAt room j ≤ startAt room k
+  pub named : (k : ℕ) → k < n → rankedPart room k < n
+  pub apart : (j k : ℕ) → j < k → k < n → rankedStart room j + rankedLocations room j ≤ rankedStart room k
 
 -- the first part of a major stage: of one whose number of earlier parts is `next`, where that is not above p, else of the one before
 unfoldable pub latest : ℕ → ℕ → ℕ → ℕ
@@ -64,29 +64,29 @@ latest p first next = elim (leb next p) [ true ↦ next | false ↦ first ]
 -- ---- refusal 12 of one slot
 
 -- 12, where the earlier major stages have n parts
-unfoldable pub placeIn : List ℕ → ℕ → Option Planned → Bool
-placeIn d n none = false
-placeIn d n (some x) = elim (eqb (x .staged) 0) [ true ↦ ltb (x .place / 32) (stateWords d) | false ↦ normalWord d n (x .place / 32) ]
+unfoldable pub positionRightIn : List ℕ → ℕ → Option Planned → Bool
+positionRightIn d n none = false
+positionRightIn d n (some x) = elim (eqb (x .staged) 0) [ true ↦ ltb (x .place / 32) (stateWords d) | false ↦ normalWord d n (x .place / 32) ]
 
 -- a table of m words with the pins that part p reads, each with the number of the entry that wins for it
 abbrev pub plannedTable : List ℕ → ℕ → ℕ → List ℕ
 plannedTable d p m = afterRenewals (filled m (readPuts d p)) (winnerPuts d)
 
 -- whether the position of pin i of a list is right, in a plan whose first n parts have theirs
-abbrev pub pinRight : List ℕ → ℕ → List ℕ → ℕ → Bool
-pinRight d n list i = placeIn d n (plannedBy d (winner d (getD list i 0)))
+abbrev pub listedPinRight : List ℕ → ℕ → List ℕ → ℕ → Bool
+listedPinRight d n list i = positionRightIn d n (plannedBy d (winner d (getD list i 0)))
 
 -- in the first words of the room pin x is found with the entry that wins for it; so are listed pins
-pub record Held (d room : List ℕ) (x : ℕ) : Type 0 where
+pub record WinnerHeld (d room : List ℕ) (x : ℕ) : Type 0 where
   pub small : x < 2 ^ 32 - 1
   pub found : look (take 32768 room) x ≡ some (winner d x)
 
 abbrev pub ListHeld : List ℕ → List ℕ → List ℕ → Type 0
-ListHeld d room list = (i : ℕ) → i < length list → Held d room (getD list i 0)
+ListHeld d room list = (i : ℕ) → i < length list → WinnerHeld d room (getD list i 0)
 
 -- the part table can be searched for the normal words of the first n parts, and the state has `state` words
-pub record Searched (d room : List ℕ) (state n : ℕ) : Type 0 where
-  pub lists : Listed d
+pub record TableSearchable (d room : List ℕ) (state n : ℕ) : Type 0 where
+  pub lists : ListsInRange d
   pub size : state ≡ stateWords d
   pub rows : Ranked room n
   pub finds : (w : ℕ) → someBelow (holdsWord room w) n ≡ normalWord d n w
@@ -96,7 +96,7 @@ pub record SlotsReady (d : List ℕ) (p : ℕ) (b : Body) (room : List ℕ) (sta
   pub body : BodyOf d p b
   pub stages : 0 < b .stages
   pub earlier : n ≡ partsBefore d (majorOf d p)
-  pub searched : Searched d room state n
+  pub searched : TableSearchable d room state n
   pub wide : 32768 ≤ length room
   pub table : take 32768 room ≡ plannedTable d p 32768
 

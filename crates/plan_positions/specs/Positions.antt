@@ -3,9 +3,9 @@
 use mathlib.Core.Bool.{Bool, true, false, _&&_, _||_}
 use mathlib.Core.Option.{Option, none, some}
 use mathlib.Core.List.{List}
-use Prim.Native.Nat.{ℕ, zero, suc, _+_, _*_, _-_, _/_}
+use Prim.Native.Nat.{ℕ, zero, suc, _+_, _-_, _/_}
 use lib.Dec.{leb, ltb, eqb}
-use Rattle.plan_record.specs.Record.{partsOf, majorsOf, partsBefore, countAt, layoutOf, layoutPin, positionsOf, positionPin, positionPlace, positionStaged, slotAt, locationsOf, tableAt}
+use Rattle.plan_record.specs.Record.{partsOf, majorsOf, partsBefore, layoutOf, layoutPin, positionsOf, positionPin, positionState, positionStaged, slotAt, locationsOf, tableAt}
 use Rattle.words.specs.Pins.{empty}
 use Rattle.words.specs.Tests.{firstNot, someBelow, lowest, Place}
 use Rattle.plan_blocks.specs.Blocks.{stateStart, stateWords}
@@ -31,11 +31,11 @@ inPositions d k x = lastBelow (λ i. eqb (positionStaged d i) k && eqb (position
 unfoldable pub planned : List ℕ → ℕ → Option Planned
 planned d x =
     elim (inPositions d 0 x) [
-      | some i ↦ some (record { staged = 0; place = positionPlace d i })
+      | some i ↦ some (record { staged = 0; place = positionState d i })
       | none ↦
           elim (inLayout d x) [
             | some i ↦ some (record { staged = 0; place = i })
-            | none ↦ elim (inPositions d 1 x) [ some i ↦ some (record { staged = 1; place = positionPlace d i }) | none ↦ none ]
+            | none ↦ elim (inPositions d 1 x) [ some i ↦ some (record { staged = 1; place = positionState d i }) | none ↦ none ]
           ]
     ]
 
@@ -48,21 +48,21 @@ abbrev pub majorOf : List ℕ → ℕ → ℕ
 majorOf d p = majorTo d p (majorsOf d)
 
 -- the state start of part p of the plan
-unfoldable pub startOf : List ℕ → ℕ → ℕ
-startOf d p = stateStart d (majorOf d p) (p - partsBefore d (majorOf d p))
+unfoldable pub partStateStart : List ℕ → ℕ → ℕ
+partStateStart d p = stateStart d (majorOf d p) (p - partsBefore d (majorOf d p))
 
 -- word w is a normal write-out word of one of the first n parts
 unfoldable pub normalWord : List ℕ → ℕ → ℕ → Bool
-normalWord d n w = someBelow (λ p. leb (startOf d p) w && ltb w (startOf d p + locationsOf d p)) n
+normalWord d n w = someBelow (λ p. leb (partStateStart d p) w && ltb w (partStateStart d p + locationsOf d p)) n
 
 -- 12: "stage-0 pin with no position; unstaged word outside the state; staged word not a normal write-out word of an earlier major stage"
-unfoldable pub placeRight : List ℕ → ℕ → Option Planned → Bool
-placeRight d s none = false
-placeRight d s (some x) =
+unfoldable pub positionRight : List ℕ → ℕ → Option Planned → Bool
+positionRight d s none = false
+positionRight d s (some x) =
     elim (eqb (x .staged) 0) [ true ↦ ltb (x .place / 32) (stateWords d) | false ↦ normalWord d (partsBefore d s) (x .place / 32) ]
 
 unfoldable pub twelveRight : List ℕ → ℕ → ℕ → Bool
-twelveRight d p j = eqb (slotAt d p 0 (8192 + j)) empty || placeRight d (majorOf d p) (planned d (slotAt d p 0 (8192 + j)))
+twelveRight d p j = eqb (slotAt d p 0 (8192 + j)) empty || positionRight d (majorOf d p) (planned d (slotAt d p 0 (8192 + j)))
 
 unfoldable pub refusal12 : List ℕ → Option Place
 refusal12 d = lowest (λ p. firstNot (twelveRight d p) 8192) (partsOf d)

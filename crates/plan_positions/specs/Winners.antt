@@ -8,7 +8,7 @@ use mathlib.Core.List.{List, [], _∷_, _++_}
 use Prim.Native.Nat.{ℕ, zero, suc, _+_, _-_, _^_, _≤_, _<_}
 use lib.Dec.{ltb, eqb}
 use Rattle.pinmap.specs.PinMap.{Entry, entry}
-use Rattle.plan_record.specs.Record.{layoutOf, layoutBase, layoutPin, positionsOf, positionBase, positionPin, positionPlace, positionStaged}
+use Rattle.plan_record.specs.Record.{layoutOf, layoutBase, layoutPin, positionsOf, positionBase, positionPin, positionState, positionStaged}
 use Rattle.words.specs.Pins.{empty}
 use Rattle.plan_positions.specs.declared.winners.Planned as code
 use Rattle.plan_positions.specs.Positions.{Planned, inLayout, inPositions}
@@ -36,7 +36,7 @@ plannedBy d zero = none
 plannedBy d (suc i) =
     elim (ltb i (layoutOf d)) [
       | true ↦ some (record { staged = 0; place = i })
-      | false ↦ some (record { staged = positionStaged d (i - layoutOf d); place = positionPlace d (i - layoutOf d) })
+      | false ↦ some (record { staged = positionStaged d (i - layoutOf d); place = positionState d (i - layoutOf d) })
     ]
 
 -- a position as the code hands it over
@@ -59,14 +59,14 @@ chosenPuts chosen pin number (suc n) = chosenPuts chosen pin number n ++ chosenP
 abbrev pub inUse : List ℕ → ℕ → Bool
 inUse d i = not (eqb (layoutPin d i) empty)
 
-abbrev pub marked : List ℕ → ℕ → ℕ → Bool
-marked d k i = eqb (positionStaged d i) k
+abbrev pub hasMark : List ℕ → ℕ → ℕ → Bool
+hasMark d k i = eqb (positionStaged d i) k
 
 abbrev pub layoutPuts : List ℕ → ℕ → List Entry
 layoutPuts d n = chosenPuts (inUse d) (layoutPin d) layoutNumber n
 
 abbrev pub markedPuts : List ℕ → ℕ → ℕ → List Entry
-markedPuts d k n = chosenPuts (marked d k) (positionPin d) (positionNumber d) n
+markedPuts d k n = chosenPuts (hasMark d k) (positionPin d) (positionNumber d) n
 
 -- staged positions, then the layout, then unstaged positions
 unfoldable pub winnerPuts : List ℕ → List Entry
@@ -74,7 +74,7 @@ winnerPuts d = markedPuts d 1 (positionsOf d) ++ (layoutPuts d (layoutOf d) ++ m
 
 -- ---- what is known when an entry is put
 
-pub record Listed (d : List ℕ) : Type 0 where
+pub record ListsInRange (d : List ℕ) : Type 0 where
   pub layout : layoutOf d ≤ 2 ^ 20
   pub positions : positionsOf d ≤ 2 ^ 20
   pub pins : (i : ℕ) → i < positionsOf d → positionPin d i ≤ 2 ^ 30

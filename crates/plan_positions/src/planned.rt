@@ -1,7 +1,6 @@
 // Planned positions of the pins that parts read: refusal 12.
 ghost use mathlib.Core.Path.{_≡_};
-ghost use mathlib.Core.Bool.{true};
-ghost use Prim.Native.Nat.{_+_, _≤_, _<_};
+ghost use Prim.Native.Nat.{_≤_, _<_};
 ghost use lib.ListN.{length};
 ghost use lib.Seq.{sets};
 ghost use Rattle.words.specs.Tests.{allBelow};
@@ -9,8 +8,8 @@ ghost use Rattle.plan_record.specs.Body.{BodyOf};
 ghost use Rattle.words.specs.Found.{itemOf, lowestOf};
 ghost use Rattle.plan_slots.specs.Puts.{readPins, AllPins};
 ghost use Rattle.plan_positions.specs.Positions.{twelveRight};
-ghost use Rattle.plan_positions.specs.Winners.{Listed, winner, plannedBy};
-ghost use Rattle.plan_positions.specs.Places.{badSlot, placeIn, plannedTable, Held, ListHeld, pinRight, Searched, SlotsReady, Judgeable, PartReady};
+ghost use Rattle.plan_positions.specs.Winners.{ListsInRange, winner, plannedBy};
+ghost use Rattle.plan_positions.specs.Places.{badSlot, positionRightIn, plannedTable, WinnerHeld, ListHeld, listedPinRight, TableSearchable, SlotsReady, Judgeable, PartReady};
 use crate::ranks::is_normal;
 use crate::ranks::parts_earlier;
 use crate::winners::fill_winners;
@@ -33,8 +32,8 @@ use words::units::Pin;
 
 // Whether the position that entry w gives is right, where the earlier major stages have n parts.
 fn place_right(d: &[u8], room: &[u32], state: usize, n: usize, w: u32) -> bool
-    requires { ⌜ Searched (now d) (now room) state n ⌝ }
-    ensures { λ r. ⌜ r ≡ placeIn (now (d .entry)) n (plannedBy (now (d .entry)) w) ⌝ }
+    requires { ⌜ TableSearchable (now d) (now room) state n ⌝ }
+    ensures { λ r. ⌜ r ≡ positionRightIn (now (d .entry)) n (plannedBy (now (d .entry)) w) ⌝ }
 {
     if w == 0 {
         return false;
@@ -50,8 +49,8 @@ fn place_right(d: &[u8], room: &[u32], state: usize, n: usize, w: u32) -> bool
 
 // Whether the position of a pin is right, whose entry the table in the first words of the room has.
 fn pin_right(d: &[u8], room: &[u32], state: usize, n: usize, pin: u32) -> bool
-    requires { ⌜ Searched (now d) (now room) state n × (32768 ≤ length (now room)) × Held (now d) (now room) pin ⌝ }
-    ensures { λ r. ⌜ r ≡ placeIn (now (d .entry)) n (plannedBy (now (d .entry)) (winner (now (d .entry)) pin)) ⌝ }
+    requires { ⌜ TableSearchable (now d) (now room) state n × (32768 ≤ length (now room)) × WinnerHeld (now d) (now room) pin ⌝ }
+    ensures { λ r. ⌜ r ≡ positionRightIn (now (d .entry)) n (plannedBy (now (d .entry)) (winner (now (d .entry)) pin)) ⌝ }
 {
     match look_up(&room[..32768], Pin(pin)) {
         Found::Value(w) => place_right(d, room, state, n, w),
@@ -61,8 +60,8 @@ fn pin_right(d: &[u8], room: &[u32], state: usize, n: usize, pin: u32) -> bool
 
 // Whether those of all listed pins are.
 fn pins_right(d: &[u8], room: &[u32], state: usize, n: usize, list: &[u64]) -> bool
-    requires { ⌜ Searched (now d) (now room) state n × (32768 ≤ length (now room)) × ListHeld (now d) (now room) (now list) ⌝ }
-    ensures { λ r. ⌜ r ≡ allBelow (pinRight (now (d .entry)) n (now (list .entry))) (length (now (list .entry))) ⌝ }
+    requires { ⌜ TableSearchable (now d) (now room) state n × (32768 ≤ length (now room)) × ListHeld (now d) (now room) (now list) ⌝ }
+    ensures { λ r. ⌜ r ≡ allBelow (listedPinRight (now (d .entry)) n (now (list .entry))) (length (now (list .entry))) ⌝ }
 {
     let mut i = 0;
     while i < list.len() {
@@ -111,7 +110,7 @@ fn bad_slot(d: &[u8], p: usize, body: Body, room: &[u32], state: usize, n: usize
 
 // The pins that a part reads, each with the number of the entry that wins for it.
 pub fn fill_planned(d: &[u8], p: usize, body: Body, table: &mut [u32])
-    requires { ⌜ Listed (now d) × BodyOf (now d) p body × (0 < body .stages) ⌝ }
+    requires { ⌜ ListsInRange (now d) × BodyOf (now d) p body × (0 < body .stages) ⌝ }
     ensures { λ _. ⌜ now (table .exit) ≡ plannedTable (now (d .entry)) p (length (now (table .entry))) ⌝ }
 {
     fill_reads(d, p, body, table);
@@ -120,7 +119,7 @@ pub fn fill_planned(d: &[u8], p: usize, body: Body, table: &mut [u32])
 
 // The same table, and the list of the pins, each once. Returns how many there are.
 pub fn list_planned(d: &[u8], p: usize, body: Body, table: &mut [u32], list: &mut [u64]) -> usize
-    requires { ⌜ Listed (now d) × BodyOf (now d) p body × (0 < body .stages) × (32768 ≤ length (now table)) × (8192 ≤ length (now list)) ⌝ }
+    requires { ⌜ ListsInRange (now d) × BodyOf (now d) p body × (0 < body .stages) × (32768 ≤ length (now table)) × (8192 ≤ length (now list)) ⌝ }
     ensures { λ r. ⌜ (r ≡ length (readPins (now (d .entry)) p)) × (r ≤ 8192) ⌝ }
     ensures { λ _. ⌜ now (table .exit) ≡ plannedTable (now (d .entry)) p (length (now (table .entry))) ⌝ }
     ensures { λ _. ⌜ now (list .exit) ≡ sets (now (list .entry)) 0 (readPins (now (d .entry)) p) ⌝ }

@@ -1,11 +1,11 @@
 // Normal write-out words, by the part table: its rows name the parts in the order of the state, and a search by halves finds the part of a word.
 ghost use mathlib.Core.Path.{_≡_};
-ghost use Prim.Native.Nat.{_+_, _≤_, _<_};
-ghost use Rattle.sort.specs.Search.{least};
+ghost use Prim.Native.Nat.{_+_, _≤_};
+ghost use Rattle.sort.specs.HalfSearch.{least};
 ghost use Rattle.words.specs.Tests.{someBelow};
 ghost use Rattle.plan_record.specs.Record.{majorsOf, partsBefore};
 ghost use Rattle.plan_positions.specs.Positions.{majorOf};
-ghost use Rattle.plan_positions.specs.Places.{startAt, locationsAt, holdsWord, latest, RowIn, Ranked};
+ghost use Rattle.plan_positions.specs.Places.{rankedStart, rankedLocations, holdsWord, latest, RankedRowIn, Ranked};
 use plan_record::numbers::count_at;
 use plan_record::numbers::majors_of;
 use plan_rows::Column;
@@ -13,8 +13,8 @@ use plan_rows::cell_at;
 
 // The state start of the part that is k-th in the order of the state.
 fn start_at(room: &[u32], k: usize) -> u32
-    requires { ⌜ RowIn (now room) k ⌝ }
-    ensures { λ r. ⌜ r ≡ startAt (now (room .entry)) k ⌝ }
+    requires { ⌜ RankedRowIn (now room) k ⌝ }
+    ensures { λ r. ⌜ r ≡ rankedStart (now (room .entry)) k ⌝ }
 {
     let p = cell_at(room, k, Column::RANKED) as usize;
     cell_at(room, p, Column::STATE_START)
@@ -22,8 +22,8 @@ fn start_at(room: &[u32], k: usize) -> u32
 
 // How many locations it has.
 fn locations_at(room: &[u32], k: usize) -> u32
-    requires { ⌜ RowIn (now room) k ⌝ }
-    ensures { λ r. ⌜ r ≡ locationsAt (now (room .entry)) k ⌝ }
+    requires { ⌜ RankedRowIn (now room) k ⌝ }
+    ensures { λ r. ⌜ r ≡ rankedLocations (now (room .entry)) k ⌝ }
 {
     let p = cell_at(room, k, Column::RANKED) as usize;
     cell_at(room, p, Column::LOCATIONS)
@@ -32,7 +32,7 @@ fn locations_at(room: &[u32], k: usize) -> u32
 // How many of the first n parts start at word w or before it.
 fn parts_up_to(room: &[u32], n: usize, w: u32) -> usize
     requires { ⌜ Ranked (now room) n ⌝ }
-    ensures { λ r. ⌜ (r ≡ least (startAt (now (room .entry))) n (w + 1)) × (r ≤ n) ⌝ }
+    ensures { λ r. ⌜ (r ≡ least (rankedStart (now (room .entry))) n (w + 1)) × (r ≤ n) ⌝ }
 {
     let mut low = 0;
     let mut high = n;

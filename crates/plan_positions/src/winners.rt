@@ -4,7 +4,7 @@ ghost use mathlib.Core.Option.{some};
 ghost use Prim.Native.Nat.{_<_};
 ghost use Rattle.pinmap.specs.PinMap.{afterRenewals};
 ghost use Rattle.plan_record.specs.Record.{layoutOf, layoutPin, positionsOf, positionPin};
-ghost use Rattle.plan_positions.specs.Winners.{plannedBy, positionOf, layoutNumber, positionNumber, chosenPut, inUse, marked, layoutPuts, markedPuts, winnerPuts, Listed, LayoutAt, PositionAt};
+ghost use Rattle.plan_positions.specs.Winners.{plannedBy, positionOf, layoutNumber, positionNumber, chosenPut, inUse, hasMark, layoutPuts, markedPuts, winnerPuts, ListsInRange, LayoutAt, PositionAt};
 use pinmap::put_where_there;
 use plan_record::numbers::layout_of;
 use plan_record::numbers::layout_pin;
@@ -58,7 +58,7 @@ fn renew_layout(d: &[u8], table: &mut [u32], base: usize, i: u32)
 // Puts entry i of the positions, which begin at word `base` and are numbered from `first` on, for its pin, if its mark is `mark`.
 fn renew_position(d: &[u8], table: &mut [u32], base: usize, first: u32, mark: u32, i: u32)
     requires { ⌜ PositionAt (now d) base first i ⌝ }
-    ensures { λ _. ⌜ now (table .exit) ≡ afterRenewals (now (table .entry)) (chosenPut (marked (now (d .entry)) mark i) (positionPin (now (d .entry)) i) (positionNumber (now (d .entry)) i)) ⌝ }
+    ensures { λ _. ⌜ now (table .exit) ≡ afterRenewals (now (table .entry)) (chosenPut (hasMark (now (d .entry)) mark i) (positionPin (now (d .entry)) i) (positionNumber (now (d .entry)) i)) ⌝ }
 {
     if position_staged(d, base, i) == mark {
         put_where_there(table, position_pin(d, base, i), first + i);
@@ -67,7 +67,7 @@ fn renew_position(d: &[u8], table: &mut [u32], base: usize, first: u32, mark: u3
 
 // The layout's entries.
 fn fill_layout(d: &[u8], table: &mut [u32])
-    requires { ⌜ Listed (now d) ⌝ }
+    requires { ⌜ ListsInRange (now d) ⌝ }
     ensures { λ _. ⌜ now (table .exit) ≡ afterRenewals (now (table .entry)) (layoutPuts (now (d .entry)) (layoutOf (now (d .entry)))) ⌝ }
 {
     let base = layout_base(d);
@@ -79,7 +79,7 @@ fn fill_layout(d: &[u8], table: &mut [u32])
 
 // The positions with mark `mark`.
 fn fill_marked(d: &[u8], table: &mut [u32], mark: u32)
-    requires { ⌜ Listed (now d) ⌝ }
+    requires { ⌜ ListsInRange (now d) ⌝ }
     ensures { λ _. ⌜ now (table .exit) ≡ afterRenewals (now (table .entry)) (markedPuts (now (d .entry)) mark (positionsOf (now (d .entry)))) ⌝ }
 {
     let base = position_base(d);
@@ -92,7 +92,7 @@ fn fill_marked(d: &[u8], table: &mut [u32], mark: u32)
 
 // Each pin that is in the table gets the number of the entry that wins for it: a later list wins over an earlier one.
 pub fn fill_winners(d: &[u8], table: &mut [u32])
-    requires { ⌜ Listed (now d) ⌝ }
+    requires { ⌜ ListsInRange (now d) ⌝ }
     ensures { λ _. ⌜ now (table .exit) ≡ afterRenewals (now (table .entry)) (winnerPuts (now (d .entry))) ⌝ }
 {
     fill_marked(d, table, 1);

@@ -2,20 +2,20 @@
 -- Assumes nothing.
 use mathlib.Core.Path.{_≡_, refl, sym, ap, _∙_}
 use mathlib.Core.List.{List, [], _∷_}
-use Prim.Native.Nat.{ℕ, zero, suc, _+_, _*_, _-_, _/_, _%_, _^_, _≤_, _<_}
+use Prim.Native.Nat.{ℕ, zero, suc, _+_, _*_, _-_, _/_, _≤_, _<_}
 use native.Mathlib.Nat.{not-suc-le-zero}
 use native.Mathlib.Numerals.{add-one}
 use native.Mathlib.Omega.{arith}
-use lib.ListN.{length, getD, set, take, drop, length-set, length-take, length-drop, drop-of-length-le}
+use lib.ListN.{length, getD, set, drop, length-set, length-drop, drop-of-length-le}
 use lib.Seq.{drop-cons}
 use Rattle.words.specs.Bit.{pop}
 use Rattle.reads.specs.ReadSet.{total}
 use Rattle.reads.specs.Search.{Lane}
-use Rattle.reads_try.specs.Decoded.{pairAt, laneOf, rowAt, lanesAt}
-use Rattle.reads_try.specs.Tries.{RowIn}
-use Rattle.reads_try.proofs.PairLaws.{total-le}
-use Rattle.reads_try.proofs.TableLaws.{row-pair, row-total-on, row-short, row-at-word, lane-at, filled-row}
-use Rattle.reads_section.specs.Readout.{Readable}
+use Rattle.reads_try.specs.TableLanes.{laneOf, rowAt, lanesAt}
+use Rattle.reads_try.specs.Tries.{LaneRowIn}
+use Rattle.reads_try.proofs.SetPairLaws.{total-le}
+use Rattle.reads_try.proofs.LaneTableLaws.{row-pair, row-total-on, row-short, row-at-word, lane-at, filled-row}
+use Rattle.reads_section.specs.Readout.{TableReadable}
 use Rattle.plan_reads.specs.Bases.{storeLane, storeLanes}
 
 pub lane-length : (b : ℕ) (l : Lane) (bases : List ℕ) → length (storeLane b l bases) ≡ length bases
@@ -50,7 +50,7 @@ pub record Walked (ws t : List ℕ) (j : ℕ) (bases₀ bases : List ℕ) (r sum
   pub stored : bases ≡ storeLane (32 * j) (laneOf ws (drop r (rowAt t j))) bases₀
   pub counted : sum ≡ 32 * j + total (laneOf ws (drop r (rowAt t j)))
 
-module _ (ws t : List ℕ) (j : ℕ) (row : RowIn ws t j) (bases₀ : List ℕ) where
+module _ (ws t : List ℕ) (j : ℕ) (row : LaneRowIn ws t j) (bases₀ : List ℕ) where
   short : length (laneOf ws (rowAt t j)) ≤ 32
   short = omega (arith, row-short ws (rowAt t j), row .row .short)
 
@@ -124,5 +124,5 @@ module _ (ws t : List ℕ) (n : ℕ) where
       let q : length (lanesAt ws t n) ≤ j = omega (arith, lanes-count ws t n) in
       rw (drop-of-length-le (lanesAt ws t n) q)
 
-pub readable-row : {ws t : List ℕ} {n j : ℕ} → Readable ws t n → j < n → RowIn ws t j
+pub readable-row : {ws t : List ℕ} {n j : ℕ} → TableReadable ws t n → j < n → LaneRowIn ws t j
 readable-row r h = filled-row (r .filled) _ h

@@ -13,22 +13,22 @@ use lib.Seq.{sets, length-take-le, drop-at, getD-take, ext-getD}
 use Rattle.reads.specs.ReadSet.{Pair, pairsOf}
 use Rattle.reads.specs.Search.{Lane, lanesOf, longest}
 use Rattle.words.specs.Answer.{Answer, good, refused, nowhere}
-use Rattle.reads.specs.Outcome.{packed}
-use Rattle.reads_asked.proofs.StoreLaws.{take-front}
+use Rattle.reads.specs.SetAnswer.{packed}
+use Rattle.reads_asked.proofs.FrontStoreLaws.{take-front}
 use Rattle.rounds.specs.Rounds.{Solvable}
 use Rattle.plan_record.specs.Record.{partsOf, bodyAt}
 use Rattle.words.specs.Tests.{Place, lowestFrom}
 use Rattle.words.proofs.TestLaws.{some-not-none, lowest-fault, lowest-next, lowest-end}
 use Rattle.plan_rows.specs.Columns as col
 use Rattle.plan_rows.specs.Rows.{cell}
-use Rattle.plan_blocks.proofs.FillLaws.{put-more, put-long, put-low}
+use Rattle.plan_blocks.proofs.CellLaws.{put-more, put-long, put-low}
 use Rattle.plan_reads.specs.PartReads.{lanesIn, askedTo, readWords, partReads, partLanes, badReads, refusedReads}
-use Rattle.plan_reads.specs.Ready.{AllNarrow, SetRoom, InForm, ClearRoom}
+use Rattle.plan_reads.specs.ReadsReady.{AllNarrow, SetRoom, SetInForm, ClearRoom}
 use Rattle.plan_reads.specs.declared.searched.Reads.{Reads}
 use Rattle.plan_reads.specs.declared.searched.Reads.the-variants.{Nothing, NoRoom}
 use Rattle.plan_reads.specs.declared.check.Checked.the-variants as checked
-use Rattle.plan_reads.specs.Answers.{readsOf, isNothing, earlierOf, fullAfter, checkedOf, roundsOf, roundsIn, partsUpTo, roundRows, searchedRoom}
-use Rattle.plan_reads.proofs.EntryLaws.{words-form}
+use Rattle.plan_reads.specs.PartReadAnswers.{readsOf, isNothing, earlierOf, fullAfter, checkedOf, roundsKept, roundsIn, partsUpTo, roundRows, searchedRoom}
+use Rattle.plan_reads.proofs.FirstEntryLaws.{words-form}
 
 -- ---- one part
 
@@ -39,7 +39,7 @@ module _ (d : List ℕ) (p : ℕ) (set₀ set′ : List ℕ) (n : ℕ) (count : 
   pub set-size : n ≡ length (take n set′)
   set-size = count .0 ∙ sym (ap length set-front)
 
-  pub set-in-form : AllNarrow (askedTo d p 8192) → InForm (take n set′)
+  pub set-in-form : AllNarrow (askedTo d p 8192) → SetInForm (take n set′)
   set-in-form narrow = rw set-front (words-form d p narrow)
 
   pub set-reads : (r : Reads) → r ≡ readsOf (packed 256 (pairsOf (take n set′))) → r ≡ readsOf (partReads 256 d p)
@@ -217,12 +217,12 @@ roomy d room c = omega (arith, c .wide)
 
 -- ---- the rounds
 
-pub rounds-are : (o : Answer (List Lane)) → roundsOf (readsOf o) ≡ longest (lanesIn o)
+pub rounds-are : (o : Answer (List Lane)) → roundsKept (readsOf o) ≡ longest (lanesIn o)
 unfolding longest
 rounds-are (good lanes) = refl
 rounds-are (refused q) = go (eqb (q .number) 3)
   where
-    go : (b : Bool) → roundsOf (elim b [ true ↦ Nothing | false ↦ NoRoom ]) ≡ 0
+    go : (b : Bool) → roundsKept (elim b [ true ↦ Nothing | false ↦ NoRoom ]) ≡ 0
     go true = refl
     go false = refl
 
@@ -246,9 +246,9 @@ module _ (d room₀ room : List ℕ) (p : ℕ) (is : room ≡ roundRows d room�
   pub row-inside : ClearRoom d room₀ → p < partsOf d → cell p col.rounds < length room
   row-inside c l = omega (arith, rows-long, c .wide)
 
-  pub rows-more : (r : Reads) → r ≡ readsOf (partReads 256 d p) → (n : ℕ) → n ≡ roundsOf r → set room (cell p col.rounds) n ≡ roundRows d room₀ (p + 1)
+  pub rows-more : (r : Reads) → r ≡ readsOf (partReads 256 d p) → (n : ℕ) → n ≡ roundsKept r → set room (cell p col.rounds) n ≡ roundRows d room₀ (p + 1)
   rows-more r e n f =
-      let m : n ≡ roundsIn d p = f ∙ (ap roundsOf e ∙ rounds-are (partReads 256 d p)) in
+      let m : n ≡ roundsIn d p = f ∙ (ap roundsKept e ∙ rounds-are (partReads 256 d p)) in
       rw (is, m) (sym (put-more room₀ 10 (λ q. q) (roundsIn d) p))
 
 -- the parts that were searched, all of them or those before the first with nothing to read

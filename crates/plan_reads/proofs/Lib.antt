@@ -1,7 +1,7 @@
 pub mod AskedLaws
 pub mod BaseLaws
 pub mod SearchedLaws
-pub mod PlaceLaws
-pub mod EntryLaws
-pub mod BitLaws
+pub mod LocalPositionLaws
+pub mod FirstEntryLaws
+pub mod ListedBitLaws
 pub mod CheckLaws

@@ -1,28 +1,26 @@
 -- What the search's answer and its table say of the outcome; and the table of pins, which has each read pin's winner.
 -- Assumes nothing.
 use mathlib.Core.Path.{_≡_, refl, sym, ap, _∙_}
-use mathlib.Core.Bool.{Bool, true, false}
-use mathlib.Core.Option.{Option, none, some}
+use mathlib.Core.Bool.{Bool, true}
+use mathlib.Core.Option.{none, some}
 use mathlib.Core.List.{List}
-use Prim.Native.Nat.{ℕ, zero, suc, _+_, _*_, _/_, _^_, _≤_, _<_}
+use Prim.Native.Nat.{ℕ, zero, suc, _+_, _^_, _≤_, _<_}
 use native.Mathlib.Omega.{arith}
 use borrow.Author.Tests.{eq-eqb, lt-ltb, le-ltb}
-use lib.Dec.{ltb, eqb}
+use lib.Dec.{eqb}
 use lib.ListN.{length, getD}
 use Rattle.reads.specs.ReadSet.{pairsOf}
 use Rattle.reads.specs.Search.{Lane, lanesOf, longest}
 use Rattle.words.specs.Answer.{good}
-use Rattle.reads.specs.Outcome.{packed}
+use Rattle.reads.specs.SetAnswer.{packed}
 use Rattle.reads.proofs.SearchLaws.{win-none}
-use Rattle.reads.proofs.OutcomeLaws.{Sound, placed-sound}
-use Rattle.reads_try.proofs.PairLaws.{pairs-length}
-use Rattle.reads_try.specs.Decoded.{lanesAt}
-use Rattle.rounds.specs.Rounds.{Searchable, Solvable}
-use Rattle.rounds.proofs.OutcomeLaws.{searchable, is-packed, Win}
+use Rattle.reads.proofs.SetAnswerLaws.{Sound, placed-sound}
+use Rattle.reads_try.proofs.SetPairLaws.{pairs-length}
+use Rattle.reads_try.specs.TableLanes.{lanesAt}
+use Rattle.rounds.specs.Rounds.{SetSearchable, Solvable}
+use Rattle.rounds.proofs.RoundsAnswerLaws.{searchable, is-packed, Win}
 use Rattle.pinmap.specs.PinMap.{look}
 use Rattle.plan_record.specs.Record.{slotAt}
-use Rattle.words.specs.Pins.{empty}
-use Rattle.words.specs.Tests.{someBelow}
 use Rattle.words.proofs.TestLaws.{some-at}
 use Rattle.plan_slots.specs.Slots.{readsPin}
 use Rattle.plan_slots.specs.Puts.{readPuts, filled, foundIf}
@@ -32,13 +30,13 @@ use Rattle.plan_positions.specs.Winners.{winner, plannedBy, winnerPuts}
 use Rattle.plan_positions.specs.Places.{plannedTable}
 use Rattle.plan_positions.proofs.WinnerLaws.{winners-look, planned-winner, by-none, renewals-length}
 use Rattle.plan_reads.specs.declared.searched.Reads.the-variants.{Nothing, NoRoom, Rounds}
-use Rattle.plan_reads.specs.Ready.{AllPlanned, Won, AllWon, InForm}
-use Rattle.plan_reads.specs.Answers.{readsOf}
+use Rattle.plan_reads.specs.ReadsReady.{AllPlanned, AllWon, SetInForm}
+use Rattle.plan_reads.specs.PartReadAnswers.{readsOf}
 
 -- ---- the outcome
 
-module _ {ws : List ℕ} {t K S n : ℕ} (f : InForm ws) (s : Solvable t K S n) (fits : (x : ℕ) → getD ws x 0 < 2 ^ 32) where
-  pub in-search : Searchable ws t K S n
+module _ {ws : List ℕ} {t K S n : ℕ} (f : SetInForm ws) (s : Solvable t K S n) (fits : (x : ℕ) → getD ws x 0 < 2 ^ 32) where
+  pub in-search : SetSearchable ws t K S n
   in-search = searchable s (f .few) (f .form) fits
 
   some-words : (lanes : List Lane) → lanesOf n (pairsOf ws) ≡ some lanes → length ws ≡ 0 → ⊥

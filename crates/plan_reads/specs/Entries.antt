@@ -9,8 +9,8 @@ use Rattle.plan_record.specs.Record.{slotAt}
 use Rattle.words.specs.Pins.{empty}
 use Rattle.plan_positions.specs.Positions.{planned}
 use Rattle.plan_reads.specs.PartReads.{partLanes, localPosition}
-use Rattle.plan_reads.specs.Ready.{numberOf}
-use Rattle.plan_reads.specs.Bases.{localBy, Placeable}
+use Rattle.plan_reads.specs.ReadsReady.{plannedNumber}
+use Rattle.plan_reads.specs.Bases.{localBy, Locatable}
 
 -- "Entry i of a stage is 0 for an empty slot. Else in stage 0 it is the local position of the pin's state bit"
 unfoldable pub firstEntry : ℕ → List ℕ → ℕ → ℕ → ℕ
@@ -19,10 +19,10 @@ firstEntry n d p i =
 
 -- the pin of slot j is found at its local position
 pub record NumberedAt (n : ℕ) (d : List ℕ) (p : ℕ) (set bases : List ℕ) (j : ℕ) : Type 0 where
-  pub placeable : Placeable set bases (numberOf (planned d (slotAt d p 0 (8192 + j))))
-  pub is : localBy set bases (numberOf (planned d (slotAt d p 0 (8192 + j)))) ≡ localPosition (partLanes n d p) (planned d (slotAt d p 0 (8192 + j)))
-  pub below : localBy set bases (numberOf (planned d (slotAt d p 0 (8192 + j)))) < 32 * n
+  pub placeable : Locatable set bases (plannedNumber (planned d (slotAt d p 0 (8192 + j))))
+  pub is : localBy set bases (plannedNumber (planned d (slotAt d p 0 (8192 + j)))) ≡ localPosition (partLanes n d p) (planned d (slotAt d p 0 (8192 + j)))
+  pub below : localBy set bases (plannedNumber (planned d (slotAt d p 0 (8192 + j)))) < 32 * n
 
 -- so it is for each that is not empty
-abbrev pub Numbered : ℕ → List ℕ → ℕ → List ℕ → List ℕ → Type 0
-Numbered n d p set bases = (j : ℕ) → j < 8192 → (slotAt d p 0 (8192 + j) ≡ empty → ⊥) → NumberedAt n d p set bases j
+abbrev pub AllNumbered : ℕ → List ℕ → ℕ → List ℕ → List ℕ → Type 0
+AllNumbered n d p set bases = (j : ℕ) → j < 8192 → (slotAt d p 0 (8192 + j) ≡ empty → ⊥) → NumberedAt n d p set bases j

@@ -1,5 +1,5 @@
 pub mod PartReads
-pub mod Ready
-pub mod Answers
+pub mod ReadsReady
+pub mod PartReadAnswers
 pub mod Bases
 pub mod Entries

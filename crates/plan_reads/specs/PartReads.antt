@@ -11,7 +11,7 @@ use Rattle.reads.specs.Asked.{readSetOf}
 use Rattle.reads.specs.Search.{Lane}
 use Rattle.reads.specs.Local.{localOf}
 use Rattle.words.specs.Answer.{Answer, good, refused}
-use Rattle.reads.specs.Outcome.{packed}
+use Rattle.reads.specs.SetAnswer.{packed}
 use Rattle.plan_record.specs.Record.{slotAt, partsOf}
 use Rattle.words.specs.Pins.{empty}
 use Rattle.words.specs.Tests.{lowest, Place}

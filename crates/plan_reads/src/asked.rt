@@ -6,10 +6,10 @@ ghost use lib.Seq.{sets};
 ghost use Rattle.pinmap.specs.PinMap.{look};
 ghost use Rattle.plan_record.specs.Body.{BodyOf};
 ghost use Rattle.plan_positions.specs.Positions.{planned};
-ghost use Rattle.plan_positions.specs.Winners.{Listed, plannedBy};
+ghost use Rattle.plan_positions.specs.Winners.{ListsInRange, plannedBy};
 ghost use Rattle.plan_positions.specs.Places.{plannedTable};
 ghost use Rattle.plan_reads.specs.PartReads.{orZero, askedTo, readWords};
-ghost use Rattle.plan_reads.specs.Ready.{numberOf, bitsOf, partBits, Narrow, AllNarrow, EntryOf, Won, ListWon, AllPlanned, SetRoom};
+ghost use Rattle.plan_reads.specs.ReadsReady.{plannedNumber, bitsOf, partBits, Narrow, AllNarrow, EntryOf, Won, ListWon, AllPlanned, SetRoom};
 use pinmap::Found;
 use plan_positions::planned::list_planned;
 use plan_positions::winners::planned_by;
@@ -19,7 +19,7 @@ use words::units::Pin;
 // The bit of the position that entry w gives: a staged one's has bit 36, bit 31 of its word.
 pub fn bit_of_entry(d: &[u8], w: u32) -> u64
     requires { ⌜ EntryOf (now d) w ⌝ }
-    ensures { λ r. ⌜ (r ≡ numberOf (plannedBy (now (d .entry)) w)) × Narrow r ⌝ }
+    ensures { λ r. ⌜ (r ≡ plannedNumber (plannedBy (now (d .entry)) w)) × Narrow r ⌝ }
 {
     let x = planned_by(d, w);
     let place = x.place;
@@ -44,7 +44,7 @@ fn entry_of(pins: &[u32], pin: u32) -> u32
 // The bit of a pin that has a winner.
 pub fn bit_of_pin(d: &[u8], pins: &[u32], pin: u32) -> u64
     requires { ⌜ (pin < 2 ^ 32 - 1) × Won (now d) (now pins) pin ⌝ }
-    ensures { λ r. ⌜ (r ≡ numberOf (planned (now (d .entry)) pin)) × Narrow r ⌝ }
+    ensures { λ r. ⌜ (r ≡ plannedNumber (planned (now (d .entry)) pin)) × Narrow r ⌝ }
 {
     bit_of_entry(d, entry_of(pins, pin))
 }
@@ -65,7 +65,7 @@ fn ask_bits(d: &[u8], pins: &[u32], keys: &mut [u64])
 // The bits that the part's pins ask for, each pin's once, from the start of the keys. Returns how many there are. The table then has the pins, each
 // with the entry that wins for it.
 fn list_bits(d: &[u8], p: usize, body: Body, pins: &mut [u32], keys: &mut [u64]) -> usize
-    requires { ⌜ BodyOf (now d) p body × (0 < body .stages) × Listed (now d) × AllPlanned (now d) p × (8192 ≤ length (now keys)) × (length (now pins) ≡ 32768) ⌝ }
+    requires { ⌜ BodyOf (now d) p body × (0 < body .stages) × ListsInRange (now d) × AllPlanned (now d) p × (8192 ≤ length (now keys)) × (length (now pins) ≡ 32768) ⌝ }
     ensures { λ r. ⌜ (r ≡ length (partBits (now (d .entry)) p)) × (r ≤ 8192) ⌝ }
     ensures { λ _. ⌜ now (pins .exit) ≡ plannedTable (now (d .entry)) p (length (now (pins .entry))) ⌝ }
     ensures { λ _. ⌜ now (keys .exit) ≡ sets (now (keys .entry)) 0 (partBits (now (d .entry)) p) ⌝ }
@@ -87,7 +87,7 @@ pub fn part_set(
     scratch: &mut [u64],
     set: &mut [u32],
 ) -> usize
-    requires { ⌜ BodyOf (now d) p body × (0 < body .stages) × Listed (now d) × AllPlanned (now d) p × SetRoom (length (now keys)) (length (now scratch)) (length (now set)) × (length (now pins) ≡ 32768) ⌝ }
+    requires { ⌜ BodyOf (now d) p body × (0 < body .stages) × ListsInRange (now d) × AllPlanned (now d) p × SetRoom (length (now keys)) (length (now scratch)) (length (now set)) × (length (now pins) ≡ 32768) ⌝ }
     ensures { λ r. ⌜ (r ≡ length (readWords (now (d .entry)) p)) × (r ≤ 16384) ⌝ }
     ensures { λ _. ⌜ now (pins .exit) ≡ plannedTable (now (d .entry)) p (length (now (pins .entry))) ⌝ }
     ensures { λ _. ⌜ now (set .exit) ≡ sets (now (set .entry)) 0 (readWords (now (d .entry)) p) ⌝ }

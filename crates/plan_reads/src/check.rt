@@ -5,10 +5,10 @@ ghost use lib.ListN.{length, set};
 ghost use Rattle.plan_record.specs.Body.{BodyOf};
 ghost use Rattle.plan_rows.specs.Columns as col;
 ghost use Rattle.plan_rows.specs.Rows.{cell};
-ghost use Rattle.plan_positions.specs.Winners.{Listed};
+ghost use Rattle.plan_positions.specs.Winners.{ListsInRange};
 ghost use Rattle.plan_reads.specs.PartReads.{partReads, refusedReads};
-ghost use Rattle.plan_reads.specs.Ready.{AllPlanned, SetRoom, ClearRoom, Searchable};
-ghost use Rattle.plan_reads.specs.Answers.{readsOf, isNothing, earlierOf, fullAfter, checkedOf, roundsOf, searchedRoom};
+ghost use Rattle.plan_reads.specs.ReadsReady.{AllPlanned, SetRoom, ClearRoom, ReadsSearchable};
+ghost use Rattle.plan_reads.specs.PartReadAnswers.{readsOf, isNothing, earlierOf, fullAfter, checkedOf, roundsKept, searchedRoom};
 use crate::asked::part_set;
 use crate::searched::Reads;
 use crate::searched::search_set;
@@ -38,7 +38,7 @@ fn search_part(
     scratch: &mut [u64],
     set: &mut [u32],
 ) -> Reads
-    requires { ⌜ BodyOf (now d) p body × (0 < body .stages) × Listed (now d) × AllPlanned (now d) p × SetRoom (length (now keys)) (length (now scratch)) (length (now set)) × (length (now room) ≡ 32768) ⌝ }
+    requires { ⌜ BodyOf (now d) p body × (0 < body .stages) × ListsInRange (now d) × AllPlanned (now d) p × SetRoom (length (now keys)) (length (now scratch)) (length (now set)) × (length (now room) ≡ 32768) ⌝ }
     ensures { λ r. ⌜ r ≡ readsOf (partReads 256 (now (d .entry)) p) ⌝ }
 {
     let n = part_set(d, p, body, room, keys, scratch, set);
@@ -55,7 +55,7 @@ fn check_part(
     scratch: &mut [u64],
     set: &mut [u32],
 ) -> Reads
-    requires { ⌜ BodyOf (now d) p body × (0 < body .stages) × Listed (now d) × AllPlanned (now d) p × SetRoom (length (now keys)) (length (now scratch)) (length (now set)) × ClearRoom (now d) (now room) ⌝ }
+    requires { ⌜ BodyOf (now d) p body × (0 < body .stages) × ListsInRange (now d) × AllPlanned (now d) p × SetRoom (length (now keys)) (length (now scratch)) (length (now set)) × ClearRoom (now d) (now room) ⌝ }
     ensures { λ r. ⌜ r ≡ readsOf (partReads 256 (now (d .entry)) p) ⌝ }
     ensures { λ _. ⌜ now (room .exit) ≡ now (room .entry) ⌝ }
 {
@@ -97,7 +97,7 @@ fn full_after(full: usize, parts: usize, p: usize, reads: Reads) -> usize
 
 // The number of rounds as it is kept.
 fn rounds_of(reads: Reads) -> u32
-    ensures { λ r. ⌜ r ≡ roundsOf reads ⌝ }
+    ensures { λ r. ⌜ r ≡ roundsKept reads ⌝ }
 {
     match reads {
         Reads::Nothing => 0,
@@ -109,7 +109,7 @@ fn rounds_of(reads: Reads) -> u32
 // The rounds of part p into its row.
 fn put_rounds(room: &mut [u32], p: usize, reads: Reads)
     requires { ⌜ (p < 262144) × (cell p col.rounds < length (now room)) ⌝ }
-    ensures { λ _. ⌜ now (room .exit) ≡ set (now (room .entry)) (cell p col.rounds) (roundsOf reads) ⌝ }
+    ensures { λ _. ⌜ now (room .exit) ≡ set (now (room .entry)) (cell p col.rounds) (roundsKept reads) ⌝ }
 {
     put_cell(room, p, Column::ROUNDS, rounds_of(reads));
 }
@@ -123,7 +123,7 @@ pub fn check_reads(
     scratch: &mut [u64],
     set: &mut [u32],
 ) -> Checked
-    requires { ⌜ Searchable (now d) (now room) × SetRoom (length (now keys)) (length (now scratch)) (length (now set)) ⌝ }
+    requires { ⌜ ReadsSearchable (now d) (now room) × SetRoom (length (now keys)) (length (now scratch)) (length (now set)) ⌝ }
     ensures { λ r. ⌜ r ≡ checkedOf (refusedReads 256 3 (now (d .entry))) (refusedReads 256 4 (now (d .entry))) ⌝ }
     ensures { λ _. ⌜ now (room .exit) ≡ searchedRoom (now (d .entry)) (now (room .entry)) ⌝ }
 {

@@ -4,8 +4,8 @@ ghost use Prim.Native.Nat.{ℕ, _<_};
 ghost use lib.ListN.{length};
 ghost use Rattle.words.specs.Section.{listOf};
 ghost use Rattle.plan_record.specs.Body.{BodyOf};
-ghost use Rattle.plan_reads.specs.Ready.{AllWon};
-ghost use Rattle.plan_reads.specs.Entries.{firstEntry, Numbered};
+ghost use Rattle.plan_reads.specs.ReadsReady.{AllWon};
+ghost use Rattle.plan_reads.specs.Entries.{firstEntry, AllNumbered};
 use crate::asked::bit_of_pin;
 use crate::local::local_position;
 use plan_record::bodies::Body;
@@ -22,7 +22,7 @@ fn first_entry(
     bases: &[u32],
     i: usize,
 ) -> u32
-    requires { ⌜ BodyOf (now d) p body × (0 < body .stages) × (i < 8192) × AllWon (now d) p (now pins) × Numbered 256 (now d) p (now set) (now bases) ⌝ }
+    requires { ⌜ BodyOf (now d) p body × (0 < body .stages) × (i < 8192) × AllWon (now d) p (now pins) × AllNumbered 256 (now d) p (now set) (now bases) ⌝ }
     ensures { λ r. ⌜ (r ≡ firstEntry 256 (now (d .entry)) p i) × (r < 8192) ⌝ }
 {
     let pin = slot(d, p, body, 0, 8192 + i);
@@ -42,7 +42,7 @@ pub fn first_entries(
     bases: &[u32],
     entries: &mut [u32],
 )
-    requires { ⌜ BodyOf (now d) p body × (0 < body .stages) × AllWon (now d) p (now pins) × Numbered 256 (now d) p (now set) (now bases) × (length (now entries) ≡ 8192) ⌝ }
+    requires { ⌜ BodyOf (now d) p body × (0 < body .stages) × AllWon (now d) p (now pins) × AllNumbered 256 (now d) p (now set) (now bases) × (length (now entries) ≡ 8192) ⌝ }
     ensures { λ _. ⌜ now (entries .exit) ≡ listOf (firstEntry 256 (now (d .entry)) p) 8192 ⌝ }
     ensures { λ _. ⌜ ((i : ℕ) → i < 8192 → firstEntry 256 (now (d .entry)) p i < 8192) ⌝ }
 {

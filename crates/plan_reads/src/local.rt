@@ -1,16 +1,16 @@
 // Local positions. For each pair of the set one number is kept, where its bits begin; a bit is found by its pair.
 ghost use mathlib.Core.Path.{_≡_};
-ghost use Prim.Native.Nat.{_+_, _*_, _/_, _≤_, _<_};
+ghost use Prim.Native.Nat.{_*_, _/_, _≤_, _<_};
 ghost use lib.ListN.{length};
-ghost use Rattle.sort.specs.Search.{Monotone, least};
-ghost use Rattle.reads_try.specs.Decoded.{laneOf, rowAt, lanesAt};
-ghost use Rattle.reads_try.specs.Tries.{RowIn};
-ghost use Rattle.reads_section.specs.Readout.{Readable};
-ghost use Rattle.plan_reads.specs.Bases.{storeLane, storeLanes, wordOf, localBy, Placeable};
+ghost use Rattle.sort.specs.HalfSearch.{Monotone, least};
+ghost use Rattle.reads_try.specs.TableLanes.{laneOf, rowAt, lanesAt};
+ghost use Rattle.reads_try.specs.Tries.{LaneRowIn};
+ghost use Rattle.reads_section.specs.Readout.{TableReadable};
+ghost use Rattle.plan_reads.specs.Bases.{storeLane, storeLanes, pairWordOf, localBy, Locatable};
 
 // The pairs of lane j: each begins after the bits of later rounds, so the row is walked from its end.
 fn lane_bases(set: &[u32], table: &[u32], j: usize, bases: &mut [u32])
-    requires { ⌜ RowIn (now set) (now table) j × (j < 256) × (length (now set) / 2 ≤ length (now bases)) ⌝ }
+    requires { ⌜ LaneRowIn (now set) (now table) j × (j < 256) × (length (now set) / 2 ≤ length (now bases)) ⌝ }
     ensures { λ _. ⌜ now (bases .exit) ≡ storeLane (32 * j) (laneOf (now (set .entry)) (rowAt (now (table .entry)) j)) (now (bases .entry)) ⌝ }
 {
     let held = reads_try::lane_load(set, table, j);
@@ -26,7 +26,7 @@ fn lane_bases(set: &[u32], table: &[u32], j: usize, bases: &mut [u32])
 
 // The pairs of all lanes.
 pub fn fill_bases(set: &[u32], table: &[u32], lanes: usize, bases: &mut [u32])
-    requires { ⌜ Readable (now set) (now table) lanes × (length (now set) / 2 ≤ length (now bases)) ⌝ }
+    requires { ⌜ TableReadable (now set) (now table) lanes × (length (now set) / 2 ≤ length (now bases)) ⌝ }
     ensures { λ _. ⌜ now (bases .exit) ≡ storeLanes 0 (lanesAt (now (set .entry)) (now (table .entry)) lanes) (now (bases .entry)) ⌝ }
 {
     let mut j = 0;
@@ -38,8 +38,8 @@ pub fn fill_bases(set: &[u32], table: &[u32], lanes: usize, bases: &mut [u32])
 
 // The first pair whose word is w or above.
 fn find_pair(set: &[u32], w: u64) -> usize
-    requires { ⌜ Monotone (wordOf (now set)) (length (now set) / 2) ⌝ }
-    ensures { λ r. ⌜ (r ≡ least (wordOf (now (set .entry))) (length (now (set .entry)) / 2) w) × (r ≤ length (now (set .entry)) / 2) ⌝ }
+    requires { ⌜ Monotone (pairWordOf (now set)) (length (now set) / 2) ⌝ }
+    ensures { λ r. ⌜ (r ≡ least (pairWordOf (now (set .entry))) (length (now (set .entry)) / 2) w) × (r ≤ length (now (set .entry)) / 2) ⌝ }
 {
     let mut low = 0;
     let mut high = set.len() / 2;
@@ -56,7 +56,7 @@ fn find_pair(set: &[u32], w: u64) -> usize
 
 // The local position of bit q, which the set asks for.
 pub fn local_position(set: &[u32], bases: &[u32], q: u64) -> u32
-    requires { ⌜ Placeable (now set) (now bases) q ⌝ }
+    requires { ⌜ Locatable (now set) (now bases) q ⌝ }
     ensures { λ r. ⌜ r ≡ localBy (now (set .entry)) (now (bases .entry)) q ⌝ }
 {
     let e = find_pair(set, q / 32);

@@ -3,10 +3,10 @@ ghost use mathlib.Core.Path.{_≡_};
 ghost use lib.ListN.{length};
 ghost use Rattle.reads.specs.ReadSet.{pairsOf};
 ghost use Rattle.reads.specs.Search.{lanesOf};
-ghost use Rattle.reads.specs.Outcome.{packed};
+ghost use Rattle.reads.specs.SetAnswer.{packed};
 ghost use Rattle.rounds.specs.Rounds.{tableAfter, Solvable};
-ghost use Rattle.plan_reads.specs.Ready.{InForm};
-ghost use Rattle.plan_reads.specs.Answers.{readsOf};
+ghost use Rattle.plan_reads.specs.ReadsReady.{SetInForm};
+ghost use Rattle.plan_reads.specs.PartReadAnswers.{readsOf};
 
 // Refusals 3 and 4, or the number of rounds.
 pub enum Reads {
@@ -23,7 +23,7 @@ pub fn search_set(
     scratch: &mut [u64],
     lanes: usize,
 ) -> Reads
-    requires { ⌜ InForm (now set) × Solvable (length (now table)) (length (now keys)) (length (now scratch)) lanes ⌝ }
+    requires { ⌜ SetInForm (now set) × Solvable (length (now table)) (length (now keys)) (length (now scratch)) lanes ⌝ }
     ensures { λ r. ⌜ r ≡ readsOf (packed lanes (pairsOf (now (set .entry)))) ⌝ }
     ensures { λ _. ⌜ now (table .exit) ≡ tableAfter lanes (lanesOf lanes (pairsOf (now (set .entry)))) ⌝ }
 {

@@ -1,3 +1,3 @@
 pub mod RecordLaws
 pub mod BodyLaws
-pub mod FormLaws
+pub mod PlanFormLaws

@@ -8,13 +8,13 @@ use lib.ListN.{length}
 use Rattle.plan_record.specs.declared.bodies.Body.{Body}
 use Rattle.words.specs.Tests.{allBelow}
 use Rattle.plan_record.specs.Record.{majorsOf, partsOf, stagesOf, endpointsOf, locationsOf, bodyAt, countBase, slotBase, locationBase, tableBase}
-use Rattle.plan_record.specs.Form.{partForm, lengthForm}
+use Rattle.plan_record.specs.Form.{partHeadForm, lengthForm}
 
 -- the numbers of stages and endpoints are in range
 pub record Headed (d : List ℕ) : Type 0 where
   pub majors : majorsOf d ≤ 64
   pub parts : partsOf d ≤ 262144
-  pub heads : allBelow (partForm d) (partsOf d) ≡ true
+  pub heads : allBelow (partHeadForm d) (partsOf d) ≡ true
 
 -- and the record has the words that its counts give: it is in form but for what its lists hold
 pub record Measured (d : List ℕ) : Type 0 where

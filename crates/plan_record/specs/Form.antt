@@ -11,8 +11,8 @@ use Rattle.words.specs.Tests.{allBelow}
 use Rattle.plan_record.specs.Record.{blocksOf, majorsOf, gatesOf, layoutOf, positionsOf, countAt, partsBefore, partsOf, gatePin, gateFirst, gateSecond, layoutPin, positionPin, positionStaged, stagesOf, endpointsOf, bodyAt, endpointKind, endpointX, endpointY}
 
 -- "65536 plus 16 a part (as its counts say) for a plan": the counts of 64 major stages at most are looked at
-unfoldable pub roomWords : List ℕ → ℕ
-roomWords d = 65536 + 16 * partsBefore d (min (majorsOf d) 64)
+unfoldable pub planRoomWords : List ℕ → ℕ
+planRoomWords d = 65536 + 16 * partsBefore d (min (majorsOf d) 64)
 
 -- "blocks 1..=1024, major stages 1..=64, .. input layout 0..=2^20 entries, position list 0..=2^20 entries"
 unfoldable pub headForm : List ℕ → Bool
@@ -25,8 +25,8 @@ unfoldable pub countsForm : List ℕ → Bool
 countsForm d = allBelow (λ s. leb (countAt d s) 4096) (majorsOf d)
 
 -- "boomerang stages of a part 1..=255, endpoints of a part 0..=8192"
-unfoldable pub partForm : List ℕ → ℕ → Bool
-partForm d p = leb 1 (stagesOf d p) && leb (stagesOf d p) 255 && leb (endpointsOf d p) 8192
+unfoldable pub partHeadForm : List ℕ → ℕ → Bool
+partHeadForm d p = leb 1 (stagesOf d p) && leb (stagesOf d p) 255 && leb (endpointsOf d p) 8192
 
 -- the record is whole words, and has exactly those that its counts give
 unfoldable pub lengthForm : List ℕ → Bool
@@ -60,4 +60,4 @@ listsForm d =
 
 -- refusal 5 is given exactly when this is false
 unfoldable pub planForm : List ℕ → Bool
-planForm d = headForm d && countsForm d && allBelow (partForm d) (partsOf d) && lengthForm d && listsForm d
+planForm d = headForm d && countsForm d && allBelow (partHeadForm d) (partsOf d) && lengthForm d && listsForm d

@@ -86,8 +86,8 @@ positionBase d = layoutBase d + layoutOf d
 abbrev pub positionPin : List ℕ → ℕ → ℕ
 positionPin d i = wordAt d (positionBase d + 3 * i)
 
-abbrev pub positionPlace : List ℕ → ℕ → ℕ
-positionPlace d i = wordAt d (positionBase d + 3 * i + 1)
+abbrev pub positionState : List ℕ → ℕ → ℕ
+positionState d i = wordAt d (positionBase d + 3 * i + 1)
 
 abbrev pub positionStaged : List ℕ → ℕ → ℕ
 positionStaged d i = wordAt d (positionBase d + 3 * i + 2)

@@ -8,7 +8,7 @@ ghost use lib.ListN.{length};
 ghost use Rattle.plan_record.specs.Record.{majorsOf, partsOf, gatesOf, layoutOf, positionsOf, endpointsOf, gateBase, layoutBase, positionBase, headBase};
 ghost use Rattle.words.specs.Tests.{allBelow};
 ghost use Rattle.words.specs.Pins.{isPin, isPinIv};
-ghost use Rattle.plan_record.specs.Form.{headForm, countsForm, partForm, lengthForm, gateForm, layoutForm, positionForm, endpointNumbers, endpointForm, listsForm, planForm};
+ghost use Rattle.plan_record.specs.Form.{headForm, countsForm, partHeadForm, lengthForm, gateForm, layoutForm, positionForm, endpointNumbers, endpointForm, listsForm, planForm};
 ghost use Rattle.plan_record.specs.Body.{Headed, Measured, BodyOf};
 use crate::bodies::Body;
 use crate::bodies::body_at;
@@ -90,7 +90,7 @@ fn counts_form(d: &[u8]) -> bool
 // The head of part p, given where the part heads begin.
 fn part_form(d: &[u8], heads: usize, p: usize) -> bool
     requires { ⌜ (heads ≡ headBase (now d)) × (heads < 2 ^ 37) × (p < 262144) ⌝ }
-    ensures { λ r. ⌜ r ≡ partForm (now (d .entry)) p ⌝ }
+    ensures { λ r. ⌜ r ≡ partHeadForm (now (d .entry)) p ⌝ }
 {
     both(
         in_range(word_at(d, heads + 2 * p), 1, 255),
@@ -101,7 +101,7 @@ fn part_form(d: &[u8], heads: usize, p: usize) -> bool
 // The heads of all parts: one that the record lacks has no stages and ends the loop.
 fn heads_form(d: &[u8]) -> bool
     requires { ⌜ (majorsOf (now d) ≤ 64) × (partsOf (now d) ≤ 262144) ⌝ }
-    ensures { λ r. ⌜ r ≡ allBelow (partForm (now (d .entry))) (partsOf (now (d .entry))) ⌝ }
+    ensures { λ r. ⌜ r ≡ allBelow (partHeadForm (now (d .entry))) (partsOf (now (d .entry))) ⌝ }
 {
     let heads = head_base(d);
     let parts = parts_of(d);
@@ -278,7 +278,7 @@ fn lists_form(d: &[u8]) -> bool
 // The heads, the length and the lists, once the numbers of parts are in range.
 fn parts_form(d: &[u8]) -> bool
     requires { ⌜ (majorsOf (now d) ≤ 64) × (partsOf (now d) ≤ 262144) ⌝ }
-    ensures { λ r. ⌜ r ≡ (allBelow (partForm (now (d .entry))) (partsOf (now (d .entry))) && lengthForm (now (d .entry)) && listsForm (now (d .entry))) ⌝ }
+    ensures { λ r. ⌜ r ≡ (allBelow (partHeadForm (now (d .entry))) (partsOf (now (d .entry))) && lengthForm (now (d .entry)) && listsForm (now (d .entry))) ⌝ }
 {
     if !heads_form(d) {
         return false;

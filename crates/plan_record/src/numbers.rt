@@ -2,7 +2,7 @@
 // look at the head, is asked for once and lent.
 ghost use mathlib.Core.Path.{_≡_};
 ghost use Prim.Native.Nat.{_^_, _<_};
-ghost use Rattle.plan_record.specs.Record.{blocksOf, majorsOf, gatesOf, layoutOf, positionsOf, countAt, gatePin, gateFirst, gateSecond, layoutBase, layoutPin, positionBase, positionPin, positionPlace, positionStaged, headBase, stagesOf};
+ghost use Rattle.plan_record.specs.Record.{blocksOf, majorsOf, gatesOf, layoutOf, positionsOf, countAt, gatePin, gateFirst, gateSecond, layoutBase, layoutPin, positionBase, positionPin, positionState, positionStaged, headBase, stagesOf};
 use crate::places::gate_base;
 use crate::places::word_at;
 use words::units::Pin;
@@ -89,7 +89,7 @@ pub fn position_pin(d: &[u8], base: usize, i: u32) -> Pin
 
 pub fn position_place(d: &[u8], base: usize, i: u32) -> StatePosition
     requires { ⌜ (base ≡ positionBase (now d)) × (base < 2 ^ 36) ⌝ }
-    ensures { λ r. ⌜ r .0 ≡ positionPlace (now (d .entry)) i ⌝ }
+    ensures { λ r. ⌜ r .0 ≡ positionState (now (d .entry)) i ⌝ }
 {
     StatePosition(word_at(d, base + 3 * (i as usize) + 1))
 }

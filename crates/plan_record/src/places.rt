@@ -3,7 +3,7 @@ ghost use mathlib.Core.Path.{_≡_};
 ghost use Prim.Native.Nat.{_+_, _*_, _/_, _^_, _≤_, _<_};
 ghost use lib.ListN.{length};
 ghost use Rattle.plan_record.specs.Record.{wordAt, partsBefore, gateBase, layoutBase, positionBase, headBase, locationsIn, bodyWords};
-ghost use Rattle.plan_record.specs.Form.{roomWords};
+ghost use Rattle.plan_record.specs.Form.{planRoomWords};
 
 // Four bytes as one number, the lowest first.
 fn word_of(a: u8, b: u8, c: u8, e: u8) -> u32
@@ -69,7 +69,7 @@ pub fn parts_before(d: &[u8], s: usize) -> usize
 
 // How much working room a plan asks for.
 pub fn room_words(d: &[u8]) -> usize
-    ensures { λ r. ⌜ (r ≡ roomWords (now (d .entry))) × (r < 2 ^ 44) ⌝ }
+    ensures { λ r. ⌜ (r ≡ planRoomWords (now (d .entry))) × (r < 2 ^ 44) ⌝ }
 {
     let majors = word_at(d, 1) as usize;
     if majors < 64 {

@@ -12,7 +12,7 @@ use Rattle.plan_record.specs.Body.{BodyReady, BodyOf}
 use Rattle.plan_record.specs.declared.bodies.Body.{Body}
 use Rattle.words.specs.Tests.{firstFrom, firstNot, lowest}
 use Rattle.words.proofs.TestLaws.{some-not-none, first-here, first-on, first-none, not-none, none-not, lowest-none}
-use Rattle.plan_record.proofs.FormLaws.{formed, body-ready}
+use Rattle.plan_record.proofs.PlanFormLaws.{formed, body-ready}
 use Rattle.plan_slots.specs.Slots.{badItem}
 use Rattle.plan_slots.specs.Items.{overItems}
 

@@ -2,6 +2,6 @@ pub mod TopLaws
 pub mod ItemLaws
 pub mod PutLaws
 pub mod SlotLaws
-pub mod RightLaws
-pub mod RunLaws
+pub mod SlotTestLaws
+pub mod EmptyRunLaws
 pub mod ListedLaws

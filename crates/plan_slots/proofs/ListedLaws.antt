@@ -19,12 +19,12 @@ use Rattle.pinmap.specs.declared.Slot.{Slot}
 use Rattle.pinmap.specs.declared.Slot.the-variants.{Free, Taken, Nowhere}
 use Rattle.pinmap.specs.declared.Found.{Found}
 use Rattle.pinmap.specs.declared.Found.the-variants.{Value, Missing}
-use Rattle.pinmap.specs.PinMap.{valueAt, slotOf, lookAt, look, foundOf, putAt, putIn, afterPuts}
+use Rattle.pinmap.specs.PinMap.{valueAt, slotOf, lookAt, look, lookAnswer, putAt, putIn, afterPuts}
 use Rattle.words.specs.Pins.{empty}
 use Rattle.words.specs.Tests.{someBelow}
 use Rattle.words.proofs.TestLaws.{some-found, some-not-none}
 use Rattle.plan_slots.specs.Puts.{heldAt, heldBelow, readPuts, newPin, firstPins, readPin, readPins, AllPins, filled, FilledWith, foundIf}
-use Rattle.plan_slots.proofs.PutLaws.{held-none, held-one, held-length, filled-holds, found-some, fill-start, fill-more, fill-end}
+use Rattle.plan_slots.proofs.PutLaws.{held-none, held-one, held-length, filled-holds, last-put-found, fill-start, fill-more, fill-end}
 
 -- ---- a put of what is found changes nothing
 
@@ -143,11 +143,11 @@ module _ (pin : ℕ → ℕ) where
 
 -- ---- what a look tells of a slot
 
-value-seen : (b : Bool) (v : ℕ) → Value v ≡ foundOf (foundIf b 0) → b ≡ true
+value-seen : (b : Bool) (v : ℕ) → Value v ≡ lookAnswer (foundIf b 0) → b ≡ true
 value-seen true v e = refl
 value-seen false v e = let z : _≡_ {A = ℕ} 0 1 = cc in absurd (omega arith)
 
-missing-new : (b : Bool) → Missing ≡ foundOf (foundIf b 0) → b ≡ false
+missing-new : (b : Bool) → Missing ≡ lookAnswer (foundIf b 0) → b ≡ false
 missing-new true e = let z : _≡_ {A = ℕ} 0 1 = cc in absurd (omega arith)
 missing-new false e = refl
 
@@ -164,7 +164,7 @@ module _ (d : List ℕ) (p : ℕ) (t l : List ℕ) (n j x : ℕ) (read : x ≡ r
       let new : newPin (readPin d p) j ≡ [] = new-empty (readPin d p) j k in
       rw new (omega arith, (held-none t _ 0 k, (refl, λ i h. absurd (omega arith))))
 
-  module _ (full : x ≡ empty → ⊥) (below : j < 8192) (f : FilledWith (heldBelow (readPin d p) (λ k. 0) j) t) (r : Found) (told : r ≡ foundOf (look t x)) where
+  module _ (full : x ≡ empty → ⊥) (below : j < 8192) (f : FilledWith (heldBelow (readPin d p) (λ k. 0) j) t) (r : Found) (told : r ≡ lookAnswer (look t x)) where
     abbrev seen : Bool
     seen = someBelow (λ i. eqb (readPin d p i) (readPin d p j)) j
 
@@ -175,10 +175,10 @@ module _ (d : List ℕ) (p : ℕ) (t l : List ℕ) (n j x : ℕ) (read : x ≡ r
     slot-look =
         ap (λ (u : List ℕ). look u (readPin d p j)) (f .is)
         ∙ (filled-holds (length t) (heldBelow (readPin d p) (λ k. 0) j) (omega (arith, f .wide, held-length (readPin d p) (λ k. 0) j)) .finds (readPin d p j)
-        ∙ found-some (readPin d p) 0 j (readPin d p j) there)
+        ∙ last-put-found (readPin d p) 0 j (readPin d p j) there)
 
-    tells : r ≡ foundOf (foundIf seen 0)
-    tells = told ∙ (ap (λ (y : ℕ). foundOf (look t y)) read ∙ ap foundOf slot-look)
+    tells : r ≡ lookAnswer (foundIf seen 0)
+    tells = told ∙ (ap (λ (y : ℕ). lookAnswer (look t y)) read ∙ ap lookAnswer slot-look)
 
     pub slot-again : (v : ℕ) → r ≡ Value v → Listed d p t l n j t l n
     slot-again v e =

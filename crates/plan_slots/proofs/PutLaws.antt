@@ -8,7 +8,7 @@ use mathlib.Core.Option.{none, some}
 use Prim.Native.Nat.{ℕ, zero, suc, _+_, _/_, _≤_, _<_}
 use native.Mathlib.Omega.{arith}
 use native.Mathlib.Numerals.{add-one}
-use borrow.Author.Tests.{lt-ltb, ltb-true, ltb-false, eq-eqb, ne-eqb, eqb-true, eqb-false}
+use borrow.Author.Tests.{lt-ltb, eq-eqb, ne-eqb, eqb-true, eqb-false}
 use lib.Dec.{eqb, ltb}
 use lib.ListN.{length, replicate, length-append, length-replicate}
 use Rattle.words.proofs.BitLaws.{lt-or-ge}
@@ -119,10 +119,10 @@ last-of-none : (pin value : ℕ → ℕ) (x : ℕ) → lastPut (heldBelow pin va
 unfolding heldBelow lastFrom
 last-of-none pin value x = refl
 
-pub found-some : (pin : ℕ → ℕ) (v n x : ℕ) → (x ≡ empty → ⊥) → lastPut (heldBelow pin (λ i. v) n) x ≡ foundIf (someBelow (λ i. eqb (pin i) x) n) v
+pub last-put-found : (pin : ℕ → ℕ) (v n x : ℕ) → (x ≡ empty → ⊥) → lastPut (heldBelow pin (λ i. v) n) x ≡ foundIf (someBelow (λ i. eqb (pin i) x) n) v
 unfolding someBelow
-found-some pin v zero x k = last-of-none pin (λ i. v) x
-found-some pin v (suc n) x k = go (eqb (pin n) x) refl (found-some pin v n x k)
+last-put-found pin v zero x k = last-of-none pin (λ i. v) x
+last-put-found pin v (suc n) x k = go (eqb (pin n) x) refl (last-put-found pin v n x k)
   where
     go : (b : Bool) → eqb (pin n) x ≡ b → lastPut (heldBelow pin (λ i. v) n) x ≡ foundIf (someBelow (λ i. eqb (pin i) x) n) v
         → lastPut (heldBelow pin (λ i. v) (suc n)) x ≡ foundIf (someBelow (λ i. eqb (pin i) x) n || eqb (pin n) x) v
@@ -208,25 +208,11 @@ module _ (d : List ℕ) (p s x : ℕ) where
   unfolding positionPuts
   positions-look m h k = positions-hold d p s m h .finds x ∙ found-highest k 8191
 
-  pub positions-absent : (m : ℕ) → 16384 ≤ m → (x ≡ empty → ⊥) → standsIn d p s x ≡ false → look (filled m (positionPuts d p s)) x ≡ none
-  positions-absent m h k e = positions-look m h k ∙ go (highest d p s x) (sym stands-highest ∙ e)
-    where
-      go : (q : ℕ) → ltb 0 q ≡ false → foundAt q ≡ none
-      go zero l = refl
-      go (suc q) l = absurd (omega (arith, ltb-false 0 (suc q) l))
-
-  pub positions-there : (m : ℕ) → 16384 ≤ m → (x ≡ empty → ⊥) → standsIn d p s x ≡ true → look (filled m (positionPuts d p s)) x ≡ some (highest d p s x)
-  positions-there m h k e = positions-look m h k ∙ go (highest d p s x) (sym stands-highest ∙ e)
-    where
-      go : (q : ℕ) → ltb 0 q ≡ true → foundAt q ≡ some q
-      go zero l = absurd (omega (arith, ltb-true 0 0 l))
-      go (suc q) l = refl
-
 -- ---- in a table of the pins read: found just where the part reads it
 
 pub reads-look : (d : List ℕ) (p x m : ℕ) → 16384 ≤ m → (x ≡ empty → ⊥) → look (filled m (readPuts d p)) x ≡ foundIf (readsPin d p x) 0
 unfolding readPuts readsPin
-reads-look d p x m h k = reads-hold d p m h .finds x ∙ found-some (λ j. slotAt d p 0 (8192 + j)) 0 8192 x k
+reads-look d p x m h k = reads-hold d p m h .finds x ∙ last-put-found (λ j. slotAt d p 0 (8192 + j)) 0 8192 x k
 
 -- ---- the same of a lent table
 

@@ -1,17 +1,16 @@
 -- What refusals 9, 10 and 11 exclude, slot by slot: a pin at a position is carried from slot a or is the gate of slots a and b; a later stage's pin
 -- stands in the stage before; a pin that is computed is not read.
 -- Assumes nothing.
-use mathlib.Core.Path.{_≡_, refl, sym, _∙_, subst}
+use mathlib.Core.Path.{_≡_, refl, sym, _∙_}
 use mathlib.Core.Bool.{Bool, true, false, _&&_, _||_}
 use mathlib.Core.List.{List}
-use mathlib.Core.Logic.{_⊎_, inl, inr, ⊎-elim}
+use mathlib.Core.Logic.{⊎-elim}
 use mathlib.Core.Option.{Option, none, some}
-use Prim.Native.Nat.{ℕ, _+_, _-_, _/_, _^_, _≤_, _<_}
+use Prim.Native.Nat.{ℕ, _+_, _/_, _^_, _≤_, _<_}
 use native.Mathlib.Numerals.{add-one}
 use native.Mathlib.Omega.{arith}
 use borrow.Author.Tests.{leb-true, ne-eqb, eqb-true, eqb-false, ltb-true, not-true}
 use lib.Dec.{eqb}
-use Rattle.words.proofs.BitLaws.{lt-or-ge}
 use Rattle.plan_record.specs.Record.{partsOf, stagesOf, slotAt, gateFirst, gateSecond}
 use Rattle.words.specs.Pins.{isPin, empty}
 use Rattle.words.proofs.TestLaws.{not-both, and-true, or-cases}
@@ -21,11 +20,6 @@ use Rattle.plan_slots.proofs.ItemLaws.{item-right}
 use Rattle.plan_slots.proofs.PutLaws.{HighestAt, stands-highest, highest-is}
 
 -- ---- 9
-
--- a pin that is empty or in range
-pub pin-range : (x : ℕ) → pinRight x ≡ true → (x ≡ empty) ⊎ (x ≤ 2 ^ 30)
-unfolding pinRight
-pin-range x h = ⊎-elim (λ e. inl (eqb-true _ _ e)) (λ e. inr (leb-true _ _ e)) (or-cases (eqb x empty) (isPin x) h)
 
 -- gate g has fan-in pins a and b
 pub record Feeds (d : List ℕ) (x a b : ℕ) : Type 0 where
@@ -45,19 +39,19 @@ feeds-gate d x a b h = go (gateOf d x) refl h
         record { gate = g; found = e; first = eqb-true _ _ u; second = eqb-true _ _ v }
 
 -- what may stand at a position whose slots a and b hold these pins
-pub data Stands (d : List ℕ) (x a b : ℕ) : Type 0 where
-  vacant : x ≡ empty → Stands d x a b
-  carried : x ≤ 2 ^ 30 → x ≡ a → Stands d x a b
-  computed : x ≤ 2 ^ 30 → (x ≡ a → ⊥) → Feeds d x a b → Stands d x a b
+pub data SlotStands (d : List ℕ) (x a b : ℕ) : Type 0 where
+  vacant : x ≡ empty → SlotStands d x a b
+  carried : x ≤ 2 ^ 30 → x ≡ a → SlotStands d x a b
+  computed : x ≤ 2 ^ 30 → (x ≡ a → ⊥) → Feeds d x a b → SlotStands d x a b
 
-stands-of : (d : List ℕ) (x a b : ℕ) → (eqb x empty || (isPin x && (eqb x a || feeds d (gateOf d x) a b))) ≡ true → Stands d x a b
+stands-of : (d : List ℕ) (x a b : ℕ) → (eqb x empty || (isPin x && (eqb x a || feeds d (gateOf d x) a b))) ≡ true → SlotStands d x a b
 stands-of d x a b h = ⊎-elim (λ e. vacant (eqb-true _ _ e)) pin (or-cases (eqb x empty) _ h)
   where
-    go : x ≤ 2 ^ 30 → (t : Bool) → eqb x a ≡ t → (t || feeds d (gateOf d x) a b) ≡ true → Stands d x a b
+    go : x ≤ 2 ^ 30 → (t : Bool) → eqb x a ≡ t → (t || feeds d (gateOf d x) a b) ≡ true → SlotStands d x a b
     go r true e v = carried r (eqb-true _ _ e)
     go r false e v = computed r (eqb-false _ _ e) (feeds-gate d x a b v)
 
-    pin : (isPin x && (eqb x a || feeds d (gateOf d x) a b)) ≡ true → Stands d x a b
+    pin : (isPin x && (eqb x a || feeds d (gateOf d x) a b)) ≡ true → SlotStands d x a b
     pin e = let (u, v) = and-true (isPin x) (eqb x a || feeds d (gateOf d x) a b) e in go (leb-true _ _ u) (eqb x a) refl v
 
 module _ (d : List ℕ) (clear : refusal9 d ≡ none) (p s : ℕ) (part : p < partsOf d) (stage : s < stagesOf d p) where
@@ -71,31 +65,10 @@ module _ (d : List ℕ) (clear : refusal9 d ≡ none) (p s : ℕ) (part : p < pa
       let (a, b) = and-true (pinRight (slotAt d p s (8192 + q))) (eqb q 0 || slotRight d p s q) (nine q l) in
       ⊎-elim (λ e. absurd (omega (arith, eqb-true q 0 e))) (λ e. e) (or-cases (eqb q 0) (slotRight d p s q) b)
 
-  -- a slot of level 0
-  pub slot-range : (j : ℕ) → j < 8192 → (slotAt d p s (8192 + j) ≡ empty) ⊎ (slotAt d p s (8192 + j) ≤ 2 ^ 30)
-  unfolding nineRight
-  slot-range j l =
-      pin-range _ (and-true (pinRight (slotAt d p s (8192 + j))) (eqb j 0 || slotRight d p s j) (nine j l) .0)
-
   -- a position
-  pub position-stands : (q : ℕ) → 0 < q → q < 8192 → Stands d (slotAt d p s q) (slotA d p s q) (slotB d p s q)
+  pub position-stands : (q : ℕ) → 0 < q → q < 8192 → SlotStands d (slotAt d p s q) (slotA d p s q) (slotB d p s q)
   unfolding slotRight
   position-stands q h l = stands-of d _ _ _ (position-right q h l)
-
-  pub position-range : (q : ℕ) → 0 < q → q < 8192 → (slotAt d p s q ≡ empty) ⊎ (slotAt d p s q ≤ 2 ^ 30)
-  position-range q h l = go (position-stands q h l)
-    where
-      go : Stands d (slotAt d p s q) (slotA d p s q) (slotB d p s q) → (slotAt d p s q ≡ empty) ⊎ (slotAt d p s q ≤ 2 ^ 30)
-      go (vacant e) = inl e
-      go (carried r e) = inr r
-      go (computed r n f) = inr r
-
-  -- a slot of either kind, by its index
-  pub index-range : (q : ℕ) → 0 < q → q < 16384 → (slotAt d p s q ≡ empty) ⊎ (slotAt d p s q ≤ 2 ^ 30)
-  index-range q h l =
-      ⊎-elim (λ k. position-range q h k)
-      (λ k. let e : 8192 + (q - 8192) ≡ q = omega arith in subst (λ (i : ℕ). (slotAt d p s i ≡ empty) ⊎ (slotAt d p s i ≤ 2 ^ 30)) e (slot-range (q - 8192) (omega arith)))
-      (lt-or-ge q 8192)
 
 -- ---- 10
 

@@ -1,2 +1,2 @@
-pub mod TableLaws
-pub mod WholeLaws
+pub mod PartTableLaws
+pub mod AllPartsLaws

@@ -3,7 +3,7 @@ ghost use mathlib.Core.Path.{_≡_};
 ghost use Prim.Native.Nat.{_+_};
 ghost use lib.ListN.{length, replicate};
 ghost use Rattle.words.specs.Sum.{sumTo};
-ghost use Rattle.plan_blocks.specs.Fill.{StagePlaceable, StageSummable, StageReady, FirstsOf, takes, placedRows, partCounts, rankedRows, startedRows, stageRows};
+ghost use Rattle.plan_blocks.specs.TableFill.{StagePlaceable, StageSummable, StageReady, FirstsOf, takes, rankedRows, startedRows, stageRows};
 use crate::starts::add_words;
 use crate::starts::make_starts;
 use crate::starts::rank_parts;

@@ -7,8 +7,8 @@ ghost use Rattle.plan_record.specs.Record.{majorsOf};
 ghost use Rattle.plan_rows.specs.Columns as col;
 ghost use Rattle.plan_rows.specs.Rows.{rowBase, cell};
 ghost use Rattle.plan_blocks.specs.Blocks.{totalsFit};
-ghost use Rattle.plan_blocks.specs.Table.{Tabled};
-ghost use Rattle.plan_blocks.specs.Fill.{Fillable, RowReady, Tallied, Allottable, countRow, countedRoom, allotRows, allottedRoom};
+ghost use Rattle.plan_blocks.specs.PartTable.{Tabled};
+ghost use Rattle.plan_blocks.specs.TableFill.{TableFillable, RowReady, Tallied, Allottable, countRow, countedRoom, allotRows, allottedRoom};
 use crate::stages::allot_stage;
 use plan_blocks::firsts::Firsts;
 use plan_blocks::totals::sram_words;
@@ -57,7 +57,7 @@ fn fill_row(d: &[u8], room: &mut [u32], p: usize, body: Body)
 
 // The same of every part.
 pub fn fill_counts(d: &[u8], room: &mut [u32])
-    requires { ⌜ Fillable (now d) (now room) ⌝ }
+    requires { ⌜ TableFillable (now d) (now room) ⌝ }
     ensures { λ _. ⌜ now (room .exit) ≡ countedRoom (now (d .entry)) (now (room .entry)) ⌝ }
 {
     let parts = parts_of(d);
@@ -103,7 +103,7 @@ pub fn allot_stages(d: &[u8], room: &mut [u32])
 
 // The part table of a plan, where refusal 8 is not given; else the counts alone.
 pub fn allot(d: &[u8], room: &mut [u32]) -> bool
-    requires { ⌜ Fillable (now d) (now room) ⌝ }
+    requires { ⌜ TableFillable (now d) (now room) ⌝ }
     ensures { λ r. ⌜ r ≡ totalsFit (now (d .entry)) ⌝ }
     ensures { λ _. ⌜ now (room .exit) ≡ allottedRoom (now (d .entry)) (now (room .entry)) ⌝ }
     ensures { λ r. ⌜ (r ≡ true → Tabled (now (d .entry)) (now (room .exit))) ⌝ }

@@ -6,13 +6,13 @@ use Prim.Native.Nat.{ℕ, _+_, _<_}
 use native.Mathlib.Omega.{arith}
 use Rattle.words.specs.Answer.{good}
 use Rattle.plan_record.specs.Record.{blocksOf, majorsOf, countAt, partsBefore, partsOf}
-use Rattle.plan_record.proofs.FormLaws.{formed}
-use Rattle.plan_blocks.proofs.StartLaws.{parts-mono, parts-next}
+use Rattle.plan_record.proofs.PlanFormLaws.{formed}
+use Rattle.plan_blocks.proofs.StateStartLaws.{parts-mono, parts-next}
 use Rattle.plan_reads.specs.PartReads.{partReads, partLanes}
 use Rattle.plan_checks.proofs.PassedLaws.{Passed, passed, placed-lanes}
 use Rattle.promise_decode.specs.Decodable.{Decodable}
 use Rattle.promise_decode.proofs.DecodableLaws.{decodable}
-use Rattle.promise_meaning.specs.Meaning.{Sound}
+use Rattle.promise_meaning.specs.Meaning.{PassedPart}
 use Rattle.promise.specs.Promise.{Accepted}
 
 -- part i of a major stage is a part of the plan
@@ -32,7 +32,7 @@ module _ (d : List ℕ) (accepted : Accepted d) where
   pub able : (p : ℕ) → p < partsOf d → Decodable d p
   able p h = decodable d p (tests .form) (tests .counts) (tests .totals) (tests .twelve) (tests .thirteen) h (lanes-found p h)
 
-  pub sound : (p : ℕ) → p < partsOf d → Sound d p
+  pub sound : (p : ℕ) → p < partsOf d → PassedPart d p
   sound p h = record {
     form = tests .form;
     gates = tests .gates;

@@ -13,19 +13,19 @@ use Rattle.plan_record.specs.Record.{blocksOf, majorsOf, countAt, partsBefore, 
 use Rattle.plan_counts.specs.Counts.{writeOuts}
 use Rattle.plan_blocks.specs.Blocks.{blockOf, stateOf, stateStart, sramStart}
 use Rattle.plan_blocks.proofs.TotalLaws.{same-or}
-use Rattle.plan_blocks.proofs.StartLaws.{state-in, state-apart}
+use Rattle.plan_blocks.proofs.StateStartLaws.{state-in, state-apart}
 use Rattle.plan_positions.proofs.MajorLaws.{major-is}
 use Rattle.plan_reads.specs.PartReads.{partLanes}
-use Rattle.script_assembly.specs.Steps.{lastMark, partsIn, partStart}
-use Rattle.script_assembly.proofs.RankLaws.{inBefore, part-at}
+use Rattle.script_assembly.specs.WrittenSoFar.{lastMark, partsIn, partStart}
+use Rattle.script_assembly.proofs.BlockRankLaws.{inBefore, part-at}
 use Rattle.run_machine.specs.Part.{roundsAt, readWordAt, readMaskAt}
 use Rattle.promise_order.specs.Order.{partsAt, Stores, PartAt, Apart}
-use Rattle.promise_order.proofs.StoreLaws.{stores-from, stores-until}
+use Rattle.promise_order.proofs.StoreTurnLaws.{stores-from, stores-until}
 use Rattle.promise_decode.specs.Decoded.{Decoded}
 use Rattle.promise_decode.proofs.InsideLaws.{read-before}
 use Rattle.promise.specs.Promise.{Accepted, assembled, startsOf, StoredBy}
 use Rattle.promise.proofs.AcceptedLaws.{tests, lanes-found}
-use Rattle.promise.proofs.BlockLaws as Block
+use Rattle.promise.proofs.AssembledBlockLaws as Block
 
 module _ (d : List ℕ) (accepted : Accepted d) (s : ℕ) (stage : s < majorsOf d) where
   abbrev W : List ℕ

@@ -17,21 +17,21 @@ use Rattle.words.specs.Count.{count}
 use Rattle.plan_record.specs.Record.{blocksOf, majorsOf, partsBefore, stagesOf}
 use Rattle.plan_blocks.specs.Blocks.{stateWords}
 use Rattle.script_assembly.specs.Assembly.{blockStart}
-use Rattle.script_assembly.specs.Steps.{partsIn}
-use Rattle.script_assembly.proofs.StepLaws.{mark-last, mark-more}
-use Rattle.script_assembly.proofs.PlaceLaws.{part-first}
+use Rattle.script_assembly.specs.WrittenSoFar.{partsIn}
+use Rattle.script_assembly.proofs.WriterStepLaws.{mark-last, mark-more}
+use Rattle.script_assembly.proofs.PartStandsLaws.{part-first}
 use Rattle.run_machine.specs.Part.{stagesAt, lastAt}
 use Rattle.run_machine.specs.Room.{blockRoom}
-use Rattle.run_machine.specs.Run.{ran, outcome, turnsFrom, turnsAfter, allLeft, badBlock, badTurn}
+use Rattle.run_machine.specs.Run.{ran, runAnswer, turnsFrom, turnsAfter, allLeft, badBlock, badTurn}
 use Rattle.promise_order.specs.Order.{blockTurns}
-use Rattle.promise_order.proofs.FormLaws.{from-last, from-more}
-use Rattle.promise_order.proofs.BlockLaws.{empty-phase, left-none, left-read}
+use Rattle.promise_order.proofs.BlockPartsLaws.{from-last, from-more}
+use Rattle.promise_order.proofs.PartTurnLaws.{empty-phase, left-none, left-read}
 use Rattle.promise_order.proofs.AloneLaws.{Laid}
-use Rattle.promise_order.proofs.OrderLaws.{sum-first, all-named, left-total}
+use Rattle.promise_order.proofs.AnyOrderLaws.{sum-first, turns-named, left-total}
 use Rattle.promise.specs.Promise.{Accepted, assembled, startsOf, stageRun, turnsOf, leftOver, Finishes, Finished}
 use Rattle.promise.proofs.AcceptedLaws.{able}
-use Rattle.promise.proofs.BlockLaws as Block
-use Rattle.promise.proofs.FormLaws.{never-refused}
+use Rattle.promise.proofs.AssembledBlockLaws as Block
+use Rattle.promise.proofs.NeverRefusedLaws.{never-refused}
 use Rattle.promise.proofs.ApartLaws.{apart}
 use Rattle.promise.proofs.PromiseLaws.{as-run}
 
@@ -101,7 +101,7 @@ module _ (d : List ℕ) (s : ℕ) (turns old new : List ℕ) (room : ℕ) (accep
   good-blocks = never-refused d s (length old) (length new) accepted stage (omega arith) (omega arith)
 
   good-turns : badTurn (startsOf d s) turns ≡ none
-  good-turns = all-named (startsOf d s) turns (λ i l. omega (arith, named i l, many))
+  good-turns = turns-named (startsOf d s) turns (λ i l. omega (arith, named i l, many))
 
   laid : Laid 256 (assembled d) (startsOf d s) (length old) (length new) new
   laid = record { form = good-blocks; size = refl; apart = apart d accepted s stage }
@@ -113,10 +113,10 @@ module _ (d : List ℕ) (s : ℕ) (turns old new : List ℕ) (room : ℕ) (accep
       ∙ ap (sumTo (λ b. blockTurns 256 (assembled d) (getD (startsOf d s) b 0) - count b turns)) many
       ∙ sum-ext _ _ (blocksOf d) (λ b l. ap (λ (x : ℕ). x - count b turns) (turns-are d accepted s stage b l))
 
-  pub finishes-so : outcome 256 13 (assembled d) (startsOf d s) turns old new room ≡ ran (leftOver d s turns) (stageRun d s turns old new .new)
-  unfolding outcome
+  pub finishes-so : runAnswer 256 13 (assembled d) (startsOf d s) turns old new room ≡ ran (leftOver d s turns) (stageRun d s turns old new .new)
+  unfolding runAnswer
   finishes-so =
-      rw (le-leb (blockRoom * (length (startsOf d s) - 1)) room (omega (arith, many)), outcome, good-blocks, good-turns)
+      rw (le-leb (blockRoom * (length (startsOf d s) - 1)) room (omega (arith, many)), runAnswer, good-blocks, good-turns)
       (ap (λ (x : ℕ). ran x (stageRun d s turns old new .new)) left-is)
 
 -- THE TURNS LEFT ARE THOSE THAT THE TURN LIST DOES NOT NAME

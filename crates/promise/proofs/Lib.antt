@@ -1,6 +1,6 @@
 pub mod AcceptedLaws
-pub mod BlockLaws
-pub mod FormLaws
+pub mod AssembledBlockLaws
+pub mod NeverRefusedLaws
 pub mod ApartLaws
 pub mod PromiseLaws
 pub mod FinishLaws

@@ -16,26 +16,26 @@ use Rattle.words.proofs.BitLaws.{bit-zero}
 use Rattle.plan_record.specs.Record.{blocksOf, countAt, partsBefore, stagesOf, locationsOf}
 use Rattle.plan_blocks.specs.Blocks.{stateStart, sramStart}
 use Rattle.values.specs.Values.{pinValue}
-use Rattle.script_assembly.specs.Steps.{lastMark, partsIn, partStart}
-use Rattle.script_assembly.proofs.RankLaws.{inBefore, part-at, part-found}
+use Rattle.script_assembly.specs.WrittenSoFar.{lastMark, partsIn, partStart}
+use Rattle.script_assembly.proofs.BlockRankLaws.{inBefore, part-at, part-found}
 use Rattle.run_machine.specs.Part.{stagesAt, startAt, entryAt, laneWordAt}
 use Rattle.run_machine.specs.Turn.{readRow, taken, gatheredBit, dataInv, chosen, storedBit}
 use Rattle.run_machine.specs.Room.{blockRoom}
-use Rattle.run_machine.specs.Run.{runTurns, allLeft, badBlock, badTurn, Ran, ran, outcome}
-use Rattle.run_machine.proofs.StageLaws.{at-word}
+use Rattle.run_machine.specs.Run.{runTurns, allLeft, badBlock, badTurn, Ran, ran, runAnswer}
+use Rattle.run_machine.proofs.StageBitLaws.{at-word}
 use Rattle.run_machine.proofs.TurnLaws.{taken-cleared, taken-nothing, stored-word-bit}
 use Rattle.promise_order.specs.Order.{capturedBy, oneAfterAnother}
-use Rattle.promise_order.proofs.BlockLaws.{caps-length}
-use Rattle.promise_order.proofs.StoreLaws.{stores-in, store-at}
+use Rattle.promise_order.proofs.PartTurnLaws.{caps-length}
+use Rattle.promise_order.proofs.StoreTurnLaws.{stores-in, store-at}
 use Rattle.promise_order.proofs.AloneLaws.{Laid}
-use Rattle.promise_order.proofs.OrderLaws.{in-any-order, untouched, stored}
+use Rattle.promise_order.proofs.AnyOrderLaws.{in-any-order, untouched, stored}
 use Rattle.promise_decode.specs.Decoded.{Decoded}
-use Rattle.promise_meaning.specs.Meaning.{Sound}
+use Rattle.promise_meaning.specs.Meaning.{PassedPart}
 use Rattle.promise_meaning.proofs.MeaningLaws.{captured-pin}
-use Rattle.promise.specs.Promise.{assembled, startsOf, stageRun, carried, Carries, enableEntry, invOf, set0Of, dataInvOf, partAt, enabled, StoredBy, Done, Demand3, AsRun}
+use Rattle.promise.specs.Promise.{assembled, startsOf, stageRun, carried, Carries, enableEntry, invOf, set0Of, dataInvOf, partBeginsAt, enabled, StoredBy, Done, Demand3, AsRun}
 use Rattle.promise.proofs.AcceptedLaws.{part-there, some-blocks, able, sound}
-use Rattle.promise.proofs.BlockLaws.{starts-are}
-use Rattle.promise.proofs.FormLaws.{never-refused}
+use Rattle.promise.proofs.AssembledBlockLaws.{starts-are}
+use Rattle.promise.proofs.NeverRefusedLaws.{never-refused}
 use Rattle.promise.proofs.ApartLaws.{RunPart, planned, run-part, back, stored-by, apart}
 
 module _ (d : List ℕ) (s : ℕ) (turns old new : List ℕ) (done : Done d s turns old new) where
@@ -72,12 +72,12 @@ module _ (d : List ℕ) (s : ℕ) (turns old new : List ℕ) (done : Done d s tu
     pub b : ℕ
     pub j : ℕ
     pub last : ℕ
-    pub run : RunPart d (done .accepted) s (done .stage) b j (partAt d s i)
-    pub back : Decoded 256 d (partsBefore d s + i) last (stateStart d s i) (sramStart d s i) W (partAt d s i)
-    pub sound : Sound d (partsBefore d s + i)
+    pub run : RunPart d (done .accepted) s (done .stage) b j (partBeginsAt d s i)
+    pub back : Decoded 256 d (partsBefore d s + i) last (stateStart d s i) (sramStart d s i) W (partBeginsAt d s i)
+    pub sound : PassedPart d (partsBefore d s + i)
 
-  place-is : (b j : ℕ) → j < length (partsIn d s b) → partAt d s (getD (partsIn d s b) j 0) ≡ partStart 256 d s b j
-  unfolding partAt
+  place-is : (b j : ℕ) → j < length (partsIn d s b) → partBeginsAt d s (getD (partsIn d s b) j 0) ≡ partStart 256 d s b j
+  unfolding partBeginsAt
   place-is b j h =
       let r = part-at d s b (countAt d s) j h in
       ap (λ (x : ℕ). partStart 256 d s x (inBefore d s x (getD (partsIn d s b) j 0))) (r .block) ∙ ap (partStart 256 d s b) (r .place)
@@ -108,7 +108,7 @@ module _ (d : List ℕ) (s : ℕ) (turns old new : List ℕ) (done : Done d s tu
     p = partsBefore d s + i
 
     abbrev o : ℕ
-    o = partAt d s i
+    o = partBeginsAt d s i
 
     abbrev D : Decoded 256 d p (found i h .last) (stateStart d s i) (sramStart d s i) W o
     D = found i h .back
@@ -195,7 +195,7 @@ went k after true none (some i) r e = refused-good _ _ e
 went k after true none none r e = (refl, e)
 
 pub as-run : AsRun
-unfolding outcome
+unfolding runAnswer
 as-run d s turns old new after room accepted stage old-size new-size e =
     let x = stageRun d s turns old new in
     let q =

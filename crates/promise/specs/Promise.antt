@@ -22,10 +22,10 @@ use Rattle.values.specs.Values.{pinValue}
 use Rattle.script.specs.Script.{locationStage}
 use Rattle.plan_checks.specs.Refusals.{planRefusal}
 use Rattle.script_assembly.specs.Assembly.{scriptWords, scriptStarts}
-use Rattle.script_assembly.specs.Steps.{partsIn, partStart}
+use Rattle.script_assembly.specs.WrittenSoFar.{partsIn, partStart}
 use Rattle.run_machine.specs.Turn.{taken, enableBit, chosen}
 use Rattle.run_machine.specs.Room.{blockRoom}
-use Rattle.run_machine.specs.Run.{ran, outcome, Running, runTurns, allLeft, badBlock, badTurn}
+use Rattle.run_machine.specs.Run.{ran, runAnswer, Running, runTurns, allLeft, badBlock, badTurn}
 use Rattle.promise_order.specs.Order.{capturedBy, oneAfterAnother}
 
 -- ---- "an assembled accepted plan": nothing of it is refused. Its words, and the block starts of major stage s with their end
@@ -67,12 +67,12 @@ unfoldable pub dataInvOf : List ℕ → ℕ → ℕ → ℕ
 dataInvOf d p q = bit (tableAt d p (68 * 256 + q / 32)) (q % 32)
 
 -- the word at which part i of major stage s begins: behind those of its block that come before it
-unfoldable pub partAt : List ℕ → ℕ → ℕ → ℕ
-partAt d s i = partStart 256 d s (blockOf d s i) (inBlock (blockOf d s) (λ j. 1) (blockOf d s i) i)
+unfoldable pub partBeginsAt : List ℕ → ℕ → ℕ → ℕ
+partBeginsAt d s i = partStart 256 d s (blockOf d s i) (inBlock (blockOf d s) (λ j. 1) (blockOf d s i) i)
 
 -- its enable bit at place q: what the run gathers from what the part captures
 unfoldable pub enabled : List ℕ → ℕ → ℕ → List ℕ → List ℕ → ℕ → ℕ
-enabled d s i old new q = enableBit 256 (assembled d) (partAt d s i) (capturedBy 256 13 (assembled d) (partAt d s i) old new) q
+enabled d s i old new q = enableBit 256 (assembled d) (partBeginsAt d s i) (capturedBy 256 13 (assembled d) (partBeginsAt d s i) old new) q
 
 -- word w is stored by a part of major stage s
 pub record StoredBy (d : List ℕ) (s i w : ℕ) : Type 0 where
@@ -131,17 +131,17 @@ abbrev pub Finishes : Type 0
 Finishes =
     (d : List ℕ) (s : ℕ) (turns old new : List ℕ) (room : ℕ) → Accepted d → s < majorsOf d → length old ≡ stateWords d → length new ≡ stateWords d
     → blockRoom * blocksOf d ≤ room → ((i : ℕ) → i < length turns → getD turns i 0 < blocksOf d)
-    → outcome 256 13 (assembled d) (startsOf d s) turns old new room ≡ ran (leftOver d s turns) (stageRun d s turns old new .new)
+    → runAnswer 256 13 (assembled d) (startsOf d s) turns old new room ≡ ran (leftOver d s turns) (stageRun d s turns old new .new)
 
 -- and where each block is named as often as it has turns, 0 are left and the promise is kept
 abbrev pub Finished : Type 0
 Finished =
     (d : List ℕ) (s : ℕ) (turns old new : List ℕ) (room : ℕ) → Accepted d → s < majorsOf d → length old ≡ stateWords d → length new ≡ stateWords d
     → blockRoom * blocksOf d ≤ room → ((i : ℕ) → i < length turns → getD turns i 0 < blocksOf d) → ((b : ℕ) → b < blocksOf d → turnsOf d s b ≤ count b turns)
-    → (outcome 256 13 (assembled d) (startsOf d s) turns old new room ≡ ran 0 (stageRun d s turns old new .new)) × Kept d s old new (stageRun d s turns old new .new)
+    → (runAnswer 256 13 (assembled d) (startsOf d s) turns old new room ≡ ran 0 (stageRun d s turns old new .new)) × Kept d s old new (stageRun d s turns old new .new)
 
 -- the same of what a run answers: it was not refused, no turns are left, and `after` is the new state
 abbrev pub AsRun : Type 0
 AsRun =
     (d : List ℕ) (s : ℕ) (turns old new after : List ℕ) (room : ℕ) → Accepted d → s < majorsOf d → length old ≡ stateWords d → length new ≡ stateWords d
-    → outcome 256 13 (assembled d) (startsOf d s) turns old new room ≡ ran 0 after → Kept d s old new after
+    → runAnswer 256 13 (assembled d) (startsOf d s) turns old new room ≡ ran 0 after → Kept d s old new after

@@ -13,22 +13,22 @@ use lib.ListN.{length}
 use Rattle.reads.specs.ReadSet.{pairsOf}
 use Rattle.reads.specs.Search.{Lane, lanesOf}
 use Rattle.words.specs.Answer.{good}
-use Rattle.reads_try.specs.Table.{tableOf}
-use Rattle.reads_try.proofs.TableLaws.{table-length}
+use Rattle.reads_try.specs.LaneTable.{tableOf}
+use Rattle.reads_try.proofs.LaneTableLaws.{table-length}
 use Rattle.rounds.specs.Rounds.{tableAfter}
 use Rattle.plan_record.specs.Record.{partsOf, stagesOf, slotAt}
 use Rattle.words.specs.Pins.{empty}
 use Rattle.plan_record.specs.Form.{planForm}
-use Rattle.plan_record.proofs.FormLaws.{formed}
+use Rattle.plan_record.proofs.PlanFormLaws.{formed}
 use Rattle.plan_counts.specs.Counts.{refusal7}
-use Rattle.plan_counts.proofs.PartLaws.{passed}
+use Rattle.plan_counts.proofs.PartCountLaws.{counts-passed}
 use Rattle.plan_blocks.specs.Blocks.{totalsFit}
 use Rattle.plan_positions.specs.Positions.{planned, refusal12, refusal13}
 use Rattle.plan_positions.proofs.PositionLaws.{sram-entry, enable-entry}
 use Rattle.plan_reads.specs.PartReads.{readWords, partReads, partLanes, localPosition}
-use Rattle.plan_reads.proofs.EntryLaws.{part-found, part-numbered, all-planned}
+use Rattle.plan_reads.proofs.FirstEntryLaws.{part-found, part-numbered, all-planned}
 use Rattle.script.specs.Script.{pinEntry, stageEntry}
-use Rattle.script.proofs.EntryLaws.{entry-small}
+use Rattle.script.proofs.LaterEntryLaws.{entry-small}
 use Rattle.promise_decode.specs.Decodable.{Decodable}
 use Rattle.promise_decode.proofs.InsideLaws.{solvable, narrow, part-sound}
 
@@ -62,8 +62,8 @@ module _ (d : List ℕ) (p : ℕ) (form : planForm d ≡ true) (seven : refusal7
 
   pub decodable : Decodable d p
   decodable = record {
-    location = passed d seven p part .location;
-    locations = passed d seven p part .locations;
+    location = counts-passed d seven p part .location;
+    locations = counts-passed d seven p part .locations;
     some-stages = formed d form .part p part .some-stages;
     stages = formed d form .part p part .stages;
     entry = λ k i h l. omega (arith, stage-small k i h l);

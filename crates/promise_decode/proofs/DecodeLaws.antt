@@ -1,4 +1,4 @@
--- Words that are a part's script, read back by the run's accessors, say what the plan says. Each accessor's place is one of WordLaws; the rest is
+-- Words that are a part's script, read back by the run's accessors, say what the plan says. Each accessor's place is one of ScriptWordLaws; the rest is
 -- a half of a word, a bit of a word or a word of a round. Over the number of lanes n up to the last law.
 -- Assumes nothing.
 use mathlib.Core.Path.{_≡_, refl, sym, ap, _∙_}
@@ -12,7 +12,7 @@ use lib.Dec.{leb}
 use lib.ListN.{length, getD}
 use Rattle.words.specs.Sum.{sumTo}
 use Rattle.words.specs.Bit.{bit}
-use Rattle.words.specs.Section.{placeOf, halfOf}
+use Rattle.words.specs.Section.{wordOfEntry, halfOf}
 use Rattle.words.specs.Edition.{sectionWords, partWords}
 use Rattle.words.proofs.BitLaws.{test-le, bit-wordOf}
 use Rattle.words.proofs.SectionLaws.{getD-listOf, half-two, place-lt}
@@ -22,16 +22,16 @@ use Rattle.reads.proofs.SectionWordLaws.{section-word, section-mask}
 use Rattle.plan_record.specs.Record.{stagesOf, countBase, stageLocations, locationsIn, locationsOf, locationAt, tableAt}
 use Rattle.plan_counts.specs.Counts.{srams, duplicates, writeOuts}
 use Rattle.plan_reads.specs.PartReads.{partLanes}
-use Rattle.script.specs.Script.{numbers, locationStage, locationHalf, locationWords, stageEntry, xoraBit, xorbBit, orbBit, laneWord, stageSection, sramSection, enableSection, partScript}
+use Rattle.script.specs.Script.{numbers, locationStage, locationHalf, locationWords, stageEntry, xoraBit, xorbBit, orbBit, maskWord, stageSection, sramSection, enableSection, partScript}
 use Rattle.script.proofs.HeadLaws.{endedBy, half-within}
 use Rattle.script.specs.Writers.{endsBy}
-use Rattle.script.proofs.LengthLaws.{script-length}
+use Rattle.script.proofs.PartLengthLaws.{script-length}
 use Rattle.script.proofs.MaskLaws.{xora-lt, xorb-lt, orb-lt}
 use Rattle.run_machine.specs.Part.{stagesAt, lastAt, writeOutsAt, startAt, sramsAt, roundsAt, duplicatesAt, normalAt, endAt, locationIn, readWordAt, readMaskAt, sectionAt, entryAt, laneWordAt}
 use Rattle.promise_decode.specs.Decoded.{StandsAt, Decoded}
 use Rattle.promise_decode.specs.Decodable.{Decodable}
-use Rattle.promise_decode.proofs.ListLaws.{section-entry, section-first, section-second, section-third}
-use Rattle.promise_decode.proofs.WordLaws.{within, at-number, at-location, at-read, at-stage, at-sram, at-enable}
+use Rattle.promise_decode.proofs.LaneListLaws.{section-entry, section-first, section-second, section-third}
+use Rattle.promise_decode.proofs.ScriptWordLaws.{within, at-number, at-location, at-read, at-stage, at-sram, at-enable}
 
 -- ---- a location's stage is one of the part's
 
@@ -53,7 +53,7 @@ unfolding locationStage locationsIn countBase
 stage-lt d p l h = ended-lt d p l (stagesOf d p) h
 
 -- a bit of a lane's word
-lane-bit : (f : ℕ → ℕ) (q : ℕ) → ((i : ℕ) → f i < 2) → bit (laneWord f (q / 32)) (q % 32) ≡ f q
+lane-bit : (f : ℕ → ℕ) (q : ℕ) → ((i : ℕ) → f i < 2) → bit (maskWord f (q / 32)) (q % 32) ≡ f q
 lane-bit f q small =
     let e : 32 * (q / 32) + q % 32 ≡ q = omega arith in
     bit-wordOf (λ k. f (32 * (q / 32) + k)) 32 (λ k l. small (32 * (q / 32) + k)) (q % 32) (omega arith) ∙ ap f e
@@ -185,19 +185,19 @@ module _ (n : ℕ) (d : List ℕ) (p last state sram : ℕ) (many : 16 ≤ n) (e
   entry-is : (k i : ℕ) → k < S → i < 32 * n → ((j : ℕ) → j < 32 * n → stageEntry n d p k j < 2 ^ 16) → entryAt n W o k i ≡ stageEntry n d p k i
   unfolding entryAt stageSection
   entry-is k i h l small =
-      ap (λ (x : ℕ). halfOf x (i % 2)) (in-stage k (placeOf n i) h (omega (arith, place-lt n i l)))
+      ap (λ (x : ℕ). halfOf x (i % 2)) (in-stage k (wordOfEntry n i) h (omega (arith, place-lt n i l)))
       ∙ section-entry _ _ _ n (stageEntry n d p k) small i l
 
   sram-is : ((j : ℕ) → j < 32 * n → tableAt d p j < 2 ^ 16) → (i : ℕ) → i < 32 * n → entryAt n W o S i ≡ tableAt d p i
   unfolding entryAt sramSection
   sram-is small i l =
-      ap (λ (x : ℕ). halfOf x (i % 2)) (in-sram (placeOf n i) (omega (arith, place-lt n i l)))
+      ap (λ (x : ℕ). halfOf x (i % 2)) (in-sram (wordOfEntry n i) (omega (arith, place-lt n i l)))
       ∙ section-entry _ _ _ n (tableAt d p) small i l
 
   enable-is : ((j : ℕ) → j < 32 * n → tableAt d p (34 * n + j) < 2 ^ 16) → (i : ℕ) → i < 32 * n → entryAt n W o (S + 1) i ≡ tableAt d p (34 * n + i)
   unfolding entryAt enableSection
   enable-is small i l =
-      ap (λ (x : ℕ). halfOf x (i % 2)) (in-enable (placeOf n i) (omega (arith, place-lt n i l)))
+      ap (λ (x : ℕ). halfOf x (i % 2)) (in-enable (wordOfEntry n i) (omega (arith, place-lt n i l)))
       ∙ section-entry _ _ _ n (λ j. tableAt d p (34 * n + j)) small i l
 
   -- ---- the bits of the lanes
@@ -209,7 +209,7 @@ module _ (n : ℕ) (d : List ℕ) (p last state sram : ℕ) (many : 16 ≤ n) (e
       ap (λ (x : ℕ). getD W x 0) e ∙ in-stage k (16 * n + (4 * w + h)) a (omega arith)
 
   -- bit q of word h of its lane, where that word of every lane has the bits f
-  lane-is : (f : ℕ → ℕ) (k h q : ℕ) → k < S → h < 4 → q < 32 * n → ((w : ℕ) → w < n → getD (stageSection n d p k) (16 * n + (4 * w + h)) 0 ≡ laneWord f w) → ((i : ℕ) → f i < 2)
+  lane-is : (f : ℕ → ℕ) (k h q : ℕ) → k < S → h < 4 → q < 32 * n → ((w : ℕ) → w < n → getD (stageSection n d p k) (16 * n + (4 * w + h)) 0 ≡ maskWord f w) → ((i : ℕ) → f i < 2)
       → bit (laneWordAt n W o k (q / 32) h) (q % 32) ≡ f q
   lane-is f k h q a b l word small = ap (λ (x : ℕ). bit x (q % 32)) (in-lane k (q / 32) h a (omega arith) b ∙ word (q / 32) (omega arith)) ∙ lane-bit f q small
 

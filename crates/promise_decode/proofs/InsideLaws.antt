@@ -20,27 +20,27 @@ use Rattle.reads.specs.Local.{wordIn, maskIn}
 use Rattle.words.specs.Answer.{good}
 use Rattle.reads.proofs.PackingLaws.{times-nil, times-cons}
 use Rattle.reads.proofs.SetLaws.{times-here, times-cases}
-use Rattle.reads.proofs.RoundLaws.{in-lanes}
+use Rattle.reads.proofs.RoundCountLaws.{in-lanes}
 use Rattle.reads.proofs.SectionWordLaws.{mask-none}
-use Rattle.reads.proofs.OutcomeLaws.{Sound}
-use Rattle.reads_asked.proofs.FormLaws.{EachPair, set-each}
-use Rattle.reads_try.specs.Decoded.{Each}
-use Rattle.reads_try.proofs.TableLaws.{each-append, each-at}
+use Rattle.reads.proofs.SetAnswerLaws.{Sound}
+use Rattle.reads_asked.proofs.AskedFormLaws.{EachPair, set-each}
+use Rattle.reads_try.specs.TableLanes.{Each}
+use Rattle.reads_try.proofs.LaneTableLaws.{each-append, each-at}
 use Rattle.rounds.specs.Rounds.{Solvable}
 use Rattle.plan_record.specs.Record.{majorsOf, partsOf, slotAt}
 use Rattle.words.specs.Pins.{empty}
 use Rattle.plan_blocks.specs.Blocks.{stateOf, stateWords, totalsFit}
-use Rattle.plan_blocks.proofs.StageLaws.{totals-fit}
-use Rattle.plan_blocks.proofs.StartLaws.{state-mono}
+use Rattle.plan_blocks.proofs.MajorStageLaws.{totals-fit}
+use Rattle.plan_blocks.proofs.StateStartLaws.{state-mono}
 use Rattle.plan_positions.specs.Positions.{Planned, planned, majorOf, refusal12}
 use Rattle.plan_positions.proofs.MajorLaws.{MajorAt, major-at}
 use Rattle.plan_positions.proofs.PositionLaws.{RightlyPlanned, read-planned}
 use Rattle.plan_positions.proofs.PlannedLaws.{slot-read}
 use Rattle.plan_reads.specs.PartReads.{bitNumber, askedBy, askedTo, readWords, partReads, partLanes}
-use Rattle.plan_reads.specs.Ready.{AllNarrow}
+use Rattle.plan_reads.specs.ReadsReady.{AllNarrow}
 use Rattle.plan_reads.proofs.AskedLaws.{slotAsks}
 use Rattle.plan_reads.proofs.SearchedLaws.{won-sound}
-use Rattle.plan_reads.proofs.EntryLaws.{words-form, words-small, part-found}
+use Rattle.plan_reads.proofs.FirstEntryLaws.{words-form, words-small, part-found}
 
 -- a word that, but for its mark, is one of the state's; a staged one is before word b
 abbrev WordInside : List ℕ → ℕ → ℕ → Type 0

@@ -1,6 +1,6 @@
-pub mod ListLaws
-pub mod WordLaws
+pub mod LaneListLaws
+pub mod ScriptWordLaws
 pub mod DecodeLaws
 pub mod InsideLaws
 pub mod DecodableLaws
-pub mod FormLaws
+pub mod ScriptFormLaws

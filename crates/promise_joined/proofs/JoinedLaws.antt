@@ -14,13 +14,13 @@ use Rattle.words.specs.Answer.{Answer, good, refused, nowhere}
 use Rattle.words.specs.declared.refusals.Refusal.{Refusal}
 use Rattle.words.proofs.AnswerLaws.{refused-good}
 use Rattle.plan_record.specs.Record.{blocksOf, majorsOf}
-use Rattle.plan_record.specs.Form.{roomWords}
+use Rattle.plan_record.specs.Form.{planRoomWords}
 use Rattle.words.proofs.TestLaws.{and-true}
 use Rattle.plan_blocks.specs.Blocks.{stateWords}
 use Rattle.plan_checks.specs.Refusals.{planRefusal, planVerdict}
 use Rattle.script_assembly.specs.Assembly.{scriptWords, scriptStarts}
-use Rattle.script_assembly.proofs.StartLaws.{starts-length}
-use Rattle.run_machine.specs.Run.{outcome}
+use Rattle.script_assembly.proofs.ScriptStartLaws.{starts-length}
+use Rattle.run_machine.specs.Run.{runAnswer}
 use Rattle.promise.specs.Promise.{stageRun}
 use Rattle.promise.proofs.FinishLaws.{finished}
 use Rattle.flatten.specs.Flatten.{Sizes, sizesOf, fits, ifFits, building, laid}
@@ -54,7 +54,7 @@ build-leaves d r starts words x s e =
     let ws : x .words ≡ length (scriptWords 256 d) = ap (λ (y : Sizes). y .words) (sym (B .sizes)) in
     let ss : x .starts ≡ length (scriptStarts 256 d) = ap (λ (y : Sizes). y .starts) (sym (B .sizes)) ∙ sym (starts-length 256 d) in
     record {
-      accepted = accepted-so (leb (roomWords d) r) (planRefusal 256 d) (B .accepted);
+      accepted = accepted-so (leb (planRoomWords d) r) (planRefusal 256 d) (B .accepted);
       words-are = ap (λ (y : Answer Sizes). take (x .words) (laid y (scriptWords 256 d) words)) e ∙ front words (scriptWords 256 d) (x .words) (leb-true _ _ b) ws;
       starts-are =
           ap (λ (l : List ℕ). take (blocksOf d + 1) (drop (blocksOf d * s) l))
@@ -70,6 +70,6 @@ built-run d r starts words x s turns old new room e stage old-size new-size spac
     let L = build-leaves d r starts words x s e in
     let F = finished d s turns old new room (L .accepted) stage (old-size ∙ size) (new-size ∙ size) space named all in (
       stageRun d s turns old new .new,
-      ap₂ (λ (w t : List ℕ). outcome 256 13 w t turns old new room) (L .words-are) (L .starts-are) ∙ F .0,
+      ap₂ (λ (w t : List ℕ). runAnswer 256 13 w t turns old new room) (L .words-are) (L .starts-are) ∙ F .0,
       F .1,
     )

@@ -8,7 +8,7 @@ use Rattle.words.specs.Answer.{good}
 use Rattle.words.specs.Count.{count}
 use Rattle.plan_record.specs.Record.{blocksOf, majorsOf}
 use Rattle.run_machine.specs.Room.{blockRoom}
-use Rattle.run_machine.specs.Run.{ran, outcome}
+use Rattle.run_machine.specs.Run.{ran, runAnswer}
 use Rattle.promise.specs.Promise.{Accepted, assembled, startsOf, turnsOf, Kept}
 use Rattle.flatten.specs.Flatten.{Sizes, building, startsAfter, wordsAfter}
 
@@ -35,4 +35,4 @@ BuiltRun =
     (d : List ℕ) (r : ℕ) (starts words : List ℕ) (x : Sizes) (s : ℕ) (turns old new : List ℕ) (room : ℕ) → building 256 d r (length starts) (length words) ≡ good x
     → s < majorsOf d → length old ≡ x .state → length new ≡ x .state → blockRoom * blocksOf d ≤ room
     → ((i : ℕ) → i < length turns → getD turns i 0 < blocksOf d) → ((b : ℕ) → b < blocksOf d → turnsOf d s b ≤ count b turns)
-    → (after : List ℕ) × (outcome 256 13 (builtWords d r starts words x) (builtStarts d r starts words x s) turns old new room ≡ ran 0 after) × Kept d s old new after
+    → (after : List ℕ) × (runAnswer 256 13 (builtWords d r starts words x) (builtStarts d r starts words x s) turns old new room ≡ ran 0 after) × Kept d s old new after

@@ -14,8 +14,8 @@ use Rattle.words.specs.Bit.{bitAt}
 use Rattle.words.proofs.BitLaws.{lt-or-ge}
 use Rattle.plan_record.specs.Record.{stagesOf, locationsOf, slotAt}
 use Rattle.words.specs.Pins.{empty}
-use Rattle.plan_record.proofs.FormLaws.{formed}
-use Rattle.plan_counts.proofs.PartLaws.{passed}
+use Rattle.plan_record.proofs.PlanFormLaws.{formed}
+use Rattle.plan_counts.proofs.PartCountLaws.{counts-passed}
 use Rattle.plan_slots.specs.Slots.{highest}
 use Rattle.plan_slots.proofs.SlotLaws.{later-highest}
 use Rattle.values.specs.Values.{pinValue}
@@ -26,9 +26,9 @@ use Rattle.run_machine.proofs.TurnLaws.{captured-word}
 use Rattle.promise_order.specs.Order.{rowAfter, capsAfter}
 use Rattle.promise_decode.specs.Decoded.{Decoded}
 use Rattle.promise_decode.proofs.DecodeLaws.{stage-lt}
-use Rattle.promise_meaning.specs.Meaning.{Sound, LocationAt, Gathers, HoldsValues}
+use Rattle.promise_meaning.specs.Meaning.{PassedPart, LocationAt, Gathers, HoldsValues}
 use Rattle.promise_meaning.proofs.ReadLaws.{first-gathers}
-use Rattle.promise_meaning.proofs.StageLaws.{stage-values}
+use Rattle.promise_meaning.proofs.StageValueLaws.{stage-values}
 
 -- ---- a word that is captured after stage k stays
 
@@ -45,14 +45,14 @@ module _ (W : List ℕ) (o : ℕ) (row : List ℕ) (l k w : ℕ) (inside : l < n
 
 -- ---- the stage of a location
 
-module _ (d : List ℕ) (p : ℕ) (s : Sound d p) where
+module _ (d : List ℕ) (p : ℕ) (s : PassedPart d p) where
   some-stages : 0 < stagesOf d p
   some-stages = formed d (s .form) .part p (s .part) .some-stages
 
   pub location-at : (l : ℕ) → l < locationsOf d p → LocationAt d p l
   location-at l h = record {
     stage = stage-lt d p l h;
-    word = passed d (s .seven) p (s .part) .location l h;
+    word = counts-passed d (s .seven) p (s .part) .location l h;
   }
 
   module _ (last state sram : ℕ) (W : List ℕ) (o : ℕ) (w : Decoded 256 d p last state sram W o) (old new : List ℕ) where

@@ -1,4 +1,4 @@
 pub mod ReadLaws
-pub mod StageLaws
+pub mod StageValueLaws
 pub mod ChainLaws
 pub mod MeaningLaws

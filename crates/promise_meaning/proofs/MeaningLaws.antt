@@ -12,14 +12,14 @@ use Rattle.values.specs.Values.{pinValue}
 use Rattle.script.specs.Script.{locationStage}
 use Rattle.run_machine.specs.Part.{stagesAt, locationIn}
 use Rattle.run_machine.specs.Turn.{readRow}
-use Rattle.run_machine.proofs.StageLaws.{at-word}
+use Rattle.run_machine.proofs.StageBitLaws.{at-word}
 use Rattle.promise_order.specs.Order.{rowAfter, capturedBy}
 use Rattle.promise_decode.specs.Decoded.{Decoded}
-use Rattle.promise_meaning.specs.Meaning.{Sound}
+use Rattle.promise_meaning.specs.Meaning.{PassedPart}
 use Rattle.promise_meaning.proofs.ChainLaws.{location-at, kept-word, row-values}
 
 -- LAYER 2 of demand 3
-pub captured-pin : (d : List ℕ) (p last state sram : ℕ) (W : List ℕ) (o : ℕ) (old new : List ℕ) → Sound d p → Decoded 256 d p last state sram W o
+pub captured-pin : (d : List ℕ) (p last state sram : ℕ) (W : List ℕ) (o : ℕ) (old new : List ℕ) → PassedPart d p → Decoded 256 d p last state sram W o
     → (l k : ℕ) → l < locationsOf d p → k < 32 → 0 < 32 * locationAt d p l + k
     → (slotAt d p (locationStage d p l) (32 * locationAt d p l + k) ≡ empty → ⊥)
     → bit (getD (capturedBy 256 13 W o old new) l 0) k ≡ pinValue d p old new (slotAt d p (locationStage d p l) (32 * locationAt d p l + k))

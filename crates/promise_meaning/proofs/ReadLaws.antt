@@ -23,30 +23,30 @@ use Rattle.reads.proofs.ReadTurnLaws.{ReadBy, read-requested}
 use Rattle.reads_asked.proofs.RequestLaws.{set-requests}
 use Rattle.plan_record.specs.Record.{majorsOf, partsOf, stagesOf, slotAt}
 use Rattle.words.specs.Pins.{empty}
-use Rattle.plan_record.proofs.FormLaws.{formed}
+use Rattle.plan_record.proofs.PlanFormLaws.{formed}
 use Rattle.plan_gates.specs.Gates.{value}
 use Rattle.plan_gates.proofs.ValueLaws.{value-read}
 use Rattle.plan_counts.specs.Counts.{writeOuts}
-use Rattle.plan_counts.proofs.PartLaws.{passed}
+use Rattle.plan_counts.proofs.PartCountLaws.{counts-passed}
 use Rattle.plan_blocks.specs.Blocks.{stateOf, stateWords}
 use Rattle.plan_blocks.proofs.TotalLaws.{sum-most}
-use Rattle.plan_blocks.proofs.StartLaws.{state-mono}
+use Rattle.plan_blocks.proofs.StateStartLaws.{state-mono}
 use Rattle.plan_positions.specs.Positions.{Planned, planned, majorOf}
 use Rattle.plan_positions.specs.Input.{plannedBit, input}
 use Rattle.plan_positions.proofs.MajorLaws.{major-at}
 use Rattle.plan_positions.proofs.PositionLaws.{RightlyPlanned, read-planned, input-read, bit-unstaged, bit-staged}
 use Rattle.values.specs.Values.{pinValue}
 use Rattle.plan_reads.specs.PartReads.{bitNumber, orZero, askedBy, askedTo, readWords, partReads, partLanes, localPosition}
-use Rattle.plan_reads.specs.Ready.{Narrow, AllNarrow}
+use Rattle.plan_reads.specs.ReadsReady.{Narrow, AllNarrow}
 use Rattle.plan_reads.proofs.AskedLaws.{slotAsks, narrow-append}
 use Rattle.plan_reads.proofs.SearchedLaws.{reads-slot}
-use Rattle.plan_reads.proofs.EntryLaws.{words-form, words-small, asked-in, packed-found}
+use Rattle.plan_reads.proofs.FirstEntryLaws.{words-form, words-small, asked-in, packed-found}
 use Rattle.script.specs.Script.{stageEntry, pinEntry}
 use Rattle.run_machine.specs.Part.{readWordAt, readMaskAt, entryAt}
 use Rattle.run_machine.specs.Turn.{stateWord, readRow}
 use Rattle.run_machine.proofs.TurnLaws.{read-lane}
 use Rattle.promise_decode.specs.Decoded.{Decoded}
-use Rattle.promise_meaning.specs.Meaning.{Sound, Gathers}
+use Rattle.promise_meaning.specs.Meaning.{PassedPart, Gathers}
 
 -- ---- the bit of a planned position is that of its word, the state chosen by bit 31
 
@@ -81,14 +81,14 @@ pub pin-value : (d : List ℕ) (p : ℕ) (old new : List ℕ) (x : ℕ) → (x �
 unfolding pinValue
 pin-value d p old new x h = rw (ne-eqb x empty h, pinValue)
 
-module _ (d : List ℕ) (p : ℕ) (s : Sound d p) where
+module _ (d : List ℕ) (p : ℕ) (s : PassedPart d p) where
   -- ---- the bits that the part asks for have words of 27 bits
 
   state-small : stateWords d < 2 ^ 27
   unfolding stateOf
   state-small =
       let f = formed d (s .form) in
-      let most = sum-most 256 (writeOuts d) (partsOf d) (λ q l. passed d (s .seven) q l .words) in
+      let most = sum-most 256 (writeOuts d) (partsOf d) (λ q l. counts-passed d (s .seven) q l .words) in
       omega (arith, f .head .layout, f .sizes .headed .parts, most)
 
   slot-planned : (j : ℕ) → j < 8192 → (slotAt d p 0 (8192 + j) ≡ empty → ⊥) → RightlyPlanned d (majorOf d p) (slotAt d p 0 (8192 + j))

@@ -21,7 +21,7 @@ use Rattle.script.specs.Script.{locationStage}
 use Rattle.run_machine.specs.Part.{entryAt}
 
 -- what the plan's refusals leave: 5, 6, 7, 9 to 12 are excluded, and 3 and 4 of this part
-pub record Sound (d : List ℕ) (p : ℕ) : Type 0 where
+pub record PassedPart (d : List ℕ) (p : ℕ) : Type 0 where
   pub form : planForm d ≡ true
   pub gates : badGate d ≡ none
   pub seven : refusal7 d ≡ none

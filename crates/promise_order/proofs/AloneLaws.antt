@@ -18,12 +18,12 @@ use Rattle.run_machine.specs.Part.{stagesAt, lastAt, endAt}
 use Rattle.run_machine.specs.Turn.{readRow, finished, Block, begins, ended}
 use Rattle.run_machine.specs.Run.{Running, blocksFrom, step, runFrom, runTurns, turnsFrom, turnsAfter, turnsLeft, badBlock}
 use Rattle.promise_order.specs.Order.{partsFrom, partsAt, capturedBy, blockTurns, storesAt, Stores, storeWord, PartAt, Unstored, Apart}
-use Rattle.promise_order.proofs.FormLaws.{Formed, Chain, form-chain, part-first, Ith, ith-part, after-last, after-more, turns-split}
-use Rattle.promise_order.proofs.StoreLaws.{putPart, put-size, store-other, store-same}
+use Rattle.promise_order.proofs.BlockPartsLaws.{PartsFormed, Chain, form-chain, part-first, Ith, ith-part, after-last, after-more, turns-split}
+use Rattle.promise_order.proofs.StoreTurnLaws.{putPart, put-size, store-other, store-same}
 use Rattle.words.specs.Count.{count}
-use Rattle.promise_order.proofs.TurnsLaws.{Same, Unowned, Names, Independent, Project}
+use Rattle.promise_order.proofs.TurnsLaws.{Same, Unowned, TurnNames, Independent, Project}
 use Rattle.promise_order.proofs.TurnsLaws as Turns
-use Rattle.promise_order.proofs.BlockLaws.{row-same, staged, empty-phase, ended-phase, turnOf, putOf, turn-read, put-read, turn-stage, put-stage, turn-store, turn-last, turn-more, put-store, turn-none, put-none, leftOf, left-read, left-stage, left-none, written-size}
+use Rattle.promise_order.proofs.PartTurnLaws.{row-same, staged, empty-phase, ended-phase, turnOf, putOf, turn-read, put-read, turn-stage, put-stage, turn-store, turn-last, turn-more, put-store, turn-none, put-none, leftOf, left-read, left-stage, left-none, written-size}
 
 -- ---- what the theorems ask for: blocks in form for a new state of t words, and kept apart
 
@@ -56,7 +56,7 @@ module _ (n H : ℕ) (W starts : List ℕ) (s t : ℕ) (old new : List ℕ) (lai
   unfolding partsAt
   some-parts b h = rw (ne-eqb (stagesAt W (getD starts b 0)) 0 (λ e. omega arith), partsAt)
 
-  chain-formed : (f o : ℕ) → Chain n W t f o → Formed W t o × ((lastAt W o ≡ 1) ⊎ (lastAt W o ≡ 0))
+  chain-formed : (f o : ℕ) → Chain n W t f o → PartsFormed W t o × ((lastAt W o ≡ 1) ⊎ (lastAt W o ≡ 0))
   chain-formed zero o c = absurd c
   chain-formed (suc f) o c = (c .0, ⊎-elim (λ e. inl e) (λ e. inr (e .0)) (c .1))
 
@@ -70,7 +70,7 @@ module _ (n H : ℕ) (W starts : List ℕ) (s t : ℕ) (old new : List ℕ) (lai
 
   -- the i-th part of block b is its last, or there is a next one, at its end
   record Known (b i o : ℕ) : Type 0 where
-    pub formed : Formed W t o
+    pub formed : PartsFormed W t o
     pub next : ((lastAt W o ≡ 1) × (length (partsOf b) ≡ suc i))
         ⊎ ((lastAt W o ≡ 0) × Part b (suc i) (endAt n W o) × (turnsAfter n W o ≡ stagesAt W (endAt n W o) + 2 + turnsAfter n W (endAt n W o)))
 
@@ -375,7 +375,7 @@ module _ (n H : ℕ) (W starts : List ℕ) (s t : ℕ) (old new : List ℕ) (lai
         → getD (x .new) w 0 ≡ storeWord n W o old (capturedBy n H W o old new) w
     pub rest : (w : ℕ) → Unstored n W starts (length starts - 1) w → getD (x .new) w 0 ≡ getD new w 0
 
-  pub ran : (turns : List ℕ) → Names (length starts - 1) turns → Ran turns (runTurns n H W starts turns old new)
+  pub ran : (turns : List ℕ) → TurnNames (length starts - 1) turns → Ran turns (runTurns n H W starts turns old new)
   unfolding starting
   ran ts h = record {
     blocks = ap length blocks-are ∙ I .blocks;

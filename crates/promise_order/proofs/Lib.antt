@@ -1,6 +1,6 @@
-pub mod FormLaws
+pub mod BlockPartsLaws
 pub mod TurnsLaws
-pub mod StoreLaws
-pub mod BlockLaws
+pub mod StoreTurnLaws
+pub mod PartTurnLaws
 pub mod AloneLaws
-pub mod OrderLaws
+pub mod AnyOrderLaws

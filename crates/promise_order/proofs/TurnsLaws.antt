@@ -34,24 +34,24 @@ count-replicate b (suc k) = omega (arith, same-refl b, count-replicate b k)
 
 -- ---- every turn names one of n blocks
 
-abbrev pub Names : ℕ → List ℕ → Type 0
-Names n [] = Unit {0}
-Names n (t ∷ ts) = (t < n) × Names n ts
+abbrev pub TurnNames : ℕ → List ℕ → Type 0
+TurnNames n [] = Unit {0}
+TurnNames n (t ∷ ts) = (t < n) × TurnNames n ts
 
-pub names-of : (n : ℕ) (ts : List ℕ) → ((i : ℕ) → i < length ts → getD ts i 0 < n) → Names n ts
+pub names-of : (n : ℕ) (ts : List ℕ) → ((i : ℕ) → i < length ts → getD ts i 0 < n) → TurnNames n ts
 names-of n [] h = tt
 names-of n (t ∷ ts) h = (h 0 (omega arith), names-of n ts (λ i l. h (suc i) (omega arith)))
 
-pub names-at : (n : ℕ) (ts : List ℕ) → Names n ts → (i : ℕ) → i < length ts → getD ts i 0 < n
+pub names-at : (n : ℕ) (ts : List ℕ) → TurnNames n ts → (i : ℕ) → i < length ts → getD ts i 0 < n
 names-at n [] h i l = absurd (omega arith)
 names-at n (t ∷ ts) h zero l = h .0
 names-at n (t ∷ ts) h (suc i) l = names-at n ts (h .1) i (omega arith)
 
-pub names-append : (n : ℕ) (ts us : List ℕ) → Names n ts → Names n us → Names n (ts ++ us)
+pub names-append : (n : ℕ) (ts us : List ℕ) → TurnNames n ts → TurnNames n us → TurnNames n (ts ++ us)
 names-append n [] us h k = k
 names-append n (t ∷ ts) us h k = (h .0, names-append n ts us (h .1) k)
 
-pub names-replicate : (n k b : ℕ) → b < n → Names n (replicate k b)
+pub names-replicate : (n k b : ℕ) → b < n → TurnNames n (replicate k b)
 names-replicate n zero b h = tt
 names-replicate n (suc k) b h = (h, names-replicate n k b h)
 
@@ -139,7 +139,7 @@ module _ (P : Type 0) (nil : P) (turn : P → List ℕ → P) (put : P → List 
             (ap (λ p. getD (put p (s .1)) w 0) (I .priv t h) ∙ A .word t _ _ _ w (solo-ok t (c t) h) (same c s t h I) (I .mine t w h (rw e at o)))
         mine′ b w k o (no e) = rw (same-not b t e, zero-add) (frame w (not-true-false (own t w) (λ o′. e (A .apart b t w k h o o′))) ∙ I .mine b w k o)
 
-    project-run : (c : ℕ → ℕ) (s : List P × List ℕ) (ts : List ℕ) → Names n ts → Project c s → Project (λ b. count b ts + c b) (run s ts)
+    project-run : (c : ℕ → ℕ) (s : List P × List ℕ) (ts : List ℕ) → TurnNames n ts → Project c s → Project (λ b. count b ts + c b) (run s ts)
     unfolding count
     project-run c s [] h I = rw (fun-ext (λ b. zero-add (c b))) I
     project-run c s (t ∷ ts) h I =
@@ -149,7 +149,7 @@ module _ (P : Type 0) (nil : P) (turn : P → List ℕ → P) (put : P → List 
         e b = omega arith
 
     -- after any turns each block's private state and words are those of the block alone, after its own turns
-    pub project : (ts : List ℕ) → Names n ts → Project (λ b. count b ts) (run s₀ ts)
+    pub project : (ts : List ℕ) → TurnNames n ts → Project (λ b. count b ts) (run s₀ ts)
     project ts h = subst (λ f. Project f (run s₀ ts)) (fun-ext (λ b. add-zero (count b ts))) (project-run (λ b. 0) s₀ ts h start)
       where
         start : Project (λ b. 0) s₀

@@ -1,8 +1,8 @@
 pub mod SearchLaws
 pub mod PackingLaws
 pub mod SetLaws
-pub mod RoundLaws
+pub mod RoundCountLaws
 pub mod SectionWordLaws
 pub mod LocalLaws
 pub mod ReadTurnLaws
-pub mod OutcomeLaws
+pub mod SetAnswerLaws

@@ -18,7 +18,7 @@ use Rattle.words.proofs.BitLaws.{bit-shr, lt-or-ge}
 use Rattle.words.proofs.PopLaws.{pop-fewer}
 use Rattle.reads.specs.ReadSet.{Pair, total, broken}
 use Rattle.reads.specs.Search.{Lane, joined}
-use Rattle.reads.specs.Local.{wordIn, maskIn, later, localAt, Spot, roundFrom, spotFrom, localOf}
+use Rattle.reads.specs.Local.{wordIn, maskIn, later, localAt, LaneRound, roundFrom, laneRoundFrom, localOf}
 use Rattle.reads.specs.Packing.{times, Packing}
 use Rattle.reads.proofs.PackingLaws.{times-nil, times-cons, times-joined}
 use Rattle.reads.proofs.SetLaws.{times-here, times-cases, mask-one}
@@ -136,7 +136,7 @@ round-none from (p ∷ l) w m e = go (eqb (p .word) w) refl (round-none (from + 
         (lt-or-ge 0 (times w m (p ∷ l)))
 
 -- in the lanes, counted from `from`
-record Place (from : ℕ) (ls : List Lane) (w : ℕ) (s : Spot) : Type 0 where
+record Place (from : ℕ) (ls : List Lane) (w : ℕ) (s : LaneRound) : Type 0 where
   i : ℕ
   is : s .lane ≡ from + i
   lane-there : i < length ls
@@ -144,14 +144,14 @@ record Place (from : ℕ) (ls : List Lane) (w : ℕ) (s : Spot) : Type 0 where
   word : wordIn (getD ls i []) (s .round) ≡ w
   mask : 0 < times w (maskIn (getD ls i []) (s .round)) (joined ls)
 
-spot-at : (from : ℕ) (ls : List Lane) (w : ℕ) (s : Spot) → spotFrom from ls w ≡ some s → Place from ls w s
-unfolding spotFrom
+spot-at : (from : ℕ) (ls : List Lane) (w : ℕ) (s : LaneRound) → laneRoundFrom from ls w ≡ some s → Place from ls w s
+unfolding laneRoundFrom
 spot-at from [] w s e = let z : _≡_ {A = ℕ} 0 1 = cc in absurd (omega arith)
 spot-at from (l ∷ ls) w s e = go (roundFrom 0 l w) refl (spot-at (from + 1) ls w s)
   where
-    go : (o : Option ℕ) → roundFrom 0 l w ≡ o → (spotFrom (from + 1) ls w ≡ some s → Place (from + 1) ls w s) → Place from (l ∷ ls) w s
+    go : (o : Option ℕ) → roundFrom 0 l w ≡ o → (laneRoundFrom (from + 1) ls w ≡ some s → Place (from + 1) ls w s) → Place from (l ∷ ls) w s
     go (some r) o f =
-        let c : some (record { lane = from; round = r }) ≡ some s = rw (o, spotFrom) at e in
+        let c : some (record { lane = from; round = r }) ≡ some s = rw (o, laneRoundFrom) at e in
         let q : record { lane = from; round = r } ≡ s = cc in
         let a = round-at 0 l w r o in
         let n : r ≡ a .r = a .is ∙ zero-add (a .r) in
@@ -165,7 +165,7 @@ spot-at from (l ∷ ls) w s e = go (roundFrom 0 l w) refl (spot-at (from + 1) ls
           mask = rw n (omega (arith, a .mask, times-joined w (maskIn l (a .r)) l ls));
         })
     go none o f =
-        let a = f (rw (o, spotFrom) at e) in
+        let a = f (rw (o, laneRoundFrom) at e) in
         record {
           i = suc (a .i);
           is = omega (arith, a .is);
@@ -175,25 +175,25 @@ spot-at from (l ∷ ls) w s e = go (roundFrom 0 l w) refl (spot-at (from + 1) ls
           mask = omega (arith, a .mask, times-joined w (maskIn (getD ls (a .i) []) (s .round)) l ls);
         }
 
-spot-none : (from : ℕ) (ls : List Lane) (w m : ℕ) → spotFrom from ls w ≡ none → times w m (joined ls) ≡ 0
-unfolding spotFrom joined
+spot-none : (from : ℕ) (ls : List Lane) (w m : ℕ) → laneRoundFrom from ls w ≡ none → times w m (joined ls) ≡ 0
+unfolding laneRoundFrom joined
 spot-none from [] w m e = times-nil w m
 spot-none from (l ∷ ls) w m e = go (roundFrom 0 l w) refl (spot-none (from + 1) ls w m)
   where
-    go : (o : Option ℕ) → roundFrom 0 l w ≡ o → (spotFrom (from + 1) ls w ≡ none → times w m (joined ls) ≡ 0) → times w m (joined (l ∷ ls)) ≡ 0
+    go : (o : Option ℕ) → roundFrom 0 l w ≡ o → (laneRoundFrom (from + 1) ls w ≡ none → times w m (joined ls) ≡ 0) → times w m (joined (l ∷ ls)) ≡ 0
     go (some r) o f =
-        let here : Spot = record { lane = from; round = r } in
-        let s : some here ≡ none = rw (o, spotFrom) at e in
+        let here : LaneRound = record { lane = from; round = r } in
+        let s : some here ≡ none = rw (o, laneRoundFrom) at e in
         let z : _≡_ {A = ℕ} 0 1 = cc in
         absurd (omega arith)
-    go none o f = omega (arith, times-joined w m l ls, round-none 0 l w m o, f (rw (o, spotFrom) at e))
+    go none o f = omega (arith, times-joined w m l ls, round-none 0 l w m o, f (rw (o, laneRoundFrom) at e))
 
 -- ---- a set and its packing
 
 -- the pair of a word and a mask is found at a spot of the lanes, and stands there
 pub record Spotted (n : ℕ) (lanes : List Lane) (w m : ℕ) : Type 0 where
-  pub spot : Spot
-  pub found : spotFrom 0 lanes w ≡ some spot
+  pub spot : LaneRound
+  pub found : laneRoundFrom 0 lanes w ≡ some spot
   pub lane-there : spot .lane < n
   pub round-there : spot .round < length (getD lanes (spot .lane) [])
   pub word : wordIn (getD lanes (spot .lane) []) (spot .round) ≡ w
@@ -230,9 +230,9 @@ pub record OwnPositions (n : ℕ) (ps : List Pair) (lanes : List Lane) : Type 0 
 
 module _ (n : ℕ) (ps : List Pair) (lanes : List Lane) (packing : Packing n ps lanes) (form : broken ps ≡ none) where
   pub spotted : (w m : ℕ) → 0 < times w m ps → Spotted n lanes w m
-  spotted w m h = go (spotFrom 0 lanes w) refl
+  spotted w m h = go (laneRoundFrom 0 lanes w) refl
     where
-      go : (o : Option Spot) → spotFrom 0 lanes w ≡ o → Spotted n lanes w m
+      go : (o : Option LaneRound) → laneRoundFrom 0 lanes w ≡ o → Spotted n lanes w m
       go none o = absurd (omega (arith, spot-none 0 lanes w m o, packing .once w m))
       go (some s) o =
           let a = spot-at 0 lanes w s o in

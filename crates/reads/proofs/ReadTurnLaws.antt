@@ -22,11 +22,11 @@ use Rattle.words.proofs.SumLaws.{sum-ext}
 use Rattle.words.proofs.PopLaws.{popIn-ones, pop-ones}
 use Rattle.reads.specs.ReadSet.{Pair, total, broken}
 use Rattle.reads.specs.Search.{Lane, longest}
-use Rattle.reads.specs.Words.{readSection}
+use Rattle.reads.specs.ReadSection.{readSection}
 use Rattle.reads.specs.Local.{maskIn, later, localOf}
 use Rattle.reads.specs.Packing.{times, Packing}
 use Rattle.reads.specs.ReadTurn.{appendBit, appended, laneWord}
-use Rattle.reads.proofs.RoundLaws.{longest-ge}
+use Rattle.reads.proofs.RoundCountLaws.{longest-ge}
 use Rattle.reads.proofs.SectionWordLaws.{section-word, section-mask}
 use Rattle.reads.proofs.LocalLaws.{localIn, local-in, pop-zero, Requested, Located, located}
 
@@ -45,7 +45,7 @@ appended-none zero w a = refl
 appended-none (suc d) w a = appended-none d (w / 2) a
 
 -- what was there is above, and what came is below it
-pub record Above (x a o : ℕ) : Type 0 where
+pub record BitsAbove (x a o : ℕ) : Type 0 where
   pub rest : ℕ
   pub small : rest < 2 ^ o
   pub is : x ≡ a * 2 ^ o + rest
@@ -53,19 +53,19 @@ pub record Above (x a o : ℕ) : Type 0 where
 regroup : (a b p r : ℕ) → (a * 2 + b) * p + r ≡ a * (2 * p) + (b * p + r)
 regroup a b p r = omega arith
 
-above-one : (x a b o : ℕ) → b < 2 → Above x (a * 2 + b) o → Above x a (1 + o)
+above-one : (x a b o : ℕ) → b < 2 → BitsAbove x (a * 2 + b) o → BitsAbove x a (1 + o)
 above-one x a b o h up =
     let p : 2 ^ (1 + o) ≡ 2 * 2 ^ o = pow-add 2 1 o in
     let low : b * 2 ^ o ≤ 1 * 2 ^ o = mul-le-mul-right (2 ^ o) (le-of-suc-le-suc h) in
     record { rest = b * 2 ^ o + up .rest; small = omega (arith, up .small); is = up .is ∙ rw p (regroup a b (2 ^ o) (up .rest)) }
 
-pub appended-above : (d w m a : ℕ) → Above (appended d w m a) a (popIn d m)
+pub appended-above : (d w m a : ℕ) → BitsAbove (appended d w m a) a (popIn d m)
 unfolding appended popIn
 appended-above zero w m a = record { rest = 0; small = omega arith; is = omega arith }
 appended-above (suc d) w m a = go (eqb (m % 2) 1) refl (appended-above d (w / 2) (m / 2))
   where
-    go : (t : Bool) → eqb (m % 2) 1 ≡ t → ((a : ℕ) → Above (appended d (w / 2) (m / 2) a) a (popIn d (m / 2)))
-        → Above (appended d (w / 2) (m / 2) (elim t [ true ↦ a * 2 + w % 2 | false ↦ a ])) a (m % 2 + popIn d (m / 2))
+    go : (t : Bool) → eqb (m % 2) 1 ≡ t → ((a : ℕ) → BitsAbove (appended d (w / 2) (m / 2) a) a (popIn d (m / 2)))
+        → BitsAbove (appended d (w / 2) (m / 2) (elim t [ true ↦ a * 2 + w % 2 | false ↦ a ])) a (m % 2 + popIn d (m / 2))
     go true t up = rw (eqb-true (m % 2) 1 t) (above-one _ a (w % 2) _ (omega arith) (up (a * 2 + w % 2)))
     go false t up =
         let e : m % 2 + popIn d (m / 2) ≡ popIn d (m / 2) = even (m % 2) (omega arith) (eqb-false (m % 2) 1 t) in

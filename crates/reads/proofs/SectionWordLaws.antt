@@ -10,9 +10,9 @@ use lib.ListN.{length, getD, length-append, List·getD-append, List·getD-eq-def
 use lib.Seq.{getD-append-add}
 use Rattle.words.proofs.BitLaws.{lt-or-ge}
 use Rattle.reads.specs.Search.{Lane, longest}
-use Rattle.reads.specs.Words.{placeWords, roundWords, roundsFrom, readSection}
+use Rattle.reads.specs.ReadSection.{laneRoundWords, roundWords, roundsFrom, readSection}
 use Rattle.reads.specs.Local.{wordIn, maskIn}
-use Rattle.reads.proofs.RoundLaws.{longest-ge}
+use Rattle.reads.proofs.RoundCountLaws.{longest-ge}
 
 -- past its end a lane has zeros
 pub word-none : (l : Lane) (r : ℕ) → length l ≤ r → wordIn l r ≡ 0
@@ -27,8 +27,8 @@ mask-none [] r h = refl
 mask-none (p ∷ l) zero h = absurd (not-suc-le-zero h)
 mask-none (p ∷ l) (suc r) h = mask-none l r (le-of-suc-le-suc h)
 
-pub place-words : (l : Lane) (r : ℕ) → placeWords l r ≡ wordIn l r ∷ maskIn l r ∷ []
-unfolding placeWords wordIn maskIn
+pub place-words : (l : Lane) (r : ℕ) → laneRoundWords l r ≡ wordIn l r ∷ maskIn l r ∷ []
+unfolding laneRoundWords wordIn maskIn
 place-words [] r = refl
 place-words (p ∷ l) zero = refl
 place-words (p ∷ l) (suc r) = place-words l r

@@ -1,8 +1,8 @@
 pub mod ReadSet
 pub mod Asked
 pub mod Search
-pub mod Words
+pub mod ReadSection
 pub mod Local
 pub mod Packing
-pub mod Outcome
+pub mod SetAnswer
 pub mod ReadTurn

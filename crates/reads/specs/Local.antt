@@ -32,7 +32,7 @@ unfoldable pub localAt : List Lane → ℕ → ℕ → ℕ → ℕ
 localAt lanes i r k = 32 * i + (total (later (getD lanes i []) r) + pop (maskIn (getD lanes i []) r / 2 ^ (k + 1)))
 
 -- where the pair of a word stands: its lane, and its round in it
-pub record Spot : Type 0 where
+pub record LaneRound : Type 0 where
   pub lane : ℕ
   pub round : ℕ
 
@@ -40,10 +40,10 @@ unfoldable pub roundFrom : ℕ → Lane → ℕ → Option ℕ
 roundFrom r [] w = none
 roundFrom r (p ∷ ps) w = elim (eqb (p .word) w) [ true ↦ some r | false ↦ roundFrom (r + 1) ps w ]
 
-unfoldable pub spotFrom : ℕ → List Lane → ℕ → Option Spot
-spotFrom i [] w = none
-spotFrom i (l ∷ ls) w = elim (roundFrom 0 l w) [ some r ↦ some (record { lane = i; round = r }) | none ↦ spotFrom (i + 1) ls w ]
+unfoldable pub laneRoundFrom : ℕ → List Lane → ℕ → Option LaneRound
+laneRoundFrom i [] w = none
+laneRoundFrom i (l ∷ ls) w = elim (roundFrom 0 l w) [ some r ↦ some (record { lane = i; round = r }) | none ↦ laneRoundFrom (i + 1) ls w ]
 
 -- the local position of bit k of the pair of word w
 unfoldable pub localOf : List Lane → ℕ → ℕ → Option ℕ
-localOf lanes w k = elim (spotFrom 0 lanes w) [ some s ↦ some (localAt lanes (s .lane) (s .round) k) | none ↦ none ]
+localOf lanes w k = elim (laneRoundFrom 0 lanes w) [ some s ↦ some (localAt lanes (s .lane) (s .round) k) | none ↦ none ]

@@ -1,4 +1,4 @@
 pub mod AskLaws
-pub mod FormLaws
+pub mod AskedFormLaws
 pub mod RequestLaws
-pub mod StoreLaws
+pub mod FrontStoreLaws

@@ -19,7 +19,7 @@ use Rattle.reads.proofs.SetLaws.{times-here}
 use Rattle.reads.proofs.LocalLaws.{Requested}
 use Rattle.reads_asked.specs.Rising.{Rising}
 use Rattle.reads_asked.proofs.AskLaws.{pick, ask-new, ask-below, ask-same, ask-above, Compared, less, same, more, compared}
-use Rattle.reads_asked.proofs.FormLaws.{set-rising}
+use Rattle.reads_asked.proofs.AskedFormLaws.{set-rising}
 
 -- ---- the bits of a mask
 

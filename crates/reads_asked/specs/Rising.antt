@@ -12,7 +12,7 @@ Rising low (w ∷ []) = ⊥
 Rising low (w ∷ m ∷ ws) = (low ≤ w) × Rising (w + 1) ws
 
 -- a set in the first n words, room for a pair more, and a bit whose word is not below the set's last
-pub record Askable (set : List ℕ) (n q : ℕ) : Type 0 where
+pub record AskableNext (set : List ℕ) (n q : ℕ) : Type 0 where
   pub small : q < 2 ^ 37
   pub room : n + 2 ≤ length set
   pub rising : Rising 0 (take n set)

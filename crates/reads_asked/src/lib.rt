@@ -5,11 +5,11 @@ ghost use lib.ListN.{length, take, drop, replicate};
 ghost use lib.Seq.{sets};
 ghost use Rattle.reads.specs.Asked.{ask, readSetOf};
 ghost use Rattle.sort.specs.Sorted.{sortOf};
-ghost use Rattle.reads_asked.specs.Rising.{Askable, Gatherable, Settable};
+ghost use Rattle.reads_asked.specs.Rising.{AskableNext, Gatherable, Settable};
 
 // Asks for bit q too, in the set of the first n words, whose last word is not above q's. Returns how many words the set then has.
 fn ask_next(set: &mut [u32], n: usize, q: u64) -> usize
-    requires { ⌜ Askable (now set) n q ⌝ }
+    requires { ⌜ AskableNext (now set) n q ⌝ }
     ensures { λ r. ⌜ r ≡ length (ask q (take n (now (set .entry)))) ⌝ }
     ensures { λ _. ⌜ now (set .exit) ≡ sets (now (set .entry)) 0 (ask q (take n (now (set .entry)))) ⌝ }
 {

@@ -1,2 +1,2 @@
-pub mod KeyLaws
-pub mod RunLaws
+pub mod PieceKeyLaws
+pub mod PieceOrderLaws

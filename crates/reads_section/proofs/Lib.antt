@@ -1,2 +1,2 @@
-pub mod FormLaws
+pub mod PairFormLaws
 pub mod ReadoutLaws

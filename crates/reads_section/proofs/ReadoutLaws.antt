@@ -11,13 +11,13 @@ use lib.Seq.{drop-cons, sets, getD-append-add}
 use Rattle.words.proofs.ListLaws.{sets-append}
 use Rattle.reads.specs.ReadSet.{Pair}
 use Rattle.reads.specs.Search.{Lane, longest}
-use Rattle.reads.specs.Words.{roundWords, roundsFrom}
+use Rattle.reads.specs.ReadSection.{roundWords, roundsFrom}
 use Rattle.reads.specs.Local.{wordIn, maskIn}
 use Rattle.reads.proofs.SectionWordLaws.{place-words, round-length}
-use Rattle.reads_try.specs.Table.{row, tableOf}
-use Rattle.reads_try.specs.Decoded.{laneOf, rowAt, lanesAt, Each, Drawn}
-use Rattle.reads_try.proofs.TableLaws.{row-length, lane-at, kept-sound, filled-length}
-use Rattle.reads_section.specs.Readout.{entryWord, Readable}
+use Rattle.reads_try.specs.LaneTable.{row, tableOf}
+use Rattle.reads_try.specs.TableLanes.{laneOf, rowAt, lanesAt, Each, Drawn}
+use Rattle.reads_try.proofs.LaneTableLaws.{row-length, lane-at, kept-sound, filled-length}
+use Rattle.reads_section.specs.Readout.{entryWord, TableReadable}
 
 -- ---- the table, word by word
 
@@ -67,7 +67,7 @@ unfolding entryWord
 entry-word ws zero h n = absurd (n refl)
 entry-word ws (suc e) h n = rw (sub-one, entryWord)
 
-module _ {ws t : List ℕ} {n : ℕ} (h : Readable ws t n) where
+module _ {ws t : List ℕ} {n : ℕ} (h : TableReadable ws t n) where
   abbrev lanes : List Lane
   lanes = lanesAt ws t n
 

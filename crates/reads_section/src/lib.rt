@@ -5,10 +5,10 @@ ghost use lib.ListN.{length};
 ghost use lib.Seq.{sets};
 ghost use Rattle.reads.specs.ReadSet.{pairsOf, broken};
 ghost use Rattle.reads.specs.Search.{longest};
-ghost use Rattle.reads.specs.Words.{roundWords, roundsFrom};
-ghost use Rattle.reads_try.specs.Decoded.{lanesAt};
+ghost use Rattle.reads.specs.ReadSection.{roundWords, roundsFrom};
+ghost use Rattle.reads_try.specs.TableLanes.{lanesAt};
 ghost use Rattle.words.specs.Found.{itemOf};
-ghost use Rattle.reads_section.specs.Readout.{entryWord, Readable, Writable};
+ghost use Rattle.reads_section.specs.Readout.{entryWord, TableReadable, Writable};
 use words::found::Item;
 
 // The first pair that breaks the read-set form, if one does. A last half pair has no mask, and breaks it.
@@ -40,7 +40,7 @@ pub fn check_form(set: &[u32]) -> Item
 
 // The number of rounds: the longest lane of the table.
 pub fn longest_row(set: &[u32], room: &[u32], lanes: usize) -> usize
-    requires { ⌜ Readable (now set) (now room) lanes ⌝ }
+    requires { ⌜ TableReadable (now set) (now room) lanes ⌝ }
     ensures { λ r. ⌜ r ≡ longest (lanesAt (now (set .entry)) (now (room .entry)) lanes) ⌝ }
 {
     let mut best = 0;
@@ -69,7 +69,7 @@ fn entry_word(set: &[u32], e: u32, h: usize) -> u32
 
 // Writes round r from `at` on: word and mask, lane after lane.
 fn write_round(set: &[u32], room: &[u32], lanes: usize, r: usize, out: &mut [u32], at: usize)
-    requires { ⌜ Readable (now set) (now room) lanes × (r < 32) × (at + 2 * lanes ≤ length (now out)) ⌝ }
+    requires { ⌜ TableReadable (now set) (now room) lanes × (r < 32) × (at + 2 * lanes ≤ length (now out)) ⌝ }
     ensures { λ _. ⌜ now (out .exit) ≡ sets (now (out .entry)) at (roundWords (lanesAt (now (set .entry)) (now (room .entry)) lanes) r) ⌝ }
 {
     let mut i = 0;

@@ -1,4 +1,4 @@
-pub mod PairLaws
-pub mod TableLaws
-pub mod PlaceLaws
+pub mod SetPairLaws
+pub mod LaneTableLaws
+pub mod PairPlacedLaws
 pub mod TryLaws

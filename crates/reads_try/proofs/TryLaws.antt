@@ -18,24 +18,24 @@ use Rattle.words.proofs.RoundLaws.{next-lt}
 use Rattle.reads.proofs.SearchLaws.{room-found}
 use Rattle.reads_try.specs.declared.Search.{Search}
 use Rattle.reads_try.specs.declared.Search.the-variants.{Lane as LaneAt, Full}
-use Rattle.reads_try.specs.Table.{tableOf, pieceOf, runOf}
-use Rattle.reads_try.specs.Decoded.{pairAt, lanesAt, Each, Drawn, Kept, Filled}
-use Rattle.reads_try.specs.Tries.{laneFor, isAll, lanesIn, triedOf, Placeable, Ready}
-use Rattle.reads_try.proofs.PairLaws.{pairs-length, pairs-at, slice-none, span-step, piece-slice}
-use Rattle.reads_try.proofs.TableLaws.{each-append, each-of, each-take, each-drop, kept-push, kept-empty, table-length, table-empty, filled-lanes, filled-rest, filled-of}
-use Rattle.reads_try.proofs.PlaceLaws.{Placed}
+use Rattle.reads_try.specs.LaneTable.{tableOf, pieceOf, runOf}
+use Rattle.reads_try.specs.TableLanes.{pairAt, lanesAt, Each, Drawn, SoundLanes, LanesTabled}
+use Rattle.reads_try.specs.Tries.{laneFor, isAll, triedLanes, triedOf, PairPlaceable, TryReady}
+use Rattle.reads_try.proofs.SetPairLaws.{pairs-length, pairs-at, slice-none, span-step, piece-slice}
+use Rattle.reads_try.proofs.LaneTableLaws.{each-append, each-of, each-take, each-drop, kept-push, kept-empty, table-length, table-empty, filled-lanes, filled-rest, filled-of}
+use Rattle.reads_try.proofs.PairPlacedLaws.{PairPlaced}
 
 -- ---- what any try keeps of the lanes
 
-pub try-kept : (ws : List ℕ) (n : ℕ) (run : List Pair) (lanes : List Lane) (j : ℕ) → j < n → Each (Drawn ws) run → Kept ws n lanes
-    → Kept ws n (lanesIn (tryFrom n run lanes j))
+pub try-kept : (ws : List ℕ) (n : ℕ) (run : List Pair) (lanes : List Lane) (j : ℕ) → j < n → Each (Drawn ws) run → SoundLanes ws n lanes
+    → SoundLanes ws n (triedLanes (tryFrom n run lanes j))
 unfolding tryFrom
 try-kept ws n [] lanes j h d k = k
 try-kept ws n (p ∷ run) lanes j h d k = go (firstRoom n n lanes (bits p) j) refl (λ i l q. try-kept ws n run (push lanes i p) (next n i) l (d .1) q)
   where
     go : (o : Option ℕ) → firstRoom n n lanes (bits p) j ≡ o
-        → ((i : ℕ) → next n i < n → Kept ws n (push lanes i p) → Kept ws n (lanesIn (tryFrom n run (push lanes i p) (next n i))))
-        → Kept ws n (lanesIn (tryFrom n (p ∷ run) lanes j))
+        → ((i : ℕ) → next n i < n → SoundLanes ws n (push lanes i p) → SoundLanes ws n (triedLanes (tryFrom n run (push lanes i p) (next n i))))
+        → SoundLanes ws n (triedLanes (tryFrom n (p ∷ run) lanes j))
     go none e r = rw (e, tryFrom) k
     go (some i) e r =
         let f = room-found n n lanes (bits p) j i h e in
@@ -59,21 +59,21 @@ module _ (ws : List ℕ) (whole : length ws % 2 ≡ 0) (masks : (p : ℕ) → p 
       each-append (Drawn ws) (pieceOf k (pairsOf ws) (x % 8192)) _ (each-take (Drawn ws) k _ (each-drop (Drawn ws) (x % 8192 * k) (pairsOf ws) pairs-drawn)) (run-drawn k keys)
 
   -- the lanes of a try of it
-  pub tried-kept : (n k : ℕ) (keys : List ℕ) → 0 < n → Kept ws n (lanesIn (triedOf n k ws keys))
+  pub tried-kept : (n k : ℕ) (keys : List ℕ) → 0 < n → SoundLanes ws n (triedLanes (triedOf n k ws keys))
   tried-kept n k keys h = try-kept ws n (runOf k (pairsOf ws) keys) (replicate n []) 0 h (run-drawn k keys) (kept-empty ws n)
 
 -- ---- what holds while a try runs
 
 -- the room holds kept lanes, and rest after them; run is still to be placed, from lane cur on, and the try will end in goal
 pub record Held (ws : List ℕ) (n : ℕ) (rest : List ℕ) (goal : Tried) (run : List Pair) (room : List ℕ) (cur : ℕ) : Type 0 where
-  pub filled : Filled ws room n
+  pub filled : LanesTabled ws room n
   pub rest-is : drop (32 * n) room ≡ rest
   pub lane : cur < n
   pub ends : tryFrom n run (lanesAt ws room n) cur ≡ goal
 
 -- how a try ends
 abbrev pub Ended : Tried → List ℕ → Bool → List ℕ → Type 0
-Ended goal rest fits room = (fits ≡ isAll goal) × (room ≡ tableOf (lanesIn goal) ++ rest)
+Ended goal rest fits room = (fits ≡ isAll goal) × (room ≡ tableOf (triedLanes goal) ++ rest)
 
 module _ {ws : List ℕ} {n : ℕ} {rest : List ℕ} {goal : Tried} where
   pub held-room : {run : List Pair} {room : List ℕ} {cur : ℕ} → Held ws n rest goal run room cur → room ≡ tableOf (lanesAt ws room n) ++ rest
@@ -89,7 +89,7 @@ module _ {ws : List ℕ} {n : ℕ} {rest : List ℕ} {goal : Tried} where
   held-all h = rw (← h .ends) (refl, held-room h)
 
   module _ {p : ℕ} {run : List Pair} {room : List ℕ} {cur : ℕ} (h : Held ws n rest goal (pairAt ws p ∷ run) room cur)
-      (r : Search) (room′ : List ℕ) (placed : Placed ws room n cur p r room′) where
+      (r : Search) (room′ : List ℕ) (placed : PairPlaced ws room n cur p r room′) where
     -- the lane that is found takes the pair
     pub held-step : Drawn ws (pairAt ws p) → (j : ℕ) → r ≡ LaneAt j → Held ws n rest goal run room′ j
     unfolding tryFrom
@@ -136,7 +136,7 @@ Piece ws n p₀ e room₀ cur₀ p room cur =
     (rest : List ℕ) (goal : Tried) (tail : List Pair)
     → Held ws n rest goal (slice p₀ e (pairsOf ws) ++ tail) room₀ cur₀ → Held ws n rest goal (slice p e (pairsOf ws) ++ tail) room cur
 
-module _ {ws room₀ : List ℕ} {n k : ℕ} (ready : Ready ws room₀ n k) where
+module _ {ws room₀ : List ℕ} {n k : ℕ} (ready : TryReady ws room₀ n k) where
   pub held-start : (keys : List ℕ) → Held ws n (drop (32 * n) room₀) (triedOf n k ws keys) (runOf k (pairsOf ws) keys) room₀ 0
   held-start keys =
       let t : room₀ ≡ tableOf (replicate n []) ++ drop (32 * n) room₀ =
@@ -151,7 +151,7 @@ module _ {ws room₀ : List ℕ} {n k : ℕ} (ready : Ready ws room₀ n k) wher
 
   module _ {rest : List ℕ} {goal : Tried} where
     -- what `place` asks
-    pub held-placeable : {run : List Pair} {room : List ℕ} {cur : ℕ} → Held ws n rest goal run room cur → (p : ℕ) → p < length ws / 2 → Placeable ws room n cur p
+    pub held-placeable : {run : List Pair} {room : List ℕ} {cur : ℕ} → Held ws n rest goal run room cur → (p : ℕ) → p < length ws / 2 → PairPlaceable ws room n cur p
     held-placeable h p l = record {
       lane = h .lane;
       pairs = ready .pairs;
@@ -173,7 +173,7 @@ module _ {ws room₀ : List ℕ} {n k : ℕ} (ready : Ready ws room₀ n k) wher
 
   -- a pair is placed, and the one after it comes next
   pub piece-step : (p₀ e : ℕ) (room : List ℕ) (cur₀ p : ℕ) (room₁ : List ℕ) (cur : ℕ) → Piece ws n p₀ e room cur₀ p room₁ cur → p < e → e ≤ length ws / 2
-      → (r : Search) (room₂ : List ℕ) → Placed ws room₁ n cur p r room₂ → (j : ℕ) → r ≡ LaneAt j → Piece ws n p₀ e room cur₀ (p + 1) room₂ j
+      → (r : Search) (room₂ : List ℕ) → PairPlaced ws room₁ n cur p r room₂ → (j : ℕ) → r ≡ LaneAt j → Piece ws n p₀ e room cur₀ (p + 1) room₂ j
   piece-step p₀ e room cur₀ p room₁ cur P h l r room₂ placed j f rest goal tail H =
       held-step (rw (span-step ws p e h l) at (P rest goal tail H)) r room₂ placed (pair-drawn ws (ready .whole) (ready .masks) p (omega arith)) j f
 

@@ -1,3 +1,3 @@
-pub mod Table
-pub mod Decoded
+pub mod LaneTable
+pub mod TableLanes
 pub mod Tries

@@ -12,13 +12,13 @@ use Rattle.words.specs.Round.{next}
 use Rattle.reads.specs.Search.{Lane, firstRoom, push, Tried, all, stuck, tryFrom}
 use Rattle.reads_try.specs.declared.Search.{Search}
 use Rattle.reads_try.specs.declared.Search.the-variants.{Lane as LaneAt, Full}
-use Rattle.reads_try.specs.Table.{runOf}
-use Rattle.reads_try.specs.Decoded.{pairAt, laneOf, rowAt, lanesAt, Filled}
+use Rattle.reads_try.specs.LaneTable.{runOf}
+use Rattle.reads_try.specs.TableLanes.{pairAt, laneOf, rowAt, lanesAt, LanesTabled}
 
 -- a lane that is found, or none, as the code says it
-abbrev pub foundOf : Option ℕ → Search
-foundOf none = Full
-foundOf (some j) = LaneAt j
+abbrev pub laneFound : Option ℕ → Search
+laneFound none = Full
+laneFound (some j) = LaneAt j
 
 -- the lane for pair p, over the lanes that the room says
 abbrev pub laneFor : List ℕ → List ℕ → ℕ → ℕ → ℕ → Option ℕ
@@ -39,47 +39,47 @@ abbrev pub isAll : Tried → Bool
 isAll (all lanes) = true
 isAll (stuck lanes) = false
 
-abbrev pub lanesIn : Tried → List Lane
-lanesIn (all lanes) = lanes
-lanesIn (stuck lanes) = lanes
+abbrev pub triedLanes : Tried → List Lane
+triedLanes (all lanes) = lanes
+triedLanes (stuck lanes) = lanes
 
 -- the try of a set at piece size k, the pieces in the order of the keys, from empty lanes
 abbrev pub triedOf : ℕ → ℕ → List ℕ → List ℕ → Tried
 triedOf n k set keys = tryFrom n (runOf k (pairsOf set) keys) (replicate n []) 0
 
 -- what a row's sum asks: its words name pairs of the set
-pub record Named (set row : List ℕ) : Type 0 where
+pub record RowNamed (set row : List ℕ) : Type 0 where
   pub short : length row ≤ 32
   pub named : (i : ℕ) → i < length row → getD row i 0 ≤ length set / 2
 
 -- the same of lane j in the room
-pub record RowIn (set room : List ℕ) (j : ℕ) : Type 0 where
+pub record LaneRowIn (set room : List ℕ) (j : ℕ) : Type 0 where
   pub in-room : 32 * j + 32 ≤ length room
-  pub row : Named set (rowAt room j)
+  pub row : RowNamed set (rowAt room j)
 
 -- what the search asks: so do those of each row
-pub record Searched (set room : List ℕ) (n from b : ℕ) : Type 0 where
+pub record LanesSearchable (set room : List ℕ) (n from b : ℕ) : Type 0 where
   pub in-room : 32 * n ≤ length room
   pub named : (i : ℕ) → i < 32 * n → getD room i 0 ≤ length set / 2
   pub lane : from < n
   pub mask : b ≤ 32
 
 -- what a put of pair p into lane j asks: a free word in the row
-pub record Puttable (set room : List ℕ) (j p : ℕ) : Type 0 where
-  pub lane : RowIn set room j
+pub record PairPuttable (set room : List ℕ) (j p : ℕ) : Type 0 where
+  pub lane : LaneRowIn set room j
   pub free : length (laneOf set (rowAt room j)) < 32
   pub pair : p < 8192
 
 -- what a placing of pair p asks, from the current lane on
-pub record Placeable (set room : List ℕ) (n cur p : ℕ) : Type 0 where
+pub record PairPlaceable (set room : List ℕ) (n cur p : ℕ) : Type 0 where
   pub lane : cur < n
   pub pairs : length set ≤ 16384
   pub pair : p < length set / 2
   pub some-bits : 0 < pop (getD set (2 * p + 1) 0)
-  pub filled : Filled set room n
+  pub filled : LanesTabled set room n
 
 -- what a try asks: whole pairs, no mask that is 0, empty lanes
-pub record Ready (set room : List ℕ) (n k : ℕ) : Type 0 where
+pub record TryReady (set room : List ℕ) (n k : ℕ) : Type 0 where
   pub whole : length set % 2 ≡ 0
   pub pairs : length set ≤ 16384
   pub masks : (p : ℕ) → p < length set / 2 → 0 < pop (getD set (2 * p + 1) 0)

@@ -5,9 +5,9 @@ ghost use Prim.Native.Nat.{_*_, min};
 ghost use lib.ListN.{length, drop};
 ghost use Rattle.reads.specs.ReadSet.{total};
 ghost use Rattle.reads.specs.Search.{firstRoom};
-ghost use Rattle.reads_try.specs.Table.{tableOf};
-ghost use Rattle.reads_try.specs.Decoded.{pairAt, laneOf, rowAt, lanesAt, putIn};
-ghost use Rattle.reads_try.specs.Tries.{foundOf, laneFor, nextOf, lanesAfter, isAll, lanesIn, triedOf, Named, RowIn, Searched, Puttable, Placeable, Ready};
+ghost use Rattle.reads_try.specs.LaneTable.{tableOf};
+ghost use Rattle.reads_try.specs.TableLanes.{pairAt, laneOf, rowAt, lanesAt, putInLane};
+ghost use Rattle.reads_try.specs.Tries.{laneFound, laneFor, nextOf, lanesAfter, isAll, triedLanes, triedOf, RowNamed, LaneRowIn, LanesSearchable, PairPuttable, PairPlaceable, TryReady};
 use words::round::next_of;
 
 // What a lane search finds.
@@ -24,7 +24,7 @@ pub struct Load {
 
 // The load of a lane, summed over its row: a word is a pair's number and one, and a 0 ends the lane. The mask of pair e - 1 is word 2e - 1.
 fn row_load(set: &[u32], row: &[u32]) -> Load
-    requires { ⌜ Named (now set) (now row) ⌝ }
+    requires { ⌜ RowNamed (now set) (now row) ⌝ }
     ensures { λ r. ⌜ (r .bits ≡ total (laneOf (now (set .entry)) (now (row .entry)))) × (r .pairs ≡ length (laneOf (now (set .entry)) (now (row .entry)))) ⌝ }
 {
     let mut bits = 0;
@@ -42,7 +42,7 @@ fn row_load(set: &[u32], row: &[u32]) -> Load
 
 // The load of lane j.
 pub fn lane_load(set: &[u32], room: &[u32], j: usize) -> Load
-    requires { ⌜ RowIn (now set) (now room) j ⌝ }
+    requires { ⌜ LaneRowIn (now set) (now room) j ⌝ }
     ensures { λ r. ⌜ (r .bits ≡ total (laneOf (now (set .entry)) (rowAt (now (room .entry)) j))) × (r .pairs ≡ length (laneOf (now (set .entry)) (rowAt (now (room .entry)) j))) ⌝ }
 {
     let at = 32 * j;
@@ -52,8 +52,8 @@ pub fn lane_load(set: &[u32], room: &[u32], j: usize) -> Load
 
 // The first lane with room for b more bits, going round from lane `from`.
 fn find_lane(set: &[u32], room: &[u32], lanes: usize, from: usize, b: u32) -> Search
-    requires { ⌜ Searched (now set) (now room) lanes from b ⌝ }
-    ensures { λ r. ⌜ r ≡ foundOf (firstRoom lanes lanes (lanesAt (now (set .entry)) (now (room .entry)) lanes) b from) ⌝ }
+    requires { ⌜ LanesSearchable (now set) (now room) lanes from b ⌝ }
+    ensures { λ r. ⌜ r ≡ laneFound (firstRoom lanes lanes (lanesAt (now (set .entry)) (now (room .entry)) lanes) b from) ⌝ }
 {
     let mut j = from;
     let mut left = lanes;
@@ -70,8 +70,8 @@ fn find_lane(set: &[u32], room: &[u32], lanes: usize, from: usize, b: u32) -> Se
 
 // Puts pair p behind those of lane j.
 fn put(set: &[u32], room: &mut [u32], j: usize, p: usize)
-    requires { ⌜ Puttable (now set) (now room) j p ⌝ }
-    ensures { λ _. ⌜ now (room .exit) ≡ putIn (now (set .entry)) (now (room .entry)) j p ⌝ }
+    requires { ⌜ PairPuttable (now set) (now room) j p ⌝ }
+    ensures { λ _. ⌜ now (room .exit) ≡ putInLane (now (set .entry)) (now (room .entry)) j p ⌝ }
 {
     let held = lane_load(set, room, j);
     let at = 32 * j + held.pairs;
@@ -80,8 +80,8 @@ fn put(set: &[u32], room: &mut [u32], j: usize, p: usize)
 
 // Puts pair p into the first lane with room, going round from lane `cur`. The answer is the lane after that one, or Full.
 fn place(set: &[u32], room: &mut [u32], lanes: usize, cur: usize, p: usize) -> Search
-    requires { ⌜ Placeable (now set) (now room) lanes cur p ⌝ }
-    ensures { λ r. ⌜ r ≡ foundOf (nextOf lanes (laneFor (now (set .entry)) (now (room .entry)) lanes cur p)) ⌝ }
+    requires { ⌜ PairPlaceable (now set) (now room) lanes cur p ⌝ }
+    ensures { λ r. ⌜ r ≡ laneFound (nextOf lanes (laneFor (now (set .entry)) (now (room .entry)) lanes cur p)) ⌝ }
     ensures { λ r. ⌜ now (room .exit) ≡ tableOf (lanesAfter (laneFor (now (set .entry)) (now (room .entry)) lanes cur p) (lanesAt (now (set .entry)) (now (room .entry)) lanes) (pairAt (now (set .entry)) p)) ++ drop (32 * lanes) (now (room .entry)) ⌝ }
 {
     let b = words::bits::count(set[2 * p + 1]);
@@ -102,9 +102,9 @@ pub fn least(a: usize, b: usize) -> usize
 
 // One try at piece size k, the pieces in the order of the keys: a key's rest by 8192 is its piece's number. No lane with room for a pair ends it.
 pub fn try_size(set: &[u32], keys: &[u64], room: &mut [u32], lanes: usize, k: usize) -> bool
-    requires { ⌜ Ready (now set) (now room) lanes k ⌝ }
+    requires { ⌜ TryReady (now set) (now room) lanes k ⌝ }
     ensures { λ r. ⌜ r ≡ isAll (triedOf lanes k (now (set .entry)) (now (keys .entry))) ⌝ }
-    ensures { λ r. ⌜ now (room .exit) ≡ tableOf (lanesIn (triedOf lanes k (now (set .entry)) (now (keys .entry)))) ++ drop (32 * lanes) (now (room .entry)) ⌝ }
+    ensures { λ r. ⌜ now (room .exit) ≡ tableOf (triedLanes (triedOf lanes k (now (set .entry)) (now (keys .entry)))) ++ drop (32 * lanes) (now (room .entry)) ⌝ }
 {
     let n = set.len() / 2;
     let mut fits = true;

@@ -1,4 +1,4 @@
-pub mod OutcomeLaws
-pub mod FormLaws
-pub mod CodeLaws
-pub mod WholeLaws
+pub mod RepairAnswerLaws
+pub mod CountFormLaws
+pub mod RepairCodeLaws
+pub mod RepairWholeLaws

@@ -13,7 +13,7 @@ pub record Placed (h j : ℕ) (p : Place) : Type 0 where
   pub rooted : Rooted 16383 (p .level) (p .width) (p .index)
 
 -- a place inside the stage, and a pin
-pub record Placeable (p : Place) (x : ℕ) : Type 0 where
+pub record NodePlaceable (p : Place) (x : ℕ) : Type 0 where
   pub level : p .level ≤ 13
   pub rooted : Rooted 16383 (p .level) (p .width) (p .index)
   pub pin : x ≤ 2 ^ 30

@@ -4,13 +4,13 @@ ghost use mathlib.Core.Option.{none};
 ghost use Prim.Native.Nat.{_^_, _≤_, _<_};
 ghost use lib.Dec.{leb};
 ghost use lib.ListN.{length, replicate};
-ghost use Rattle.gatelist.specs.Words.{badList};
+ghost use Rattle.gatelist.specs.ListWords.{badList};
 ghost use Rattle.repair_nodes.specs.Stage.{width};
 ghost use Rattle.repair_nodes.specs.Placing.{placing, Judged};
-ghost use Rattle.repair_nodes.specs.Outcome.{roomWords, placeRight, placedAt, placed, clearedAt, cleared, slotsAfter, listAfter, roomAfter};
+ghost use Rattle.repair_nodes.specs.RepairAnswer.{repairRoomWords, placeRight, placedAt, placed, clearedAt, cleared, slotsAfter, countListAfter, repairRoomAfter};
 ghost use Rattle.repair_subtree.specs.Subtree.{Added, Listable};
 ghost use Rattle.repair_settle.specs.Settle.{repairedOf, Ended, placedSpots, Entered};
-ghost use Rattle.repair.specs.Repair.{Placed, Placeable};
+ghost use Rattle.repair.specs.Repair.{Placed, NodePlaceable};
 use gatelist::check_list;
 use repair_settle::Repaired;
 use repair_settle::place_spots;
@@ -84,7 +84,7 @@ fn place_node(
     at: Place,
     node: Pin,
 ) -> Repaired
-    requires { ⌜ Judged (now gates) (now levels) (at .level) (node .0) × Placeable at (node .0) × Entered (now counts) (now map) ⌝ }
+    requires { ⌜ Judged (now gates) (now levels) (at .level) (node .0) × NodePlaceable at (node .0) × Entered (now counts) (now map) ⌝ }
     ensures { λ r. ⌜ Ended (placedSpots (now (counts .entry)) (now (slots .entry)) (length (now (after .entry))) (placing (now (gates .entry)) (now (levels .entry)) (at .level) (at .width) (at .index) (node .0))) r (now (slots .entry)) (now (slots .exit)) (now (after .entry)) (now (after .exit)) ⌝ }
 {
     let mut list = [0u32; 32768];
@@ -137,7 +137,7 @@ fn purge_at(
 
 // Whether the working room is long enough for a count list.
 fn room_enough(counts: &[u32], room: &[u32]) -> bool
-    ensures { λ r. ⌜ r ≡ leb (roomWords (now (counts .entry))) (length (now (room .entry))) ⌝ }
+    ensures { λ r. ⌜ r ≡ leb (repairRoomWords (now (counts .entry))) (length (now (room .entry))) ⌝ }
 {
     if room.len() < 65536 {
         return false;
@@ -158,7 +158,7 @@ fn place_over(
     slot: u32,
     node: Pin,
 ) -> Repaired
-    requires { ⌜ (now map ≡ replicate (length (now map)) 0) × (roomWords (now counts) ≤ length (now map)) ⌝ }
+    requires { ⌜ (now map ≡ replicate (length (now map)) 0) × (repairRoomWords (now counts) ≤ length (now map)) ⌝ }
     ensures { λ r. ⌜ Ended (placed 13 (now (gates .entry)) (now (levels .entry)) (now (counts .entry)) (now (slots .entry)) (length (now (after .entry))) (length (now (map .entry))) level slot (node .0)) r (now (slots .entry)) (now (slots .exit)) (now (after .entry)) (now (after .exit)) ⌝ }
 {
     if 1073741824 < node.0 {
@@ -187,7 +187,7 @@ fn purge_over(
     level: u32,
     slot: u32,
 ) -> Repaired
-    requires { ⌜ (now map ≡ replicate (length (now map)) 0) × (roomWords (now counts) ≤ length (now map)) ⌝ }
+    requires { ⌜ (now map ≡ replicate (length (now map)) 0) × (repairRoomWords (now counts) ≤ length (now map)) ⌝ }
     ensures { λ r. ⌜ Ended (cleared 13 (now (counts .entry)) (now (slots .entry)) (length (now (after .entry))) (length (now (map .entry))) level slot) r (now (slots .entry)) (now (slots .exit)) (now (after .entry)) (now (after .exit)) ⌝ }
 {
     if place_form(level, slot) {
@@ -213,8 +213,8 @@ pub fn place_bit(
 ) -> Repaired
     ensures { λ r. ⌜ r ≡ repairedOf (placed 13 (now (gates .entry)) (now (levels .entry)) (now (counts .entry)) (now (slots .entry)) (length (now (after .entry))) (length (now (room .entry))) level slot (node .0)) ⌝ }
     ensures { λ _. ⌜ now (slots .exit) ≡ slotsAfter (placed 13 (now (gates .entry)) (now (levels .entry)) (now (counts .entry)) (now (slots .entry)) (length (now (after .entry))) (length (now (room .entry))) level slot (node .0)) (now (slots .entry)) ⌝ }
-    ensures { λ _. ⌜ now (after .exit) ≡ listAfter (placed 13 (now (gates .entry)) (now (levels .entry)) (now (counts .entry)) (now (slots .entry)) (length (now (after .entry))) (length (now (room .entry))) level slot (node .0)) (now (after .entry)) ⌝ }
-    ensures { λ _. ⌜ now (room .exit) ≡ roomAfter (now (counts .entry)) (now (room .entry)) ⌝ }
+    ensures { λ _. ⌜ now (after .exit) ≡ countListAfter (placed 13 (now (gates .entry)) (now (levels .entry)) (now (counts .entry)) (now (slots .entry)) (length (now (after .entry))) (length (now (room .entry))) level slot (node .0)) (now (after .entry)) ⌝ }
+    ensures { λ _. ⌜ now (room .exit) ≡ repairRoomAfter (now (counts .entry)) (now (room .entry)) ⌝ }
 {
     if room_enough(counts, room) {
         clear(room);
@@ -236,8 +236,8 @@ pub fn purge_bit(
 ) -> Repaired
     ensures { λ r. ⌜ r ≡ repairedOf (cleared 13 (now (counts .entry)) (now (slots .entry)) (length (now (after .entry))) (length (now (room .entry))) level slot) ⌝ }
     ensures { λ _. ⌜ now (slots .exit) ≡ slotsAfter (cleared 13 (now (counts .entry)) (now (slots .entry)) (length (now (after .entry))) (length (now (room .entry))) level slot) (now (slots .entry)) ⌝ }
-    ensures { λ _. ⌜ now (after .exit) ≡ listAfter (cleared 13 (now (counts .entry)) (now (slots .entry)) (length (now (after .entry))) (length (now (room .entry))) level slot) (now (after .entry)) ⌝ }
-    ensures { λ _. ⌜ now (room .exit) ≡ roomAfter (now (counts .entry)) (now (room .entry)) ⌝ }
+    ensures { λ _. ⌜ now (after .exit) ≡ countListAfter (cleared 13 (now (counts .entry)) (now (slots .entry)) (length (now (after .entry))) (length (now (room .entry))) level slot) (now (after .entry)) ⌝ }
+    ensures { λ _. ⌜ now (room .exit) ≡ repairRoomAfter (now (counts .entry)) (now (room .entry)) ⌝ }
 {
     if room_enough(counts, room) {
         clear(room);

@@ -11,11 +11,11 @@ use lib.Seq.{sets, drop-cons}
 use Rattle.words.proofs.ListLaws.{sets-append}
 use Rattle.words.specs.Pins.{empty}
 use Rattle.repair_nodes.specs.Pairs.{pairWords}
-use Rattle.repair_nodes.specs.Stage.{Spot, spot, spotsOf, stored, emptied}
-use Rattle.repair_nodes.specs.Counts.{Count, counted, countsOf, countWords, nodesOf, nonzero}
-use Rattle.repair_nodes.proofs.PairLaws.{pairs-drop, pairs-end, words-length, words-append}
-use Rattle.repair_nodes.proofs.CountLaws.{nonzero-append}
-use Rattle.repair_list.specs.Relist.{valueIn, entriesOf, Listed}
+use Rattle.repair_nodes.specs.Stage.{Spot, spot, spotsOf, spotsStored, emptied}
+use Rattle.repair_nodes.specs.CountList.{Count, counted, countsOf, countWords, nodesOf, nonzero}
+use Rattle.repair_nodes.proofs.TwoWordLaws.{pairs-drop, pairs-end, words-length, words-append}
+use Rattle.repair_nodes.proofs.CountListLaws.{nonzero-append}
+use Rattle.repair_list.specs.Relist.{countInMap, entriesOf, EntriesPut}
 
 -- ---- the entries of a count list's nodes from entry i on
 
@@ -48,7 +48,7 @@ unfolding pairWords
 words-none l i = refl
 
 -- an entry written, as two stores
-pub entry-words : (t l : List ℕ) (i x v : ℕ) → v ≡ valueIn t x → set (set l (2 * i) x) (2 * i + 1) v ≡ sets l (2 * i) (countWords (entriesOf t (x ∷ [])))
+pub entry-words : (t l : List ℕ) (i x v : ℕ) → v ≡ countInMap t x → set (set l (2 * i) x) (2 * i + 1) v ≡ sets l (2 * i) (countWords (entriesOf t (x ∷ [])))
 unfolding pairWords
 entry-words t l i x v e = rw (e, add-one (2 * i))
 
@@ -81,13 +81,13 @@ new-end t news l at k h =
 -- ---- entries that are left
 
 module _ (t : List ℕ) (x : ℕ) where
-  pub left-none : valueIn t x ≡ 0 → nonzero (entriesOf t (x ∷ [])) ≡ []
+  pub left-none : countInMap t x ≡ 0 → nonzero (entriesOf t (x ∷ [])) ≡ []
   unfolding nonzero
-  left-none e = rw (eq-eqb (valueIn t x) 0 e, nonzero)
+  left-none e = rw (eq-eqb (countInMap t x) 0 e, nonzero)
 
-  pub left-one : (valueIn t x ≡ 0 → ⊥) → nonzero (entriesOf t (x ∷ [])) ≡ entriesOf t (x ∷ [])
+  pub left-one : (countInMap t x ≡ 0 → ⊥) → nonzero (entriesOf t (x ∷ [])) ≡ entriesOf t (x ∷ [])
   unfolding nonzero
-  left-one n = rw (ne-eqb (valueIn t x) 0 n, nonzero)
+  left-one n = rw (ne-eqb (countInMap t x) 0 n, nonzero)
 
 abbrev pub leftFrom : List ℕ → List ℕ → ℕ → List Count
 leftFrom t counts i = nonzero (entriesFrom t counts i)
@@ -104,13 +104,13 @@ pub left-size : (t counts : List ℕ) (i : ℕ) → 2 * i + 1 < length counts
     → length (leftFrom t counts i) ≡ length (nonzero (entriesOf t (getD counts (2 * i) 0 ∷ []))) + length (leftFrom t counts (i + 1))
 left-size t counts i l = ap length (left-next t counts i l) ∙ length-append (nonzero (entriesOf t (getD counts (2 * i) 0 ∷ []))) (leftFrom t counts (i + 1))
 
-pub listed-none : (t l : List ℕ) (n x : ℕ) → valueIn t x ≡ 0 → Listed l n (nonzero (entriesOf t (x ∷ []))) l n
-listed-none t l n x e = rw (left-none t x e) (record { count = omega arith; words = sym (words-none l (2 * n)) })
+pub entries-put-none : (t l : List ℕ) (n x : ℕ) → countInMap t x ≡ 0 → EntriesPut l n (nonzero (entriesOf t (x ∷ []))) l n
+entries-put-none t l n x e = rw (left-none t x e) (record { count = omega arith; words = sym (words-none l (2 * n)) })
 
-pub listed-one : (t l : List ℕ) (n x v : ℕ) → v ≡ valueIn t x → (v ≡ 0 → ⊥) → Listed l n (nonzero (entriesOf t (x ∷ []))) (set (set l (2 * n) x) (2 * n + 1) v) (n + 1)
-listed-one t l n x v e f = rw (left-one t x (λ (z : valueIn t x ≡ 0). f (e ∙ z))) (record { count = omega arith; words = entry-words t l n x v e })
+pub listed-one : (t l : List ℕ) (n x v : ℕ) → v ≡ countInMap t x → (v ≡ 0 → ⊥) → EntriesPut l n (nonzero (entriesOf t (x ∷ []))) (set (set l (2 * n) x) (2 * n + 1) v) (n + 1)
+listed-one t l n x v e f = rw (left-one t x (λ (z : countInMap t x ≡ 0). f (e ∙ z))) (record { count = omega arith; words = entry-words t l n x v e })
 
-pub left-on : (t counts l l₁ : List ℕ) (i n k : ℕ) → 2 * i + 1 < length counts → Listed l n (nonzero (entriesOf t (getD counts (2 * i) 0 ∷ []))) l₁ k
+pub left-on : (t counts l l₁ : List ℕ) (i n k : ℕ) → 2 * i + 1 < length counts → EntriesPut l n (nonzero (entriesOf t (getD counts (2 * i) 0 ∷ []))) l₁ k
     → sets l₁ (2 * k) (countWords (leftFrom t counts (i + 1))) ≡ sets l (2 * n) (countWords (leftFrom t counts i))
 left-on t counts l l₁ i n k h a =
     let one = nonzero (entriesOf t (getD counts (2 * i) 0 ∷ [])) in
@@ -123,25 +123,25 @@ left-last t counts l i n h = ap (λ (cs : List Count). sets l (2 * n) (countWord
 -- ---- slots
 
 pub store-on : (spots s : List ℕ) (k : ℕ) → 2 * k + 1 < length spots
-    → stored (set s (getD spots (2 * k) 0 - 1) (getD spots (2 * k + 1) 0)) (spotsOf (drop (2 * (k + 1)) spots)) ≡ stored s (spotsOf (drop (2 * k) spots))
-unfolding stored
-store-on spots s k l = ap (stored s) (sym (pairs-drop spot spots k l))
+    → spotsStored (set s (getD spots (2 * k) 0 - 1) (getD spots (2 * k + 1) 0)) (spotsOf (drop (2 * (k + 1)) spots)) ≡ spotsStored s (spotsOf (drop (2 * k) spots))
+unfolding spotsStored
+store-on spots s k l = ap (spotsStored s) (sym (pairs-drop spot spots k l))
 
-pub store-end : (spots s : List ℕ) (k : ℕ) → length spots ≤ 2 * k + 1 → stored s (spotsOf (drop (2 * k) spots)) ≡ s
-unfolding stored
-store-end spots s k l = ap (stored s) (pairs-end spot spots k l)
+pub store-end : (spots s : List ℕ) (k : ℕ) → length spots ≤ 2 * k + 1 → spotsStored s (spotsOf (drop (2 * k) spots)) ≡ s
+unfolding spotsStored
+store-end spots s k l = ap (spotsStored s) (pairs-end spot spots k l)
 
 pub clear-on : (spots s : List ℕ) (k : ℕ) → 2 * k + 1 < length spots
-    → stored (set s (getD spots (2 * k) 0 - 1) empty) (emptied (spotsOf (drop (2 * (k + 1)) spots))) ≡ stored s (emptied (spotsOf (drop (2 * k) spots)))
-unfolding stored emptied
-clear-on spots s k l = ap (λ (es : List Spot). stored s (emptied es)) (sym (pairs-drop spot spots k l))
+    → spotsStored (set s (getD spots (2 * k) 0 - 1) empty) (emptied (spotsOf (drop (2 * (k + 1)) spots))) ≡ spotsStored s (emptied (spotsOf (drop (2 * k) spots)))
+unfolding spotsStored emptied
+clear-on spots s k l = ap (λ (es : List Spot). spotsStored s (emptied es)) (sym (pairs-drop spot spots k l))
 
-pub clear-end : (spots s : List ℕ) (k : ℕ) → length spots ≤ 2 * k + 1 → stored s (emptied (spotsOf (drop (2 * k) spots))) ≡ s
-unfolding stored emptied
-clear-end spots s k l = ap (λ (es : List Spot). stored s (emptied es)) (pairs-end spot spots k l)
+pub clear-end : (spots s : List ℕ) (k : ℕ) → length spots ≤ 2 * k + 1 → spotsStored s (emptied (spotsOf (drop (2 * k) spots))) ≡ s
+unfolding spotsStored emptied
+clear-end spots s k l = ap (λ (es : List Spot). spotsStored s (emptied es)) (pairs-end spot spots k l)
 
-pub left-one-size : (t : List ℕ) (x : ℕ) → (valueIn t x ≡ 0 → ⊥) → length (nonzero (entriesOf t (x ∷ []))) ≡ 1
+pub left-one-size : (t : List ℕ) (x : ℕ) → (countInMap t x ≡ 0 → ⊥) → length (nonzero (entriesOf t (x ∷ []))) ≡ 1
 left-one-size t x n = ap length (left-one t x n)
 
-pub left-none-size : (t : List ℕ) (x : ℕ) → valueIn t x ≡ 0 → length (nonzero (entriesOf t (x ∷ []))) ≡ 0
+pub left-none-size : (t : List ℕ) (x : ℕ) → countInMap t x ≡ 0 → length (nonzero (entriesOf t (x ∷ []))) ≡ 0
 left-none-size t x e = ap length (left-none t x e)

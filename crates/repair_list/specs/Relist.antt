@@ -7,25 +7,25 @@ use Prim.Native.Nat.{ℕ, _+_, _*_, _-_, _^_, _≤_, _<_}
 use lib.ListN.{length, getD}
 use lib.Seq.{sets}
 use Rattle.pinmap.specs.PinMap.{look}
-use Rattle.repair_nodes.specs.Counts.{Count, counted, countsOf, countWords, nodesOf}
+use Rattle.repair_nodes.specs.CountList.{Count, counted, countsOf, countWords, nodesOf}
 
 -- a node's number in a map, 0 where it has none, and the list of some nodes with theirs
-abbrev pub numberOf : Option ℕ → ℕ
-numberOf none = 0
-numberOf (some v) = v
+abbrev pub countOrZero : Option ℕ → ℕ
+countOrZero none = 0
+countOrZero (some v) = v
 
-abbrev pub valueIn : List ℕ → ℕ → ℕ
-valueIn t y = numberOf (look t y)
+abbrev pub countInMap : List ℕ → ℕ → ℕ
+countInMap t y = countOrZero (look t y)
 
 abbrev pub entriesOf : List ℕ → List ℕ → List Count
-entriesOf t ns = map (λ (y : ℕ). counted y (valueIn t y)) ns
+entriesOf t ns = map (λ (y : ℕ). counted y (countInMap t y)) ns
 
 -- those of a count list's nodes
 abbrev pub entriesIn : List ℕ → List ℕ → List Count
 entriesIn t counts = entriesOf t (nodesOf (countsOf counts))
 
 -- a count list of n entries in lent words, before and after more were put behind them: k is their number then
-pub record Listed (before : List ℕ) (n : ℕ) (cs : List Count) (after : List ℕ) (k : ℕ) : Type 0 where
+pub record EntriesPut (before : List ℕ) (n : ℕ) (cs : List Count) (after : List ℕ) (k : ℕ) : Type 0 where
   pub count : k ≡ n + length cs
   pub words : after ≡ sets before (2 * n) (countWords cs)
 

@@ -4,9 +4,9 @@ ghost use mathlib.Core.List.{[], _∷_};
 ghost use Prim.Native.Nat.{_+_, _*_, _-_, _^_, _≤_, _<_};
 ghost use lib.ListN.{length, set};
 ghost use lib.Seq.{sets};
-ghost use Rattle.repair_nodes.specs.Stage.{spotsOf, stored, emptied};
-ghost use Rattle.repair_nodes.specs.Counts.{countWords, nonzero};
-ghost use Rattle.repair_list.specs.Relist.{valueIn, entriesOf, entriesIn, Listed, NodesAskable, NewAskable, AllInside};
+ghost use Rattle.repair_nodes.specs.Stage.{spotsOf, spotsStored, emptied};
+ghost use Rattle.repair_nodes.specs.CountList.{countWords, nonzero};
+ghost use Rattle.repair_list.specs.Relist.{countInMap, entriesOf, entriesIn, EntriesPut, NodesAskable, NewAskable, AllInside};
 use pinmap::Found;
 use pinmap::look_up;
 use words::units::EMPTY_PIN;
@@ -15,7 +15,7 @@ use words::units::Pin;
 // A node's number in a map, 0 where it has none.
 fn number_of(map: &[u32], node: Pin) -> u32
     requires { ⌜ node .0 < 2 ^ 32 - 1 ⌝ }
-    ensures { λ r. ⌜ r ≡ valueIn (now (map .entry)) (node .0) ⌝ }
+    ensures { λ r. ⌜ r ≡ countInMap (now (map .entry)) (node .0) ⌝ }
 {
     match look_up(map, node) {
         Found::Value(v) => v,
@@ -77,7 +77,7 @@ pub fn left_count(counts: &[u32], map: &[u32]) -> usize
 // Writes a node behind n entries, if it is left.
 fn write_left_one(map: &[u32], after: &mut [u32], n: usize, node: Pin) -> usize
     requires { ⌜ (node .0 < 2 ^ 32 - 1) × (2 * (n + length (nonzero (entriesOf (now map) (node .0 ∷ [])))) ≤ length (now after)) ⌝ }
-    ensures { λ r. ⌜ Listed (now (after .entry)) n (nonzero (entriesOf (now (map .entry)) (node .0 ∷ []))) (now (after .exit)) r ⌝ }
+    ensures { λ r. ⌜ EntriesPut (now (after .entry)) n (nonzero (entriesOf (now (map .entry)) (node .0 ∷ []))) (now (after .exit)) r ⌝ }
 {
     let count = number_of(map, node);
     if count == 0 {
@@ -113,7 +113,7 @@ fn put_slot(slots: &mut [u32], q: u32, node: u32)
 // Puts the spots of a list.
 pub fn store_spots(spots: &[u32], slots: &mut [u32])
     requires { ⌜ AllInside (now spots) (now slots) ⌝ }
-    ensures { λ _. ⌜ now (slots .exit) ≡ stored (now (slots .entry)) (spotsOf (now (spots .entry))) ⌝ }
+    ensures { λ _. ⌜ now (slots .exit) ≡ spotsStored (now (slots .entry)) (spotsOf (now (spots .entry))) ⌝ }
 {
     let count = spots.len() / 2;
     let mut k = 0;
@@ -126,7 +126,7 @@ pub fn store_spots(spots: &[u32], slots: &mut [u32])
 // Empties them.
 pub fn clear_spots(spots: &[u32], slots: &mut [u32])
     requires { ⌜ AllInside (now spots) (now slots) ⌝ }
-    ensures { λ _. ⌜ now (slots .exit) ≡ stored (now (slots .entry)) (emptied (spotsOf (now (spots .entry)))) ⌝ }
+    ensures { λ _. ⌜ now (slots .exit) ≡ spotsStored (now (slots .entry)) (emptied (spotsOf (now (spots .entry)))) ⌝ }
 {
     let count = spots.len() / 2;
     let mut k = 0;

@@ -14,7 +14,7 @@ use lib.Dec.{eqb, ltb, leb}
 use lib.ListN.{length, length-append}
 use Rattle.words.specs.Pins.{empty}
 use Rattle.words.proofs.TestLaws.{not-both, and-true}
-use Rattle.gatelist.specs.Words.{gateIn}
+use Rattle.gatelist.specs.ListWords.{gateIn}
 use Rattle.repair_nodes.specs.Stage.{Spot, spot, slotIn}
 use Rattle.repair_nodes.specs.Placing.{levelAt, firstPin, secondPin, placing, levelRight, badLevel, noGate, Judged}
 use Rattle.repair_nodes.specs.Clearing.{clearing}

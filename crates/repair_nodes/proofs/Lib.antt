@@ -1,8 +1,8 @@
-pub mod PairLaws
-pub mod StageLaws
-pub mod PlaceLaws
+pub mod TwoWordLaws
+pub mod StageFrameLaws
+pub mod PlacingLaws
 pub mod JudgeLaws
 pub mod ReachLaws
-pub mod RightLaws
-pub mod CountLaws
+pub mod PlacedRightLaws
+pub mod CountListLaws
 pub mod UndoneLaws

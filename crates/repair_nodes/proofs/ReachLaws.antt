@@ -14,12 +14,12 @@ use lib.Dec.{eqb}
 use lib.ListN.{length, set, length-set}
 use lib.Seq.{ext-getD}
 use Rattle.words.specs.Pins.{empty}
-use Rattle.gatelist.specs.Words.{badList}
-use Rattle.repair_nodes.specs.Stage.{Spot, spot, Rooted, slotIn, stored, emptied, emptyBelow}
+use Rattle.gatelist.specs.ListWords.{badList}
+use Rattle.repair_nodes.specs.Stage.{Spot, spot, Rooted, slotIn, spotsStored, emptied, emptyBelow}
 use Rattle.repair_nodes.specs.Placing.{levelAt, firstPin, secondPin, placing}
 use Rattle.repair_nodes.specs.Clearing.{clearing}
-use Rattle.repair_nodes.proofs.StageLaws.{Along, along-none, a-off-b, b-off-a, a-off-root, b-off-root, stored-length, stored-append, slot-put, slot-kept, stored-off, clearing-agree, empty-agree}
-use Rattle.repair_nodes.proofs.PlaceLaws.{rooted-a, rooted-b, rooted-inside, rooted-positive, placing-along, first-pin, second-pin, empty-root, empty-a, empty-b}
+use Rattle.repair_nodes.proofs.StageFrameLaws.{Along, along-none, a-off-b, b-off-a, a-off-root, b-off-root, spots-length, stored-append, slot-put, slot-kept, stored-off, clearing-agree, empty-agree}
+use Rattle.repair_nodes.proofs.PlacingLaws.{rooted-a, rooted-b, rooted-inside, rooted-positive, placing-along, first-pin, second-pin, empty-root, empty-a, empty-b}
 
 -- ---- clearing, by what stands in the slot
 
@@ -60,13 +60,13 @@ abbrev pub rootPut : List ℕ → ℕ → ℕ → List ℕ
 rootPut s q x = set s (q - 1) x
 
 abbrev pub aPut : List ℕ → ℕ → ℕ → List Spot → List ℕ
-aPut s q x A = stored (rootPut s q x) A
+aPut s q x A = spotsStored (rootPut s q x) A
 
 abbrev pub bPut : List ℕ → ℕ → ℕ → List Spot → List Spot → List ℕ
-bPut s q x A B = stored (aPut s q x A) B
+bPut s q x A B = spotsStored (aPut s q x A) B
 
-pub stored-both : (s : List ℕ) (q x : ℕ) (A B : List Spot) → stored s (spot q x ∷ (A ++ B)) ≡ bPut s q x A B
-unfolding stored
+pub stored-both : (s : List ℕ) (q x : ℕ) (A B : List Spot) → spotsStored s (spot q x ∷ (A ++ B)) ≡ bPut s q x A B
+unfolding spotsStored
 stored-both s q x A B = stored-append (rootPut s q x) A B
 
 module _ (s : List ℕ) (h m q x : ℕ) (A B : List Spot) (r : Rooted (length s) (suc h) m q) (a : Along (2 * m) (q + m) A) (b : Along (2 * m) (q + 2 * m) B) where
@@ -108,10 +108,10 @@ module _ (s : List ℕ) (h m q x : ℕ) (A B : List Spot) (r : Rooted (length s)
   root-rooted = rw (length-set s (q - 1) x) (rooted-a (length s) h m q r)
 
   pub a-rooted : Rooted (length (aPut s q x A)) h (2 * m) (q + 2 * m)
-  a-rooted = rw (stored-length (rootPut s q x) A, length-set s (q - 1) x) (rooted-b (length s) h m q r)
+  a-rooted = rw (spots-length (rootPut s q x) A, length-set s (q - 1) x) (rooted-b (length s) h m q r)
 
   pub halves-reached : (x ≡ empty → ⊥) → clearing (aPut s q x A) h (2 * m) (q + m) ≡ A → clearing (bPut s q x A B) h (2 * m) (q + 2 * m) ≡ B
-      → clearing (stored s (spot q x ∷ (A ++ B))) (suc h) m q ≡ spot q x ∷ (A ++ B)
+      → clearing (spotsStored s (spot q x ∷ (A ++ B))) (suc h) m q ≡ spot q x ∷ (A ++ B)
   halves-reached n u v =
       let ca : clearing (bPut s q x A B) h (2 * m) (q + m) ≡ A = clearing-agree (bPut s q x A B) (aPut s q x A) h (2 * m) (q + m) half-a ∙ u in
       rw (stored-both s q x A B)
@@ -122,20 +122,20 @@ module _ (s : List ℕ) (h m q x : ℕ) (A B : List Spot) (r : Rooted (length s)
 not-empty : (x : ℕ) → x ≤ 1073741824 → x ≡ empty → ⊥
 not-empty x h e = omega arith
 
-stored-nil : (s : List ℕ) (h m q : ℕ) → slotIn s (q + 2 * m) ≡ empty → clearing (stored s []) h (2 * m) (q + 2 * m) ≡ []
-unfolding stored
+stored-nil : (s : List ℕ) (h m q : ℕ) → slotIn s (q + 2 * m) ≡ empty → clearing (spotsStored s []) h (2 * m) (q + 2 * m) ≡ []
+unfolding spotsStored
 stored-nil s h m q e = clearing-none s h (2 * m) (q + 2 * m) e
 
-pub stored-one : (s : List ℕ) (q x : ℕ) → stored s (spot q x ∷ []) ≡ set s (q - 1) x
-unfolding stored
+pub stored-one : (s : List ℕ) (q x : ℕ) → spotsStored s (spot q x ∷ []) ≡ set s (q - 1) x
+unfolding spotsStored
 stored-one s q x = refl
 
 module _ (gates levels : List ℕ) (good : badList gates ≡ none) where
   pub reached : (s : List ℕ) (h m q x : ℕ) → x ≤ 1073741824 → Rooted (length s) h m q → emptyBelow s h m q ≡ true
-      → clearing (stored s (placing gates levels h m q x)) h m q ≡ placing gates levels h m q x
+      → clearing (spotsStored s (placing gates levels h m q x)) h m q ≡ placing gates levels h m q x
   unfolding placing
   reached s zero m q x l r e =
-      let t : stored s (spot q x ∷ []) ≡ set s (q - 1) x = stored-one s q x in
+      let t : spotsStored s (spot q x ∷ []) ≡ set s (q - 1) x = stored-one s q x in
       let k : slotIn (set s (q - 1) x) q ≡ x = slot-put s q x (rooted-positive (length s) 0 m q r) (rooted-inside (length s) 0 m q r) in
       rw t (clearing-last (set s (q - 1) x) m q x k (not-empty x l))
   reached s (suc h) m q x l r e =
@@ -147,10 +147,10 @@ module _ (gates levels : List ℕ) (good : badList gates ≡ none) where
       P i y = placing gates levels h (2 * m) i y
 
       Half : ℕ → Type 0
-      Half i = (t : List ℕ) (y : ℕ) → y ≤ 1073741824 → Rooted (length t) h (2 * m) i → emptyBelow t h (2 * m) i ≡ true → clearing (stored t (P i y)) h (2 * m) i ≡ P i y
+      Half i = (t : List ℕ) (y : ℕ) → y ≤ 1073741824 → Rooted (length t) h (2 * m) i → emptyBelow t h (2 * m) i ≡ true → clearing (spotsStored t (P i y)) h (2 * m) i ≡ P i y
 
       go : (b : Bool) → Half (q + m) → Half (q + 2 * m)
-          → clearing (stored s (spot q x ∷ elim b [ true ↦ P (q + m) (firstPin gates x) ++ P (q + 2 * m) (secondPin gates x) | false ↦ P (q + m) x ])) (suc h) m q
+          → clearing (spotsStored s (spot q x ∷ elim b [ true ↦ P (q + m) (firstPin gates x) ++ P (q + 2 * m) (secondPin gates x) | false ↦ P (q + m) x ])) (suc h) m q
           ≡ spot q x ∷ elim b [ true ↦ P (q + m) (firstPin gates x) ++ P (q + 2 * m) (secondPin gates x) | false ↦ P (q + m) x ]
       go true u v =
           let A = P (q + m) (firstPin gates x) in
@@ -164,7 +164,7 @@ module _ (gates levels : List ℕ) (good : badList gates ≡ none) where
           let A = P (q + m) x in
           let a : Along (2 * m) (q + m) A = placing-along gates levels h (2 * m) (q + m) x in
           let f : emptyBelow (aPut s q x A) h (2 * m) (q + 2 * m) ≡ true = half-empty-b s h m q x A [] r a along-none e in
-          let w : clearing (stored s (spot q x ∷ (A ++ []))) (suc h) m q ≡ spot q x ∷ (A ++ []) =
+          let w : clearing (spotsStored s (spot q x ∷ (A ++ []))) (suc h) m q ≡ spot q x ∷ (A ++ []) =
           halves-reached s h m q x A [] r a along-none (not-empty x l)
           (u (rootPut s q x) x l (root-rooted s h m q x A [] r a along-none) (half-empty-a s h m q x A [] r a along-none e))
           (stored-nil (aPut s q x A) h m q (empty-root (aPut s q x A) h (2 * m) (q + 2 * m) f)) in
@@ -203,8 +203,8 @@ data Out (i : ℕ) : List Spot → Type 0 where
 
 -- t has what s has but at the spots, which were empty in s: emptied, t is s
 emptied-back : (s t : List ℕ) (es : List Spot) → length t ≡ length s → Vacant s es
-    → ((i : ℕ) → 0 < i → Out i es → slotIn t i ≡ slotIn s i) → stored t (emptied es) ≡ s
-unfolding stored emptied
+    → ((i : ℕ) → 0 < i → Out i es → slotIn t i ≡ slotIn s i) → spotsStored t (emptied es) ≡ s
+unfolding spotsStored emptied
 emptied-back s t [] l v h =
     ext-getD empty t s l
     (λ i k.
@@ -224,11 +224,11 @@ emptied-back s t (e ∷ es) l (vacant-more p k o v) h =
         let n : i ≡ e .at → ⊥ = eqb-false i (e .at) z in
         slot-kept t (e .at) i empty p r n ∙ h i r (out-more n w)
 
-stored-out : {s : List ℕ} {es : List Spot} → Vacant s es → (t : List ℕ) (i : ℕ) → 0 < i → Out i es → slotIn (stored t es) i ≡ slotIn t i
-unfolding stored
+stored-out : {s : List ℕ} {es : List Spot} → Vacant s es → (t : List ℕ) (i : ℕ) → 0 < i → Out i es → slotIn (spotsStored t es) i ≡ slotIn t i
+unfolding spotsStored
 stored-out vacant-none t i r out-none = refl
 stored-out (vacant-more {e} {es} p k o v) t i r (out-more n w) =
     stored-out v (set t (e .at - 1) (e .node)) i r w ∙ slot-kept t (e .at) i (e .node) p r n
 
-pub placed-back : (s : List ℕ) (es : List Spot) → Vacant s es → stored (stored s es) (emptied es) ≡ s
-placed-back s es v = emptied-back s (stored s es) es (stored-length s es) v (λ i r w. stored-out v s i r w)
+pub placed-back : (s : List ℕ) (es : List Spot) → Vacant s es → spotsStored (spotsStored s es) (emptied es) ≡ s
+placed-back s es v = emptied-back s (spotsStored s es) es (spots-length s es) v (λ i r w. stored-out v s i r w)

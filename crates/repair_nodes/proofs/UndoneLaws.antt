@@ -11,34 +11,34 @@ use lib.Dec.{eqb, ltb, leb}
 use lib.ListN.{length}
 use Rattle.words.specs.Pins.{isPin}
 use Rattle.words.proofs.TestLaws.{and-true}
-use Rattle.gatelist.specs.Words.{badList}
-use Rattle.repair_nodes.specs.Stage.{Spot, width, indexOf, stored, emptied, emptyBelow, Rooted}
+use Rattle.gatelist.specs.ListWords.{badList}
+use Rattle.repair_nodes.specs.Stage.{Spot, width, indexOf, spotsStored, emptied, emptyBelow, Rooted}
 use Rattle.repair_nodes.specs.Placing.{placing, badLevel, noGate}
 use Rattle.repair_nodes.specs.Clearing.{clearing}
-use Rattle.repair_nodes.specs.Counts.{Count, countsOf, countsRight, countedNodes, countsMore, countsLess, allCounts, short}
+use Rattle.repair_nodes.specs.CountList.{Count, countsOf, countsRight, countedNodes, countsMore, countsLess, allCounts, short}
 use Rattle.words.proofs.AnswerLaws.{refused-good}
 use Rattle.words.specs.Answer.{refused, atItem, nowhere}
-use Rattle.repair_nodes.specs.Outcome.{Repair, repaired, roomWords, placeRight, fitted, placedAt, placed}
-use Rattle.repair_nodes.proofs.PlaceLaws.{rooted-place}
+use Rattle.repair_nodes.specs.RepairAnswer.{Repair, repaired, repairRoomWords, placeRight, repairFitted, placedAt, placed}
+use Rattle.repair_nodes.proofs.PlacingLaws.{rooted-place}
 use Rattle.repair_nodes.proofs.ReachLaws.{reached, placing-vacant, placed-back}
-use Rattle.repair_nodes.proofs.CountLaws.{Formed, counts-back, back-not-short}
+use Rattle.repair_nodes.proofs.CountListLaws.{CountsFormed, counts-back, back-not-short}
 
 -- ---- what a placing that is not refused has passed
 
-pub record Passed (H : ℕ) (gates levels counts s : List ℕ) (h j x : ℕ) (es : List Spot) (cs : List Count) : Type 0 where
+pub record PlacingPassed (H : ℕ) (gates levels counts s : List ℕ) (h j x : ℕ) (es : List Spot) (cs : List Count) : Type 0 where
   pub level : h ≤ H
   pub slot : j < width H h
   pub pin : x ≤ 1073741824
-  pub formed : Formed (countsOf counts)
+  pub formed : CountsFormed (countsOf counts)
   pub gates-right : badList gates ≡ none
   pub free : emptyBelow s h (width H h) (indexOf H h j) ≡ true
   pub whole : 2 ^ (H + 1) - 1 ≤ length s
   pub spots : es ≡ placing gates levels h (width H h) (indexOf H h j) x
   pub list : cs ≡ countsMore (countsOf counts) (countedNodes H es)
 
-fitted-passed : (H : ℕ) (s : List ℕ) (a : ℕ) (es fs : List Spot) (cs ds : List Count) → fitted H s a es cs ≡ repaired fs ds
+fitted-passed : (H : ℕ) (s : List ℕ) (a : ℕ) (es fs : List Spot) (cs ds : List Count) → repairFitted H s a es cs ≡ repaired fs ds
     → (2 ^ (H + 1) - 1 ≤ length s) × ((fs ≡ es) × (ds ≡ cs))
-unfolding fitted
+unfolding repairFitted
 fitted-passed H s a es fs cs ds = go (leb (2 ^ (H + 1) - 1) (length s) && leb (2 * length cs) a && allCounts cs) refl
   where
     go : (b : Bool) → (leb (2 ^ (H + 1) - 1) (length s) && leb (2 * length cs) a && allCounts cs) ≡ b
@@ -50,7 +50,7 @@ fitted-passed H s a es fs cs ds = go (leb (2 ^ (H + 1) - 1) (length s) && leb (2
         let is : _≡_ {A = Repair} (record { spots = fs; counts = ds }) (record { spots = es; counts = cs }) = cc in
         (leb-true _ _ p, (ap (λ (x : Repair). x .spots) is, ap (λ (x : Repair). x .counts) is))
 
-counts-formed : (ws : List ℕ) → countsRight ws ≡ true → Formed (countsOf ws)
+counts-formed : (ws : List ℕ) → countsRight ws ≡ true → CountsFormed (countsOf ws)
 unfolding countsRight
 counts-formed ws e = and-true (eqb (length ws % 2) 0) _ e .1
 
@@ -72,20 +72,20 @@ module _ (H : ℕ) (gates levels counts s : List ℕ) (a h j x : ℕ) (es : List
       M = countsMore (countsOf counts) (countedNodes H P)
 
       go : (b : Bool) → emptyBelow s h (width H h) (indexOf H h j) ≡ b → (c d : Bool)
-          → (elim b [ false ↦ refused (nowhere 24) | true ↦ elim c [ true ↦ refused (nowhere 25) | false ↦ elim d [ true ↦ refused (nowhere 26) | false ↦ fitted H s a P M ] ] ]) ≡ repaired es cs
+          → (elim b [ false ↦ refused (nowhere 24) | true ↦ elim c [ true ↦ refused (nowhere 25) | false ↦ elim d [ true ↦ refused (nowhere 26) | false ↦ repairFitted H s a P M ] ] ]) ≡ repaired es cs
           → (emptyBelow s h (width H h) (indexOf H h j) ≡ true) × ((2 ^ (H + 1) - 1 ≤ length s) × ((es ≡ P) × (cs ≡ M)))
       go false e c d f = refused-good _ _ f
       go true e true d f = refused-good _ _ f
       go true e false true f = refused-good _ _ f
       go true e false false f = (e, fitted-passed H s a P es M cs f)
 
-  pub passed : (r : ℕ) → placed H gates levels counts s a r h j x ≡ repaired es cs → Passed H gates levels counts s h j x es cs
+  pub passed : (r : ℕ) → placed H gates levels counts s a r h j x ≡ repaired es cs → PlacingPassed H gates levels counts s h j x es cs
   unfolding placed
-  passed r = go (leb (roomWords counts) r) (placeRight H h j && isPin x && countsRight counts) refl (badList gates) refl
+  passed r = go (leb (repairRoomWords counts) r) (placeRight H h j && isPin x && countsRight counts) refl (badList gates) refl
     where
       go : (b c : Bool) → (placeRight H h j && isPin x && countsRight counts) ≡ c → (o : Option ℕ) → badList gates ≡ o
           → (elim b [ false ↦ refused (nowhere 32) | true ↦ elim c [ false ↦ refused (nowhere 5) | true ↦ elim o [ some g ↦ refused (atItem 6 g) | none ↦ placedAt H gates levels counts s a h j x ] ] ]) ≡ repaired es cs
-          → Passed H gates levels counts s h j x es cs
+          → PlacingPassed H gates levels counts s h j x es cs
       go false c e o k f = refused-good _ _ f
       go true false e o k f = refused-good _ _ f
       go true true e (some g) k f = refused-good _ _ f
@@ -110,11 +110,11 @@ module _ (H : ℕ) (gates levels counts s : List ℕ) (a h j x : ℕ) (es : List
 
 pub record Undone (H : ℕ) (counts s : List ℕ) (h j : ℕ) (es : List Spot) (cs : List Count) : Type 0 where
   -- reached is placed
-  pub same-spots : clearing (stored s es) h (width H h) (indexOf H h j) ≡ es
+  pub same-spots : clearing (spotsStored s es) h (width H h) (indexOf H h j) ≡ es
   -- not 34
   pub not-short : short cs (countedNodes H es) ≡ false
   -- the same slots, and the same list
-  pub slots-back : stored (stored s es) (emptied es) ≡ s
+  pub slots-back : spotsStored (spotsStored s es) (emptied es) ≡ s
   pub list-back : countsLess cs (countedNodes H es) ≡ countsOf counts
 
 pub undone : (H : ℕ) (gates levels counts s : List ℕ) (a r h j x : ℕ) (es : List Spot) (cs : List Count)
@@ -123,8 +123,8 @@ undone H gates levels counts s a r h j x es cs e =
     let p = passed H gates levels counts s a h j x es cs r e in
     let P = placing gates levels h (width H h) (indexOf H h j) x in
     let root : Rooted (length s) h (width H h) (indexOf H h j) = rooted-place (length s) H h j (p .level) (p .slot) (p .whole) in
-    let reach : clearing (stored s P) h (width H h) (indexOf H h j) ≡ P = reached gates levels (p .gates-right) s h (width H h) (indexOf H h j) x (p .pin) root (p .free) in
-    let back : stored (stored s P) (emptied P) ≡ s = placed-back s P (placing-vacant gates levels s h (width H h) (indexOf H h j) x root (p .free)) in
+    let reach : clearing (spotsStored s P) h (width H h) (indexOf H h j) ≡ P = reached gates levels (p .gates-right) s h (width H h) (indexOf H h j) x (p .pin) root (p .free) in
+    let back : spotsStored (spotsStored s P) (emptied P) ≡ s = placed-back s P (placing-vacant gates levels s h (width H h) (indexOf H h j) x root (p .free)) in
     record {
       same-spots = rw (p .spots) reach;
       not-short = rw (p .list) (back-not-short (countsOf counts) (countedNodes H es));

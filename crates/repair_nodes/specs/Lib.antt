@@ -2,5 +2,5 @@ pub mod Pairs
 pub mod Stage
 pub mod Placing
 pub mod Clearing
-pub mod Counts
-pub mod Outcome
+pub mod CountList
+pub mod RepairAnswer

@@ -4,10 +4,10 @@ use mathlib.Core.List.{List, [], _∷_}
 use Prim.Native.Nat.{ℕ}
 
 -- the items of a list of words; a last word alone is none
-unfoldable pub pairsOf : {A : Type 0} → (ℕ → ℕ → A) → List ℕ → List A
-pairsOf item [] = []
-pairsOf item (x ∷ []) = []
-pairsOf item (x ∷ (y ∷ ws)) = item x y ∷ pairsOf item ws
+unfoldable pub itemsOfTwo : {A : Type 0} → (ℕ → ℕ → A) → List ℕ → List A
+itemsOfTwo item [] = []
+itemsOfTwo item (x ∷ []) = []
+itemsOfTwo item (x ∷ (y ∷ ws)) = item x y ∷ itemsOfTwo item ws
 
 -- and their words again
 unfoldable pub pairWords : {A : Type 0} → (A → ℕ) → (A → ℕ) → List A → List ℕ

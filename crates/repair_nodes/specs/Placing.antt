@@ -9,7 +9,7 @@ use mathlib.Core.List.{List, [], _∷_, _++_}
 use Prim.Native.Nat.{ℕ, zero, suc, _+_, _*_, _/_}
 use lib.Dec.{leb, ltb, eqb}
 use lib.ListN.{length, getD}
-use Rattle.gatelist.specs.Words.{listFirst, listSecond, badList, gateIn}
+use Rattle.gatelist.specs.ListWords.{listFirst, listSecond, badList, gateIn}
 use Rattle.repair_nodes.specs.Stage.{Spot, spot}
 
 abbrev pub levelAt : List ℕ → ℕ → ℕ

@@ -8,8 +8,8 @@ use Prim.Native.Nat.{ℕ, zero, suc, _+_, _*_, _-_, _/_, _^_, _≤_, _<_}
 use lib.Dec.{eqb}
 use lib.ListN.{getD, set}
 use Rattle.words.specs.Pins.{isPin, empty}
-use Rattle.gatelist.specs.Words.{listFirst, listSecond, gateIn}
-use Rattle.repair_nodes.specs.Pairs.{pairsOf, pairWords}
+use Rattle.gatelist.specs.ListWords.{listFirst, listSecond, gateIn}
+use Rattle.repair_nodes.specs.Pairs.{itemsOfTwo, pairWords}
 
 -- how many slots level h has, and the index of its slot j
 abbrev pub width : ℕ → ℕ → ℕ
@@ -31,9 +31,9 @@ abbrev pub spot : ℕ → ℕ → Spot
 spot q x = record { at = q; node = x }
 
 -- the slots after many puts, one after another
-unfoldable pub stored : List ℕ → List Spot → List ℕ
-stored s [] = s
-stored s (e ∷ es) = stored (set s (e .at - 1) (e .node)) es
+unfoldable pub spotsStored : List ℕ → List Spot → List ℕ
+spotsStored s [] = s
+spotsStored s (e ∷ es) = spotsStored (set s (e .at - 1) (e .node)) es
 
 -- the same places, emptied
 unfoldable pub emptied : List Spot → List Spot
@@ -45,7 +45,7 @@ abbrev pub spotWords : List Spot → List ℕ
 spotWords es = pairWords (λ (e : Spot). e .at) (λ (e : Spot). e .node) es
 
 abbrev pub spotsOf : List ℕ → List Spot
-spotsOf ws = pairsOf spot ws
+spotsOf ws = itemsOfTwo spot ws
 
 -- the slot at index q of level h, which has m slots, and all below it are inside a stage of L slots
 pub record Rooted (L h m q : ℕ) : Type 0 where
@@ -60,19 +60,19 @@ emptyBelow s zero m q = eqb (slotIn s q) empty
 emptyBelow s (suc h) m q = eqb (slotIn s q) empty && emptyBelow s h (2 * m) (q + m) && emptyBelow s h (2 * m) (q + 2 * m)
 
 -- refusal 9 of document 01, as crate `plan_slots` has it, over a stage's slots and a gate list: "slot pin out of range, or neither empty, a, nor the right gate"
-unfoldable pub feeds : List ℕ → Option ℕ → ℕ → ℕ → Bool
-feeds gates none a b = false
-feeds gates (some g) a b = eqb (listFirst gates g / 2) a && eqb (listSecond gates g / 2) b
+unfoldable pub listFeeds : List ℕ → Option ℕ → ℕ → ℕ → Bool
+listFeeds gates none a b = false
+listFeeds gates (some g) a b = eqb (listFirst gates g / 2) a && eqb (listSecond gates g / 2) b
 
 -- slot x passes with slots a and b below it
 unfoldable pub standsRight : List ℕ → ℕ → ℕ → ℕ → Bool
-standsRight gates x a b = eqb x empty || (isPin x && (eqb x a || feeds gates (gateIn gates x) a b))
+standsRight gates x a b = eqb x empty || (isPin x && (eqb x a || listFeeds gates (gateIn gates x) a b))
 
-abbrev pub slotRight : List ℕ → List ℕ → ℕ → ℕ → Bool
-slotRight gates s m q = standsRight gates (slotIn s q) (slotIn s (q + m)) (slotIn s (q + 2 * m))
+abbrev pub stageSlotRight : List ℕ → List ℕ → ℕ → ℕ → Bool
+stageSlotRight gates s m q = standsRight gates (slotIn s q) (slotIn s (q + m)) (slotIn s (q + 2 * m))
 
 -- the slot at index q of level h and all below it pass
 unfoldable pub rightBelow : List ℕ → List ℕ → ℕ → ℕ → ℕ → Bool
 rightBelow gates s zero m q = eqb (slotIn s q) empty || isPin (slotIn s q)
 rightBelow gates s (suc h) m q =
-    slotRight gates s m q && rightBelow gates s h (2 * m) (q + m) && rightBelow gates s h (2 * m) (q + 2 * m)
+    stageSlotRight gates s m q && rightBelow gates s h (2 * m) (q + m) && rightBelow gates s h (2 * m) (q + 2 * m)

@@ -13,16 +13,16 @@ use lib.ListN.{length, take, length-append, length-map}
 use lib.Seq.{sets, length-take-le}
 use Rattle.pinmap.specs.PinMap.{capacity}
 use Rattle.words.proofs.TestLaws.{not-both, or-cases}
-use Rattle.repair_nodes.specs.Stage.{Spot, spotsOf, emptied, stored}
-use Rattle.repair_nodes.specs.Counts.{Count, counted, countsOf, countWords, nodesOf, among, times, countIn, countedNodes, fresh, countsMore, countsLess, nonzero, allCounts, anyShort, short}
+use Rattle.repair_nodes.specs.Stage.{Spot, spotsOf, emptied, spotsStored}
+use Rattle.repair_nodes.specs.CountList.{Count, counted, countsOf, countWords, nodesOf, among, timesAmong, countIn, countedNodes, fresh, countsMore, countsLess, nonzero, allCounts, anyShort, short}
 use Rattle.words.specs.Answer.{Answer, refused, atItem, nowhere}
-use Rattle.repair_nodes.specs.Outcome.{Repair, repaired, fitted, slotsAfter, listAfter}
-use Rattle.repair_nodes.proofs.PairLaws.{pairs-length}
-use Rattle.repair_nodes.proofs.CountLaws.{map-among, count-none, all-named, nodes-length}
-use Rattle.repair_tally.specs.Tally.{through, raised, raising, lowering, Held, nodesIn}
+use Rattle.repair_nodes.specs.RepairAnswer.{Repair, repaired, repairFitted, slotsAfter, countListAfter}
+use Rattle.repair_nodes.proofs.TwoWordLaws.{pairs-length}
+use Rattle.repair_nodes.proofs.CountListLaws.{map-among, count-none, all-named, nodes-length}
+use Rattle.repair_tally.specs.Tally.{through, raised, raising, lowering, MapHolds, nodesIn}
 use Rattle.repair_tally.proofs.HeldLaws.{held-some}
 use Rattle.repair_tally.proofs.WayLaws.{RaiseEnd, raise-end, LowerEnd, lower-end}
-use Rattle.repair_list.specs.Relist.{valueIn, numberOf, entriesOf, entriesIn}
+use Rattle.repair_list.specs.Relist.{countInMap, countOrZero, entriesOf, entriesIn}
 use Rattle.repair_list.proofs.RelistLaws.{words-on}
 use Rattle.repair_settle.specs.Settle.{repairedOf, Ended, placedSpots, clearedSpots, Entered}
 use Rattle.repair_settle.specs.declared.Repaired.{Repaired}
@@ -32,34 +32,34 @@ use Rattle.repair_settle.proofs.SpotLaws.{counted-length}
 -- ---- answers
 
 pub refused-end : (o : Answer Repair) (r : Repaired) (s out : List ℕ) (n i : ℕ) → o ≡ refused (atItem n i) → r ≡ repairedOf (refused (atItem n i)) → Ended o r s s out out
-unfolding slotsAfter listAfter
+unfolding slotsAfter countListAfter
 refused-end o r s out n i e f = rw e (record { answer = f; slots = refl; list = refl })
 
 pub repaired-end : (o : Answer Repair) (n : ℕ) (s s₁ out out₁ : List ℕ) (es : List Spot) (cs : List Count) → o ≡ repaired es cs → n ≡ length cs
-    → s₁ ≡ stored s es → out₁ ≡ sets out 0 (countWords cs) → Ended o (Listed n) s s₁ out out₁
-unfolding slotsAfter listAfter
+    → s₁ ≡ spotsStored s es → out₁ ≡ sets out 0 (countWords cs) → Ended o (Listed n) s s₁ out out₁
+unfolding slotsAfter countListAfter
 repaired-end o n s s₁ out out₁ es cs e f u v = rw e (record { answer = ap Listed f; slots = u; list = v })
 
 -- ---- 14
 
 module _ (s : List ℕ) (a : ℕ) (es : List Spot) (cs : List Count) where
-  fit-by : (b : Bool) → (leb 16383 (length s) && leb (2 * length cs) a && allCounts cs) ≡ b → fitted 13 s a es cs ≡ elim b [ false ↦ refused (nowhere 14) | true ↦ repaired es cs ]
-  unfolding fitted
+  fit-by : (b : Bool) → (leb 16383 (length s) && leb (2 * length cs) a && allCounts cs) ≡ b → repairFitted 13 s a es cs ≡ elim b [ false ↦ refused (nowhere 14) | true ↦ repaired es cs ]
+  unfolding repairFitted
   fit-by b e = ap (λ (c : Bool). elim c [ false ↦ refused (nowhere 14) | true ↦ repaired es cs ]) e
 
-  pub short-slots : length s < 16383 → fitted 13 s a es cs ≡ refused (nowhere 14)
+  pub short-slots : length s < 16383 → repairFitted 13 s a es cs ≡ refused (nowhere 14)
   short-slots h = fit-by false (ap (λ (b : Bool). b && leb (2 * length cs) a && allCounts cs) (lt-leb 16383 (length s) h))
 
-  pub short-list : a < 2 * length cs → fitted 13 s a es cs ≡ refused (nowhere 14)
+  pub short-list : a < 2 * length cs → repairFitted 13 s a es cs ≡ refused (nowhere 14)
   short-list h =
       fit-by false
       (ap (λ (b : Bool). b && allCounts cs) (ap (λ (b : Bool). leb 16383 (length s) && b) (lt-leb (2 * length cs) a h) ∙ and-false (leb 16383 (length s))))
 
-  pub over-full : allCounts cs ≡ false → fitted 13 s a es cs ≡ refused (nowhere 14)
+  pub over-full : allCounts cs ≡ false → repairFitted 13 s a es cs ≡ refused (nowhere 14)
   over-full h =
       fit-by false (ap (λ (b : Bool). leb 16383 (length s) && leb (2 * length cs) a && b) h ∙ and-false (leb 16383 (length s) && leb (2 * length cs) a))
 
-  pub all-fit : 16383 ≤ length s → 2 * length cs ≤ a → allCounts cs ≡ true → fitted 13 s a es cs ≡ repaired es cs
+  pub all-fit : 16383 ≤ length s → 2 * length cs ≤ a → allCounts cs ≡ true → repairFitted 13 s a es cs ≡ repaired es cs
   all-fit h k e =
       fit-by true
       (ap₂ (λ (b : Bool) (c : Bool). b && c) (ap₂ (λ (b : Bool) (c : Bool). b && c) (le-leb 16383 (length s) h) (le-leb (2 * length cs) a k)) e)
@@ -90,24 +90,24 @@ less-words f (x ∷ l) h = go (eqb (f x) 0) (less-words f l h)
     go true r = r
     go false r = rw (lt-ltb (f x) (2 ^ 32) (h x)) r
 
-some-short : (cs : List Count) (xs ys : List ℕ) (y : ℕ) → among ys y ≡ true → countIn cs y < times xs y → anyShort cs xs ys ≡ true
+some-short : (cs : List Count) (xs ys : List ℕ) (y : ℕ) → among ys y ≡ true → countIn cs y < timesAmong xs y → anyShort cs xs ys ≡ true
 unfolding anyShort among
 some-short cs xs [] y e h = absurd (not-both false e refl)
 some-short cs xs (x ∷ ys) y e h =
     ⊎-elim
-    (λ (o : eqb x y ≡ true). let z : x ≡ y = eqb-true x y o in let k : countIn cs x < times xs x = rw z h in ap (λ (b : Bool). b || anyShort cs xs ys) (lt-ltb (countIn cs x) (times xs x) k))
-    (λ o. ap (λ (b : Bool). ltb (countIn cs x) (times xs x) || b) (some-short cs xs ys y o h) ∙ or-true (ltb (countIn cs x) (times xs x)))
+    (λ (o : eqb x y ≡ true). let z : x ≡ y = eqb-true x y o in let k : countIn cs x < timesAmong xs x = rw z h in ap (λ (b : Bool). b || anyShort cs xs ys) (lt-ltb (countIn cs x) (timesAmong xs x) k))
+    (λ o. ap (λ (b : Bool). ltb (countIn cs x) (timesAmong xs x) || b) (some-short cs xs ys y o h) ∙ or-true (ltb (countIn cs x) (timesAmong xs x)))
     (or-cases (eqb x y) (among ys y) e)
 
-none-short : (cs : List Count) (xs ys : List ℕ) → ((y : ℕ) → times xs y ≤ countIn cs y) → anyShort cs xs ys ≡ false
+none-short : (cs : List Count) (xs ys : List ℕ) → ((y : ℕ) → timesAmong xs y ≤ countIn cs y) → anyShort cs xs ys ≡ false
 unfolding anyShort
 none-short cs xs [] h = refl
-none-short cs xs (y ∷ ys) h = rw (le-ltb (countIn cs y) (times xs y) (h y), anyShort) (none-short cs xs ys h)
+none-short cs xs (y ∷ ys) h = rw (le-ltb (countIn cs y) (timesAmong xs y) (h y), anyShort) (none-short cs xs ys h)
 
 -- ---- a list out of a map
 
-held-entries : (t names : List ℕ) (value : ℕ → ℕ) (n : ℕ) → Held t names value n → entriesOf t names ≡ map (λ (y : ℕ). counted y (value y)) names
-held-entries t names value n h = map-among (valueIn t) value names (λ y e. ap numberOf (held-some t names value n h y e))
+held-entries : (t names : List ℕ) (value : ℕ → ℕ) (n : ℕ) → MapHolds t names value n → entriesOf t names ≡ map (λ (y : ℕ). counted y (value y)) names
+held-entries t names value n h = map-among (countInMap t) value names (λ y e. ap countOrZero (held-some t names value n h y e))
 
 module _ (counts map₀ : List ℕ) (n₀ : Entered counts map₀) (spots : List ℕ) (few : length spots ≤ 32768) where
   abbrev cs : List Count
@@ -128,7 +128,7 @@ module _ (counts map₀ : List ℕ) (n₀ : Entered counts map₀) (spots : List
   unfolding countsMore
   up-over e =
       let (y, a, b) = rw e at up-end in
-      some-over (λ (z : ℕ). countIn cs z + times xs z) (nodesOf cs ++ fresh (nodesOf cs) xs) y (all-named (nodesOf cs) xs y a) b
+      some-over (λ (z : ℕ). countIn cs z + timesAmong xs z) (nodesOf cs ++ fresh (nodesOf cs) xs) y (all-named (nodesOf cs) xs y a) b
 
   module _ (t fresh₁ : List ℕ) (n : ℕ) (e : through raising (raised map₀ []) xs ≡ some (raised t (take n fresh₁))) (l : n ≤ length fresh₁) where
     up-held : RaiseEnd (some (raised t (take n fresh₁))) (nodesOf cs) [] (countIn cs) xs (length cs)
@@ -142,12 +142,12 @@ module _ (counts map₀ : List ℕ) (n₀ : Entered counts map₀) (spots : List
     up-count =
         let a : length (take n fresh₁) ≡ n = length-take-le n fresh₁ l in
         let b : length (take n fresh₁) ≡ length (fresh (nodesOf cs) xs) = ap length up-new in
-        length-map (nodesOf cs ++ fresh (nodesOf cs) xs) (λ (y : ℕ). counted y (countIn cs y + times xs y))
+        length-map (nodesOf cs ++ fresh (nodesOf cs) xs) (λ (y : ℕ). counted y (countIn cs y + timesAmong xs y))
         ∙ (length-append (nodesOf cs) (fresh (nodesOf cs) xs) ∙ omega (arith, nodes-length cs))
 
     pub up-words : allCounts (countsMore cs xs) ≡ true
     unfolding countsMore
-    up-words = all-words (λ (y : ℕ). countIn cs y + times xs y) (nodesOf cs ++ fresh (nodesOf cs) xs) (up-held .2)
+    up-words = all-words (λ (y : ℕ). countIn cs y + timesAmong xs y) (nodesOf cs ++ fresh (nodesOf cs) xs) (up-held .2)
 
     -- the two writes come to the new list
     pub up-list : (out out₁ out₂ : List ℕ) → out₁ ≡ sets out 0 (countWords (entriesIn t counts)) → out₂ ≡ sets out₁ (2 * length cs) (countWords (entriesOf t (take n fresh₁)))
@@ -156,9 +156,9 @@ module _ (counts map₀ : List ℕ) (n₀ : Entered counts map₀) (spots : List
     up-list out out₁ out₂ u v =
         let N = nodesOf cs in
         let F = fresh N xs in
-        let w : entriesOf t (N ++ F) ≡ map (λ (y : ℕ). counted y (countIn cs y + times xs y)) (N ++ F) = held-entries t (N ++ F) (λ y. countIn cs y + times xs y) _ (up-held .0) in
-        let f : entriesOf t (N ++ F) ≡ entriesOf t N ++ entriesOf t F = map-append (λ (y : ℕ). counted y (valueIn t y)) N F in
-        let m : length (entriesOf t N) ≡ length cs = length-map N (λ (y : ℕ). counted y (valueIn t y)) ∙ nodes-length cs in
+        let w : entriesOf t (N ++ F) ≡ map (λ (y : ℕ). counted y (countIn cs y + timesAmong xs y)) (N ++ F) = held-entries t (N ++ F) (λ y. countIn cs y + timesAmong xs y) _ (up-held .0) in
+        let f : entriesOf t (N ++ F) ≡ entriesOf t N ++ entriesOf t F = map-append (λ (y : ℕ). counted y (countInMap t y)) N F in
+        let m : length (entriesOf t N) ≡ length cs = length-map N (λ (y : ℕ). counted y (countInMap t y)) ∙ nodes-length cs in
         let k : 0 + length (entriesOf t N) ≡ length cs = omega arith in
         v
         ∙ (ap₂ (λ (o : List ℕ) (ns : List ℕ). sets o (2 * length cs) (countWords (entriesOf t ns))) u up-new
@@ -182,11 +182,11 @@ module _ (counts map₀ : List ℕ) (n₀ : Entered counts map₀) (spots : List
 
     pub down-list : nonzero (entriesIn t counts) ≡ countsLess cs xs
     unfolding countsLess
-    down-list = ap nonzero (held-entries t (nodesOf cs) (λ y. countIn cs y - times xs y) (length cs) (down-held .0))
+    down-list = ap nonzero (held-entries t (nodesOf cs) (λ y. countIn cs y - timesAmong xs y) (length cs) (down-held .0))
 
     pub down-words : allCounts (countsLess cs xs) ≡ true
     unfolding countsLess
-    down-words = less-words (λ (y : ℕ). countIn cs y - times xs y) (nodesOf cs) (λ y. omega (arith, n₀ .words y))
+    down-words = less-words (λ (y : ℕ). countIn cs y - timesAmong xs y) (nodesOf cs) (λ y. omega (arith, n₀ .words y))
 
 -- ---- 34, or 14 and the rest
 
@@ -195,7 +195,7 @@ unfolding clearedSpots
 is-34 counts s a es e = rw (e, clearedSpots)
 
 pub is-lowered : (counts s : List ℕ) (a : ℕ) (es : List Spot) → short (countsOf counts) (countedNodes 13 es) ≡ false
-    → clearedSpots counts s a es ≡ fitted 13 s a (emptied es) (countsLess (countsOf counts) (countedNodes 13 es))
+    → clearedSpots counts s a es ≡ repairFitted 13 s a (emptied es) (countsLess (countsOf counts) (countedNodes 13 es))
 unfolding clearedSpots
 is-lowered counts s a es e = rw (e, clearedSpots)
 
@@ -213,7 +213,7 @@ module _ (counts map₀ : List ℕ) (n₀ : Entered counts map₀) (spots : List
         short-list s (length out) (spotsOf spots) (countsMore (countsOf counts) (nodesIn spots)) (omega arith)
 
     pub place-end : (s₁ out₁ out₂ : List ℕ) → 16383 ≤ length s → length counts / 2 + n ≤ length out / 2 → out₁ ≡ sets out 0 (countWords (entriesIn t counts))
-        → out₂ ≡ sets out₁ (2 * (length counts / 2)) (countWords (entriesOf t (take n fresh₁))) → s₁ ≡ stored s (spotsOf spots)
+        → out₂ ≡ sets out₁ (2 * (length counts / 2)) (countWords (entriesOf t (take n fresh₁))) → s₁ ≡ spotsStored s (spotsOf spots)
         → Ended (placedSpots counts s (length out) (spotsOf spots)) (Listed (length counts / 2 + n)) s s₁ out out₂
     place-end s₁ out₁ out₂ h g u v w =
         let k = up-count counts map₀ n₀ spots few t fresh₁ n e l in
@@ -231,7 +231,7 @@ module _ (counts map₀ : List ℕ) (n₀ : Entered counts map₀) (spots : List
   purge-short e = is-34 counts s (length out) (spotsOf spots) (down-short counts map₀ n₀ spots few e)
 
   module _ (t : List ℕ) (e : through lowering map₀ (nodesIn spots) ≡ some t) where
-    lowered : clearedSpots counts s (length out) (spotsOf spots) ≡ fitted 13 s (length out) (emptied (spotsOf spots)) (countsLess (countsOf counts) (nodesIn spots))
+    lowered : clearedSpots counts s (length out) (spotsOf spots) ≡ repairFitted 13 s (length out) (emptied (spotsOf spots)) (countsLess (countsOf counts) (nodesIn spots))
     lowered = is-lowered counts s (length out) (spotsOf spots) (down-fine counts map₀ n₀ spots few t e)
 
     pub purge-size : length (nonzero (entriesIn t counts)) ≡ length (countsLess (countsOf counts) (nodesIn spots))
@@ -246,7 +246,7 @@ module _ (counts map₀ : List ℕ) (n₀ : Entered counts map₀) (spots : List
         lowered ∙ short-list s (length out) (emptied (spotsOf spots)) (countsLess (countsOf counts) (nodesIn spots)) (omega arith)
 
     pub purge-end : (n : ℕ) (s₁ out₁ : List ℕ) → n ≡ length (nonzero (entriesIn t counts)) → 16383 ≤ length s → n ≤ length out / 2
-        → out₁ ≡ sets out 0 (countWords (nonzero (entriesIn t counts))) → s₁ ≡ stored s (emptied (spotsOf spots))
+        → out₁ ≡ sets out 0 (countWords (nonzero (entriesIn t counts))) → s₁ ≡ spotsStored s (emptied (spotsOf spots))
         → Ended (clearedSpots counts s (length out) (spotsOf spots)) (Listed n) s s₁ out out₁
     purge-end n s₁ out₁ f h g u w =
         let k = purge-size in

@@ -12,30 +12,30 @@ use lib.Dec.{eqb, ltb}
 use lib.ListN.{length, getD, take}
 use Rattle.words.specs.Pins.{empty}
 use Rattle.words.proofs.TestLaws.{or-cases, not-both}
-use Rattle.gatelist.specs.Words.{badList}
-use Rattle.repair_nodes.specs.Pairs.{pairsOf, pairWords}
+use Rattle.gatelist.specs.ListWords.{badList}
+use Rattle.repair_nodes.specs.Pairs.{itemsOfTwo, pairWords}
 use Rattle.repair_nodes.specs.Stage.{Spot, spot, spotWords, spotsOf, Rooted, slotIn}
 use Rattle.repair_nodes.specs.Placing.{levelAt, firstPin, secondPin, placing}
 use Rattle.repair_nodes.specs.Clearing.{clearing}
-use Rattle.repair_nodes.specs.Counts.{counted, countsOf, among, entriesRight, countIn, countedNodes, fresh}
-use Rattle.repair_nodes.proofs.PairLaws.{pairs-words, words-length, sets-front}
-use Rattle.repair_nodes.proofs.PlaceLaws.{rooted-a, rooted-b, rooted-inside, rooted-positive, first-pin, second-pin}
-use Rattle.repair_nodes.proofs.CountLaws.{entered, among-head, among-tail, fresh-old, fresh-new}
-use Rattle.repair_tally.specs.Tally.{Askable, nodesIn}
+use Rattle.repair_nodes.specs.CountList.{counted, countsOf, among, entriesRight, countIn, countedNodes, fresh}
+use Rattle.repair_nodes.proofs.TwoWordLaws.{pairs-words, words-length, sets-front}
+use Rattle.repair_nodes.proofs.PlacingLaws.{rooted-a, rooted-b, rooted-inside, rooted-positive, first-pin, second-pin}
+use Rattle.repair_nodes.proofs.CountListLaws.{entered, among-head, among-tail, fresh-old, fresh-new}
+use Rattle.repair_tally.specs.Tally.{SpotsAskable, nodesIn}
 use Rattle.repair_list.specs.Relist.{AllInside, NodesAskable, NewAskable}
 use Rattle.repair_subtree.specs.Subtree.{Added}
 
 -- each spot is inside a stage of L slots, and its node is a number that a map can have
-pub data Sound (L : ℕ) : List Spot → Type 0 where
-  sound-none : Sound L []
-  sound-more : {e : Spot} {es : List Spot} → 0 < e .at → e .at ≤ L → e .node < 2 ^ 32 - 1 → Sound L es → Sound L (e ∷ es)
+pub data SpotsSound (L : ℕ) : List Spot → Type 0 where
+  sound-none : SpotsSound L []
+  sound-more : {e : Spot} {es : List Spot} → 0 < e .at → e .at ≤ L → e .node < 2 ^ 32 - 1 → SpotsSound L es → SpotsSound L (e ∷ es)
 
-sound-append : {L : ℕ} {es fs : List Spot} → Sound L es → Sound L fs → Sound L (es ++ fs)
+sound-append : {L : ℕ} {es fs : List Spot} → SpotsSound L es → SpotsSound L fs → SpotsSound L (es ++ fs)
 sound-append sound-none b = b
 sound-append (sound-more p l n a) b = sound-more p l n (sound-append a b)
 
 module _ (gates levels : List ℕ) (good : badList gates ≡ none) (L : ℕ) where
-  pub placing-sound : (h m q x : ℕ) → x ≤ 2 ^ 30 → Rooted L h m q → Sound L (placing gates levels h m q x)
+  pub placing-sound : (h m q x : ℕ) → x ≤ 2 ^ 30 → Rooted L h m q → SpotsSound L (placing gates levels h m q x)
   unfolding placing
   placing-sound zero m q x l r = sound-more {e = spot q x} (rooted-positive L 0 m q r) (rooted-inside L 0 m q r) (omega arith) sound-none
   placing-sound (suc h) m q x l r =
@@ -45,7 +45,7 @@ module _ (gates levels : List ℕ) (good : badList gates ≡ none) (L : ℕ) whe
       (placing-sound h (2 * m) (q + 2 * m) (secondPin gates x) (second-pin gates good x l) (rooted-b L h m q r))
       (placing-sound h (2 * m) (q + m) x l (rooted-a L h m q r)))
     where
-      go : {A B C : List Spot} (b : Bool) → Sound L A → Sound L B → Sound L C → Sound L (elim b [ true ↦ A ++ B | false ↦ C ])
+      go : {A B C : List Spot} (b : Bool) → SpotsSound L A → SpotsSound L B → SpotsSound L C → SpotsSound L (elim b [ true ↦ A ++ B | false ↦ C ])
       go true a b c = sound-append a b
       go false a b c = c
 
@@ -53,17 +53,17 @@ module _ (s : List ℕ) (L : ℕ) (small : (i : ℕ) → getD s i empty < 2 ^ 32
   kept : (q : ℕ) → (slotIn s q ≡ empty → ⊥) → slotIn s q < 2 ^ 32 - 1
   kept q n = let h : getD s (q - 1) empty < 2 ^ 32 = small (q - 1) in omega arith
 
-  pub clearing-sound : (h m q : ℕ) → Rooted L h m q → Sound L (clearing s h m q)
+  pub clearing-sound : (h m q : ℕ) → Rooted L h m q → SpotsSound L (clearing s h m q)
   unfolding clearing
   clearing-sound zero m q r = go (eqb (slotIn s q) empty) refl
     where
-      go : (b : Bool) → eqb (slotIn s q) empty ≡ b → Sound L (elim b [ true ↦ [] | false ↦ spot q (slotIn s q) ∷ [] ])
+      go : (b : Bool) → eqb (slotIn s q) empty ≡ b → SpotsSound L (elim b [ true ↦ [] | false ↦ spot q (slotIn s q) ∷ [] ])
       go true e = sound-none
       go false e = sound-more (rooted-positive L 0 m q r) (rooted-inside L 0 m q r) (kept q (eqb-false _ _ e)) sound-none
   clearing-sound (suc h) m q r =
       go (eqb (slotIn s q) empty) refl (clearing-sound h (2 * m) (q + m) (rooted-a L h m q r)) (clearing-sound h (2 * m) (q + 2 * m) (rooted-b L h m q r))
     where
-      go : {A B : List Spot} (b : Bool) → eqb (slotIn s q) empty ≡ b → Sound L A → Sound L B → Sound L (elim b [ true ↦ [] | false ↦ spot q (slotIn s q) ∷ (A ++ B) ])
+      go : {A B : List Spot} (b : Bool) → eqb (slotIn s q) empty ≡ b → SpotsSound L A → SpotsSound L B → SpotsSound L (elim b [ true ↦ [] | false ↦ spot q (slotIn s q) ∷ (A ++ B) ])
       go true e a b = sound-none
       go false e a b = sound-more (rooted-positive L (suc h) m q r) (rooted-inside L (suc h) m q r) (kept q (eqb-false _ _ e)) (sound-append a b)
 
@@ -76,13 +76,13 @@ step-two k = omega arith
 step-three : (k : ℕ) → 2 * suc k + 1 ≡ suc (suc (2 * k + 1))
 step-three k = omega arith
 
-pub sound-askable : {L : ℕ} {es : List Spot} → Sound L es → Askable (spotWords es)
+pub sound-askable : {L : ℕ} {es : List Spot} → SpotsSound L es → SpotsAskable (spotWords es)
 unfolding pairWords
 sound-askable sound-none k h = absurd (omega arith)
 sound-askable (sound-more p l n a) zero h = n
 sound-askable (sound-more p l n a) (suc k) h = rw (step-three k) (sound-askable a k (omega arith))
 
-pub sound-inside : {L : ℕ} {es : List Spot} → Sound L es → (slots : List ℕ) → L ≤ length slots → AllInside (spotWords es) slots
+pub sound-inside : {L : ℕ} {es : List Spot} → SpotsSound L es → (slots : List ℕ) → L ≤ length slots → AllInside (spotWords es) slots
 unfolding pairWords
 sound-inside sound-none slots m k h = absurd (omega arith)
 sound-inside (sound-more p l n a) slots m zero h = record { some = p; most = omega arith }
@@ -103,8 +103,8 @@ spots-back es = pairs-words (λ (e : Spot). e .at) (λ (e : Spot). e .node) spot
 -- ---- nodes that a map can have
 
 -- the counted nodes of a list
-pub counted-askable : (spots : List ℕ) → Askable spots → (y : ℕ) → among (nodesIn spots) y ≡ true → y < 2 ^ 32 - 1
-unfolding pairsOf countedNodes among
+pub counted-askable : (spots : List ℕ) → SpotsAskable spots → (y : ℕ) → among (nodesIn spots) y ≡ true → y < 2 ^ 32 - 1
+unfolding itemsOfTwo countedNodes among
 counted-askable [] h y e = absurd (not-both false e refl)
 counted-askable (q ∷ []) h y e = absurd (not-both false e refl)
 counted-askable (q ∷ (x ∷ ws)) h y e = go (ltb q (2 ^ 13)) e (λ f. counted-askable ws (λ k l. rw (step-three k) at (h (suc k) (omega arith))) y f)
@@ -114,7 +114,7 @@ counted-askable (q ∷ (x ∷ ws)) h y e = go (ltb q (2 ^ 13)) e (λ f. counted-
     go false f r = r f
 
 pub counted-length : (spots : List ℕ) → 2 * length (nodesIn spots) ≤ length spots
-unfolding pairsOf countedNodes
+unfolding itemsOfTwo countedNodes
 counted-length [] = omega arith
 counted-length (q ∷ []) = omega arith
 counted-length (q ∷ (x ∷ ws)) = go (ltb q (2 ^ 13)) (counted-length ws)
@@ -143,13 +143,13 @@ at-among [] i h = absurd (omega arith)
 at-among (x ∷ l) zero h = among-head x l
 at-among (x ∷ l) (suc i) h = among-tail x l (getD l i 0) (at-among l i (omega arith))
 
-pub new-askable : (ns spots news : List ℕ) → Askable spots → news ≡ fresh ns (nodesIn spots) → NewAskable news
+pub new-askable : (ns spots news : List ℕ) → SpotsAskable spots → news ≡ fresh ns (nodesIn spots) → NewAskable news
 new-askable ns spots news h e i l =
     counted-askable spots h (getD news i 0) (fresh-from ns (nodesIn spots) (getD news i 0) (rw (← e) (at-among news i l)))
 
 -- the nodes of a count list in form, and its counts
 pub nodes-askable : (ns ws : List ℕ) → entriesRight ns (countsOf ws) ≡ true → NodesAskable ws
-unfolding pairsOf
+unfolding itemsOfTwo
 nodes-askable ns [] h i l = absurd (omega arith)
 nodes-askable ns (x ∷ []) h i l = absurd (omega arith)
 nodes-askable ns (x ∷ (n ∷ ws)) h zero l = let e = entered ns (counted x n) (countsOf ws) h in omega (arith, e .pin)
@@ -158,7 +158,7 @@ nodes-askable ns (x ∷ (n ∷ ws)) h (suc i) l =
     rw (step-two i) (nodes-askable (ns ++ (x ∷ [])) ws (e .others) i (omega arith))
 
 pub count-small : (ws : List ℕ) → ((i : ℕ) → getD ws i 0 < 2 ^ 32) → (y : ℕ) → countIn (countsOf ws) y < 2 ^ 32
-unfolding pairsOf countIn
+unfolding itemsOfTwo countIn
 count-small [] h y = omega arith
 count-small (x ∷ []) h y = omega arith
 count-small (x ∷ (n ∷ ws)) h y = go (eqb x y) (count-small ws (λ i. h (suc (suc i))) y)

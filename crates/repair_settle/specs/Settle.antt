@@ -7,10 +7,10 @@ use Prim.Native.Nat.{ℕ, _+_, _%_, _^_, _≤_, _<_}
 use lib.ListN.{length}
 use Rattle.pinmap.specs.PinMap.{capacity}
 use Rattle.repair_nodes.specs.Stage.{Spot, emptied}
-use Rattle.repair_nodes.specs.Counts.{countsOf, nodesOf, countIn, entriesRight, countedNodes, countsMore, countsLess, short}
+use Rattle.repair_nodes.specs.CountList.{countsOf, nodesOf, countIn, entriesRight, countedNodes, countsMore, countsLess, short}
 use Rattle.words.specs.Answer.{Answer, good, refused, nowhere}
-use Rattle.repair_nodes.specs.Outcome.{Repair, fitted, slotsAfter, listAfter}
-use Rattle.repair_tally.specs.Tally.{Held, Askable}
+use Rattle.repair_nodes.specs.RepairAnswer.{Repair, repairFitted, slotsAfter, countListAfter}
+use Rattle.repair_tally.specs.Tally.{MapHolds, SpotsAskable}
 use Rattle.repair_list.specs.Relist.{AllInside}
 use Rattle.repair_settle.specs.declared.Repaired.{Repaired}
 use Rattle.repair_settle.specs.declared.Repaired.the-variants.{Listed, Refused}
@@ -24,17 +24,17 @@ repairedOf (refused q) = Refused q
 pub record Ended (o : Answer Repair) (r : Repaired) (s s₁ out out₁ : List ℕ) : Type 0 where
   pub answer : r ≡ repairedOf o
   pub slots : s₁ ≡ slotsAfter o s
-  pub list : out₁ ≡ listAfter o out
+  pub list : out₁ ≡ countListAfter o out
 
 -- the outcome of spots that are placed, and of spots that are cleared: 14; 34, then 14
 abbrev pub placedSpots : List ℕ → List ℕ → ℕ → List Spot → Answer Repair
-placedSpots counts s a es = fitted 13 s a es (countsMore (countsOf counts) (countedNodes 13 es))
+placedSpots counts s a es = repairFitted 13 s a es (countsMore (countsOf counts) (countedNodes 13 es))
 
 unfoldable pub clearedSpots : List ℕ → List ℕ → ℕ → List Spot → Answer Repair
 clearedSpots counts s a es =
     elim (short (countsOf counts) (countedNodes 13 es)) [
       | true ↦ refused (nowhere 34)
-      | false ↦ fitted 13 s a (emptied es) (countsLess (countsOf counts) (countedNodes 13 es))
+      | false ↦ repairFitted 13 s a (emptied es) (countsLess (countsOf counts) (countedNodes 13 es))
     ]
 
 -- a count list in form, entered into a map that has room for the nodes of a stage
@@ -42,11 +42,11 @@ pub record Entered (counts map : List ℕ) : Type 0 where
   pub even : length counts % 2 ≡ 0
   pub formed : entriesRight [] (countsOf counts) ≡ true
   pub words : (y : ℕ) → countIn (countsOf counts) y < 2 ^ 32
-  pub held : Held map (nodesOf (countsOf counts)) (countIn (countsOf counts)) (length (countsOf counts))
+  pub held : MapHolds map (nodesOf (countsOf counts)) (countIn (countsOf counts)) (length (countsOf counts))
   pub room : length (countsOf counts) + 16384 ≤ capacity map
 
 -- a list of spots that can be counted, and stored where the stage is whole
 pub record Spotted (spots slots : List ℕ) : Type 0 where
   pub few : length spots ≤ 32768
-  pub askable : Askable spots
+  pub askable : SpotsAskable spots
   pub inside : 16383 ≤ length slots → AllInside spots slots

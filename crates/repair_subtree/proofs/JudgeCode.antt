@@ -7,9 +7,9 @@ use mathlib.Core.List.{List}
 use Prim.Native.Nat.{ℕ, _-_, _/_, _≤_, _<_}
 use native.Mathlib.Omega.{arith}
 use lib.ListN.{length}
-use Rattle.gatelist.specs.Words.{listFirst, listSecond, gateIn}
+use Rattle.gatelist.specs.ListWords.{listFirst, listSecond, gateIn}
 use Rattle.repair_nodes.specs.Placing.{levelAt, firstPin, secondPin, levelRight, badLevel, noGate}
-use Rattle.repair_nodes.proofs.PlaceLaws.{first-is, second-is}
+use Rattle.repair_nodes.proofs.PlacingLaws.{first-is, second-is}
 use Rattle.repair_nodes.proofs.JudgeLaws.{level-right, level-none, level-above, bad-level, bad-last, bad-down, bad-split, bad-gateless, gate-last, gate-down, gate-split, gate-none}
 use Rattle.repair_subtree.specs.Subtree.{judgementOf, worseOf}
 use Rattle.repair_subtree.specs.declared.Judgement.{Judgement}

@@ -7,14 +7,14 @@ use Prim.Native.Nat.{ℕ, _+_, _*_, _-_, _/_, _≤_, _<_}
 use native.Mathlib.Omega.{arith}
 use lib.ListN.{length, length-append}
 use Rattle.words.specs.Pins.{empty}
-use Rattle.gatelist.specs.Words.{listFirst, listSecond, gateIn}
+use Rattle.gatelist.specs.ListWords.{listFirst, listSecond, gateIn}
 use Rattle.repair_nodes.specs.Stage.{Spot, spot, slotIn}
 use Rattle.repair_nodes.specs.Placing.{levelAt, firstPin, secondPin, placing, Judged}
 use Rattle.repair_nodes.specs.Clearing.{clearing}
-use Rattle.repair_nodes.proofs.PlaceLaws.{first-is, second-is}
+use Rattle.repair_nodes.proofs.PlacingLaws.{first-is, second-is}
 use Rattle.repair_nodes.proofs.JudgeLaws.{place-last, place-carry, place-split, placing-some, judged-known, judged-carry, judged-gate, judged-first, judged-second}
 use Rattle.repair_nodes.proofs.ReachLaws.{clearing-none, clearing-some, clearing-end, clearing-step}
-use Rattle.repair_subtree.specs.Subtree.{FirstBelow, SecondBelow, Added, Puttable, Listable, Carried, Split, Reachable}
+use Rattle.repair_subtree.specs.Subtree.{FirstBelow, SecondBelow, Added, SpotPuttable, Listable, Carried, Split, Reachable}
 use Rattle.repair_subtree.specs.declared.Place.{Place}
 use Rattle.repair_subtree.proofs.SubtreeLaws.{index-small, added-on}
 
@@ -23,7 +23,7 @@ abbrev pub placingAt : List ℕ → List ℕ → Place → ℕ → List Spot
 placingAt gates levels p x = placing gates levels (p .level) (p .width) (p .index) x
 
 module _ (gates levels list : List ℕ) (n h m q x : ℕ) where
-  pub listable-puttable : Listable gates levels list n h m q x → Puttable list n q
+  pub listable-puttable : Listable gates levels list n h m q x → SpotPuttable list n q
   listable-puttable l =
       let s : 0 < length (placing gates levels h m q x) = placing-some gates levels h m q x in
       record { room = omega (arith, l .room); index = index-small h m q (l .rooted) }
@@ -124,7 +124,7 @@ module _ (slots list : List ℕ) (n h m q x : ℕ) (c : Reachable slots list n h
     reach-some : 0 < length (clearing slots h m q)
     reach-some = clearing-some slots h m q x (sym here) full
 
-    pub reach-puttable : Puttable list n q
+    pub reach-puttable : SpotPuttable list n q
     reach-puttable = let s = reach-some in record { room = omega (arith, c .room); index = index-small h m q (c .rooted) }
 
     pub reach-last : (list₁ : List ℕ) (k : ℕ) → h ≡ 0 → Added list n (spot q x ∷ []) list₁ k → Added list n (clearing slots h m q) list₁ k

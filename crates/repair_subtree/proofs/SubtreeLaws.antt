@@ -13,14 +13,14 @@ use lib.ListN.{length, getD, set, length-append, length-set, List·getD-eq-defau
 use lib.Seq.{sets}
 use Rattle.words.proofs.ListLaws.{sets-append}
 use Rattle.words.specs.Pins.{empty}
-use Rattle.gatelist.specs.Words.{badList, gateIn, listedOf}
-use Rattle.gatelist.proofs.WordLaws.{found-whole}
+use Rattle.gatelist.specs.ListWords.{badList, gateIn, gateListedOf}
+use Rattle.gatelist.proofs.ListWordLaws.{found-whole}
 use Rattle.gatelist.specs.declared.Listed.{Listed}
 use Rattle.gatelist.specs.declared.Listed.the-variants.{Gate, Missing}
 use Rattle.repair_nodes.specs.Stage.{Spot, spot, spotWords, Rooted, slotIn, emptyBelow}
 use Rattle.repair_nodes.specs.Pairs.{pairWords}
-use Rattle.repair_nodes.proofs.PairLaws.{words-length, words-append}
-use Rattle.repair_nodes.proofs.PlaceLaws.{rooted-a, rooted-b, rooted-inside}
+use Rattle.repair_nodes.proofs.TwoWordLaws.{words-length, words-append}
+use Rattle.repair_nodes.proofs.PlacingLaws.{rooted-a, rooted-b, rooted-inside}
 use Rattle.repair_subtree.specs.Subtree.{judgementOf, worseOf, FirstBelow, SecondBelow, Added}
 use Rattle.repair_subtree.specs.declared.Place.{Place}
 
@@ -84,21 +84,21 @@ worse-is false false false true = refl
 worse-is false false false false = refl
 
 -- what a search for a gate found
-pub listed-gate : (l : List ℕ) (x g : ℕ) (r : Listed) → r ≡ listedOf (gateIn l x) → r ≡ Gate g → gateIn l x ≡ some g
+pub listed-gate : (l : List ℕ) (x g : ℕ) (r : Listed) → r ≡ gateListedOf (gateIn l x) → r ≡ Gate g → gateIn l x ≡ some g
 listed-gate l x g r e f = go (gateIn l x) (sym e ∙ f)
   where
-    go : (o : Option ℕ) → listedOf o ≡ Gate g → o ≡ some g
+    go : (o : Option ℕ) → gateListedOf o ≡ Gate g → o ≡ some g
     go none k = let z : _≡_ {A = ℕ} 0 1 = cc in absurd (omega arith)
     go (some i) k = cc
 
-pub listed-none : (l : List ℕ) (x : ℕ) (r : Listed) → r ≡ listedOf (gateIn l x) → r ≡ Missing → gateIn l x ≡ none
+pub listed-none : (l : List ℕ) (x : ℕ) (r : Listed) → r ≡ gateListedOf (gateIn l x) → r ≡ Missing → gateIn l x ≡ none
 listed-none l x r e f = go (gateIn l x) (sym e ∙ f)
   where
-    go : (o : Option ℕ) → listedOf o ≡ Missing → o ≡ none
+    go : (o : Option ℕ) → gateListedOf o ≡ Missing → o ≡ none
     go none k = refl
     go (some i) k = let z : _≡_ {A = ℕ} 0 1 = cc in absurd (omega arith)
 
-pub gate-whole : (l : List ℕ) (x g : ℕ) (r : Listed) → badList l ≡ none → r ≡ listedOf (gateIn l x) → r ≡ Gate g → g < length l / 3
+pub gate-whole : (l : List ℕ) (x g : ℕ) (r : Listed) → badList l ≡ none → r ≡ gateListedOf (gateIn l x) → r ≡ Gate g → g < length l / 3
 gate-whole l x g r good e f = found-whole l good x g (listed-gate l x g r e f)
 
 -- ---- a list that grows

@@ -47,7 +47,7 @@ pub record Added (before : List ℕ) (n : ℕ) (es : List Spot) (after : List �
   pub size : length after ≡ length before
 
 -- what one more spot asks
-pub record Puttable (list : List ℕ) (n q : ℕ) : Type 0 where
+pub record SpotPuttable (list : List ℕ) (n q : ℕ) : Type 0 where
   pub room : 2 * n + 1 < length list
   pub index : q < 16384
 

@@ -5,11 +5,11 @@ ghost use mathlib.Core.Option.{none};
 ghost use mathlib.Core.List.{[], _∷_};
 ghost use Prim.Native.Nat.{_<_};
 ghost use lib.ListN.{length};
-ghost use Rattle.gatelist.specs.Words.{badList};
+ghost use Rattle.gatelist.specs.ListWords.{badList};
 ghost use Rattle.repair_nodes.specs.Stage.{Rooted, spot, slotIn, emptyBelow};
 ghost use Rattle.repair_nodes.specs.Placing.{levelAt, placing, badLevel, noGate};
 ghost use Rattle.repair_nodes.specs.Clearing.{clearing};
-ghost use Rattle.repair_subtree.specs.Subtree.{judgementOf, worseOf, FirstBelow, SecondBelow, Added, Puttable, Carried, Split, Reachable};
+ghost use Rattle.repair_subtree.specs.Subtree.{judgementOf, worseOf, FirstBelow, SecondBelow, Added, SpotPuttable, Carried, Split, Reachable};
 use gatelist::Listed;
 use gatelist::find_in;
 use gatelist::first_of;
@@ -137,7 +137,7 @@ pub fn judge(gates: &[u32], levels: &[u32], h: u32, node: Pin) -> Judgement
 
 // Puts an index and its node on the list of n.
 fn put_spot(list: &mut [u32], n: usize, q: usize, node: Pin) -> usize
-    requires { ⌜ Puttable (now list) n q ⌝ }
+    requires { ⌜ SpotPuttable (now list) n q ⌝ }
     ensures { λ r. ⌜ Added (now (list .entry)) n (spot q (node .0) ∷ []) (now (list .exit)) r ⌝ }
 {
     list[2 * n] = q as u32;

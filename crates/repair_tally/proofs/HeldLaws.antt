@@ -14,9 +14,9 @@ use Rattle.pinmap.specs.PinMap.{capacity, look, putIn, putAnswer, entry, replac
 use Rattle.pinmap.specs.declared.PutAnswer.the-variants.{Stored}
 use Rattle.pinmap.proofs.PinMapLaws.{map-law, replaced-same, replaced-other, used-new, used-there, room-stored}
 use Rattle.pinmap.proofs.HoldsLaws.{zeros-good, zeros-look, zeros-used}
-use Rattle.repair_nodes.specs.Counts.{among, times}
-use Rattle.repair_nodes.proofs.CountLaws.{among-append, among-head, not-head, times-append}
-use Rattle.repair_tally.specs.Tally.{heldAs, Held}
+use Rattle.repair_nodes.specs.CountList.{among, timesAmong}
+use Rattle.repair_nodes.proofs.CountListLaws.{among-append, among-head, not-head, times-among-append}
+use Rattle.repair_tally.specs.Tally.{heldAs, MapHolds}
 
 -- ---- a map that holds names and numbers
 
@@ -24,21 +24,21 @@ among-nil : (q : ℕ) → among [] q ≡ false
 unfolding among
 among-nil q = refl
 
-pub held-zeros : (n : ℕ) (value : ℕ → ℕ) → Held (replicate n 0) [] value 0
+pub held-zeros : (n : ℕ) (value : ℕ → ℕ) → MapHolds (replicate n 0) [] value 0
 unfolding among
 held-zeros n value = record { good = zeros-good n; finds = λ q. zeros-look n q; few = omega (arith, zeros-used n) }
 
 among-one : (p q : ℕ) → (q ≡ p → ⊥) → among (p ∷ []) q ≡ false
 among-one p q s = not-head p [] q (λ (e : p ≡ q). s (sym e)) (among-nil q)
 
-module _ (t names : List ℕ) (value : ℕ → ℕ) (n : ℕ) (h : Held t names value n) where
+module _ (t names : List ℕ) (value : ℕ → ℕ) (n : ℕ) (h : MapHolds t names value n) where
   pub held-some : (p : ℕ) → among names p ≡ true → look t p ≡ some (value p)
   held-some p e = h .finds p ∙ ap (λ (b : Bool). heldAs b (value p)) e
 
   pub held-none : (p : ℕ) → among names p ≡ false → look t p ≡ none
   held-none p e = h .finds p ∙ ap (λ (b : Bool). heldAs b (value p)) e
 
-  pub held-ext : (names₁ : List ℕ) (value₁ : ℕ → ℕ) (k : ℕ) → names ≡ names₁ → ((q : ℕ) → value q ≡ value₁ q) → n ≤ k → Held t names₁ value₁ k
+  pub held-ext : (names₁ : List ℕ) (value₁ : ℕ → ℕ) (k : ℕ) → names ≡ names₁ → ((q : ℕ) → value q ≡ value₁ q) → n ≤ k → MapHolds t names₁ value₁ k
   held-ext names₁ value₁ k e f l =
       record {
         good = h .good;
@@ -65,7 +65,7 @@ module _ (t names : List ℕ) (value : ℕ → ℕ) (n : ℕ) (h : Held t names 
             ∙ (h .finds q ∙ ap₂ (λ (b : Bool) (w : ℕ). heldAs b w) (sym (others q s)) (sym (there q s)))
 
     -- a node more, and a number anew
-    pub held-add : among names p ≡ false → Held (putIn t p v) (names ++ (p ∷ [])) value₁ (n + 1)
+    pub held-add : among names p ≡ false → MapHolds (putIn t p v) (names ++ (p ∷ [])) value₁ (n + 1)
     held-add e =
         record {
           good = map-law t p v (h .good) stored .0;
@@ -74,7 +74,7 @@ module _ (t names : List ℕ) (value : ℕ → ℕ) (n : ℕ) (h : Held t names 
           few = omega (arith, used-new t p v stored (held-none p e), h .few);
         }
 
-    pub held-set : among names p ≡ true → Held (putIn t p v) names value₁ n
+    pub held-set : among names p ≡ true → MapHolds (putIn t p v) names value₁ n
     held-set e =
         record {
           good = map-law t p v (h .good) stored .0;
@@ -84,5 +84,5 @@ module _ (t names : List ℕ) (value : ℕ → ℕ) (n : ℕ) (h : Held t names 
 
 -- ---- one node among others
 
-pub times-two : (x : ℕ) (xs : List ℕ) (y : ℕ) → times (x ∷ xs) y ≡ times (x ∷ []) y + times xs y
-times-two x xs y = times-append (x ∷ []) xs y
+pub times-two : (x : ℕ) (xs : List ℕ) (y : ℕ) → timesAmong (x ∷ xs) y ≡ timesAmong (x ∷ []) y + timesAmong xs y
+times-two x xs y = times-among-append (x ∷ []) xs y

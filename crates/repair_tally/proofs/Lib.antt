@@ -1,3 +1,3 @@
-pub mod StepLaws
+pub mod TallyStepLaws
 pub mod HeldLaws
 pub mod WayLaws

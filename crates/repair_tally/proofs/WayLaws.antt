@@ -15,31 +15,31 @@ use Rattle.pinmap.specs.PinMap.{capacity, look, putIn}
 use Rattle.pinmap.proofs.PinMapLaws.{put-length}
 use Rattle.words.specs.Pins.{isPin}
 use Rattle.words.proofs.TestLaws.{not-both}
-use Rattle.repair_nodes.specs.Counts.{Count, nodesOf, among, times, entriesRight, countIn, fresh}
+use Rattle.repair_nodes.specs.CountList.{Count, nodesOf, among, timesAmong, entriesRight, countIn, fresh}
 use Rattle.repair_nodes.proofs.JudgeLaws.{or-parts}
-use Rattle.repair_nodes.proofs.CountLaws.{among-append, among-head, among-tail, times-here, times-there, times-nil, fresh-old, fresh-new, nodes-snoc, count-skip, count-head, count-other}
-use Rattle.repair_tally.specs.Tally.{through, entering, Raised, raised, raising, lowering, Held}
-use Rattle.repair_tally.proofs.StepLaws.{through-end, through-on, through-none, lower-missing, lower-zero, lower-there}
+use Rattle.repair_nodes.proofs.CountListLaws.{among-append, among-head, among-tail, times-among-here, times-there, times-among-nil, fresh-old, fresh-new, nodes-snoc, count-skip, count-head, count-other}
+use Rattle.repair_tally.specs.Tally.{through, entering, Raised, raised, raising, lowering, MapHolds}
+use Rattle.repair_tally.proofs.TallyStepLaws.{through-end, through-on, through-none, lower-missing, lower-zero, lower-there}
 use Rattle.repair_tally.proofs.HeldLaws.{held-some, held-none, held-ext, held-add, held-set, times-two}
 
 -- ---- one node's times
 
-one-or-none : (x y : ℕ) → ((x ≡ y) × (times (x ∷ []) y ≡ 1)) ⊎ ((x ≡ y → ⊥) × (times (x ∷ []) y ≡ 0))
+one-or-none : (x y : ℕ) → ((x ≡ y) × (timesAmong (x ∷ []) y ≡ 1)) ⊎ ((x ≡ y → ⊥) × (timesAmong (x ∷ []) y ≡ 0))
 one-or-none x y = go (eqb x y) refl
   where
-    go : (b : Bool) → eqb x y ≡ b → ((x ≡ y) × (times (x ∷ []) y ≡ 1)) ⊎ ((x ≡ y → ⊥) × (times (x ∷ []) y ≡ 0))
-    go true e = let k : x ≡ y = eqb-true x y e in inl (k, times-here [] x y k ∙ omega (arith, times-nil y))
-    go false e = let k : x ≡ y → ⊥ = eqb-false x y e in inr (k, times-there [] x y k ∙ times-nil y)
+    go : (b : Bool) → eqb x y ≡ b → ((x ≡ y) × (timesAmong (x ∷ []) y ≡ 1)) ⊎ ((x ≡ y → ⊥) × (timesAmong (x ∷ []) y ≡ 0))
+    go true e = let k : x ≡ y = eqb-true x y e in inl (k, times-among-here [] x y k ∙ omega (arith, times-among-nil y))
+    go false e = let k : x ≡ y → ⊥ = eqb-false x y e in inr (k, times-there [] x y k ∙ times-among-nil y)
 
-times-own : (x : ℕ) (xs : List ℕ) → 1 ≤ times (x ∷ xs) x
-times-own x xs = omega (arith, times-here xs x x refl)
+times-own : (x : ℕ) (xs : List ℕ) → 1 ≤ timesAmong (x ∷ xs) x
+times-own x xs = omega (arith, times-among-here xs x x refl)
 
 -- the room for one more is kept by a put
 put-capacity : (t : List ℕ) (p v : ℕ) → capacity (putIn t p v) ≡ capacity t
 put-capacity t p v = ap (λ (n : ℕ). n / 2) (put-length t p v)
 
 -- which way a look went, from whether the node is held
-look-cases : (t names : List ℕ) (value : ℕ → ℕ) (n x : ℕ) → Held t names value n
+look-cases : (t names : List ℕ) (value : ℕ → ℕ) (n x : ℕ) → MapHolds t names value n
     → ((among names x ≡ true) × (look t x ≡ some (value x))) ⊎ ((among names x ≡ false) × (look t x ≡ none))
 look-cases t names value n x h = go (among names x) refl
   where
@@ -50,7 +50,7 @@ look-cases t names value n x h = go (among names x) refl
 -- ---- entering
 
 abbrev pub EnterEnd : Option (List ℕ) → List Count → List Count → Type 0
-EnterEnd (some t) bs cs = (entriesRight (nodesOf bs) cs ≡ true) × Held t (nodesOf (bs ++ cs)) (countIn (bs ++ cs)) (length (bs ++ cs))
+EnterEnd (some t) bs cs = (entriesRight (nodesOf bs) cs ≡ true) × MapHolds t (nodesOf (bs ++ cs)) (countIn (bs ++ cs)) (length (bs ++ cs))
 EnterEnd none bs cs = entriesRight (nodesOf bs) cs ≡ false
 
 module _ (ns : List ℕ) (c : Count) (cs : List Count) where
@@ -90,7 +90,7 @@ right-nil : (ns : List ℕ) → entriesRight ns [] ≡ true
 unfolding entriesRight
 right-nil ns = refl
 
-pub enter-end : (bs cs : List Count) (t : List ℕ) → Held t (nodesOf bs) (countIn bs) (length bs) → length bs + length cs ≤ capacity t
+pub enter-end : (bs cs : List Count) (t : List ℕ) → MapHolds t (nodesOf bs) (countIn bs) (length bs) → length bs + length cs ≤ capacity t
     → EnterEnd (through entering t cs) bs cs
 enter-end bs [] t h l = rw (through-end entering t) (right-nil (nodesOf bs), rw append-nil h)
 enter-end bs (c ∷ cs) t h l = go (isPin (c .node) && ltb 0 (c .count)) refl (look-cases t (nodesOf bs) (countIn bs) (length bs) (c .node) h)
@@ -110,14 +110,14 @@ enter-end bs (c ∷ cs) t h l = go (isPin (c .node) && ltb 0 (c .count)) refl (l
 
     go : (b : Bool) → (isPin (c .node) && ltb 0 (c .count)) ≡ b
         → ((among (nodesOf bs) (c .node) ≡ true) × (look t (c .node) ≡ some (countIn bs (c .node)))) ⊎ ((among (nodesOf bs) (c .node) ≡ false) × (look t (c .node) ≡ none))
-        → ((u : List ℕ) → Held u (nodesOf B) (countIn B) (length B) → length B + length cs ≤ capacity u → EnterEnd (through entering u cs) B cs)
+        → ((u : List ℕ) → MapHolds u (nodesOf B) (countIn B) (length B) → length B + length cs ≤ capacity u → EnterEnd (through entering u cs) B cs)
         → EnterEnd (through entering t (c ∷ cs)) bs (c ∷ cs)
     go false e w r = rw (through-none entering t c cs (enter-test t c e)) (entry-test (nodesOf bs) c cs e)
     go true e (inl (a, k)) r = rw (through-none entering t c cs (enter-taken t c (countIn bs (c .node)) e k)) (entry-twice (nodesOf bs) c cs a)
     go true e (inr (a, k)) r =
         let p : capacity T ≡ capacity t = put-capacity t (c .node) (c .count) in
         let z : length B ≡ length bs + 1 = size in
-        let held : Held T (nodesOf bs ++ (c .node ∷ [])) (countIn B) (length bs + 1) =
+        let held : MapHolds T (nodesOf bs ++ (c .node ∷ [])) (countIn B) (length bs + 1) =
         held-add t (nodesOf bs) (countIn bs) (length bs) h (c .node) (c .count) (omega arith) (countIn B)
         (count-skip bs (c ∷ []) (c .node) a ∙ count-head c [])
         (λ q s. count-other bs c q s) a in
@@ -129,8 +129,8 @@ enter-end bs (c ∷ cs) t h l = go (isPin (c .node) && ltb 0 (c .count)) refl (l
 
 abbrev pub RaiseEnd : Option Raised → List ℕ → List ℕ → (ℕ → ℕ) → List ℕ → ℕ → Type 0
 RaiseEnd (some r) names news value xs n =
-    Held (r .map) (names ++ fresh names xs) (λ y. value y + times xs y) (n + length xs) × (r .new ≡ news ++ fresh names xs) × ((y : ℕ) → value y + times xs y < 2 ^ 32)
-RaiseEnd none names news value xs n = (y : ℕ) × (among xs y ≡ true) × (2 ^ 32 ≤ value y + times xs y)
+    MapHolds (r .map) (names ++ fresh names xs) (λ y. value y + timesAmong xs y) (n + length xs) × (r .new ≡ news ++ fresh names xs) × ((y : ℕ) → value y + timesAmong xs y < 2 ^ 32)
+RaiseEnd none names news value xs n = (y : ℕ) × (among xs y ≡ true) × (2 ^ 32 ≤ value y + timesAmong xs y)
 
 module _ (t news : List ℕ) (x : ℕ) where
   raise-free : look t x ≡ none → raising (raised t news) x ≡ some (raised (putIn t x 1) (news ++ (x ∷ [])))
@@ -151,18 +151,18 @@ no-more l ns = append-nil l
 
 -- one more of x: its number, and the others'
 plus : (ℕ → ℕ) → ℕ → ℕ → ℕ
-plus value x y = value y + times (x ∷ []) y
+plus value x y = value y + timesAmong (x ∷ []) y
 
 module _ (value : ℕ → ℕ) (x : ℕ) where
   plus-own : plus value x x ≡ value x + 1
   unfolding plus
-  plus-own = omega (arith, times-here [] x x refl, times-nil x)
+  plus-own = omega (arith, times-among-here [] x x refl, times-among-nil x)
 
   plus-other : (q : ℕ) → (q ≡ x → ⊥) → plus value x q ≡ value q
   unfolding plus
-  plus-other q s = omega (arith, times-there [] x q (λ (e : x ≡ q). s (sym e)), times-nil q)
+  plus-other q s = omega (arith, times-there [] x q (λ (e : x ≡ q). s (sym e)), times-among-nil q)
 
-  plus-times : (xs : List ℕ) (y : ℕ) → plus value x y + times xs y ≡ value y + times (x ∷ xs) y
+  plus-times : (xs : List ℕ) (y : ℕ) → plus value x y + timesAmong xs y ≡ value y + timesAmong (x ∷ xs) y
   unfolding plus
   plus-times xs y = omega (arith, times-two x xs y)
 
@@ -170,20 +170,20 @@ raise-over : (o : Option Raised) (names news names₁ news₁ : List ℕ) (value
     → names₁ ++ fresh names₁ xs ≡ names ++ fresh names (x ∷ xs) → news₁ ++ fresh names₁ xs ≡ news ++ fresh names (x ∷ xs) → k ≤ n + 1
     → RaiseEnd o names₁ news₁ (plus value x) xs k → RaiseEnd o names news value (x ∷ xs) n
 raise-over (some r) names news names₁ news₁ value x xs n k e f l (h, w, b) = (
-  held-ext (r .map) (names₁ ++ fresh names₁ xs) (λ y. plus value x y + times xs y) (k + length xs) h
-      (names ++ fresh names (x ∷ xs)) (λ y. value y + times (x ∷ xs) y) (n + length (x ∷ xs)) e (λ y. plus-times value x xs y) (omega arith),
+  held-ext (r .map) (names₁ ++ fresh names₁ xs) (λ y. plus value x y + timesAmong xs y) (k + length xs) h
+      (names ++ fresh names (x ∷ xs)) (λ y. value y + timesAmong (x ∷ xs) y) (n + length (x ∷ xs)) e (λ y. plus-times value x xs y) (omega arith),
   w ∙ f,
   λ y. omega (arith, b y, plus-times value x xs y),
 )
 raise-over none names news names₁ news₁ value x xs n k e f l (y, a, b) = (y, among-tail x xs y a, omega (arith, plus-times value x xs y))
 
-pub raise-end : (xs t names news : List ℕ) (value : ℕ → ℕ) (n : ℕ) → Held t names value n → n + length xs ≤ capacity t
+pub raise-end : (xs t names news : List ℕ) (value : ℕ → ℕ) (n : ℕ) → MapHolds t names value n → n + length xs ≤ capacity t
     → ((y : ℕ) → among names y ≡ false → value y ≡ 0) → ((y : ℕ) → value y < 2 ^ 32) → RaiseEnd (through raising (raised t news) xs) names news value xs n
 raise-end [] t names news value n h l z b =
     rw (through-end raising (raised t news)) (
-      held-ext t names value n h (names ++ fresh names []) (λ y. value y + times [] y) (n + 0) (sym (no-more names names)) (λ y. omega (arith, times-nil y)) (omega arith),
+      held-ext t names value n h (names ++ fresh names []) (λ y. value y + timesAmong [] y) (n + 0) (sym (no-more names names)) (λ y. omega (arith, times-among-nil y)) (omega arith),
       sym (no-more news names),
-      λ y. omega (arith, b y, times-nil y),
+      λ y. omega (arith, b y, times-among-nil y),
     )
 raise-end (x ∷ xs) t names news value n h l z b =
     go (look-cases t names value n x h) (λ u ns ws k f m o p. raise-end xs u ns ws (plus value x) k f m o p)
@@ -192,11 +192,11 @@ raise-end (x ∷ xs) t names news value n h l z b =
     W = plus value x
 
     Next : Type 0
-    Next = (u ns ws : List ℕ) (k : ℕ) → Held u ns W k → k + length xs ≤ capacity u → ((y : ℕ) → among ns y ≡ false → W y ≡ 0) → ((y : ℕ) → W y < 2 ^ 32)
+    Next = (u ns ws : List ℕ) (k : ℕ) → MapHolds u ns W k → k + length xs ≤ capacity u → ((y : ℕ) → among ns y ≡ false → W y ≡ 0) → ((y : ℕ) → W y < 2 ^ 32)
         → RaiseEnd (through raising (raised u ws) xs) ns ws W xs k
 
     bound : value x < 4294967295 → (y : ℕ) → W y < 2 ^ 32
-    bound w y = ⊎-elim (λ (o : (x ≡ y) × (times (x ∷ []) y ≡ 1)). omega (arith, plus-own value x, ap W (o .0))) (λ o. omega (arith, b y, plus-other value x y (λ (e : y ≡ x). o .0 (sym e)))) (one-or-none x y)
+    bound w y = ⊎-elim (λ (o : (x ≡ y) × (timesAmong (x ∷ []) y ≡ 1)). omega (arith, plus-own value x, ap W (o .0))) (λ o. omega (arith, b y, plus-other value x y (λ (e : y ≡ x). o .0 (sym e)))) (one-or-none x y)
 
     go : ((among names x ≡ true) × (look t x ≡ some (value x))) ⊎ ((among names x ≡ false) × (look t x ≡ none)) → Next
         → RaiseEnd (through raising (raised t news) (x ∷ xs)) names news value (x ∷ xs) n
@@ -205,7 +205,7 @@ raise-end (x ∷ xs) t names news value n h l z b =
         let N = names ++ (x ∷ []) in
         let w : value x ≡ 0 = z x a in
         let p : capacity T ≡ capacity t = put-capacity t x 1 in
-        let held : Held T N W (n + 1) = held-add t names value n h x 1 (omega arith) W (omega (arith, plus-own value x)) (plus-other value x) a in
+        let held : MapHolds T N W (n + 1) = held-add t names value n h x 1 (omega arith) W (omega (arith, plus-own value x)) (plus-other value x) a in
         let zero-else : (y : ℕ) → among N y ≡ false → W y ≡ 0 = λ y e.
         let (u, v) = or-parts (among names y) (among (x ∷ []) y) (sym (among-append names (x ∷ []) y) ∙ e) in
         plus-other value x y (λ (d : y ≡ x). not-both (among (x ∷ []) y) (ap (λ (i : ℕ). among (x ∷ []) i) d ∙ among-head x []) v) ∙ z y u in
@@ -227,7 +227,7 @@ raise-end (x ∷ xs) t names news value n h l z b =
             let w : value x < 4294967295 = ltb-true _ _ e in
             let T = putIn t x (value x + 1) in
             let p : capacity T ≡ capacity t = put-capacity t x (value x + 1) in
-            let held : Held T names W n = held-set t names value n h x (value x + 1) (omega arith) W (plus-own value x) (plus-other value x) a in
+            let held : MapHolds T names W n = held-set t names value n h x (value x + 1) (omega arith) W (plus-own value x) (plus-other value x) a in
             let zero-else : (y : ℕ) → among names y ≡ false → W y ≡ 0 = λ y e.
             plus-other value x y (λ (d : y ≡ x). not-both (among names y) (ap (λ (i : ℕ). among names i) d ∙ a) e) ∙ z y e in
             let next = r T names news n held (omega arith) zero-else (bound w) in
@@ -239,54 +239,54 @@ raise-end (x ∷ xs) t names news value n h l z b =
 -- ---- lowering
 
 abbrev pub LowerEnd : Option (List ℕ) → List ℕ → (ℕ → ℕ) → List ℕ → ℕ → Type 0
-LowerEnd (some t) names value xs n = Held t names (λ y. value y - times xs y) n × ((y : ℕ) → times xs y ≤ value y)
-LowerEnd none names value xs n = (y : ℕ) × (among xs y ≡ true) × (value y < times xs y)
+LowerEnd (some t) names value xs n = MapHolds t names (λ y. value y - timesAmong xs y) n × ((y : ℕ) → timesAmong xs y ≤ value y)
+LowerEnd none names value xs n = (y : ℕ) × (among xs y ≡ true) × (value y < timesAmong xs y)
 
 minus : (ℕ → ℕ) → ℕ → ℕ → ℕ
-minus value x y = value y - times (x ∷ []) y
+minus value x y = value y - timesAmong (x ∷ []) y
 
 module _ (value : ℕ → ℕ) (x : ℕ) where
   minus-own : minus value x x ≡ value x - 1
   unfolding minus
-  minus-own = let e : times (x ∷ []) x ≡ 1 = times-here [] x x refl ∙ omega (arith, times-nil x) in ap (λ (n : ℕ). value x - n) e
+  minus-own = let e : timesAmong (x ∷ []) x ≡ 1 = times-among-here [] x x refl ∙ omega (arith, times-among-nil x) in ap (λ (n : ℕ). value x - n) e
 
   minus-other : (q : ℕ) → (q ≡ x → ⊥) → minus value x q ≡ value q
   unfolding minus
-  minus-other q s = let e : times (x ∷ []) q ≡ 0 = times-there [] x q (λ (d : x ≡ q). s (sym d)) ∙ times-nil q in ap (λ (n : ℕ). value q - n) e ∙ omega arith
+  minus-other q s = let e : timesAmong (x ∷ []) q ≡ 0 = times-there [] x q (λ (d : x ≡ q). s (sym d)) ∙ times-among-nil q in ap (λ (n : ℕ). value q - n) e ∙ omega arith
 
-  minus-times : (xs : List ℕ) (y : ℕ) → minus value x y - times xs y ≡ value y - times (x ∷ xs) y
+  minus-times : (xs : List ℕ) (y : ℕ) → minus value x y - timesAmong xs y ≡ value y - timesAmong (x ∷ xs) y
   unfolding minus
   minus-times xs y = let e = times-two x xs y in omega arith
 
   -- where x is there, what falls short without it falls short with it
-  minus-le : 0 < value x → (xs : List ℕ) (y : ℕ) → times xs y ≤ minus value x y → times (x ∷ xs) y ≤ value y
+  minus-le : 0 < value x → (xs : List ℕ) (y : ℕ) → timesAmong xs y ≤ minus value x y → timesAmong (x ∷ xs) y ≤ value y
   unfolding minus
   minus-le p xs y h =
       let e = times-two x xs y in
-      ⊎-elim (λ (o : (x ≡ y) × (times (x ∷ []) y ≡ 1)). let q : 0 < value y = rw (o .0) at p in omega (arith, o .1)) (λ o. omega (arith, o .1)) (one-or-none x y)
+      ⊎-elim (λ (o : (x ≡ y) × (timesAmong (x ∷ []) y ≡ 1)). let q : 0 < value y = rw (o .0) at p in omega (arith, o .1)) (λ o. omega (arith, o .1)) (one-or-none x y)
 
-  minus-lt : (xs : List ℕ) (y : ℕ) → minus value x y < times xs y → value y < times (x ∷ xs) y
+  minus-lt : (xs : List ℕ) (y : ℕ) → minus value x y < timesAmong xs y → value y < timesAmong (x ∷ xs) y
   unfolding minus
   minus-lt xs y h = let e = times-two x xs y in omega arith
 
 lower-over : (o : Option (List ℕ)) (names : List ℕ) (value : ℕ → ℕ) (x : ℕ) (xs : List ℕ) (n : ℕ) → 0 < value x
     → LowerEnd o names (minus value x) xs n → LowerEnd o names value (x ∷ xs) n
 lower-over (some t) names value x xs n p (h, b) =
-    (held-ext t names (λ y. minus value x y - times xs y) n h names (λ y. value y - times (x ∷ xs) y) n refl (minus-times value x xs) (omega arith), λ y. minus-le value x p xs y (b y))
+    (held-ext t names (λ y. minus value x y - timesAmong xs y) n h names (λ y. value y - timesAmong (x ∷ xs) y) n refl (minus-times value x xs) (omega arith), λ y. minus-le value x p xs y (b y))
 lower-over none names value x xs n p (y, a, b) = (y, among-tail x xs y a, minus-lt value x xs y b)
 
-pub lower-end : (xs t names : List ℕ) (value : ℕ → ℕ) (n : ℕ) → Held t names value n → n < capacity t
+pub lower-end : (xs t names : List ℕ) (value : ℕ → ℕ) (n : ℕ) → MapHolds t names value n → n < capacity t
     → ((y : ℕ) → among names y ≡ false → value y ≡ 0) → LowerEnd (through lowering t xs) names value xs n
 lower-end [] t names value n h l z =
     rw (through-end lowering t)
-    (held-ext t names value n h names (λ y. value y - times [] y) n refl (λ y. omega (arith, times-nil y)) (omega arith), λ y. omega (arith, times-nil y))
+    (held-ext t names value n h names (λ y. value y - timesAmong [] y) n refl (λ y. omega (arith, times-among-nil y)) (omega arith), λ y. omega (arith, times-among-nil y))
 lower-end (x ∷ xs) t names value n h l z = go (look-cases t names value n x h) (λ u f m o. lower-end xs u names (minus value x) n f m o)
   where
     W : ℕ → ℕ
     W = minus value x
 
     go : ((among names x ≡ true) × (look t x ≡ some (value x))) ⊎ ((among names x ≡ false) × (look t x ≡ none))
-        → ((u : List ℕ) → Held u names W n → n < capacity u → ((y : ℕ) → among names y ≡ false → W y ≡ 0) → LowerEnd (through lowering u xs) names W xs n)
+        → ((u : List ℕ) → MapHolds u names W n → n < capacity u → ((y : ℕ) → among names y ≡ false → W y ≡ 0) → LowerEnd (through lowering u xs) names W xs n)
         → LowerEnd (through lowering t (x ∷ xs)) names value (x ∷ xs) n
     go (inr (a, k)) r = rw (through-none lowering t x xs (lower-missing t x k)) (x, among-head x xs, omega (arith, z x a, times-own x xs))
     go (inl (a, k)) r = inner (ltb 0 (value x)) refl
@@ -299,7 +299,7 @@ lower-end (x ∷ xs) t names value n h l z = go (look-cases t names value n x h)
             let w : 0 < value x = ltb-true _ _ e in
             let T = putIn t x (value x - 1) in
             let p : capacity T ≡ capacity t = put-capacity t x (value x - 1) in
-            let held : Held T names W n = held-set t names value n h x (value x - 1) l W (minus-own value x) (minus-other value x) a in
+            let held : MapHolds T names W n = held-set t names value n h x (value x - 1) l W (minus-own value x) (minus-other value x) a in
             let zero-else : (y : ℕ) → among names y ≡ false → W y ≡ 0 = λ y f.
             minus-other value x y (λ (d : y ≡ x). not-both (among names y) (ap (λ (i : ℕ). among names i) d ∙ a) f) ∙ z y f in
             rw (through-on lowering t x xs T (lower-there t x (value x) k w)) (lower-over (through lowering T xs) names value x xs n w (r T held (omega arith) zero-else))

@@ -7,10 +7,10 @@ use mathlib.Core.List.{List, [], _∷_, _++_}
 use Prim.Native.Nat.{ℕ, _+_, _*_, _-_, _%_, _^_, _≤_, _<_}
 use lib.Dec.{eqb, ltb}
 use lib.ListN.{length, getD, take}
-use Rattle.pinmap.specs.PinMap.{look, putIn, Good, used}
+use Rattle.pinmap.specs.PinMap.{look, putIn, Findable, used}
 use Rattle.words.specs.Pins.{isPin}
 use Rattle.repair_nodes.specs.Stage.{spotsOf}
-use Rattle.repair_nodes.specs.Counts.{Count, countsOf, countedNodes, among}
+use Rattle.repair_nodes.specs.CountList.{Count, countsOf, countedNodes, among}
 use Rattle.repair_tally.specs.declared.Tallied.{Tallied}
 use Rattle.repair_tally.specs.declared.Tallied.the-variants.{New, Over}
 
@@ -64,15 +64,15 @@ abbrev pub nodesIn : List ℕ → List ℕ
 nodesIn spots = countedNodes 13 (spotsOf spots)
 
 -- each second word can be looked for in a map
-abbrev pub Askable : List ℕ → Type 0
-Askable spots = (k : ℕ) → 2 * k + 1 < length spots → getD spots (2 * k + 1) 0 < 2 ^ 32 - 1
+abbrev pub SpotsAskable : List ℕ → Type 0
+SpotsAskable spots = (k : ℕ) → 2 * k + 1 < length spots → getD spots (2 * k + 1) 0 < 2 ^ 32 - 1
 
 -- a map that holds just these nodes, each with its number, n at most
 abbrev pub heldAs : Bool → ℕ → Option ℕ
 heldAs true v = some v
 heldAs false v = none
 
-pub record Held (t : List ℕ) (names : List ℕ) (value : ℕ → ℕ) (n : ℕ) : Type 0 where
-  pub good : Good t
+pub record MapHolds (t : List ℕ) (names : List ℕ) (value : ℕ → ℕ) (n : ℕ) : Type 0 where
+  pub good : Findable t
   pub finds : (q : ℕ) → look t q ≡ heldAs (among names q) (value q)
   pub few : used t ≤ n

@@ -2,8 +2,8 @@
 ghost use mathlib.Core.List.{[]};
 ghost use Prim.Native.Nat.{_*_, _-_, _^_, _≤_, _<_};
 ghost use lib.ListN.{length, take};
-ghost use Rattle.repair_nodes.specs.Counts.{counted};
-ghost use Rattle.repair_tally.specs.Tally.{through, entering, enteringAll, raised, raising, lowering, Told, ToldNew, nodesIn, Askable};
+ghost use Rattle.repair_nodes.specs.CountList.{counted};
+ghost use Rattle.repair_tally.specs.Tally.{through, entering, enteringAll, raised, raising, lowering, Told, ToldNew, nodesIn, SpotsAskable};
 use pinmap::Found;
 use pinmap::look_up;
 use pinmap::put;
@@ -77,7 +77,7 @@ fn raise(map: &mut [u32], fresh: &mut [u32], n: usize, node: Pin) -> Tallied
 
 // One more of each node at level 1 or up.
 pub fn tally_up(spots: &[u32], map: &mut [u32], fresh: &mut [u32]) -> Tallied
-    requires { ⌜ Askable (now spots) × (length (now spots) ≤ 2 * length (now fresh)) ⌝ }
+    requires { ⌜ SpotsAskable (now spots) × (length (now spots) ≤ 2 * length (now fresh)) ⌝ }
     ensures { λ r. ⌜ ToldNew (through raising (raised (now (map .entry)) []) (nodesIn (now (spots .entry)))) r (now (map .exit)) (now (fresh .exit)) ⌝ }
 {
     let count = spots.len() / 2;
@@ -118,7 +118,7 @@ fn lower(map: &mut [u32], node: Pin) -> bool
 
 // One less of each node at level 1 or up.
 pub fn tally_down(spots: &[u32], map: &mut [u32]) -> bool
-    requires { ⌜ Askable (now spots) ⌝ }
+    requires { ⌜ SpotsAskable (now spots) ⌝ }
     ensures { λ r. ⌜ Told (through lowering (now (map .entry)) (nodesIn (now (spots .entry)))) r (now (map .exit)) ⌝ }
 {
     let count = spots.len() / 2;

@@ -1,2 +1,2 @@
-pub mod SizeLaws
-pub mod OutcomeLaws
+pub mod PieceSizeLaws
+pub mod RoundsAnswerLaws

@@ -9,7 +9,7 @@ use lib.ListN.{length, getD, replicate}
 use Rattle.words.specs.Bit.{pop}
 use Rattle.reads.specs.Search.{Lane, longest}
 use Rattle.words.specs.Answer.{Answer, good, refused}
-use Rattle.reads_try.specs.Table.{tableOf}
+use Rattle.reads_try.specs.LaneTable.{tableOf}
 use Rattle.rounds.specs.declared.Rounds.{Rounds}
 use Rattle.rounds.specs.declared.Rounds.the-variants.{Placed, Refused}
 
@@ -28,7 +28,7 @@ tableAfter n none = replicate (32 * n) 0
 tableAfter n (some lanes) = tableOf lanes
 
 -- what a search asks: whole pairs, 8192 at most, with no mask that is 0; room for the table, and for keys and their scratch
-pub record Searchable (set : List ℕ) (table keys scratch n : ℕ) : Type 0 where
+pub record SetSearchable (set : List ℕ) (table keys scratch n : ℕ) : Type 0 where
   pub whole : length set % 2 ≡ 0
   pub few : length set ≤ 16384
   pub masks : (p : ℕ) → p < length set / 2 → 0 < pop (getD set (2 * p + 1) 0)

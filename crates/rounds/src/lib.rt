@@ -5,10 +5,10 @@ ghost use lib.ListN.{length, replicate};
 ghost use Rattle.reads.specs.ReadSet.{pairsOf};
 ghost use Rattle.reads.specs.Search.{try, lanesOf};
 ghost use Rattle.words.specs.Answer.{refused, atItem};
-ghost use Rattle.reads.specs.Outcome.{readSet, fitted, outcome, resultAfter, roomAfter};
-ghost use Rattle.reads_try.specs.Table.{tableOf};
-ghost use Rattle.reads_try.specs.Tries.{isAll, lanesIn};
-ghost use Rattle.rounds.specs.Rounds.{roundsOf, isWon, tableAfter, Searchable, Solvable};
+ghost use Rattle.reads.specs.SetAnswer.{readSet, setFitted, setAnswer, resultAfter, setRoomAfter};
+ghost use Rattle.reads_try.specs.LaneTable.{tableOf};
+ghost use Rattle.reads_try.specs.Tries.{isAll, triedLanes};
+ghost use Rattle.rounds.specs.Rounds.{roundsOf, isWon, tableAfter, SetSearchable, Solvable};
 use words::clear::clear;
 use words::edition::Edition;
 use words::found::Item;
@@ -29,9 +29,9 @@ fn try_pieces(
     lanes: usize,
     k: usize,
 ) -> bool
-    requires { ⌜ Searchable (now set) (length (now table)) (length (now keys)) (length (now scratch)) lanes × (0 < k) × (k ≤ length (now set) / 2) × (now table ≡ replicate (32 * lanes) 0) ⌝ }
+    requires { ⌜ SetSearchable (now set) (length (now table)) (length (now keys)) (length (now scratch)) lanes × (0 < k) × (k ≤ length (now set) / 2) × (now table ≡ replicate (32 * lanes) 0) ⌝ }
     ensures { λ r. ⌜ r ≡ isAll (try lanes (pairsOf (now (set .entry))) k) ⌝ }
-    ensures { λ _. ⌜ now (table .exit) ≡ tableOf (lanesIn (try lanes (pairsOf (now (set .entry))) k)) ⌝ }
+    ensures { λ _. ⌜ now (table .exit) ≡ tableOf (triedLanes (try lanes (pairsOf (now (set .entry))) k)) ⌝ }
 {
     let count = (set.len() / 2 + k - 1) / k;
     reads_pieces::order(set, &mut keys[..count], scratch, k);
@@ -46,7 +46,7 @@ pub fn search_sizes(
     scratch: &mut [u64],
     lanes: usize,
 ) -> bool
-    requires { ⌜ Searchable (now set) (length (now table)) (length (now keys)) (length (now scratch)) lanes ⌝ }
+    requires { ⌜ SetSearchable (now set) (length (now table)) (length (now keys)) (length (now scratch)) lanes ⌝ }
     ensures { λ r. ⌜ r ≡ isWon (lanesOf lanes (pairsOf (now (set .entry)))) ⌝ }
     ensures { λ _. ⌜ now (table .exit) ≡ tableAfter lanes (lanesOf lanes (pairsOf (now (set .entry)))) ⌝ }
 {
@@ -84,8 +84,8 @@ pub fn rounds_over(
     lanes: usize,
 ) -> Rounds
     requires { ⌜ Solvable (length (now table)) (length (now keys)) (length (now scratch)) lanes ⌝ }
-    ensures { λ r. ⌜ r ≡ roundsOf (fitted lanes (length (now (out .entry))) (readSet lanes (pairsOf (now (set .entry))))) ⌝ }
-    ensures { λ _. ⌜ now (out .exit) ≡ resultAfter (fitted lanes (length (now (out .entry))) (readSet lanes (pairsOf (now (set .entry))))) (now (out .entry)) ⌝ }
+    ensures { λ r. ⌜ r ≡ roundsOf (setFitted lanes (length (now (out .entry))) (readSet lanes (pairsOf (now (set .entry))))) ⌝ }
+    ensures { λ _. ⌜ now (out .exit) ≡ resultAfter (setFitted lanes (length (now (out .entry))) (readSet lanes (pairsOf (now (set .entry))))) (now (out .entry)) ⌝ }
 {
     if 16384 < set.len() {
         return refused(refusals::MANY_PAIRS, 0);
@@ -110,9 +110,9 @@ pub fn rounds_over(
 // The rounds of a read set at 256 lanes: word, mask, word, mask .. in; per round 512 words out. The answer, the lent result and the lent
 // room are as document 01 says.
 pub fn map_global_read_to_rounds(set: &[u32], room: &mut [u32], out: &mut [u32]) -> Rounds
-    ensures { λ r. ⌜ r ≡ roundsOf (outcome 256 (now (set .entry)) (length (now (out .entry))) (length (now (room .entry)))) ⌝ }
-    ensures { λ _. ⌜ now (out .exit) ≡ resultAfter (outcome 256 (now (set .entry)) (length (now (out .entry))) (length (now (room .entry)))) (now (out .entry)) ⌝ }
-    ensures { λ _. ⌜ now (room .exit) ≡ roomAfter (now (room .entry)) ⌝ }
+    ensures { λ r. ⌜ r ≡ roundsOf (setAnswer 256 (now (set .entry)) (length (now (out .entry))) (length (now (room .entry)))) ⌝ }
+    ensures { λ _. ⌜ now (out .exit) ≡ resultAfter (setAnswer 256 (now (set .entry)) (length (now (out .entry))) (length (now (room .entry)))) (now (out .entry)) ⌝ }
+    ensures { λ _. ⌜ now (room .exit) ≡ setRoomAfter (now (room .entry)) ⌝ }
 {
     if room.len() < 16384 {
         return refused(refusals::ROOM_SHORT, 0);

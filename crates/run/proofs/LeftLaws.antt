@@ -14,11 +14,11 @@ use Rattle.run_machine.specs.Turn.{Phase, toRead, toStage, toStore, finished, g
 use Rattle.run_machine.specs.Room.{partOf, phaseOf, stageOf}
 use Rattle.run_machine.specs.Run.{turnsFrom, turnsAfter, turnsLeft, allLeft}
 use Rattle.run_form.specs.Well.{PartIn}
-use Rattle.run_turns.specs.Block.{blockIn}
-use Rattle.run_form.proofs.FormLaws.{InForm}
-use Rattle.run.specs.States.{roomOf, blockOf, blocksIn}
-use Rattle.run.specs.Good.{Parts, PartsFrom, Good, GoodIn, Goods}
-use Rattle.run.proofs.GoodLaws.{parts-first, part-well, parts-rest, part-turns}
+use Rattle.run_turns.specs.Block.{stateBlock}
+use Rattle.run_form.proofs.PartWellLaws.{InForm}
+use Rattle.run.specs.States.{roomOf, roomBlock, blocksIn}
+use Rattle.run.specs.LeftInForm.{Parts, PartsFrom, LeftInForm, RoomLeftInForm, AllLeftInForm}
+use Rattle.run.proofs.LeftInFormLaws.{parts-first, part-well, parts-rest, part-turns}
 
 -- ---- the parts after the one at o, f at most
 
@@ -105,7 +105,7 @@ module _ (W : List ℕ) where
 
 -- ---- a block
 
-module _ (W : List ℕ) (s t lo hi : ℕ) (b : Block) (g : Good W s t lo hi b) where
+module _ (W : List ℕ) (s t lo hi : ℕ) (b : Block) (g : LeftInForm W s t lo hi b) where
   after-fits : going (b .phase) ≡ true → turnsAfter 256 W (b .part) + stagesAt W (b .part) + 2 + lo ≤ hi
   after-fits h = omega (arith, g .from h, part-turns W (b .part), after-bound W s t hi (g .within) (b .part) (g .parts h))
 
@@ -118,25 +118,25 @@ module _ (W : List ℕ) (s t lo hi : ℕ) (b : Block) (g : Good W s t lo hi b) w
 
 module _ (W r : List ℕ) (p : ℕ) (f : Phase) (k : ℕ) (part : p ≡ partOf r) (phase : f ≡ phaseOf r) (stage : k ≡ stageOf r) where
   -- the turns of the block in r, by the phase that the code found
-  left-is : (g : Phase) → f ≡ g → turnsLeft 256 W g (blockIn 256 W p f k r) ≡ turnsLeft 256 W (phaseOf r) (blockOf W r)
-  unfolding blockOf
+  left-is : (g : Phase) → f ≡ g → turnsLeft 256 W g (stateBlock 256 W p f k r) ≡ turnsLeft 256 W (phaseOf r) (roomBlock W r)
+  unfolding roomBlock
   left-is g e = rw (sym e, part, phase, stage)
 
-  pub left-done : f ≡ finished → 0 ≡ turnsLeft 256 W (phaseOf r) (blockOf W r)
+  pub left-done : f ≡ finished → 0 ≡ turnsLeft 256 W (phaseOf r) (roomBlock W r)
   unfolding turnsLeft
   left-done e = left-is finished e
 
   module _ (a : ℕ) (after : a ≡ turnsAfter 256 W p) where
-    pub left-read : (x : ℕ) → x ≡ stagesAt W p → f ≡ toRead → x + 2 + a ≡ turnsLeft 256 W (phaseOf r) (blockOf W r)
-    unfolding turnsLeft blockIn
+    pub left-read : (x : ℕ) → x ≡ stagesAt W p → f ≡ toRead → x + 2 + a ≡ turnsLeft 256 W (phaseOf r) (roomBlock W r)
+    unfolding turnsLeft stateBlock
     left-read x stages e = rw (stages, after) (left-is toRead e)
 
-    pub left-stage : (x : ℕ) → x ≡ stagesAt W p → f ≡ toStage → x - k + 1 + a ≡ turnsLeft 256 W (phaseOf r) (blockOf W r)
-    unfolding turnsLeft blockIn
+    pub left-stage : (x : ℕ) → x ≡ stagesAt W p → f ≡ toStage → x - k + 1 + a ≡ turnsLeft 256 W (phaseOf r) (roomBlock W r)
+    unfolding turnsLeft stateBlock
     left-stage x stages e = rw (stages, after) (left-is toStage e)
 
-    pub left-store : f ≡ toStore → 1 + a ≡ turnsLeft 256 W (phaseOf r) (blockOf W r)
-    unfolding turnsLeft blockIn
+    pub left-store : f ≡ toStore → 1 + a ≡ turnsLeft 256 W (phaseOf r) (roomBlock W r)
+    unfolding turnsLeft stateBlock
     left-store e = rw after (left-is toStore e)
 
 -- what the code asks of a block that is not finished, at word p
@@ -145,16 +145,16 @@ pub record Ahead (W : List ℕ) (p : ℕ) : Type 0 where
   pub fits : turnsAfter 256 W p + stagesAt W p + 2 ≤ length W
   pub inside : p < length W
 
-module _ (W : List ℕ) (s t : ℕ) (r : List ℕ) (g : GoodIn W s t r) (p : ℕ) (f : Phase) (k : ℕ) (part : p ≡ partOf r) (phase : f ≡ phaseOf r) (stage : k ≡ stageOf r) (goes : going f ≡ true) where
-  here : Good W s t (g .lo) (g .hi) (blockIn 256 W p f k r)
-  unfolding blockOf
+module _ (W : List ℕ) (s t : ℕ) (r : List ℕ) (g : RoomLeftInForm W s t r) (p : ℕ) (f : Phase) (k : ℕ) (part : p ≡ partOf r) (phase : f ≡ phaseOf r) (stage : k ≡ stageOf r) (goes : going f ≡ true) where
+  here : LeftInForm W s t (g .lo) (g .hi) (stateBlock 256 W p f k r)
+  unfolding roomBlock
   here = rw (part, phase, stage) (g .good)
 
   pub ahead : Ahead W p
-  unfolding blockIn
+  unfolding stateBlock
   ahead = record {
     parts = parts;
-    fits = omega (arith, after-fits W s t (g .lo) (g .hi) (blockIn 256 W p f k r) here goes, here .within);
+    fits = omega (arith, after-fits W s t (g .lo) (g .hi) (stateBlock 256 W p f k r) here goes, here .within);
     inside = omega (arith, parts-first W s t (g .hi) p (parts .parts) .header, here .within);
   }
     where
@@ -162,21 +162,21 @@ module _ (W : List ℕ) (s t : ℕ) (r : List ℕ) (g : GoodIn W s t r) (p : ℕ
       parts = record { s = s; t = t; e = g .hi; within = here .within; parts = here .parts goes }
 
   pub stage-inside : f ≡ toStage → k ≤ stagesAt W p
-  unfolding blockIn
+  unfolding stateBlock
   stage-inside e = omega (arith, here .stage e)
 
 -- ---- all blocks
 
 module _ (W room : List ℕ) where
-  left-one : (m i : ℕ) → allLeft 256 W (blocksIn W room (suc m) i) ≡ turnsLeft 256 W (phaseOf (roomOf room i)) (blockOf W (roomOf room i)) + allLeft 256 W (blocksIn W room m (i + 1))
-  unfolding allLeft blocksIn blockOf blockIn
+  left-one : (m i : ℕ) → allLeft 256 W (blocksIn W room (suc m) i) ≡ turnsLeft 256 W (phaseOf (roomOf room i)) (roomBlock W (roomOf room i)) + allLeft 256 W (blocksIn W room m (i + 1))
+  unfolding allLeft blocksIn roomBlock stateBlock
   left-one m i = refl
 
   left-none : (i : ℕ) → allLeft 256 W (blocksIn W room 0 i) ≡ 0
   unfolding allLeft blocksIn
   left-none i = refl
 
-  pub left-next : (m i sum x goal : ℕ) → i < m → x ≡ turnsLeft 256 W (phaseOf (roomOf room i)) (blockOf W (roomOf room i))
+  pub left-next : (m i sum x goal : ℕ) → i < m → x ≡ turnsLeft 256 W (phaseOf (roomOf room i)) (roomBlock W (roomOf room i))
       → sum + allLeft 256 W (blocksIn W room (m - i) i) ≡ goal → sum + x + allLeft 256 W (blocksIn W room (m - (i + 1)) (i + 1)) ≡ goal
   left-next m i sum x goal l e q =
       let n : m - i ≡ suc (m - (i + 1)) = omega arith in
@@ -189,17 +189,17 @@ module _ (W room : List ℕ) where
       let a : allLeft 256 W (blocksIn W room (m - i) i) ≡ 0 = ap (λ (y : ℕ). allLeft 256 W (blocksIn W room y i)) n ∙ left-none i in
       omega (arith, a, q)
 
-  module _ (starts : List ℕ) (s t : ℕ) (g : Goods W starts s t room) where
+  module _ (starts : List ℕ) (s t : ℕ) (g : AllLeftInForm W starts s t room) where
     -- no more than the words of the blocks
     range-bound : (m i : ℕ) → i + m ≤ length starts - 1 → allLeft 256 W (blocksIn W room m i) + getD starts i 0 ≤ getD starts (i + m) 0
-    unfolding blockOf blockIn
+    unfolding roomBlock stateBlock
     range-bound zero i h = omega (arith, left-none i, ap (λ (x : ℕ). getD starts x 0) (add-zero i))
     range-bound (suc m) i h =
         let there : i + 1 + m ≡ i + suc m = omega arith in
         omega (
           arith,
           left-one m i,
-          left-bound W s t (getD starts i 0) (getD starts (i + 1) 0) (blockOf W (roomOf room i)) (g .each i (omega arith)) (phaseOf (roomOf room i)) refl,
+          left-bound W s t (getD starts i 0) (getD starts (i + 1) 0) (roomBlock W (roomOf room i)) (g .each i (omega arith)) (phaseOf (roomOf room i)) refl,
           range-bound m (i + 1) (omega arith),
           ap (λ (x : ℕ). getD starts x 0) there,
         )

@@ -1,5 +1,5 @@
 pub mod StateLaws
-pub mod GoodLaws
+pub mod LeftInFormLaws
 pub mod TakingLaws
 pub mod LeftLaws
-pub mod AnswerLaws
+pub mod RunAnswerLaws

@@ -15,12 +15,12 @@ use Rattle.words.proofs.TestLaws.{not-both}
 use Rattle.words.proofs.ListLaws.{put-sets}
 use Rattle.run_machine.specs.Part.{stagesAt, normalAt}
 use Rattle.run_machine.specs.Turn.{Phase, toRead, toStage, toStore, finished, Block, begins, ended}
-use Rattle.run_machine.specs.Room.{blockRoom, capturedFrom, partLow, stateWords}
+use Rattle.run_machine.specs.Room.{blockRoom, capturedFrom, partLow, blockStateWords}
 use Rattle.run_machine.specs.Run.{blocksFrom}
-use Rattle.run_turns.specs.Block.{holds, held, blockIn}
+use Rattle.run_turns.specs.Block.{holds, held, stateBlock}
 use Rattle.run_machine.proofs.SetsLaws.{sets-in, sets-under, sets-over}
-use Rattle.run_machine.proofs.RoomLaws.{part-long, part-ext, state-part, state-phase, state-stage, state-positions, state-captured}
-use Rattle.run.specs.States.{roomOf, blockOf, blocksIn}
+use Rattle.run_machine.proofs.BlockRoomLaws.{part-long, part-ext, state-part, state-phase, state-stage, state-positions, state-captured}
+use Rattle.run.specs.States.{roomOf, roomBlock, blocksIn}
 
 -- ---- the rooms of blocks
 
@@ -84,16 +84,16 @@ kept toStore l l′ e = e refl
 kept finished l l′ e = refl
 
 pub stored-block : (W room : List ℕ) (p : ℕ) (f : Phase) (k : ℕ) → length room ≡ blockRoom → (holds f ≡ true → normalAt W p ≤ 256)
-    → blockOf W (sets room partLow (stateWords p f k)) ≡ blockIn 256 W p f k room
-unfolding blockOf blockIn
+    → roomBlock W (sets room partLow (blockStateWords p f k)) ≡ stateBlock 256 W p f k room
+unfolding roomBlock stateBlock
 stored-block W room p f k long few =
-    ap₃ (λ (x : ℕ) (y : Phase) (z : ℕ). blockIn 256 W x y z S) (state-part room p f k long) (state-phase room p f k long) (state-stage room p f k long)
+    ap₃ (λ (x : ℕ) (y : Phase) (z : ℕ). stateBlock 256 W x y z S) (state-part room p f k long) (state-phase room p f k long) (state-stage room p f k long)
     ∙ ap₂ (block p f k)
     (kept f (take 256 S) (take 256 room) (λ h. state-positions room p f k long))
     (kept f (take (normalAt W p) (drop capturedFrom S)) (take (normalAt W p) (drop capturedFrom room)) (λ h. state-captured room p f k long (normalAt W p) (few h)))
   where
     S : List ℕ
-    S = sets room partLow (stateWords p f k)
+    S = sets room partLow (blockStateWords p f k)
 
 -- ---- a block that begins needs nothing of its room
 
@@ -112,10 +112,10 @@ module _ (W : List ℕ) (o : ℕ) (room : List ℕ) where
   begun false = refl
 
   pub stored-begins : (p : ℕ) (f : Phase) (k : ℕ) → length room ≡ blockRoom → p ≡ o → f ≡ begins W o .phase → k ≡ 0
-      → blockOf W (sets room partLow (stateWords p f k)) ≡ begins W o
-  unfolding blockIn begins
+      → roomBlock W (sets room partLow (blockStateWords p f k)) ≡ begins W o
+  unfolding stateBlock begins
   stored-begins p f k long e g h =
-      ap₃ (λ (p : ℕ) (f : Phase) (k : ℕ). blockOf W (sets room partLow (stateWords p f k))) e g h
+      ap₃ (λ (p : ℕ) (f : Phase) (k : ℕ). roomBlock W (sets room partLow (blockStateWords p f k))) e g h
       ∙ stored-block W room o (begins W o .phase) 0 long (λ a. absurd (first-free (eqb (stagesAt W o) 0) a))
       ∙ begun (eqb (stagesAt W o) 0)
 
@@ -125,56 +125,56 @@ module _ (W room room′ : List ℕ) where
   pub blocks-same : (m i : ℕ) → ((b : ℕ) → i ≤ b → b < i + m → roomOf room′ b ≡ roomOf room b) → blocksIn W room′ m i ≡ blocksIn W room m i
   unfolding blocksIn
   blocks-same zero i h = refl
-  blocks-same (suc m) i h = ap₂ _∷_ (ap (blockOf W) (h i (omega arith) (omega arith))) (blocks-same m (i + 1) (λ b l u. h b (omega arith) (omega arith)))
+  blocks-same (suc m) i h = ap₂ _∷_ (ap (roomBlock W) (h i (omega arith) (omega arith))) (blocks-same m (i + 1) (λ b l u. h b (omega arith) (omega arith)))
 
   -- block i + t is another one
-  pub blocks-set : (m i t : ℕ) (x : Block) → t < m → ((b : ℕ) → i ≤ b → b < i + m → (b ≡ i + t → ⊥) → roomOf room′ b ≡ roomOf room b) → blockOf W (roomOf room′ (i + t)) ≡ x
+  pub blocks-set : (m i t : ℕ) (x : Block) → t < m → ((b : ℕ) → i ≤ b → b < i + m → (b ≡ i + t → ⊥) → roomOf room′ b ≡ roomOf room b) → roomBlock W (roomOf room′ (i + t)) ≡ x
       → blocksIn W room′ m i ≡ set (blocksIn W room m i) t x
   unfolding blocksIn
   blocks-set zero i t x l h e = absurd (omega arith)
   blocks-set (suc m) i zero x l h e =
-      ap₂ _∷_ (ap (λ (b : ℕ). blockOf W (roomOf room′ b)) (sym (add-zero i)) ∙ e)
+      ap₂ _∷_ (ap (λ (b : ℕ). roomBlock W (roomOf room′ b)) (sym (add-zero i)) ∙ e)
       (blocks-same m (i + 1) (λ b k u. h b (omega arith) (omega arith) (λ (q : b ≡ i + 0). omega arith)))
   blocks-set (suc m) i (suc t) x l h e =
       let there : i + 1 + t ≡ i + suc t = omega arith in
-      ap₂ _∷_ (ap (blockOf W) (h i (omega arith) (omega arith) (λ (q : i ≡ i + suc t). omega arith)))
-      (blocks-set m (i + 1) t x (omega arith) (λ b k u n. h b (omega arith) (omega arith) (λ (q : b ≡ i + suc t). n (omega arith))) (ap (λ (b : ℕ). blockOf W (roomOf room′ b)) there ∙ e))
+      ap₂ _∷_ (ap (roomBlock W) (h i (omega arith) (omega arith) (λ (q : i ≡ i + suc t). omega arith)))
+      (blocks-set m (i + 1) t x (omega arith) (λ b k u n. h b (omega arith) (omega arith) (λ (q : b ≡ i + suc t). n (omega arith))) (ap (λ (b : ℕ). roomBlock W (roomOf room′ b)) there ∙ e))
 
-pub blocks-at : (W room : List ℕ) (m i t : ℕ) (d : Block) → t < m → getD (blocksIn W room m i) t d ≡ blockOf W (roomOf room (i + t))
+pub blocks-at : (W room : List ℕ) (m i t : ℕ) (d : Block) → t < m → getD (blocksIn W room m i) t d ≡ roomBlock W (roomOf room (i + t))
 unfolding blocksIn
 blocks-at W room zero i t d l = absurd (omega arith)
-blocks-at W room (suc m) i zero d l = ap (λ (b : ℕ). blockOf W (roomOf room b)) (sym (add-zero i))
+blocks-at W room (suc m) i zero d l = ap (λ (b : ℕ). roomBlock W (roomOf room b)) (sym (add-zero i))
 blocks-at W room (suc m) i (suc t) d l =
     let there : i + 1 + t ≡ i + suc t = omega arith in
-    blocks-at W room m (i + 1) t d (omega arith) ∙ ap (λ (b : ℕ). blockOf W (roomOf room b)) there
+    blocks-at W room m (i + 1) t d (omega arith) ∙ ap (λ (b : ℕ). roomBlock W (roomOf room b)) there
 
 -- ---- all blocks begun, as the code begins them
 
 -- the first b blocks
 abbrev pub Begun : List ℕ → List ℕ → List ℕ → ℕ → Type 0
-Begun W starts room b = (a : ℕ) → a < b → blockOf W (roomOf room a) ≡ begins W (getD starts a 0)
+Begun W starts room b = (a : ℕ) → a < b → roomBlock W (roomOf room a) ≡ begins W (getD starts a 0)
 
 pub begun-more : (W starts room : List ℕ) (b : ℕ) (r : List ℕ) → Begun W starts room b → blockRoom * b + blockRoom ≤ length room → length r ≡ blockRoom
-    → blockOf W r ≡ begins W (getD starts b 0) → Begun W starts (lent room b r) (b + 1)
+    → roomBlock W r ≡ begins W (getD starts b 0) → Begun W starts (lent room b r) (b + 1)
 begun-more W starts room b r h fits long e a l =
     ⊎-elim
-    (λ under. ap (blockOf W) (lent-other room b r fits long a (omega arith) (λ (q : a ≡ b). omega arith)) ∙ h a under)
-    (λ over. let q : a ≡ b = omega arith in rw q (ap (blockOf W) (lent-same room b r fits long) ∙ e))
+    (λ under. ap (roomBlock W) (lent-other room b r fits long a (omega arith) (λ (q : a ≡ b). omega arith)) ∙ h a under)
+    (λ over. let q : a ≡ b = omega arith in rw q (ap (roomBlock W) (lent-same room b r fits long) ∙ e))
     (lt-or-ge a b)
 
 -- block b begun in its room
 pub begun-next : (W starts room : List ℕ) (b p : ℕ) (f : Phase) (k : ℕ) (r : List ℕ) → Begun W starts room b → blockRoom * b + blockRoom ≤ length room
-    → p ≡ getD starts b 0 → f ≡ begins W (getD starts b 0) .phase → k ≡ 0 → r ≡ sets (take (size b) (drop (blockRoom * b) room)) partLow (stateWords p f k)
+    → p ≡ getD starts b 0 → f ≡ begins W (getD starts b 0) .phase → k ≡ 0 → r ≡ sets (take (size b) (drop (blockRoom * b) room)) partLow (blockStateWords p f k)
     → (length (lent room b r) ≡ length room) × Begun W starts (lent room b r) (b + 1)
-begun-next W starts room b p f k r h fits e g z is = (lent-long room b r fits long, begun-more W starts room b r h fits long (ap (blockOf W) is′ ∙ stored-begins W (getD starts b 0) (roomOf room b) p f k (room-long room b fits) e g z))
+begun-next W starts room b p f k r h fits e g z is = (lent-long room b r fits long, begun-more W starts room b r h fits long (ap (roomBlock W) is′ ∙ stored-begins W (getD starts b 0) (roomOf room b) p f k (room-long room b fits) e g z))
   where
-    is′ : r ≡ sets (roomOf room b) partLow (stateWords p f k)
-    is′ = is ∙ ap (λ (l : List ℕ). sets l partLow (stateWords p f k)) (lent-room room b)
+    is′ : r ≡ sets (roomOf room b) partLow (blockStateWords p f k)
+    is′ = is ∙ ap (λ (l : List ℕ). sets l partLow (blockStateWords p f k)) (lent-room room b)
 
     long : length r ≡ blockRoom
-    long = ap length is′ ∙ length-sets (roomOf room b) partLow (stateWords p f k) ∙ room-long room b fits
+    long = ap length is′ ∙ length-sets (roomOf room b) partLow (blockStateWords p f k) ∙ room-long room b fits
 
-pub begun-all : (W starts room : List ℕ) (m i : ℕ) → ((b : ℕ) → i ≤ b → b < i + m → blockOf W (roomOf room b) ≡ begins W (getD starts b 0))
+pub begun-all : (W starts room : List ℕ) (m i : ℕ) → ((b : ℕ) → i ≤ b → b < i + m → roomBlock W (roomOf room b) ≡ begins W (getD starts b 0))
     → blocksIn W room m i ≡ blocksFrom W starts m i
 unfolding blocksIn blocksFrom
 begun-all W starts room zero i h = refl
@@ -189,7 +189,7 @@ from-at W starts (suc m) i (suc t) d l =
     let there : i + 1 + t ≡ i + suc t = omega arith in
     from-at W starts m (i + 1) t d (omega arith) ∙ ap (λ (b : ℕ). begins W (getD starts b 0)) there
 
-pub begun-at : (W starts room : List ℕ) (m : ℕ) → blocksIn W room m 0 ≡ blocksFrom W starts m 0 → (b : ℕ) → b < m → blockOf W (roomOf room b) ≡ begins W (getD starts b 0)
+pub begun-at : (W starts room : List ℕ) (m : ℕ) → blocksIn W room m 0 ≡ blocksFrom W starts m 0 → (b : ℕ) → b < m → roomBlock W (roomOf room b) ≡ begins W (getD starts b 0)
 begun-at W starts room m e b l =
-    ap (λ (a : ℕ). blockOf W (roomOf room a)) (sym (zero-add b)) ∙ sym (blocks-at W room m 0 b (ended 0) l) ∙ ap (λ (bs : List Block). getD bs b (ended 0)) e
+    ap (λ (a : ℕ). roomBlock W (roomOf room a)) (sym (zero-add b)) ∙ sym (blocks-at W room m 0 b (ended 0) l) ∙ ap (λ (bs : List Block). getD bs b (ended 0)) e
     ∙ from-at W starts m 0 b (ended 0) l ∙ ap (λ (a : ℕ). begins W (getD starts a 0)) (zero-add b)

@@ -1,3 +1,3 @@
 pub mod States
-pub mod Good
-pub mod Answers
+pub mod LeftInForm
+pub mod RanAnswer

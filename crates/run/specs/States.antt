@@ -6,21 +6,21 @@ use lib.ListN.{take, drop}
 use Rattle.run_machine.specs.Turn.{Block}
 use Rattle.run_machine.specs.Room.{blockRoom, partOf, phaseOf, stageOf}
 use Rattle.run_machine.specs.Run.{Running}
-use Rattle.run_turns.specs.Block.{blockIn}
+use Rattle.run_turns.specs.Block.{stateBlock}
 
 -- the room of block b
 unfoldable pub roomOf : List ℕ → ℕ → List ℕ
 roomOf room b = take blockRoom (drop (blockRoom * b) room)
 
 -- the block in room r
-unfoldable pub blockOf : List ℕ → List ℕ → Block
-blockOf W r = blockIn 256 W (partOf r) (phaseOf r) (stageOf r) r
+unfoldable pub roomBlock : List ℕ → List ℕ → Block
+roomBlock W r = stateBlock 256 W (partOf r) (phaseOf r) (stageOf r) r
 
 -- ---- m blocks from block i on
 
 unfoldable pub blocksIn : List ℕ → List ℕ → ℕ → ℕ → List Block
 blocksIn W room zero i = []
-blocksIn W room (suc m) i = blockOf W (roomOf room i) ∷ blocksIn W room m (i + 1)
+blocksIn W room (suc m) i = roomBlock W (roomOf room i) ∷ blocksIn W room m (i + 1)
 
 -- all m, and the new state
 abbrev pub running : List ℕ → ℕ → List ℕ → List ℕ → Running

@@ -5,8 +5,8 @@ ghost use Prim.Native.Nat.{ℕ, _-_};
 ghost use lib.ListN.{length};
 ghost use Rattle.run_machine.specs.Run.{turnsAfter, turnsLeft, allLeft};
 ghost use Rattle.run_machine.specs.Room.{phaseOf};
-ghost use Rattle.run.specs.States.{blockOf, blocksIn};
-ghost use Rattle.run.specs.Good.{PartsFrom, GoodIn, Goods};
+ghost use Rattle.run.specs.States.{roomBlock, blocksIn};
+ghost use Rattle.run.specs.LeftInForm.{PartsFrom, RoomLeftInForm, AllLeftInForm};
 use run_form::part;
 use run_turns::block::Phase;
 use run_turns::room::BLOCK_ROOM;
@@ -28,8 +28,8 @@ fn turns_after(words: &[u32], at: usize) -> usize
 
 // Those of the block in `room`.
 fn block_left(words: &[u32], room: &[u32]) -> usize
-    requires { ⌜ ((s : ℕ) × (t : ℕ) × GoodIn (now words) s t (now room)) ⌝ }
-    ensures { λ r. ⌜ r ≡ turnsLeft 256 (now (words .entry)) (phaseOf (now (room .entry))) (blockOf (now (words .entry)) (now (room .entry))) ⌝ }
+    requires { ⌜ ((s : ℕ) × (t : ℕ) × RoomLeftInForm (now words) s t (now room)) ⌝ }
+    ensures { λ r. ⌜ r ≡ turnsLeft 256 (now (words .entry)) (phaseOf (now (room .entry))) (roomBlock (now (words .entry)) (now (room .entry))) ⌝ }
 {
     let state = load_state(room);
     let phase = state.phase;
@@ -44,7 +44,7 @@ fn block_left(words: &[u32], room: &[u32]) -> usize
 
 // Those of all blocks.
 pub fn turns_left(words: &[u32], blocks: usize, room: &[u32]) -> usize
-    requires { ⌜ ((starts : List ℕ) × (s : ℕ) × (t : ℕ) × (blocks ≡ length starts - 1) × Goods (now words) starts s t (now room)) ⌝ }
+    requires { ⌜ ((starts : List ℕ) × (s : ℕ) × (t : ℕ) × (blocks ≡ length starts - 1) × AllLeftInForm (now words) starts s t (now room)) ⌝ }
     ensures { λ r. ⌜ r ≡ allLeft 256 (now (words .entry)) (blocksIn (now (words .entry)) (now (room .entry)) blocks 0) ⌝ }
 {
     let mut sum: usize = 0;

@@ -6,9 +6,9 @@ pub mod taking;
 ghost use mathlib.Core.Path.{_≡_};
 ghost use lib.ListN.{length, replicate};
 ghost use Rattle.words.specs.Answer.{refused, atItem};
-ghost use Rattle.run_machine.specs.Run.{runTurns, allLeft, outcome, newAfter, roomAfter};
-ghost use Rattle.run.specs.Good.{Accepted};
-ghost use Rattle.run.specs.Answers.{ranOf};
+ghost use Rattle.run_machine.specs.Run.{runTurns, allLeft, runAnswer, newAfter, runRoomAfter};
+ghost use Rattle.run.specs.LeftInForm.{RunAccepted};
+ghost use Rattle.run.specs.RanAnswer.{ranOf};
 use left::turns_left;
 use run_form::refuse::bad_block;
 use run_form::refuse::bad_turn;
@@ -38,7 +38,7 @@ fn run_well(
     new: &mut [u32],
     rooms: &mut [u32],
 ) -> u64
-    requires { ⌜ Accepted (now words) (now starts) (now turns) (length (now old)) (length (now new)) (now rooms) ⌝ }
+    requires { ⌜ RunAccepted (now words) (now starts) (now turns) (length (now old)) (length (now new)) (now rooms) ⌝ }
     ensures left { λ r. ⌜ r ≡ allLeft 256 (now (words .entry)) (runTurns 256 13 (now (words .entry)) (now (starts .entry)) (now (turns .entry)) (now (old .entry)) (now (new .entry)) .blocks) ⌝ }
     ensures state { λ _. ⌜ now (new .exit) ≡ runTurns 256 13 (now (words .entry)) (now (starts .entry)) (now (turns .entry)) (now (old .entry)) (now (new .entry)) .new ⌝ }
     ensures room { λ _. ⌜ now (rooms .exit) ≡ replicate (length (now (rooms .entry))) 0 ⌝ }
@@ -71,9 +71,9 @@ pub fn run(
     new: &mut [u32],
     room: &mut [u32],
 ) -> Ran
-    ensures answer { λ r. ⌜ r ≡ ranOf (outcome 256 13 (now (words .entry)) (now (starts .entry)) (now (turns .entry)) (now (old .entry)) (now (new .entry)) (length (now (room .entry)))) ⌝ }
-    ensures state { λ _. ⌜ now (new .exit) ≡ newAfter (outcome 256 13 (now (words .entry)) (now (starts .entry)) (now (turns .entry)) (now (old .entry)) (now (new .entry)) (length (now (room .entry)))) (now (new .entry)) ⌝ }
-    ensures room { λ _. ⌜ now (room .exit) ≡ roomAfter (now (starts .entry)) (now (room .entry)) ⌝ }
+    ensures answer { λ r. ⌜ r ≡ ranOf (runAnswer 256 13 (now (words .entry)) (now (starts .entry)) (now (turns .entry)) (now (old .entry)) (now (new .entry)) (length (now (room .entry)))) ⌝ }
+    ensures state { λ _. ⌜ now (new .exit) ≡ newAfter (runAnswer 256 13 (now (words .entry)) (now (starts .entry)) (now (turns .entry)) (now (old .entry)) (now (new .entry)) (length (now (room .entry)))) (now (new .entry)) ⌝ }
+    ensures room { λ _. ⌜ now (room .exit) ≡ runRoomAfter (now (starts .entry)) (now (room .entry)) ⌝ }
 {
     if room.len() / BLOCK_ROOM < blocks_of(starts) {
         return refuse(ROOM_SHORT, 0);

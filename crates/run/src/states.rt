@@ -2,7 +2,7 @@
 ghost use mathlib.Core.Path.{_≡_};
 ghost use Rattle.run_machine.specs.Run.{blocksFrom};
 ghost use Rattle.run.specs.States.{blocksIn};
-ghost use Rattle.run.specs.Good.{Beginnings};
+ghost use Rattle.run.specs.LeftInForm.{Beginnings};
 use run_turns::block::BlockState;
 use run_turns::room::BLOCK_ROOM;
 use run_turns::room::store_state;

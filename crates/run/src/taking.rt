@@ -6,17 +6,17 @@ ghost use lib.ListN.{length};
 ghost use Rattle.run_machine.specs.Turn.{turned, written};
 ghost use Rattle.run_machine.specs.Run.{runFrom};
 ghost use Rattle.run_machine.specs.Room.{phaseOf};
-ghost use Rattle.run.specs.States.{blockOf, running};
-ghost use Rattle.run.specs.Good.{GoodIn, Goods, Named};
+ghost use Rattle.run.specs.States.{roomBlock, running};
+ghost use Rattle.run.specs.LeftInForm.{RoomLeftInForm, AllLeftInForm, TurnsNamed};
 use run_turns::room::BLOCK_ROOM;
 use run_turns::room::load_state;
 use run_turns::room::store_state;
 
 // One turn of the block in `room`.
 fn one_turn(words: &[u32], old: &[u32], new: &mut [u32], room: &mut [u32])
-    requires { ⌜ GoodIn (now words) (length (now old)) (length (now new)) (now room) ⌝ }
-    ensures block { λ _. ⌜ blockOf (now (words .entry)) (now (room .exit)) ≡ turned 256 13 (now (words .entry)) (now (old .entry)) (phaseOf (now (room .entry))) (blockOf (now (words .entry)) (now (room .entry))) (now (new .entry)) ⌝ }
-    ensures state { λ _. ⌜ now (new .exit) ≡ written 256 (now (words .entry)) (now (old .entry)) (phaseOf (now (room .entry))) (blockOf (now (words .entry)) (now (room .entry))) (now (new .entry)) ⌝ }
+    requires { ⌜ RoomLeftInForm (now words) (length (now old)) (length (now new)) (now room) ⌝ }
+    ensures block { λ _. ⌜ roomBlock (now (words .entry)) (now (room .exit)) ≡ turned 256 13 (now (words .entry)) (now (old .entry)) (phaseOf (now (room .entry))) (roomBlock (now (words .entry)) (now (room .entry))) (now (new .entry)) ⌝ }
+    ensures state { λ _. ⌜ now (new .exit) ≡ written 256 (now (words .entry)) (now (old .entry)) (phaseOf (now (room .entry))) (roomBlock (now (words .entry)) (now (room .entry))) (now (new .entry)) ⌝ }
 {
     let state = load_state(room).turn(words, old, new, room);
     store_state(room, state);
@@ -24,9 +24,9 @@ fn one_turn(words: &[u32], old: &[u32], new: &mut [u32], room: &mut [u32])
 
 // All turns, in their order.
 pub fn take_turns(words: &[u32], turns: &[u32], old: &[u32], new: &mut [u32], room: &mut [u32])
-    requires { ⌜ ((starts : List ℕ) × Goods (now words) starts (length (now old)) (length (now new)) (now room) × Named starts (now turns)) ⌝ }
-    ensures good { λ _. ⌜ ((starts : List ℕ) → Goods (now (words .entry)) starts (length (now (old .entry))) (length (now (new .entry))) (now (room .entry)) → Named starts (now (turns .entry)) → Goods (now (words .entry)) starts (length (now (old .entry))) (length (now (new .entry))) (now (room .exit))) ⌝ }
-    ensures run { λ _. ⌜ ((starts : List ℕ) → Goods (now (words .entry)) starts (length (now (old .entry))) (length (now (new .entry))) (now (room .entry)) → Named starts (now (turns .entry)) → running (now (words .entry)) (length starts - 1) (now (room .exit)) (now (new .exit)) ≡ runFrom 256 13 (now (words .entry)) (now (old .entry)) (running (now (words .entry)) (length starts - 1) (now (room .entry)) (now (new .entry))) (now (turns .entry))) ⌝ }
+    requires { ⌜ ((starts : List ℕ) × AllLeftInForm (now words) starts (length (now old)) (length (now new)) (now room) × TurnsNamed starts (now turns)) ⌝ }
+    ensures good { λ _. ⌜ ((starts : List ℕ) → AllLeftInForm (now (words .entry)) starts (length (now (old .entry))) (length (now (new .entry))) (now (room .entry)) → TurnsNamed starts (now (turns .entry)) → AllLeftInForm (now (words .entry)) starts (length (now (old .entry))) (length (now (new .entry))) (now (room .exit))) ⌝ }
+    ensures run { λ _. ⌜ ((starts : List ℕ) → AllLeftInForm (now (words .entry)) starts (length (now (old .entry))) (length (now (new .entry))) (now (room .entry)) → TurnsNamed starts (now (turns .entry)) → running (now (words .entry)) (length starts - 1) (now (room .exit)) (now (new .exit)) ≡ runFrom 256 13 (now (words .entry)) (now (old .entry)) (running (now (words .entry)) (length starts - 1) (now (room .entry)) (now (new .entry))) (now (turns .entry))) ⌝ }
 {
     let mut i = 0;
     while i < turns.len() {

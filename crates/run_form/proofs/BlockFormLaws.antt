@@ -12,44 +12,44 @@ use Rattle.words.specs.Tests.{allBelow}
 use Rattle.words.proofs.TestLaws.{and-true}
 use Rattle.run_machine.specs.Part.{stagesAt, lastAt, endAt}
 use Rattle.run_machine.specs.Run.{entriesForm, locationsForm, lanesForm, readsForm, storesForm, partForm, partsForm, emptyBlock, blockForm}
-use Rattle.run_form.specs.Form.{headForm, bodyForm}
-use Rattle.run_form.proofs.FormLaws.{in-form}
+use Rattle.run_form.specs.PartForm.{partNumbersForm, bodyForm}
+use Rattle.run_form.proofs.PartWellLaws.{in-form}
 
 -- word 1 of a part
-pub mark-last : (x y : ℕ) → x ≡ y → _≡_ {A = ℕ} 1 (elim (eqb x y) [ true ↦ 1 | false ↦ 0 ])
-mark-last x y h = rw (eq-eqb x y h)
+pub part-mark-last : (x y : ℕ) → x ≡ y → _≡_ {A = ℕ} 1 (elim (eqb x y) [ true ↦ 1 | false ↦ 0 ])
+part-mark-last x y h = rw (eq-eqb x y h)
 
-pub mark-more : (x y : ℕ) → (x ≡ y → ⊥) → _≡_ {A = ℕ} 0 (elim (eqb x y) [ true ↦ 1 | false ↦ 0 ])
-mark-more x y h = rw (ne-eqb x y h)
+pub part-mark-more : (x y : ℕ) → (x ≡ y → ⊥) → _≡_ {A = ℕ} 0 (elim (eqb x y) [ true ↦ 1 | false ↦ 0 ])
+part-mark-more x y h = rw (ne-eqb x y h)
 
 -- ---- a part's numbers
 
 module _ (n : ℕ) (W : List ℕ) (e o : ℕ) where
-  pub head-short : e < o + n → false ≡ headForm n W e o
-  unfolding headForm
-  head-short h = rw (lt-leb (o + n) e h, headForm)
+  pub head-short : e < o + n → false ≡ partNumbersForm n W e o
+  unfolding partNumbersForm
+  head-short h = rw (lt-leb (o + n) e h, partNumbersForm)
 
   module _ (fits : o + n ≤ e) where
-    pub head-none : stagesAt W o < 1 → false ≡ headForm n W e o
-    unfolding headForm
-    head-none h = rw (le-leb (o + n) e fits, lt-leb 1 (stagesAt W o) h, headForm)
+    pub head-none : stagesAt W o < 1 → false ≡ partNumbersForm n W e o
+    unfolding partNumbersForm
+    head-none h = rw (le-leb (o + n) e fits, lt-leb 1 (stagesAt W o) h, partNumbersForm)
 
     module _ (some : 1 ≤ stagesAt W o) where
-      pub head-many : 255 < stagesAt W o → false ≡ headForm n W e o
-      unfolding headForm
-      head-many h = rw (le-leb (o + n) e fits, le-leb 1 (stagesAt W o) some, lt-leb (stagesAt W o) 255 h, headForm)
+      pub head-many : 255 < stagesAt W o → false ≡ partNumbersForm n W e o
+      unfolding partNumbersForm
+      head-many h = rw (le-leb (o + n) e fits, le-leb 1 (stagesAt W o) some, lt-leb (stagesAt W o) 255 h, partNumbersForm)
 
       module _ (few : stagesAt W o ≤ 255) (x : ℕ) (is : x ≡ endAt n W o) where
-        pub head-long : e < x → leb x e ≡ headForm n W e o
-        unfolding headForm
-        head-long h = rw (← is, le-leb (o + n) e fits, le-leb 1 (stagesAt W o) some, le-leb (stagesAt W o) 255 few, lt-leb x e h, headForm)
+        pub head-long : e < x → leb x e ≡ partNumbersForm n W e o
+        unfolding partNumbersForm
+        head-long h = rw (← is, le-leb (o + n) e fits, le-leb 1 (stagesAt W o) some, le-leb (stagesAt W o) 255 few, lt-leb x e h, partNumbersForm)
 
-        pub head-last : x ≤ e → (m : ℕ) → m ≡ elim (eqb x e) [ true ↦ 1 | false ↦ 0 ] → eqb (lastAt W o) m ≡ headForm n W e o
-        unfolding headForm
-        head-last h m q = rw (← is, le-leb (o + n) e fits, le-leb 1 (stagesAt W o) some, le-leb (stagesAt W o) 255 few, le-leb x e h, headForm, q)
+        pub head-last : x ≤ e → (m : ℕ) → m ≡ elim (eqb x e) [ true ↦ 1 | false ↦ 0 ] → eqb (lastAt W o) m ≡ partNumbersForm n W e o
+        unfolding partNumbersForm
+        head-last h m q = rw (← is, le-leb (o + n) e fits, le-leb 1 (stagesAt W o) some, le-leb (stagesAt W o) 255 few, le-leb x e h, partNumbersForm, q)
 
-  pub head-ends : headForm n W e o ≡ true → (o + n ≤ e) × (endAt n W o ≤ e)
-  unfolding headForm
+  pub head-ends : partNumbersForm n W e o ≡ true → (o + n ≤ e) × (endAt n W o ≤ e)
+  unfolding partNumbersForm
   head-ends h =
       let c₁ = leb (o + n) e in
       let c₂ = leb 1 (stagesAt W o) in
@@ -88,18 +88,18 @@ module _ (n : ℕ) (W : List ℕ) (s t o : ℕ) where
 
 -- ---- a part
 
-pub part-split : (n : ℕ) (W : List ℕ) (s t e o : ℕ) → (headForm n W e o && bodyForm n W s t o) ≡ partForm n W s t e o
-unfolding headForm bodyForm partForm
-part-split n W s t e o = by (headForm n W e o) (storesForm n W s t o) (locationsForm n W o) (lanesForm n W o) (readsForm n W s t o) (entriesForm n W o)
+pub part-split : (n : ℕ) (W : List ℕ) (s t e o : ℕ) → (partNumbersForm n W e o && bodyForm n W s t o) ≡ partForm n W s t e o
+unfolding partNumbersForm bodyForm partForm
+part-split n W s t e o = by (partNumbersForm n W e o) (storesForm n W s t o) (locationsForm n W o) (lanesForm n W o) (readsForm n W s t o) (entriesForm n W o)
   where
     by : (h a b c d f : Bool) → (h && (a && b && c && d && f)) ≡ (h && a && b && c && d && f)
     by true a b c d f = refl
     by false a b c d f = refl
 
-pub part-bad : (n : ℕ) (W : List ℕ) (s t e o : ℕ) → headForm n W e o ≡ false → false ≡ partForm n W s t e o
+pub part-bad : (n : ℕ) (W : List ℕ) (s t e o : ℕ) → partNumbersForm n W e o ≡ false → false ≡ partForm n W s t e o
 part-bad n W s t e o h = ap (λ (x : Bool). x && bodyForm n W s t o) (sym h) ∙ part-split n W s t e o
 
-pub part-rest : (n : ℕ) (W : List ℕ) (s t e o : ℕ) (r : Bool) → headForm n W e o ≡ true → r ≡ bodyForm n W s t o → r ≡ partForm n W s t e o
+pub part-rest : (n : ℕ) (W : List ℕ) (s t e o : ℕ) (r : Bool) → partNumbersForm n W e o ≡ true → r ≡ bodyForm n W s t o → r ≡ partForm n W s t e o
 part-rest n W s t e o r h q = q ∙ ap (λ (x : Bool). x && bodyForm n W s t o) (sym h) ∙ part-split n W s t e o
 
 -- ---- the parts: o is where the next one begins, and f are enough for those that are left

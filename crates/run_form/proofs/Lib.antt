@@ -1,6 +1,6 @@
 pub mod HalfLaws
-pub mod FormLaws
-pub mod EntryLaws
+pub mod PartWellLaws
+pub mod SectionEntryLaws
 pub mod TestCodeLaws
 pub mod BlockFormLaws
 pub mod RefuseLaws

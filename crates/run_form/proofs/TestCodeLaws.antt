@@ -10,7 +10,7 @@ use Rattle.words.specs.Bit.{pop}
 use Rattle.words.proofs.PopLaws.{pop-le}
 use Rattle.run_machine.specs.Part.{writeOutsAt, startAt, sramsAt, duplicatesAt, normalAt}
 use Rattle.run_machine.specs.Run.{storesForm}
-use Rattle.run_form.specs.Form.{readForm}
+use Rattle.run_form.specs.PartForm.{readForm}
 
 pub or-then : (a b : Bool) → a ≡ true → a ≡ (a || b)
 or-then a b h = rw h
@@ -29,8 +29,8 @@ read-inside w m s t x d e h = rw (ne-eqb m 0 d, ← e, lt-ltb x s h)
 pub read-outside : (w m s t x : ℕ) → (m ≡ 0 → ⊥) → x ≡ w % 2 ^ 31 → s ≤ x → ltb x s ≡ readForm w m s t
 read-outside w m s t x d e h = rw (ne-eqb m 0 d, ← e, le-ltb x s h)
 
-pub count-small : (r x m : ℕ) → r ≡ x → x ≡ pop m → r ≤ 32
-count-small r x m e f = rw (e, f) (pop-le m)
+pub mask-count-small : (r x m : ℕ) → r ≡ x → x ≡ pop m → r ≤ 32
+mask-count-small r x m e f = rw (e, f) (pop-le m)
 
 -- ---- the stores, of the numbers that the code has
 

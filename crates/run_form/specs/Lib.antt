@@ -1,2 +1,2 @@
 pub mod Well
-pub mod Form
+pub mod PartForm

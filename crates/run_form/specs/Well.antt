@@ -16,7 +16,7 @@ pub record PartIn (n : ℕ) (W : List ℕ) (o : ℕ) : Type 0 where
   pub inside : o + partWords n (roundsAt W o) (stagesAt W o) ≤ length W
 
 -- "normal words (word 2 less words 4 and 7) 0..=256"
-pub record Countable (n : ℕ) (W : List ℕ) (o : ℕ) : Type 0 where
+pub record NormalRange (n : ℕ) (W : List ℕ) (o : ℕ) : Type 0 where
   pub exact : sramsAt W o + duplicatesAt W o ≤ writeOutsAt W o
   pub few : normalAt W o ≤ n
 

@@ -11,8 +11,8 @@ ghost use Rattle.words.specs.Bit.{pop};
 ghost use Rattle.words.specs.Tests.{allBelow};
 ghost use Rattle.run_machine.specs.Part.{stagesAt, roundsAt, locationIn, readWordAt, readMaskAt, entryAt};
 ghost use Rattle.run_machine.specs.Run.{entriesForm, locationsForm, lanesForm, readsForm, storesForm, partForm, partsForm, emptyBlock, blockForm};
-ghost use Rattle.run_form.specs.Well.{PartIn, Countable};
-ghost use Rattle.run_form.specs.Form.{readForm, headForm, bodyForm};
+ghost use Rattle.run_form.specs.Well.{PartIn, NormalRange};
+ghost use Rattle.run_form.specs.PartForm.{readForm, partNumbersForm, bodyForm};
 
 // Both halves of a word of a permutation are positions.
 fn halves_form(x: u32) -> bool
@@ -64,7 +64,7 @@ fn location_form(words: &[u32], at: usize, l: usize) -> bool
 
 // Every normal location.
 pub fn locations_form(words: &[u32], at: usize) -> bool
-    requires { ⌜ PartIn 256 (now words) at × Countable 256 (now words) at ⌝ }
+    requires { ⌜ PartIn 256 (now words) at × NormalRange 256 (now words) at ⌝ }
     ensures { λ r. ⌜ r ≡ locationsForm 256 (now (words .entry)) at ⌝ }
 {
     let normal = part::normal(words, at);
@@ -170,7 +170,7 @@ fn last_mark(end: usize, e: usize) -> u32
 // The numbers of the part at word `at`, which ends by word e.
 fn head_form(words: &[u32], at: usize, e: usize) -> bool
     requires { ⌜ (at ≤ e) × (e ≤ length (now words)) ⌝ }
-    ensures { λ r. ⌜ r ≡ headForm 256 (now (words .entry)) e at ⌝ }
+    ensures { λ r. ⌜ r ≡ partNumbersForm 256 (now (words .entry)) e at ⌝ }
 {
     if e - at < 256 {
         return false;

@@ -1,4 +1,4 @@
 pub mod SetsLaws
-pub mod StageLaws
+pub mod StageBitLaws
 pub mod TurnLaws
-pub mod RoomLaws
+pub mod BlockRoomLaws

@@ -4,7 +4,7 @@
 use mathlib.Core.List.{List}
 use Prim.Native.Nat.{ℕ, _+_, _*_, _-_, _/_, _%_}
 use lib.ListN.{getD}
-use Rattle.words.specs.Section.{placeOf, halfOf}
+use Rattle.words.specs.Section.{wordOfEntry, halfOf}
 use Rattle.words.specs.Edition.{partWords, sectionWords}
 
 abbrev pub stagesAt : List ℕ → ℕ → ℕ
@@ -53,7 +53,7 @@ sectionAt n W o k = o + n + 2 * n * roundsAt W o + sectionWords n * k
 
 -- entry i of section k, and word h of its lane w
 unfoldable pub entryAt : ℕ → List ℕ → ℕ → ℕ → ℕ → ℕ
-entryAt n W o k i = halfOf (getD W (sectionAt n W o k + placeOf n i) 0) (i % 2)
+entryAt n W o k i = halfOf (getD W (sectionAt n W o k + wordOfEntry n i) 0) (i % 2)
 
 unfoldable pub laneWordAt : ℕ → List ℕ → ℕ → ℕ → ℕ → ℕ → ℕ
 laneWordAt n W o k w h = getD W (sectionAt n W o k + 16 * n + 4 * w + h) 0

@@ -55,5 +55,5 @@ abbrev pub stageOf : List ℕ → ℕ
 stageOf r = getD r stageWord 0
 
 -- its words, from `partLow` on
-unfoldable pub stateWords : (part : ℕ) → Phase → (stage : ℕ) → List ℕ
-stateWords part phase stage = (part % 2 ^ 32) ∷ (part / 2 ^ 32) ∷ phaseCode phase ∷ stage ∷ []
+unfoldable pub blockStateWords : (part : ℕ) → Phase → (stage : ℕ) → List ℕ
+blockStateWords part phase stage = (part % 2 ^ 32) ∷ (part / 2 ^ 32) ∷ phaseCode phase ∷ stage ∷ []

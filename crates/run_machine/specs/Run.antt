@@ -134,8 +134,8 @@ ran k new = good (record { left = k; new = new })
 abbrev pub runWell : ℕ → ℕ → List ℕ → Running → Answer Ran
 runWell n H W s = ran (allLeft n W (s .blocks)) (s .new)
 
-unfoldable pub outcome : ℕ → ℕ → List ℕ → List ℕ → List ℕ → List ℕ → List ℕ → ℕ → Answer Ran
-outcome n H W starts turns old new room =
+unfoldable pub runAnswer : ℕ → ℕ → List ℕ → List ℕ → List ℕ → List ℕ → List ℕ → ℕ → Answer Ran
+runAnswer n H W starts turns old new room =
     elim (leb (blockRoom * (length starts - 1)) room) [
       | false ↦ refused (nowhere 32)
       | true ↦
@@ -154,5 +154,5 @@ unfoldable pub newAfter : Answer Ran → List ℕ → List ℕ
 newAfter (good x) before = x .new
 newAfter (refused q) before = before
 
-unfoldable pub roomAfter : List ℕ → List ℕ → List ℕ
-roomAfter starts room = elim (leb (blockRoom * (length starts - 1)) (length room)) [ false ↦ room | true ↦ replicate (length room) 0 ]
+unfoldable pub runRoomAfter : List ℕ → List ℕ → List ℕ
+runRoomAfter starts room = elim (leb (blockRoom * (length starts - 1)) (length room)) [ false ↦ room | true ↦ replicate (length room) 0 ]

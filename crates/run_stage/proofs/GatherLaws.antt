@@ -11,25 +11,25 @@ use lib.Pow.{shl-exact, pow-add}
 use lib.Arith.{digits-lt}
 use lib.ListN.{length, getD, set}
 use Rattle.words.specs.Bit.{bit, bitAt}
-use Rattle.words.specs.Section.{placeOf, halfOf, halfAt}
+use Rattle.words.specs.Section.{wordOfEntry, halfOf, halfAt}
 use Rattle.words.proofs.BitLaws.{lt-or-ge, at-lt, bit-low, bit-high, bit-first, bit-suc}
 use Rattle.run_form.specs.Well.{Entries}
-use Rattle.run_stage.specs.Fill.{Filled}
+use Rattle.run_stage.specs.StoreLoop.{Filled}
 use Rattle.run_stage.specs.Gather.{GatherBits, Gathered}
-use Rattle.run_stage.proofs.FillLaws.{filled-none, filled-more}
+use Rattle.run_stage.proofs.StoreLoopLaws.{filled-none, filled-more}
 use Rattle.run_form.proofs.HalfLaws.{half-high}
 
 -- entries 32j + 2h and 32j + 2h + 1 are the halves of one word
-pair-place : (n j h : ℕ) → h < 16 → placeOf n (32 * j + 2 * h) ≡ h / 4 * (4 * n) + (4 * j + h % 4)
-unfolding placeOf
+pair-place : (n j h : ℕ) → h < 16 → wordOfEntry n (32 * j + 2 * h) ≡ h / 4 * (4 * n) + (4 * j + h % 4)
+unfolding wordOfEntry
 pair-place n j h l =
     let a : (32 * j + 2 * h) / 8 % 4 ≡ h / 4 = omega arith in
     let b : (32 * j + 2 * h) / 32 ≡ j = omega arith in
     let c : (32 * j + 2 * h) % 8 / 2 ≡ h % 4 = omega arith in
     rw (a, b, c) (omega arith)
 
-pair-next : (n j h : ℕ) → h < 16 → placeOf n (32 * j + 2 * h + 1) ≡ h / 4 * (4 * n) + (4 * j + h % 4)
-unfolding placeOf
+pair-next : (n j h : ℕ) → h < 16 → wordOfEntry n (32 * j + 2 * h + 1) ≡ h / 4 * (4 * n) + (4 * j + h % 4)
+unfolding wordOfEntry
 pair-next n j h l =
     let a : (32 * j + 2 * h + 1) / 8 % 4 ≡ h / 4 = omega arith in
     let b : (32 * j + 2 * h + 1) / 32 ≡ j = omega arith in

@@ -11,12 +11,12 @@ use lib.ListN.{length, getD, set, length-set}
 use lib.Seq.{getD-set-same, getD-set-other}
 use Rattle.words.specs.Bit.{bit, bitAt}
 use Rattle.words.proofs.BitLaws.{lt-or-ge, bit-low, bit-high}
-use Rattle.run_stage.specs.Level.{gateOf, laneGate, LevelIn, WordLevel, BitLevel, Low, Staged}
-use Rattle.run_stage.proofs.FillLaws.{filled-more}
+use Rattle.run_stage.specs.Level.{levelWord, laneGate, LevelIn, WordLevel, BitLevel, Low, Staged}
+use Rattle.run_stage.proofs.StoreLoopLaws.{filled-more}
 use Rattle.run_stage.proofs.LowLaws.{bit-gate}
 
 -- one word more of a level
-pub level-more : (t l₀ l : List ℕ) (m w v : ℕ) → LevelIn t l₀ l m w → m ≤ w → w < 2 * m → 4 * m ≤ length l₀ → v ≡ gateOf t l m w → LevelIn t l₀ (set l w v) m (w + 1)
+pub level-more : (t l₀ l : List ℕ) (m w v : ℕ) → LevelIn t l₀ l m w → m ≤ w → w < 2 * m → 4 * m ≤ length l₀ → v ≡ levelWord t l m w → LevelIn t l₀ (set l w v) m (w + 1)
 level-more t l₀ l m w v f lo hi room e = filled-more _ m w l₀ l v f lo (omega arith) (e ∙ rw (f .over (w + m) (omega arith), f .over (w + 2 * m) (omega arith)))
 
 -- from words to bits: a level of m words is a level of 32m slots
@@ -32,20 +32,20 @@ word-level t l m h p lo hi =
 -- ---- the loop over the levels of words
 
 -- the levels of 2 ^ s words and more are right in l, and the gathered words are those of l₀
-pub record Above (t l₀ l : List ℕ) (n s : ℕ) : Type 0 where
+pub record LevelsAbove (t l₀ l : List ℕ) (n s : ℕ) : Type 0 where
   pub long : length l ≡ length l₀
   pub over : (i : ℕ) → n ≤ i → getD l i 0 ≡ getD l₀ i 0
   pub levels : (e : ℕ) → s ≤ e → 2 ^ e < n → WordLevel t l (2 ^ e)
 
 -- m is a power of two, at most n, and the levels of m words and more are right
-pub record Going (t l₀ l : List ℕ) (n m : ℕ) : Type 0 where
+pub record LevelsGoing (t l₀ l : List ℕ) (n m : ℕ) : Type 0 where
   pub s : ℕ
   pub is : m ≡ 2 ^ s
   pub some : 0 < m
   pub within : m ≤ n
-  pub above : Above t l₀ l n s
+  pub above : LevelsAbove t l₀ l n s
 
-pub going-none : (t l : List ℕ) (n k : ℕ) → n ≡ 2 ^ k → Going t l l n n
+pub going-none : (t l : List ℕ) (n k : ℕ) → n ≡ 2 ^ k → LevelsGoing t l l n n
 going-none t l n k e = record {
   s = k;
   is = e;
@@ -54,7 +54,7 @@ going-none t l n k e = record {
   above = record { long = refl; over = λ i h. refl; levels = λ f h lt. absurd (not-le-of-lt lt (rw e (pow-mono h))) };
 }
 
-above-more : (t l₀ l l′ : List ℕ) (n s : ℕ) → Above t l₀ l n (suc s) → 2 ^ suc s ≤ n → LevelIn t l l′ (2 ^ s) (2 * 2 ^ s) → Above t l₀ l′ n s
+above-more : (t l₀ l l′ : List ℕ) (n s : ℕ) → LevelsAbove t l₀ l n (suc s) → 2 ^ suc s ≤ n → LevelIn t l l′ (2 ^ s) (2 * 2 ^ s) → LevelsAbove t l₀ l′ n s
 above-more t l₀ l l′ n s w h u = record {
   long = u .long ∙ w .long;
   over = λ i g. u .over i (omega arith) ∙ w .over i g;
@@ -66,10 +66,10 @@ above-more t l₀ l l′ n s w h u = record {
       (eq-or-lt-of-le se);
 }
 
-pub going-more : (t l₀ l l′ : List ℕ) (n m : ℕ) → Going t l₀ l n m → 1 < m → LevelIn t l l′ (m / 2) (2 * (m / 2)) → Going t l₀ l′ n (m / 2)
+pub going-more : (t l₀ l l′ : List ℕ) (n m : ℕ) → LevelsGoing t l₀ l n m → 1 < m → LevelIn t l l′ (m / 2) (2 * (m / 2)) → LevelsGoing t l₀ l′ n (m / 2)
 going-more t l₀ l l′ n m g lt u = from (g .s) (g .is) (g .above)
   where
-    from : (s : ℕ) → m ≡ 2 ^ s → Above t l₀ l n s → Going t l₀ l′ n (m / 2)
+    from : (s : ℕ) → m ≡ 2 ^ s → LevelsAbove t l₀ l n s → LevelsGoing t l₀ l′ n (m / 2)
     from zero e w = absurd (omega arith)
     from (suc s) e w =
         let h : m / 2 ≡ 2 ^ s = omega arith in record {
@@ -80,10 +80,10 @@ going-more t l₀ l l′ n m g lt u = from (g .s) (g .is) (g .above)
           above = above-more t l₀ l l′ n s w (omega (arith, g .within)) (subst (λ (x : ℕ). LevelIn t l l′ x (2 * x)) h u);
         }
 
-going-end : (t l₀ l : List ℕ) (n m : ℕ) → Going t l₀ l n m → m ≤ 1 → Above t l₀ l n 0
+going-end : (t l₀ l : List ℕ) (n m : ℕ) → LevelsGoing t l₀ l n m → m ≤ 1 → LevelsAbove t l₀ l n 0
 going-end t l₀ l n m g h = from (g .s) (g .is) (g .above)
   where
-    from : (s : ℕ) → m ≡ 2 ^ s → Above t l₀ l n s → Above t l₀ l n 0
+    from : (s : ℕ) → m ≡ 2 ^ s → LevelsAbove t l₀ l n s → LevelsAbove t l₀ l n 0
     from zero e w = w
     from (suc s) e w = absurd (omega (arith, pow-pos s))
 
@@ -106,7 +106,7 @@ two-words l p h r = ⊎-elim under over (lt-or-ge p 32)
         let e : 32 + p % 32 ≡ p = omega arith in
         rw d (sym (bit-high (getD l 1 0) 32 (p % 32) r)) ∙ ap (bit _) e
 
-all-levels : (t l₀ l : List ℕ) (k r : ℕ) → Above t l₀ l (2 ^ k) 0 → 2 * 2 ^ k ≤ length l₀ → r < 2 ^ 32
+all-levels : (t l₀ l : List ℕ) (k r : ℕ) → LevelsAbove t l₀ l (2 ^ k) 0 → 2 * 2 ^ k ≤ length l₀ → r < 2 ^ 32
     → Low (getD l 1 0 * 2 ^ 32 + r) 0 (getD t 0 0) (getD t 1 0) (getD t 2 0) → Staged t l₀ (set l 0 r) k
 unfolding laneGate
 all-levels t l₀ l k r w room rl low =
@@ -149,7 +149,7 @@ all-levels t l₀ l k r w room rl low =
         rw (getD-set-other l 0 i r 0 (omega arith), getD-set-other l 0 (i + m) r 0 (omega arith), getD-set-other l 0 (i + 2 * m) r 0 (omega arith))
         (w .levels (s - 5) (omega arith) (pow-lt (omega arith)) i lo hi)))
 
-pub levels-end : (t l₀ l : List ℕ) (n m k r : ℕ) → Going t l₀ l n m → m ≤ 1 → 2 * n ≤ length l₀ → r < 2 ^ 32
+pub levels-end : (t l₀ l : List ℕ) (n m k r : ℕ) → LevelsGoing t l₀ l n m → m ≤ 1 → 2 * n ≤ length l₀ → r < 2 ^ 32
     → Low (getD l 1 0 * 2 ^ 32 + r) 0 (getD t 0 0) (getD t 1 0) (getD t 2 0) → n ≡ 2 ^ k → Staged t l₀ (set l 0 r) k
 levels-end t l₀ l n m k r g h room rl low e =
-    all-levels t l₀ l k r (subst (λ (n : ℕ). Above t l₀ l n 0) e (going-end t l₀ l n m g h)) (omega arith) rl low
+    all-levels t l₀ l k r (subst (λ (n : ℕ). LevelsAbove t l₀ l n 0) e (going-end t l₀ l n m g h)) (omega arith) rl low

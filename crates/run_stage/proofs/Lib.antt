@@ -1,4 +1,4 @@
-pub mod FillLaws
+pub mod StoreLoopLaws
 pub mod GatherLaws
 pub mod LowLaws
 pub mod LevelLaws

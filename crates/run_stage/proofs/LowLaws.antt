@@ -87,8 +87,8 @@ joined one x h l same = bit-ext 64 _ x (omega arith) l (λ p _. ⊎-elim (λ s. 
         ap (bit _) e ∙ bit-high one 32 (p - 32) (mod-lt x (pow-pos 32))
         ∙ sym (bit-high one 32 (p - 32) (pow-pos 32)) ∙ ap₂ bit (add-zero _) (sym e) ∙ sym (same p g)
 
-pub start-is : (one : ℕ) → one < 2 ^ 32 → (one * 2 ^ 32) % 2 ^ 64 ≡ one * 2 ^ 32
-start-is one h = mod-eq-of-lt (omega arith)
+pub low-start-is : (one : ℕ) → one < 2 ^ 32 → (one * 2 ^ 32) % 2 ^ 64 ≡ one * 2 ^ 32
+low-start-is one h = mod-eq-of-lt (omega arith)
 
 pub low-chain : (one x₁ x₂ x₃ x₄ x₅ xa xb ob : ℕ) → one < 2 ^ 32 → x₅ < 2 ^ 64
     → Stepped ((one * 2 ^ 32) % 2 ^ 64) x₁ 16 xa xb ob → Stepped x₁ x₂ 8 xa xb ob → Stepped x₂ x₃ 4 xa xb ob → Stepped x₃ x₄ 2 xa xb ob → Stepped x₄ x₅ 1 xa xb ob
@@ -96,10 +96,10 @@ pub low-chain : (one x₁ x₂ x₃ x₄ x₅ xa xb ob : ℕ) → one < 2 ^ 32 �
 low-chain one x₁ x₂ x₃ x₄ x₅ xa xb ob h l s₁ s₂ s₃ s₄ s₅ =
     let same : (p : ℕ) → 32 ≤ p → bit x₅ p ≡ bit (one * 2 ^ 32) p = λ p g.
     s₅ .keep p (omega arith) ∙ s₄ .keep p (omega arith) ∙ s₃ .keep p (omega arith) ∙ s₂ .keep p (omega arith) ∙ s₁ .keep p (omega arith)
-    ∙ ap (λ (x : ℕ). bit x p) (start-is one h) in
+    ∙ ap (λ (x : ℕ). bit x p) (low-start-is one h) in
     subst (λ (x : ℕ). Low x 0 xa xb ob) (sym (ap (λ (x : ℕ). one * 2 ^ 32 + x) (and-mask x₅ 32) ∙ joined one x₅ h l same))
     (low-more x₄ x₅ 0 xa xb ob
     (low-more x₃ x₄ 1 xa xb ob
     (low-more x₂ x₃ 2 xa xb ob
     (low-more x₁ x₂ 3 xa xb ob
-    (low-more _ x₁ 4 xa xb ob (subst (λ (x : ℕ). Low x 5 xa xb ob) (sym (start-is one h)) (low-start one xa xb ob)) s₁) s₂) s₃) s₄) s₅)
+    (low-more _ x₁ 4 xa xb ob (subst (λ (x : ℕ). Low x 5 xa xb ob) (sym (low-start-is one h)) (low-start one xa xb ob)) s₁) s₂) s₃) s₄) s₅)

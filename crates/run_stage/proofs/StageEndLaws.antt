@@ -10,11 +10,11 @@ use lib.ListN.{length, getD, take, drop, length-drop, take-append-drop}
 use lib.Pow.{pow-add, pow-mono}
 use lib.Seq.{getD-take, getD-drop, length-take-le}
 use Rattle.words.specs.Bit.{bit, bitAt}
-use Rattle.words.specs.Section.{placeOf, halfOf, halfAt}
+use Rattle.words.specs.Section.{wordOfEntry, halfOf, halfAt}
 use Rattle.words.proofs.SectionLaws.{place-lt}
 use Rattle.run_machine.specs.Part.{stagesAt, sectionAt, entryAt, laneWordAt}
 use Rattle.run_machine.specs.Turn.{gateAt, stageRow}
-use Rattle.run_machine.proofs.StageLaws.{at-word, words-of, StageBits, stage-is}
+use Rattle.run_machine.proofs.StageBitLaws.{at-word, words-of, StageBits, stage-is}
 use Rattle.run_form.specs.Well.{EntriesIn, Entries}
 use Rattle.run_stage.specs.Gather.{Gathered, gatheredRow}
 use Rattle.run_stage.specs.Level.{laneGate, Staged}
@@ -45,7 +45,7 @@ drop-bit n l q =
 module _ (n : ℕ) (W : List ℕ) (o k : ℕ) where
   pub entry-cut : (p : List ℕ) → Cut W p (sectionAt n W o k) (16 * n) → (i : ℕ) → i < 32 * n → halfAt n p i ≡ entryAt n W o k i
   unfolding halfAt entryAt
-  entry-cut p c i h = ap (λ (x : ℕ). halfOf x (i % 2)) (c .each (placeOf n i) (place-lt n i h))
+  entry-cut p c i h = ap (λ (x : ℕ). halfOf x (i % 2)) (c .each (wordOfEntry n i) (place-lt n i h))
 
   pub entries-cut : (p : List ℕ) → Cut W p (sectionAt n W o k) (16 * n) → k < stagesAt W o + 2 → EntriesIn n W o → Entries n p
   entries-cut p c h ok i l = rw (entry-cut p c i l) (ok k i h l)

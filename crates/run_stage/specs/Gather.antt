@@ -7,7 +7,7 @@ use Prim.Native.Nat.{ℕ, _+_, _*_, _-_, _^_, _<_}
 use Rattle.words.specs.Bit.{bit, bitAt, wordOf}
 use Rattle.words.specs.Section.{halfAt, listOf}
 use Rattle.run_machine.specs.Part.{entryAt}
-use Rattle.run_stage.specs.Fill.{Filled}
+use Rattle.run_stage.specs.StoreLoop.{Filled}
 
 -- 2h bits of word j are gathered in x
 pub record GatherBits (n : ℕ) (p l : List ℕ) (j h x : ℕ) : Type 0 where

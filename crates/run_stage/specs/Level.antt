@@ -8,15 +8,15 @@ use lib.Bits.{bitAnd, bitOr, bitXor}
 use lib.ListN.{length, getD}
 use Rattle.words.specs.Bit.{bit, bitAt}
 use Rattle.run_machine.specs.Turn.{gate}
-use Rattle.run_stage.specs.Fill.{Filled}
+use Rattle.run_stage.specs.StoreLoop.{Filled}
 
 -- the gate on words
 unfoldable pub gateWord : (a b xa xb ob : ℕ) → ℕ
 gateWord a b xa xb ob = bitAnd (bitXor a xa) (bitOr (bitXor b xb) ob)
 
 -- word w of the level of m words
-abbrev pub gateOf : List ℕ → List ℕ → ℕ → ℕ → ℕ
-gateOf t l m w = gateWord (getD l (w + m) 0) (getD l (w + 2 * m) 0) (getD t (4 * w) 0) (getD t (4 * w + 1) 0) (getD t (4 * w + 2) 0)
+abbrev pub levelWord : List ℕ → List ℕ → ℕ → ℕ → ℕ
+levelWord t l m w = gateWord (getD l (w + m) 0) (getD l (w + 2 * m) 0) (getD t (4 * w) 0) (getD t (4 * w + 1) 0) (getD t (4 * w + 2) 0)
 
 -- the gate at position q
 unfoldable pub laneGate : List ℕ → ℕ → ℕ → ℕ → ℕ
@@ -24,11 +24,11 @@ laneGate t q a b = gate a b (bit (getD t (4 * (q / 32)) 0) (q % 32)) (bit (getD 
 
 -- one level in words, of which words m .. b - 1 are done
 abbrev pub LevelIn : List ℕ → List ℕ → List ℕ → ℕ → ℕ → Type 0
-LevelIn t l₀ l m b = Filled (λ w x. x ≡ gateOf t l₀ m w) m b l₀ l
+LevelIn t l₀ l m b = Filled (λ w x. x ≡ levelWord t l₀ m w) m b l₀ l
 
 -- the level of m words is right in l, and so is the level of m slots
 abbrev pub WordLevel : List ℕ → List ℕ → ℕ → Type 0
-WordLevel t l m = (w : ℕ) → m ≤ w → w < 2 * m → getD l w 0 ≡ gateOf t l m w
+WordLevel t l m = (w : ℕ) → m ≤ w → w < 2 * m → getD l w 0 ≡ levelWord t l m w
 
 abbrev pub BitLevel : List ℕ → List ℕ → ℕ → Type 0
 BitLevel t l m = (q : ℕ) → m ≤ q → q < 2 * m → bitAt l q ≡ laneGate t q (bitAt l (q + m)) (bitAt l (q + 2 * m))

@@ -1,3 +1,3 @@
-pub mod Fill
+pub mod StoreLoop
 pub mod Gather
 pub mod Level

@@ -12,7 +12,7 @@ ghost use Rattle.run_machine.specs.Part.{stagesAt, entryAt};
 ghost use Rattle.run_machine.specs.Turn.{stageRow};
 ghost use Rattle.run_form.specs.Well.{PartIn, Entries, EntriesIn};
 ghost use Rattle.run_stage.specs.Gather.{Gathered, GatherBits, gatheredRow};
-ghost use Rattle.run_stage.specs.Level.{gateWord, gateOf, LevelIn, Stepped, Low, Staged};
+ghost use Rattle.run_stage.specs.Level.{gateWord, levelWord, LevelIn, Stepped, Low, Staged};
 
 // The two bits that a word of the permutation names.
 fn picked(l: &[u32], x: u32) -> u32
@@ -74,7 +74,7 @@ fn gate(a: u32, b: u32, xora: u32, xorb: u32, orb: u32) -> u32
 // Word w of the level of m words.
 fn gate_at(l: &[u32], t: &[u32], m: usize, w: usize) -> u32
     requires { ⌜ (w < 2 * m) × (4 * m ≤ length (now l)) × (8 * m ≤ length (now t)) ⌝ }
-    ensures { λ r. ⌜ r ≡ gateOf (now (t .entry)) (now (l .entry)) m w ⌝ }
+    ensures { λ r. ⌜ r ≡ levelWord (now (t .entry)) (now (l .entry)) m w ⌝ }
 {
     gate(l[w + m], l[w + 2 * m], t[4 * w], t[4 * w + 1], t[4 * w + 2])
 }

@@ -1,4 +1,4 @@
-pub mod StoreLaws
+pub mod StoredWordLaws
 pub mod AppendLaws
 pub mod CaptureLaws
-pub mod BlockLaws
+pub mod BlockTurnLaws

@@ -23,8 +23,8 @@ unfoldable pub held : Phase → List ℕ → List ℕ
 held f l = elim (holds f) [ true ↦ l | false ↦ [] ]
 
 -- the block of a state (part, phase, stage) and its room
-unfoldable pub blockIn : ℕ → List ℕ → (part : ℕ) → Phase → (stage : ℕ) → List ℕ → Block
-blockIn n W part phase stage room =
+unfoldable pub stateBlock : ℕ → List ℕ → (part : ℕ) → Phase → (stage : ℕ) → List ℕ → Block
+stateBlock n W part phase stage room =
     record { part = part; phase = phase; stage = stage; row = held phase (take n room); caps = held phase (take (normalAt W part) (drop capturedFrom room)) }
 
 -- ---- the room after the turns of a part that begins at word o

@@ -11,5 +11,5 @@ unfoldable pub windowOf : List ℕ → List ℕ → ℕ → List ℕ
 windowOf old new w = elim (ltb w (2 ^ 31)) [ true ↦ take 1 (drop w old) | false ↦ take 1 (drop (w - 2 ^ 31) new) ]
 
 -- the word that w names is in both states
-abbrev pub Readable : List ℕ → List ℕ → ℕ → Type 0
-Readable old new w = (w % 2 ^ 31 < length old) × (w % 2 ^ 31 < length new)
+abbrev pub WordReadable : List ℕ → List ℕ → ℕ → Type 0
+WordReadable old new w = (w % 2 ^ 31 < length old) × (w % 2 ^ 31 < length new)

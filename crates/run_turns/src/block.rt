@@ -9,7 +9,7 @@ ghost use lib.ListN.{length};
 ghost use Rattle.run_machine.specs.Turn.{begins, turned, written};
 ghost use Rattle.run_machine.specs.Room.{blockRoom};
 ghost use Rattle.run_turns.specs.Phases.{phaseIs};
-ghost use Rattle.run_turns.specs.Block.{blockIn, roomTurned, BlockWell};
+ghost use Rattle.run_turns.specs.Block.{stateBlock, roomTurned, BlockWell};
 
 // What a block's next turn does: document 01, "read, each stage, store", and nothing once it is finished.
 pub enum Phase {
@@ -55,9 +55,9 @@ impl BlockState {
         room: &mut [u32],
     ) -> BlockState
         requires { ⌜ BlockWell 256 (now words) (length (now old)) (length (now new)) (self .part) (phaseIs (self .phase)) (self .stage) × (length (now room) ≡ blockRoom) ⌝ }
-        ensures block { λ r. ⌜ blockIn 256 (now (words .entry)) (r .part) (phaseIs (r .phase)) (r .stage) (now (room .exit))
-            ≡ turned 256 13 (now (words .entry)) (now (old .entry)) (phaseIs (self .phase)) (blockIn 256 (now (words .entry)) (self .part) (phaseIs (self .phase)) (self .stage) (now (room .entry))) (now (new .entry)) ⌝ }
-        ensures state { λ r. ⌜ now (new .exit) ≡ written 256 (now (words .entry)) (now (old .entry)) (phaseIs (self .phase)) (blockIn 256 (now (words .entry)) (self .part) (phaseIs (self .phase)) (self .stage) (now (room .entry))) (now (new .entry)) ⌝ }
+        ensures block { λ r. ⌜ stateBlock 256 (now (words .entry)) (r .part) (phaseIs (r .phase)) (r .stage) (now (room .exit))
+            ≡ turned 256 13 (now (words .entry)) (now (old .entry)) (phaseIs (self .phase)) (stateBlock 256 (now (words .entry)) (self .part) (phaseIs (self .phase)) (self .stage) (now (room .entry))) (now (new .entry)) ⌝ }
+        ensures state { λ r. ⌜ now (new .exit) ≡ written 256 (now (words .entry)) (now (old .entry)) (phaseIs (self .phase)) (stateBlock 256 (now (words .entry)) (self .part) (phaseIs (self .phase)) (self .stage) (now (room .entry))) (now (new .entry)) ⌝ }
         ensures room { λ r. ⌜ now (room .exit) ≡ roomTurned 256 13 (now (words .entry)) (self .part) (self .stage) (now (old .entry)) (now (new .entry)) (phaseIs (self .phase)) (now (room .entry)) ⌝ }
     {
         let at = self.part;

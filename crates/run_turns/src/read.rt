@@ -8,11 +8,11 @@ ghost use Rattle.reads.specs.ReadTurn.{appended, laneWord};
 ghost use Rattle.run_machine.specs.Part.{roundsAt, readWordAt, readMaskAt};
 ghost use Rattle.run_machine.specs.Turn.{stateWord, readRow};
 ghost use Rattle.run_form.specs.Well.{PartIn, Reads};
-ghost use Rattle.run_turns.specs.Window.{windowOf, Readable};
+ghost use Rattle.run_turns.specs.Window.{windowOf, WordReadable};
 
 // The one word that a read names, of the old state or the new by bit 31.
 pub fn window<'a>(old: &'a [u32], new: &'a [u32], w: u32) -> &'a [u32]
-    requires { ⌜ Readable (now old) (now new) w ⌝ }
+    requires { ⌜ WordReadable (now old) (now new) w ⌝ }
     ensures { λ r. ⌜ (now r ≡ windowOf (now (old .entry)) (now (new .entry)) w) × (length (now r) ≡ 1) ⌝ }
 {
     if w < 0x8000_0000 {
@@ -48,7 +48,7 @@ fn append(acc: u32, word: u32, mask: u32) -> u32
 // One round: the pair at word `pair`.
 fn read_round<'a>(acc: u32, words: &[u32], pair: usize, old: &'a [u32], new: &'a [u32]) -> u32
     requires { ⌜ (pair + 1 < length (now words))
-        × (0 < getD (now words) (pair + 1) 0 → Readable (now old) (now new) (getD (now words) pair 0))
+        × (0 < getD (now words) (pair + 1) 0 → WordReadable (now old) (now new) (getD (now words) pair 0))
         × ((acc + 1) * 2 ^ pop (getD (now words) (pair + 1) 0) ≤ 2 ^ 32) ⌝ }
     ensures { λ r. ⌜ r ≡ appended 32 (stateWord (now (old .entry)) (now (new .entry)) (getD (now (words .entry)) pair 0)) (getD (now (words .entry)) (pair + 1) 0) acc ⌝ }
 {

@@ -11,7 +11,7 @@ ghost use lib.Seq.{sets};
 ghost use Rattle.words.specs.Section.{listOf};
 ghost use Rattle.run_machine.specs.Part.{stagesAt, startAt, normalAt};
 ghost use Rattle.run_machine.specs.Turn.{storedWord};
-ghost use Rattle.run_machine.specs.Room.{blockRoom, capturedFrom, partLow, phaseCode, phaseFrom, partOf, phaseOf, stageOf, stateWords};
+ghost use Rattle.run_machine.specs.Room.{blockRoom, capturedFrom, partLow, phaseCode, phaseFrom, partOf, phaseOf, stageOf, blockStateWords};
 ghost use Rattle.run_form.specs.Well.{PartIn, Reads, EntriesIn, Captures};
 ghost use Rattle.run_turns.specs.Phases.{phaseIs};
 ghost use Rattle.run_turns.specs.Block.{roomRead, roomStaged};
@@ -75,7 +75,7 @@ pub fn load_state(room: &[u32]) -> BlockState
 // Stores it there.
 pub fn store_state(room: &mut [u32], state: BlockState)
     requires { ⌜ (length (now room) ≡ blockRoom) × (state .stage ≤ 255) ⌝ }
-    ensures { λ _. ⌜ now (room .exit) ≡ sets (now (room .entry)) partLow (stateWords (state .part) (phaseIs (state .phase)) (state .stage)) ⌝ }
+    ensures { λ _. ⌜ now (room .exit) ≡ sets (now (room .entry)) partLow (blockStateWords (state .part) (phaseIs (state .phase)) (state .stage)) ⌝ }
 {
     let at = state.part;
     let phase = state.phase;

@@ -1,8 +1,8 @@
-pub mod FillLaws
+pub mod FilledSliceLaws
 pub mod HeadLaws
-pub mod PartLaws
+pub mod PutMidLaws
 pub mod SectionsLaws
 pub mod MaskLaws
-pub mod EntryLaws
-pub mod LengthLaws
-pub mod AcceptedLaws
+pub mod LaterEntryLaws
+pub mod PartLengthLaws
+pub mod AcceptedPartLaws

@@ -17,10 +17,10 @@ use Rattle.words.proofs.BitLaws.{wordOf-lt}
 use Rattle.plan_record.specs.Record.{slotAt, gateFirst, gateSecond}
 use Rattle.words.specs.Pins.{empty}
 use Rattle.plan_gates.specs.Gates.{gateOf}
-use Rattle.plan_gates.specs.Values.{gateFoundOf}
+use Rattle.plan_gates.specs.GateValues.{gateFoundOf}
 use Rattle.plan_gates.specs.declared.GateFound.{GateFound}
 use Rattle.plan_gates.specs.declared.GateFound.the-variants as found-as
-use Rattle.plan_gates.proofs.CodeLaws.{found-some, found-none}
+use Rattle.plan_gates.proofs.ValueCodeLaws.{gate-there, gate-missing}
 use Rattle.plan_slots.specs.Slots.{top, slotA}
 use Rattle.script.specs.Script.{firstInversion, secondInversion, noSlot, orbBit, xoraBit, xorbBit}
 use Rattle.script.specs.Writers.{MaskBits}
@@ -65,13 +65,13 @@ module _ (d : List ℕ) (p s q : ℕ) where
 
         pub bits-missing : r ≡ found-as.Missing → MaskBits d p s q (record { xora = 0; xorb = 0; orb = 0 })
         unfolding firstInversion secondInversion
-        bits-missing e = gate-bits none (found-none (gateOf d x) r found e)
+        bits-missing e = gate-bits none (gate-missing (gateOf d x) r found e)
 
         pub bits-gate : (g f h u v : ℕ) → r ≡ found-as.Gate g → f ≡ gateFirst d g → u ≡ f % 2 → h ≡ gateSecond d g → v ≡ h % 2
             → MaskBits d p s q (record { xora = u; xorb = v; orb = 0 })
         unfolding firstInversion secondInversion
         bits-gate g f h u v e ef eu eh ev =
-            let b = gate-bits (some g) (found-some (gateOf d x) r g found e) in
+            let b = gate-bits (some g) (gate-there (gateOf d x) r g found e) in
             record {
               xora = eu ∙ (ap (λ (n : ℕ). n % 2) ef ∙ b .xora);
               xorb = ev ∙ (ap (λ (n : ℕ). n % 2) eh ∙ b .xorb);

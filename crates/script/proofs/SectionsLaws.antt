@@ -14,8 +14,8 @@ use Rattle.script.specs.Script.{laneList}
 use Rattle.script.specs.Writers.{wordsIn}
 
 -- the words up to the end of what was stored
-pub take-sets : (l vs : List ℕ) (i n : ℕ) → n ≡ i + length vs → n ≤ length l → take n (sets l i vs) ≡ take i l ++ vs
-take-sets l vs i n e h =
+pub take-through-sets : (l vs : List ℕ) (i n : ℕ) → n ≡ i + length vs → n ≤ length l → take n (sets l i vs) ≡ take i l ++ vs
+take-through-sets l vs i n e h =
     let m : i + length vs ≤ length l = omega arith in
     let k : length (take i l ++ vs) ≡ n = omega (arith, length-append (take i l) vs, length-take i l) in
     ap (take n) (sets-eq vs l i m) ∙ take-at (take i l ++ vs) (drop (i + length vs) l) n k
@@ -34,7 +34,7 @@ module _ (a b c : ℕ → ℕ) where
       let three : 4 * w + 3 ≡ suc (suc (suc (4 * w))) = omega arith in
       let more : laneList a b c (w + 1) ≡ laneList a b c w ++ (a w ∷ b w ∷ c w ∷ 0 ∷ []) = rw (add-one, laneList) in
       rw (one, two, three, more)
-      (take-sets l (a w ∷ b w ∷ c w ∷ 0 ∷ []) (4 * w) (4 * (w + 1)) (omega arith) h ∙ ap (λ (x : List ℕ). x ++ (a w ∷ b w ∷ c w ∷ 0 ∷ [])) e)
+      (take-through-sets l (a w ∷ b w ∷ c w ∷ 0 ∷ []) (4 * w) (4 * (w + 1)) (omega arith) h ∙ ap (λ (x : List ℕ). x ++ (a w ∷ b w ∷ c w ∷ 0 ∷ [])) e)
 
   pub lanes-end : (l : List ℕ) (w n : ℕ) → length l ≡ 4 * n → w ≤ n → n ≤ w → take (4 * w) l ≡ laneList a b c w → l ≡ laneList a b c n
   lanes-end l w n h i j e =

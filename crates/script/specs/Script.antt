@@ -4,14 +4,14 @@
 use mathlib.Core.Bool.{Bool, true, false, _||_}
 use mathlib.Core.Option.{Option, none, some}
 use mathlib.Core.List.{List, [], _∷_, _++_}
-use Prim.Native.Nat.{ℕ, zero, suc, _+_, _*_, _-_, _/_, _%_, _^_, min}
+use Prim.Native.Nat.{ℕ, zero, suc, _+_, _*_, _-_, _/_, _%_, _^_}
 use lib.Dec.{leb, ltb, eqb}
 use lib.ListN.{replicate}
 use Rattle.words.specs.Sum.{sumTo}
 use Rattle.words.specs.Bit.{wordOf}
 use Rattle.words.specs.Section.{listOf, sectionOf}
 use Rattle.reads.specs.Search.{longest}
-use Rattle.reads.specs.Words.{readSection}
+use Rattle.reads.specs.ReadSection.{readSection}
 use Rattle.plan_record.specs.Record.{stagesOf, stageLocations, locationsOf, locationAt, slotAt, tableAt, gateFirst, gateSecond}
 use Rattle.words.specs.Pins.{empty}
 use Rattle.plan_gates.specs.Gates.{gateOf}
@@ -86,8 +86,8 @@ xorbBit d p s q =
     elim (noSlot d p s q || eqb (slotAt d p s q) (slotA d p s q)) [ true ↦ 0 | false ↦ secondInversion d (gateOf d (slotAt d p s q)) ]
 
 -- a word of a lane from the bits at its 32 positions
-abbrev pub laneWord : (ℕ → ℕ) → ℕ → ℕ
-laneWord f w = wordOf (λ k. f (32 * w + k)) 32
+abbrev pub maskWord : (ℕ → ℕ) → ℕ → ℕ
+maskWord f w = wordOf (λ k. f (32 * w + k)) 32
 
 -- "four words per lane": those of lane w, then of all lanes
 unfoldable pub laneList : (ℕ → ℕ) → (ℕ → ℕ) → (ℕ → ℕ) → ℕ → List ℕ
@@ -98,7 +98,7 @@ laneList a b c (suc w) = laneList a b c w ++ (a w ∷ b w ∷ c w ∷ 0 ∷ [])
 unfoldable pub stageSection : ℕ → List ℕ → ℕ → ℕ → List ℕ
 stageSection n d p s =
     sectionOf n (stageEntry n d p s)
-    ++ laneList (laneWord (xoraBit d p s)) (laneWord (xorbBit d p s)) (laneWord (orbBit d p s)) n
+    ++ laneList (maskWord (xoraBit d p s)) (maskWord (xorbBit d p s)) (maskWord (orbBit d p s)) n
 
 unfoldable pub stageSections : ℕ → List ℕ → ℕ → ℕ → List ℕ
 stageSections n d p zero = []

@@ -9,7 +9,7 @@ use lib.Dec.{leb}
 use lib.ListN.{length, getD, take, drop, replicate}
 use Rattle.words.specs.Section.{listOf}
 use Rattle.reads.specs.Search.{longest}
-use Rattle.reads.specs.Words.{readSection}
+use Rattle.reads.specs.ReadSection.{readSection}
 use Rattle.plan_record.specs.declared.bodies.Body.{Body}
 use Rattle.plan_record.specs.Record.{stagesOf, locationsOf, locationAt, tableAt}
 use Rattle.plan_record.specs.Body.{BodyOf}
@@ -18,10 +18,10 @@ use Rattle.plan_counts.specs.Counts.{srams, duplicates, writeOuts}
 use Rattle.plan_reads.specs.PartReads.{partLanes}
 use Rattle.script.specs.declared.head.Numbers.{Numbers}
 use Rattle.script.specs.declared.masks.Masks.{Masks}
-use Rattle.script.specs.Script.{xoraBit, xorbBit, orbBit, laneWord, stageEntry, stageSection}
+use Rattle.script.specs.Script.{xoraBit, xorbBit, orbBit, maskWord, stageEntry, stageSection}
 
 -- b is the body of part p, and the plan passed refusals 6, 7 and 13
-pub record Accepted (d : List ℕ) (p : ℕ) (b : Body) : Type 0 where
+pub record AcceptedPart (d : List ℕ) (p : ℕ) (b : Body) : Type 0 where
   pub body : BodyOf d p b
   pub gates : badGate d ≡ none
   pub locations : (l : ℕ) → l < locationsOf d p → locationAt d p l ≤ 255
@@ -63,14 +63,14 @@ pub record MaskBits (d : List ℕ) (p s q : ℕ) (m : Masks) : Type 0 where
   pub orb : m .orb ≡ orbBit d p s q
 
 pub record LaneMasks (d : List ℕ) (p s w : ℕ) (m : Masks) : Type 0 where
-  pub xora : m .xora ≡ laneWord (xoraBit d p s) w
-  pub xorb : m .xorb ≡ laneWord (xorbBit d p s) w
-  pub orb : m .orb ≡ laneWord (orbBit d p s) w
+  pub xora : m .xora ≡ maskWord (xoraBit d p s) w
+  pub xorb : m .xorb ≡ maskWord (xorbBit d p s) w
+  pub orb : m .orb ≡ maskWord (orbBit d p s) w
 
 pub record MaskLists (d : List ℕ) (p s : ℕ) (a b c : List ℕ) : Type 0 where
-  pub xora : a ≡ listOf (laneWord (xoraBit d p s)) 256
-  pub xorb : b ≡ listOf (laneWord (xorbBit d p s)) 256
-  pub orb : c ≡ listOf (laneWord (orbBit d p s)) 256
+  pub xora : a ≡ listOf (maskWord (xoraBit d p s)) 256
+  pub xorb : b ≡ listOf (maskWord (xorbBit d p s)) 256
+  pub orb : c ≡ listOf (maskWord (orbBit d p s)) 256
 
 -- and room for them
 pub record MasksRoom (a b c : List ℕ) : Type 0 where

@@ -3,7 +3,7 @@ ghost use mathlib.Core.Path.{_≡_};
 ghost use Prim.Native.Nat.{_+_, _*_, _^_, _≤_, _<_};
 ghost use lib.ListN.{length};
 ghost use Rattle.script.specs.Script.{locationStage, locationHalf, locationWords};
-ghost use Rattle.script.specs.Writers.{Accepted, numberWords, endsBy};
+ghost use Rattle.script.specs.Writers.{AcceptedPart, numberWords, endsBy};
 use plan_record::bodies::Body;
 use plan_record::bodies::location;
 use plan_record::bodies::stage_locations;
@@ -46,7 +46,7 @@ fn ends_by(end: usize, l: usize) -> usize
 
 // The stage of location l: how many stages end at or before it.
 fn location_stage(d: &[u8], p: usize, body: Body, l: usize) -> u32
-    requires { ⌜ Accepted (now d) p body ⌝ }
+    requires { ⌜ AcceptedPart (now d) p body ⌝ }
     ensures { λ r. ⌜ (r ≡ locationStage (now (d .entry)) p l) × (r ≤ 255) ⌝ }
 {
     let stages = body.stages;
@@ -63,7 +63,7 @@ fn location_stage(d: &[u8], p: usize, body: Body, l: usize) -> u32
 
 // The half of location l: stage and location, or ones past the last.
 fn location_half(d: &[u8], p: usize, body: Body, l: usize) -> u32
-    requires { ⌜ Accepted (now d) p body ⌝ }
+    requires { ⌜ AcceptedPart (now d) p body ⌝ }
     ensures { λ r. ⌜ (r ≡ locationHalf (now (d .entry)) p l) × (r < 2 ^ 16) ⌝ }
 {
     if l < body.locations {
@@ -75,7 +75,7 @@ fn location_half(d: &[u8], p: usize, body: Body, l: usize) -> u32
 
 // Word j of the locations: two halves, the first one low.
 fn location_word(d: &[u8], p: usize, body: Body, j: usize) -> u32
-    requires { ⌜ Accepted (now d) p body × (j < 128) ⌝ }
+    requires { ⌜ AcceptedPart (now d) p body × (j < 128) ⌝ }
     ensures { λ r. ⌜ r ≡ locationHalf (now (d .entry)) p (2 * j + 1) * 2 ^ 16 + locationHalf (now (d .entry)) p (2 * j) ⌝ }
 {
     let low = location_half(d, p, body, 2 * j);
@@ -85,7 +85,7 @@ fn location_word(d: &[u8], p: usize, body: Body, j: usize) -> u32
 
 // Writes the locations.
 pub fn write_locations(d: &[u8], p: usize, body: Body, out: &mut [u32])
-    requires { ⌜ Accepted (now d) p body × (length (now out) ≡ 128) ⌝ }
+    requires { ⌜ AcceptedPart (now d) p body × (length (now out) ≡ 128) ⌝ }
     ensures { λ _. ⌜ now (out .exit) ≡ locationWords 256 (now (d .entry)) p ⌝ }
 {
     let mut j = 0;

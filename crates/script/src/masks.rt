@@ -1,7 +1,6 @@
 // The masks of a stage.
-ghost use mathlib.Core.Path.{_≡_};
 ghost use Prim.Native.Nat.{_<_};
-ghost use Rattle.script.specs.Writers.{Accepted, MaskBits, LaneMasks, MaskLists, MasksRoom};
+ghost use Rattle.script.specs.Writers.{AcceptedPart, MaskBits, LaneMasks, MaskLists, MasksRoom};
 use plan_gates::GateFound;
 use plan_gates::find_gate;
 use plan_record::bodies::Body;
@@ -21,7 +20,7 @@ pub struct Masks {
 
 // The mask bits at position q: a slot that equals slot a has orb, a gate the inversions of its fan-ins.
 fn masks_at(d: &[u8], p: usize, body: Body, s: usize, q: usize) -> Masks
-    requires { ⌜ Accepted (now d) p body × (s < body .stages) × (q < 8192) ⌝ }
+    requires { ⌜ AcceptedPart (now d) p body × (s < body .stages) × (q < 8192) ⌝ }
     ensures { λ r. ⌜ MaskBits (now (d .entry)) p s q r ⌝ }
 {
     if q == 0 {
@@ -62,7 +61,7 @@ fn masks_at(d: &[u8], p: usize, body: Body, s: usize, q: usize) -> Masks
 
 // The mask words of lane w, from its 32 positions.
 fn lane_masks(d: &[u8], p: usize, body: Body, s: usize, w: usize) -> Masks
-    requires { ⌜ Accepted (now d) p body × (s < body .stages) × (w < 256) ⌝ }
+    requires { ⌜ AcceptedPart (now d) p body × (s < body .stages) × (w < 256) ⌝ }
     ensures { λ r. ⌜ LaneMasks (now (d .entry)) p s w r ⌝ }
 {
     let mut xora = 0;
@@ -89,7 +88,7 @@ pub fn fill_masks(
     xorb: &mut [u32],
     orb: &mut [u32],
 )
-    requires { ⌜ Accepted (now d) p body × (s < body .stages) × MasksRoom (now xora) (now xorb) (now orb) ⌝ }
+    requires { ⌜ AcceptedPart (now d) p body × (s < body .stages) × MasksRoom (now xora) (now xorb) (now orb) ⌝ }
     ensures { λ _. ⌜ MaskLists (now (d .entry)) p s (now (xora .exit)) (now (xorb .exit)) (now (orb .exit)) ⌝ }
 {
     let mut w = 0;

@@ -1,6 +1,6 @@
 pub mod GrowLaws
-pub mod StepLaws
-pub mod RankLaws
-pub mod LengthLaws
-pub mod StartLaws
-pub mod PlaceLaws
+pub mod WriterStepLaws
+pub mod BlockRankLaws
+pub mod ScriptLengthLaws
+pub mod ScriptStartLaws
+pub mod PartStandsLaws

@@ -1,2 +1,2 @@
 pub mod Assembly
-pub mod Steps
+pub mod WrittenSoFar

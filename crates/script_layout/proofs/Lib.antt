@@ -1,4 +1,4 @@
-pub mod StoreLaws
+pub mod ListStoreLaws
 pub mod RowLaws
 pub mod PlacedLaws
-pub mod StageLaws
+pub mod StageWriteLaws

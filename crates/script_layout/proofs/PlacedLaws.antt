@@ -13,18 +13,18 @@ use Rattle.words.proofs.BitLaws.{lt-or-ge}
 use Rattle.words.proofs.ListLaws.{put-sets}
 use Rattle.plan_record.specs.Record.{blocksOf, countAt, partsBefore, partsOf}
 use Rattle.plan_record.proofs.RecordLaws.{parts-more}
-use Rattle.plan_record.proofs.FormLaws.{parts-in}
-use Rattle.plan_blocks.specs.Fill.{blockAt}
+use Rattle.plan_record.proofs.PlanFormLaws.{parts-in}
+use Rattle.plan_blocks.specs.TableFill.{blockAt}
 use Rattle.plan_blocks.proofs.TotalLaws.{same-or}
 use Rattle.script.specs.Script.{partScript}
 use Rattle.script_assembly.specs.Assembly.{wordsOfPart, blockWords}
-use Rattle.script_assembly.specs.Steps.{lastMark, partsWords, lengthOf, partsIn, firstRank, rankedAt}
+use Rattle.script_assembly.specs.WrittenSoFar.{lastMark, partsWords, lengthOf, partsIn, firstRank, rankedAt}
 use Rattle.script_assembly.proofs.GrowLaws.{grown-le}
-use Rattle.script_assembly.proofs.StepLaws as step
-use Rattle.script_assembly.proofs.RankLaws.{part-at, first-more, first-le, first-none, first-in, rank-found, row-at, rank-inside, rank-outside}
-use Rattle.script_assembly.proofs.LengthLaws.{part-length, empty-length}
+use Rattle.script_assembly.proofs.WriterStepLaws as step
+use Rattle.script_assembly.proofs.BlockRankLaws.{part-at, first-more, first-le, first-none, first-in, rank-found, row-at, rank-inside, rank-outside}
+use Rattle.script_assembly.proofs.ScriptLengthLaws.{part-length, empty-length}
 use Rattle.script_layout.specs.Layout.{rowScript, emptyWords, PartRoom, BlockAt}
-use Rattle.script_layout.proofs.StoreLaws.{sets-next, stored-length}
+use Rattle.script_layout.proofs.ListStoreLaws.{sets-next, stores-length}
 
 pub empty-made : (l : List ℕ) (m : ℕ) → m ≡ 256 → l ≡ replicate m 0 → set l 1 1 ≡ emptyWords
 unfolding emptyWords
@@ -152,7 +152,7 @@ module _ (d room : List ℕ) (s b from : ℕ) (q : BlockAt d room s b from) wher
           ranked = named ∙ ap (λ (r : List ℕ). rankedAt r k) same
 
           pub turn-room : at + length (blockWords 256 d s xs) ≤ length old → PartRoom d room₁ p next (length new)
-          turn-room fits = rw (same, ranked) (part-room (length new) (omega (arith, stored-length old new at (partsWords 256 d s xs j) stored)))
+          turn-room fits = rw (same, ranked) (part-room (length new) (omega (arith, stores-length old new at (partsWords 256 d s xs j) stored)))
 
           pub turn-next : (end : ℕ) → end ≡ next + lengthOf 256 d p → end ≡ at + length (partsWords 256 d s xs (k + 1 - from))
           turn-next end e = e ∙ ap (λ (x : ℕ). next + lengthOf 256 d x) ranked ∙ part-next

@@ -12,7 +12,7 @@ use Rattle.words.proofs.ListLaws.{put-sets}
 use Rattle.plan_record.specs.declared.bodies.Body.{Body}
 use Rattle.plan_record.specs.Record.{partsOf}
 use Rattle.plan_record.specs.Body.{BodyReady, BodyOf}
-use Rattle.plan_record.proofs.FormLaws.{Formed, formed, body-ready}
+use Rattle.plan_record.proofs.PlanFormLaws.{Formed, formed, body-ready}
 use Rattle.plan_rows.specs.Columns as col
 use Rattle.plan_rows.specs.Rows.{cellAt, CellIn}
 use Rattle.script.specs.declared.head.Numbers.{Numbers}
@@ -20,10 +20,10 @@ use Rattle.script.specs.Script.{partScript}
 use Rattle.script.specs.Writers.{NumbersOf}
 use Rattle.script_part.specs.Build.{Buildable}
 use Rattle.plan_checks.proofs.PassedLaws.{Passed, passed, placed-lanes}
-use Rattle.script_assembly.specs.Steps.{lengthOf}
-use Rattle.script_layout.specs.Layout.{Sound, rowScript}
+use Rattle.script_assembly.specs.WrittenSoFar.{lengthOf}
+use Rattle.script_layout.specs.Layout.{AcceptedTabled, rowScript}
 
-module _ (d room : List ℕ) (h : Sound d room) where
+module _ (d room : List ℕ) (h : AcceptedTabled d room) where
   pub plan-passed : Passed 256 d
   plan-passed = passed 256 d (h .accepted)
 

@@ -10,15 +10,15 @@ use Rattle.plan_rows.specs.Columns as col
 use Rattle.plan_rows.specs.Rows.{cellAt}
 use Rattle.script.specs.Script.{partScript}
 use Rattle.plan_checks.specs.Refusals.{planRefusal}
-use Rattle.plan_checks.specs.Ready.{Ready}
+use Rattle.plan_checks.specs.CheckedRoom.{PlanReady}
 use Rattle.script_assembly.specs.Assembly.{blockWords, stageWords, majorWords, majorStarts, scriptWords, scriptStarts}
-use Rattle.script_assembly.specs.Steps.{lengthOf, partsIn, firstRank}
+use Rattle.script_assembly.specs.WrittenSoFar.{lengthOf, partsIn, firstRank}
 use Rattle.script_layout.specs.declared.placed.Next.{Next}
 
 -- an accepted plan, whose part table stands in the room
-pub record Sound (d room : List ℕ) : Type 0 where
+pub record AcceptedTabled (d room : List ℕ) : Type 0 where
   pub accepted : planRefusal 256 d ≡ none
-  pub ready : Ready d room
+  pub ready : PlanReady d room
 
 -- the script of part p, its starts as its row says
 abbrev pub rowScript : List ℕ → List ℕ → ℕ → ℕ → List ℕ
@@ -26,7 +26,7 @@ rowScript d room p last = partScript 256 d p last (cellAt room p col.stateStart)
 
 -- part p, and room for its script from word `at` on, in a list of m words
 pub record PartRoom (d room : List ℕ) (p at m : ℕ) : Type 0 where
-  pub sound : Sound d room
+  pub sound : AcceptedTabled d room
   pub part : p < partsOf d
   pub fits : at + lengthOf 256 d p ≤ m
 
@@ -36,7 +36,7 @@ emptyWords = 0 ∷ 1 ∷ replicate 254 0
 
 -- block b of major stage s, whose first rank is `from`
 pub record BlockAt (d room : List ℕ) (s b from : ℕ) : Type 0 where
-  pub sound : Sound d room
+  pub sound : AcceptedTabled d room
   pub stage : s < majorsOf d
   pub block : b < blocksOf d
   pub first : from ≡ firstRank d s b
@@ -53,7 +53,7 @@ pub record NextOf (d : List ℕ) (s : ℕ) (x : Next) : Type 0 where
 
 -- major stage s, whose first start is number `first` of m starts, and room for its words, of w words
 pub record StageRoom (d room : List ℕ) (s first : ℕ) (x : Next) (m w : ℕ) : Type 0 where
-  pub sound : Sound d room
+  pub sound : AcceptedTabled d room
   pub stage : s < majorsOf d
   pub next : NextOf d s x
   pub first-is : first ≡ length (majorStarts 256 d s)
@@ -62,6 +62,6 @@ pub record StageRoom (d room : List ℕ) (s first : ℕ) (x : Next) (m w : ℕ) 
 
 -- room for the whole
 pub record PlanRoom (d room : List ℕ) (m w : ℕ) : Type 0 where
-  pub sound : Sound d room
+  pub sound : AcceptedTabled d room
   pub starts : length (scriptStarts 256 d) ≤ m
   pub words : length (scriptWords 256 d) ≤ w

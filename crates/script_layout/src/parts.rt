@@ -8,8 +8,8 @@ ghost use Rattle.plan_record.specs.Body.{BodyOf};
 ghost use Rattle.plan_rows.specs.Columns as col;
 ghost use Rattle.plan_rows.specs.Rows.{cellAt};
 ghost use Rattle.script.specs.Writers.{NumbersOf};
-ghost use Rattle.script_assembly.specs.Steps.{lengthOf};
-ghost use Rattle.script_layout.specs.Layout.{Sound, PartRoom, rowScript};
+ghost use Rattle.script_assembly.specs.WrittenSoFar.{lengthOf};
+ghost use Rattle.script_layout.specs.Layout.{AcceptedTabled, PartRoom, rowScript};
 use plan_record::bodies::Body;
 use plan_record::bodies::body_at;
 use plan_rows::Column;
@@ -20,7 +20,7 @@ use words::edition::Edition;
 
 // The body of part p, whose row says where it begins.
 fn body_of(d: &[u8], room: &[u32], p: usize) -> Body
-    requires { ⌜ Sound (now d) (now room) × (p < partsOf (now d)) ⌝ }
+    requires { ⌜ AcceptedTabled (now d) (now room) × (p < partsOf (now d)) ⌝ }
     ensures { λ r. ⌜ BodyOf (now (d .entry)) p r ⌝ }
 {
     let low = cell_at(room, p, Column::BODY_LOW) as usize;
@@ -30,7 +30,7 @@ fn body_of(d: &[u8], room: &[u32], p: usize) -> Body
 
 // The numbers of part p, from its row.
 fn numbers_of(d: &[u8], room: &[u32], p: usize, body: Body, last: u32) -> Numbers
-    requires { ⌜ Sound (now d) (now room) × (p < partsOf (now d)) × BodyOf (now d) p body ⌝ }
+    requires { ⌜ AcceptedTabled (now d) (now room) × (p < partsOf (now d)) × BodyOf (now d) p body ⌝ }
     ensures { λ r. ⌜ NumbersOf (now (d .entry)) p r ⌝ }
     ensures { λ r. ⌜ (r .last ≡ last) × (r .state ≡ cellAt (now (room .entry)) p col.stateStart) × (r .sram ≡ cellAt (now (room .entry)) p col.sramStart) ⌝ }
 {

@@ -4,7 +4,7 @@ ghost use Prim.Native.Nat.{_+_, _<_};
 ghost use lib.ListN.{length};
 ghost use lib.Seq.{sets};
 ghost use Rattle.script_assembly.specs.Assembly.{blockWords};
-ghost use Rattle.script_assembly.specs.Steps.{lastMark, partsIn, firstRank};
+ghost use Rattle.script_assembly.specs.WrittenSoFar.{lastMark, partsIn, firstRank};
 ghost use Rattle.script_layout.specs.Layout.{emptyWords, BlockAt, BlockRoom};
 use crate::parts::write_part;
 use plan_record::places::parts_before;

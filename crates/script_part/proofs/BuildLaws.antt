@@ -12,30 +12,30 @@ use Rattle.words.specs.Section.{listOf}
 use Rattle.words.proofs.SectionLaws.{listOf-ext}
 use Rattle.reads.specs.ReadSet.{pairsOf}
 use Rattle.reads.specs.Search.{Lane, lanesOf, longest}
-use Rattle.reads.specs.Words.{roundsFrom, readSection}
+use Rattle.reads.specs.ReadSection.{roundsFrom, readSection}
 use Rattle.reads.proofs.SectionWordLaws.{section-length}
-use Rattle.reads_asked.proofs.StoreLaws.{take-front}
-use Rattle.reads_try.specs.Decoded.{lanesAt}
+use Rattle.reads_asked.proofs.FrontStoreLaws.{take-front}
+use Rattle.reads_try.specs.TableLanes.{lanesAt}
 use Rattle.rounds.specs.Rounds.{tableAfter, Solvable}
-use Rattle.rounds.proofs.OutcomeLaws.{Win}
+use Rattle.rounds.proofs.RoundsAnswerLaws.{Win}
 use Rattle.plan_record.specs.declared.bodies.Body.{Body}
-use Rattle.plan_record.proofs.FormLaws.{formed}
-use Rattle.plan_positions.specs.Winners.{Listed}
+use Rattle.plan_record.proofs.PlanFormLaws.{formed}
+use Rattle.plan_positions.specs.Winners.{ListsInRange}
 use Rattle.plan_positions.specs.Places.{plannedTable}
 use Rattle.plan_positions.proofs.WinnerLaws.{listed}
 use Rattle.plan_reads.specs.PartReads.{askedTo, readWords, partLanes}
-use Rattle.plan_reads.specs.Ready.{AllNarrow, AllPlanned, AllWon, SetRoom}
+use Rattle.plan_reads.specs.ReadsReady.{AllNarrow, AllPlanned, AllWon, SetRoom}
 use Rattle.plan_reads.specs.Bases.{storeLanes}
-use Rattle.plan_reads.specs.Entries.{firstEntry, Numbered}
+use Rattle.plan_reads.specs.Entries.{firstEntry, AllNumbered}
 use Rattle.plan_reads.proofs.SearchedLaws.{pins-length, pins-won, won-few}
 use Rattle.plan_reads.proofs.CheckLaws.{set-front}
-use Rattle.plan_reads.proofs.EntryLaws.{words-form, words-small, part-win, part-lanes, part-numbered, all-planned}
+use Rattle.plan_reads.proofs.FirstEntryLaws.{words-form, words-small, part-win, part-lanes, part-numbered, all-planned}
 use Rattle.script.specs.declared.head.Numbers.{Numbers}
 use Rattle.script.specs.Script.{pinEntry, stageEntry, stageSection}
-use Rattle.script.specs.Writers.{Accepted, EntriesOf, NumbersOf, ScriptRoom}
-use Rattle.script.proofs.AcceptedLaws.{accepted}
-use Rattle.script.proofs.LengthLaws.{reads-length, stage-length}
-use Rattle.script.proofs.PartLaws.{put-rest, put-length}
+use Rattle.script.specs.Writers.{AcceptedPart, EntriesOf, NumbersOf, ScriptRoom}
+use Rattle.script.proofs.AcceptedPartLaws.{accepted}
+use Rattle.script.proofs.PartLengthLaws.{reads-length, stage-length}
+use Rattle.script.proofs.PutMidLaws.{put-rest, put-mid-length}
 use Rattle.script_part.specs.Build.{Buildable, FoundRoom, ReadsRoom}
 
 -- ---- what the refusals leave
@@ -44,13 +44,13 @@ module _ (d : List ℕ) (p : ℕ) (b : Body) (k : Buildable d p b) where
   pub some-stages : 1 ≤ b .stages
   some-stages = omega (arith, k .body .stages, formed d (k .form) .part p (k .part) .some-stages)
 
-  pub lists-there : Listed d
+  pub lists-there : ListsInRange d
   lists-there = listed d (k .form)
 
   pub reads-planned : AllPlanned d p
   reads-planned = all-planned d (k .positions) p (k .part)
 
-  pub part-accepted : Accepted d p b
+  pub part-accepted : AcceptedPart d p b
   part-accepted = accepted d p b (k .body) (k .part) (k .gates) (k .locations) (k .tables)
 
 -- ---- the room while the reads are found: the pins in its first 32768 words
@@ -86,7 +86,7 @@ module _ (d : List ℕ) (p : ℕ) (room : List ℕ) (wide : length room ≡ 4096
   module _ (t : List ℕ) (kept : length t ≡ length (take (length with-pins - 32768) (drop 32768 with-pins))) where
     pub found-length : length (putMid 32768 (length with-pins - 32768) with-pins t) ≡ length room
     found-length =
-        put-length 32768 (length with-pins) with-pins t (omega (arith, room-size)) (omega arith) (omega (arith, kept, table-size, room-size)) ∙ omega (arith, room-size)
+        put-mid-length 32768 (length with-pins) with-pins t (omega (arith, room-size)) (omega arith) (omega (arith, kept, table-size, room-size)) ∙ omega (arith, room-size)
 
     pub found-room : (ws : List ℕ) → ws ≡ readWords d p → t ≡ tableAfter 256 (lanesOf 256 (pairsOf ws)) → FoundRoom d p (putMid 32768 (length with-pins - 32768) with-pins t)
     found-room ws is e =
@@ -165,7 +165,7 @@ module _ (d : List ℕ) (p : ℕ) (b : Body) (k : Buildable d p b) (narrow : All
           room = length-take-le (512 * rounds) out (omega arith);
         })
 
-  pub pairs-numbered : (bases bases′ : List ℕ) → 8192 ≤ length bases → bases′ ≡ storeLanes 0 (lanesAt (take n set′) table 256) bases → Numbered 256 d p (take n set′) bases′
+  pub pairs-numbered : (bases bases′ : List ℕ) → 8192 ≤ length bases → bases′ ≡ storeLanes 0 (lanesAt (take n set′) table 256) bases → AllNumbered 256 d p (take n set′) bases′
   pairs-numbered bases bases′ pairs e =
       rw (e, front) (part-numbered d p narrow any-room (partLanes 256 d p) (k .reads) table bases table-is table-length (omega (arith, count)) (reads-planned d p b k))
 
@@ -209,7 +209,7 @@ module _ (d : List ℕ) (p : ℕ) (b : Body) (k : Buildable d p b) (x : Numbers)
         ∙ (ap (λ (l : List ℕ). l ++ after) written ∙ append-assoc reads first after)
 
     script-long : length (putMid 256 (to - 256) out w) ≡ length out
-    script-long = put-length 256 to out w (omega arith) (omega (arith, out-size)) sections-size
+    script-long = put-mid-length 256 to out w (omega arith) (omega (arith, out-size)) sections-size
 
     pub script-room : (table : List ℕ) → 32768 ≤ length table → x .rounds ≤ 32 → ScriptRoom d p b x table (putMid 256 (to - 256) out w)
     script-room table t few = record {

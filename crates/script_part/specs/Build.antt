@@ -9,8 +9,8 @@ use lib.ListN.{length, take, drop}
 use Rattle.reads.specs.ReadSet.{pairsOf}
 use Rattle.reads.specs.Search.{lanesOf, longest}
 use Rattle.words.specs.Answer.{good}
-use Rattle.reads_try.specs.Decoded.{lanesAt}
-use Rattle.reads_section.specs.Readout.{Readable}
+use Rattle.reads_try.specs.TableLanes.{lanesAt}
+use Rattle.reads_section.specs.Readout.{TableReadable}
 use Rattle.rounds.specs.Rounds.{tableAfter}
 use Rattle.plan_record.specs.declared.bodies.Body.{Body}
 use Rattle.plan_record.specs.Record.{partsOf}
@@ -21,7 +21,7 @@ use Rattle.plan_counts.specs.Counts.{refusal7}
 use Rattle.plan_positions.specs.Positions.{refusal12, refusal13}
 use Rattle.plan_positions.specs.Places.{plannedTable}
 use Rattle.plan_reads.specs.PartReads.{readWords, partReads, partLanes}
-use Rattle.plan_reads.specs.Ready.{SetRoom}
+use Rattle.plan_reads.specs.ReadsReady.{SetRoom}
 
 -- b is the body of part p; the plan passed refusals 5, 6, 7, 12 and 13, and the part 3 and 4
 pub record Buildable (d : List ℕ) (p : ℕ) (b : Body) : Type 0 where
@@ -41,7 +41,7 @@ pub record FoundRoom (d : List ℕ) (p : ℕ) (room : List ℕ) : Type 0 where
 
 -- the lanes of a set in a table, the number of their rounds, and room for their words and for where each pair's bits begin
 pub record ReadsRoom (set table : List ℕ) (rounds : ℕ) (bases out : List ℕ) : Type 0 where
-  pub lanes : Readable set table 256
+  pub lanes : TableReadable set table 256
   pub rounds-are : rounds ≡ longest (lanesAt set table 256)
   pub few : rounds ≤ 32
   pub pairs : length set / 2 ≤ length bases

@@ -6,12 +6,12 @@ ghost use lib.ListN.{length, drop, replicate};
 ghost use lib.Seq.{sets};
 ghost use Rattle.words.specs.Edition.{partWords};
 ghost use Rattle.reads.specs.Search.{longest};
-ghost use Rattle.reads.specs.Words.{readSection};
-ghost use Rattle.reads_try.specs.Decoded.{lanesAt};
+ghost use Rattle.reads.specs.ReadSection.{readSection};
+ghost use Rattle.reads_try.specs.TableLanes.{lanesAt};
 ghost use Rattle.plan_reads.specs.PartReads.{askedTo, readWords, partLanes};
-ghost use Rattle.plan_reads.specs.Ready.{AllNarrow, AllWon, SetRoom};
+ghost use Rattle.plan_reads.specs.ReadsReady.{AllNarrow, AllWon, SetRoom};
 ghost use Rattle.plan_reads.specs.Bases.{storeLanes};
-ghost use Rattle.plan_reads.specs.Entries.{Numbered};
+ghost use Rattle.plan_reads.specs.Entries.{AllNumbered};
 ghost use Rattle.script.specs.Script.{stageSection, partScript};
 ghost use Rattle.script.specs.Writers.{NumbersOf};
 ghost use Rattle.script_part.specs.Build.{Buildable, FoundRoom, ReadsRoom, FrontRoom};
@@ -70,7 +70,7 @@ fn write_first(
     entries: &mut [u32],
     out: &mut [u32],
 )
-    requires { ⌜ Buildable (now d) p body × AllWon (now d) p (now pins) × Numbered 256 (now d) p (now set) (now bases) × (length (now entries) ≡ 8192) × (length (now out) ≡ 5120) ⌝ }
+    requires { ⌜ Buildable (now d) p body × AllWon (now d) p (now pins) × AllNumbered 256 (now d) p (now set) (now bases) × (length (now entries) ≡ 8192) × (length (now out) ≡ 5120) ⌝ }
     ensures { λ _. ⌜ now (out .exit) ≡ stageSection 256 (now (d .entry)) p 0 ⌝ }
 {
     first_entries(d, p, body, pins, set, bases, entries);

@@ -10,13 +10,13 @@ use lib.ListN.{length, take, drop, length-append, length-drop}
 use lib.Seq.{take-all, take-take, drop-drop, take-append-add, drop-append-add}
 use Rattle.plan_record.specs.Record.{stagesOf}
 use Rattle.plan_record.specs.declared.bodies.Body.{Body}
-use Rattle.reads.specs.Words.{readSection}
+use Rattle.reads.specs.ReadSection.{readSection}
 use Rattle.plan_reads.specs.PartReads.{partLanes}
 use Rattle.script.specs.declared.head.Numbers.{Numbers}
 use Rattle.script.specs.Script.{numbers, locationWords, stageSection, stageSections, sramSection, enableSection, partScript}
 use Rattle.script.specs.Writers.{numberWords, NumbersOf, StagesRoom, ScriptRoom}
-use Rattle.script.proofs.LengthLaws.{stage-length, stages-length}
-use Rattle.script.proofs.PartLaws.{put-rest, put-next, put-length}
+use Rattle.script.proofs.PartLengthLaws.{stage-length, stages-length}
+use Rattle.script.proofs.PutMidLaws.{put-rest, put-next, put-mid-length}
 
 -- ---- the stages
 
@@ -64,11 +64,11 @@ module _ (l h : List ℕ) (k : ℕ) (long : length h ≡ 256) where
       put-rest e (putMid (256 + k) (e - (256 + k)) (h ++ drop 256 l) w) t
       ∙ ap (λ (z : List ℕ). z ++ t) (put-next (256 + k) e (h ++ drop 256 l) w g n m ∙ ap (λ (z : List ℕ). z ++ w) head-take)
 
-pub script-is : (d : List ℕ) (p : ℕ) (x : Numbers) (h r w t : List ℕ) → NumbersOf d p x → h ≡ numberWords x ++ locationWords 256 d p → r ≡ readSection (partLanes 256 d p)
+pub part-script-is : (d : List ℕ) (p : ℕ) (x : Numbers) (h r w t : List ℕ) → NumbersOf d p x → h ≡ numberWords x ++ locationWords 256 d p → r ≡ readSection (partLanes 256 d p)
     → w ≡ stageSections 256 d p (stagesOf d p) → t ≡ sramSection 256 d p ++ enableSection 256 d p
     → h ++ r ++ w ++ t ≡ partScript 256 d p (x .last) (x .state) (x .sram)
 unfolding partScript
-script-is d p x h r w t n eh er ew et = rw (eh, er, ew, et, numbers-are d p x n) (simp append-assoc)
+part-script-is d p x h r w t n eh er ew et = rw (eh, er, ew, et, numbers-are d p x n) (simp append-assoc)
 
 -- ---- what the parts of the script's room are
 
@@ -99,11 +99,11 @@ module _ (d : List ℕ) (p : ℕ) (b : Body) (x : Numbers) (table out h : List �
 
     pub tables-room : length (take (length then - to) (drop to then)) ≡ 10240
     tables-room =
-        let m : length then ≡ length out = put-length from to (h ++ drop 256 out) w (omega arith) whole stages-fit ∙ head-length out h 0 long (omega (arith, r .room)) in
+        let m : length then ≡ length out = put-mid-length from to (h ++ drop 256 out) w (omega arith) whole stages-fit ∙ head-length out h 0 long (omega (arith, r .room)) in
         mid-len to (length then) then (omega arith) ∙ omega (arith, r .room)
 
     pub script-made : (t : List ℕ) → h ≡ numberWords x ++ locationWords 256 d p → t ≡ sramSection 256 d p ++ enableSection 256 d p
         → putMid to (length then - to) then t ≡ partScript 256 d p (x .last) (x .state) (x .sram)
     script-made t eh et =
         three-parts out h (512 * x .rounds) long w t to (omega arith) (omega (arith, r .room)) stages-fit
-        ∙ script-is d p x h (take (512 * x .rounds) (drop 256 out)) w t (r .numbers) eh (r .reads) stages et
+        ∙ part-script-is d p x h (take (512 * x .rounds) (drop 256 out)) w t (r .numbers) eh (r .reads) stages et

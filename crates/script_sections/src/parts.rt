@@ -4,7 +4,7 @@ ghost use mathlib.Core.List.{_++_};
 ghost use lib.ListN.{length, replicate};
 ghost use Rattle.plan_record.specs.Record.{stagesOf};
 ghost use Rattle.script.specs.Script.{locationWords, stageSections, sramSection, enableSection, partScript};
-ghost use Rattle.script.specs.Writers.{Accepted, numberWords, StagesRoom, ScriptRoom};
+ghost use Rattle.script.specs.Writers.{AcceptedPart, numberWords, StagesRoom, ScriptRoom};
 use crate::sections::write_enables;
 use crate::sections::write_sram;
 use crate::stages::write_later;
@@ -16,7 +16,7 @@ use words::clear::clear;
 
 // Writes the numbers and the locations.
 pub fn write_head(d: &[u8], p: usize, body: Body, x: Numbers, out: &mut [u32])
-    requires { ⌜ Accepted (now d) p body × (length (now out) ≡ 256) ⌝ }
+    requires { ⌜ AcceptedPart (now d) p body × (length (now out) ≡ 256) ⌝ }
     ensures { λ _. ⌜ now (out .exit) ≡ numberWords x ++ locationWords 256 (now (d .entry)) p ⌝ }
 {
     write_numbers(x, &mut out[..128]);
@@ -25,7 +25,7 @@ pub fn write_head(d: &[u8], p: usize, body: Body, x: Numbers, out: &mut [u32])
 
 // Writes the sections of the two tables.
 pub fn write_tables(d: &[u8], p: usize, body: Body, out: &mut [u32])
-    requires { ⌜ Accepted (now d) p body × (length (now out) ≡ 10240) ⌝ }
+    requires { ⌜ AcceptedPart (now d) p body × (length (now out) ≡ 10240) ⌝ }
     ensures { λ _. ⌜ now (out .exit) ≡ sramSection 256 (now (d .entry)) p ++ enableSection 256 (now (d .entry)) p ⌝ }
 {
     write_sram(d, p, body, &mut out[..5120]);
@@ -34,7 +34,7 @@ pub fn write_tables(d: &[u8], p: usize, body: Body, out: &mut [u32])
 
 // Writes the sections of the stages behind that of the first.
 pub fn write_stages(d: &[u8], p: usize, body: Body, table: &mut [u32], out: &mut [u32])
-    requires { ⌜ Accepted (now d) p body × StagesRoom (now d) p body (now table) (now out) ⌝ }
+    requires { ⌜ AcceptedPart (now d) p body × StagesRoom (now d) p body (now table) (now out) ⌝ }
     ensures { λ _. ⌜ now (table .exit) ≡ replicate (length (now (table .entry))) 0 ⌝ }
     ensures { λ _. ⌜ now (out .exit) ≡ stageSections 256 (now (d .entry)) p (stagesOf (now (d .entry)) p) ⌝ }
 {
@@ -51,7 +51,7 @@ pub fn write_stages(d: &[u8], p: usize, body: Body, table: &mut [u32], out: &mut
 
 // Writes a part's script around its read section and the section of its first stage.
 pub fn write_script(d: &[u8], p: usize, body: Body, x: Numbers, table: &mut [u32], out: &mut [u32])
-    requires { ⌜ Accepted (now d) p body × ScriptRoom (now d) p body x (now table) (now out) ⌝ }
+    requires { ⌜ AcceptedPart (now d) p body × ScriptRoom (now d) p body x (now table) (now out) ⌝ }
     ensures { λ _. ⌜ now (table .exit) ≡ replicate (length (now (table .entry))) 0 ⌝ }
     ensures { λ _. ⌜ now (out .exit) ≡ partScript 256 (now (d .entry)) p (x .last) (x .state) (x .sram) ⌝ }
 {

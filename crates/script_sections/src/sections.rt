@@ -6,7 +6,7 @@ ghost use lib.ListN.{length};
 ghost use Rattle.words.specs.Section.{listOf, sectionOf};
 ghost use Rattle.plan_record.specs.Record.{tableAt};
 ghost use Rattle.script.specs.Script.{laneList, sramSection, enableSection};
-ghost use Rattle.script.specs.Writers.{Accepted, wordsIn, LanesRoom, SectionRoom};
+ghost use Rattle.script.specs.Writers.{AcceptedPart, wordsIn, LanesRoom, SectionRoom};
 use plan_record::bodies::Body;
 use plan_record::bodies::table_word;
 use words::edition::Edition;
@@ -14,7 +14,7 @@ use words::halves::pack;
 
 // Reads words of the tables, from this one on.
 fn read_table(d: &[u8], p: usize, body: Body, from: usize, out: &mut [u32])
-    requires { ⌜ Accepted (now d) p body × (from + length (now out) ≤ 17664) ⌝ }
+    requires { ⌜ AcceptedPart (now d) p body × (from + length (now out) ≤ 17664) ⌝ }
     ensures { λ _. ⌜ now (out .exit) ≡ listOf (λ i. tableAt (now (d .entry)) p (from + i)) (length (now (out .entry))) ⌝ }
 {
     let mut i = 0;
@@ -50,7 +50,7 @@ pub fn write_section(entries: &[u32], a: &[u32], b: &[u32], c: &[u32], out: &mut
 
 // Writes the section of SRAMs and duplicates.
 pub fn write_sram(d: &[u8], p: usize, body: Body, out: &mut [u32])
-    requires { ⌜ Accepted (now d) p body × (length (now out) ≡ 5120) ⌝ }
+    requires { ⌜ AcceptedPart (now d) p body × (length (now out) ≡ 5120) ⌝ }
     ensures { λ _. ⌜ now (out .exit) ≡ sramSection 256 (now (d .entry)) p ⌝ }
 {
     let mut entries = [0u32; 8192];
@@ -65,7 +65,7 @@ pub fn write_sram(d: &[u8], p: usize, body: Body, out: &mut [u32])
 
 // Writes the section of clock enables.
 pub fn write_enables(d: &[u8], p: usize, body: Body, out: &mut [u32])
-    requires { ⌜ Accepted (now d) p body × (length (now out) ≡ 5120) ⌝ }
+    requires { ⌜ AcceptedPart (now d) p body × (length (now out) ≡ 5120) ⌝ }
     ensures { λ _. ⌜ now (out .exit) ≡ enableSection 256 (now (d .entry)) p ⌝ }
 {
     let mut entries = [0u32; 8192];

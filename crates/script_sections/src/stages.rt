@@ -5,7 +5,7 @@ ghost use lib.ListN.{length};
 ghost use Rattle.words.specs.Section.{listOf};
 ghost use Rattle.plan_slots.specs.Puts.{positionPuts, filled, FilledWith};
 ghost use Rattle.script.specs.Script.{stageEntry, stageSection};
-ghost use Rattle.script.specs.Writers.{Accepted, EntriesOf};
+ghost use Rattle.script.specs.Writers.{AcceptedPart, EntriesOf};
 use crate::sections::write_section;
 use pinmap::Found;
 use plan_record::bodies::Body;
@@ -17,7 +17,7 @@ use words::units::Pin;
 
 // Entry i of stage s + 1: its pin's highest position in stage s, whose positions the table holds.
 fn later_entry(d: &[u8], p: usize, body: Body, s: usize, table: &[u32], i: usize) -> u32
-    requires { ⌜ Accepted (now d) p body × (s + 1 < body .stages) × FilledWith (positionPuts (now d) p s) (now table) × (i < 8192) ⌝ }
+    requires { ⌜ AcceptedPart (now d) p body × (s + 1 < body .stages) × FilledWith (positionPuts (now d) p s) (now table) × (i < 8192) ⌝ }
     ensures { λ r. ⌜ r ≡ stageEntry 256 (now (d .entry)) p (s + 1) i ⌝ }
 {
     let pin = slot(d, p, body, s + 1, 8192 + i);
@@ -32,7 +32,7 @@ fn later_entry(d: &[u8], p: usize, body: Body, s: usize, table: &[u32], i: usize
 
 // The entries of stage s + 1.
 fn later_entries(d: &[u8], p: usize, body: Body, s: usize, table: &[u32], entries: &mut [u32])
-    requires { ⌜ Accepted (now d) p body × (s + 1 < body .stages) × FilledWith (positionPuts (now d) p s) (now table) × (length (now entries) ≡ 8192) ⌝ }
+    requires { ⌜ AcceptedPart (now d) p body × (s + 1 < body .stages) × FilledWith (positionPuts (now d) p s) (now table) × (length (now entries) ≡ 8192) ⌝ }
     ensures { λ _. ⌜ now (entries .exit) ≡ listOf (stageEntry 256 (now (d .entry)) p (s + 1)) 8192 ⌝ }
 {
     let mut i = 0;
@@ -44,7 +44,7 @@ fn later_entries(d: &[u8], p: usize, body: Body, s: usize, table: &[u32], entrie
 
 // Writes the section of stage s from its entries.
 pub fn write_stage(d: &[u8], p: usize, body: Body, s: usize, entries: &[u32], out: &mut [u32])
-    requires { ⌜ Accepted (now d) p body × (s < body .stages) × EntriesOf (now d) p s (now entries) × (length (now out) ≡ 5120) ⌝ }
+    requires { ⌜ AcceptedPart (now d) p body × (s < body .stages) × EntriesOf (now d) p s (now entries) × (length (now out) ≡ 5120) ⌝ }
     ensures { λ _. ⌜ now (out .exit) ≡ stageSection 256 (now (d .entry)) p s ⌝ }
 {
     let mut xora = [0u32; 256];
@@ -56,7 +56,7 @@ pub fn write_stage(d: &[u8], p: usize, body: Body, s: usize, entries: &[u32], ou
 
 // Writes the section of stage s + 1. The table then holds the positions of stage s.
 pub fn write_later(d: &[u8], p: usize, body: Body, s: usize, table: &mut [u32], out: &mut [u32])
-    requires { ⌜ Accepted (now d) p body × (s + 1 < body .stages) × (32768 ≤ length (now table)) × (length (now out) ≡ 5120) ⌝ }
+    requires { ⌜ AcceptedPart (now d) p body × (s + 1 < body .stages) × (32768 ≤ length (now table)) × (length (now out) ≡ 5120) ⌝ }
     ensures { λ _. ⌜ now (table .exit) ≡ filled (length (now (table .entry))) (positionPuts (now (d .entry)) p s) ⌝ }
     ensures { λ _. ⌜ now (out .exit) ≡ stageSection 256 (now (d .entry)) p (s + 1) ⌝ }
 {

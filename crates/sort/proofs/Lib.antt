@@ -1,6 +1,6 @@
 pub mod CopyLaws
 pub mod InsertionLaws
 pub mod MergeLaws
-pub mod OutcomeLaws
-pub mod SearchLaws
+pub mod SortEndLaws
+pub mod HalfSearchLaws
 pub mod SortLaws

@@ -1,3 +1,3 @@
-pub mod Search
+pub mod HalfSearch
 pub mod Sorted
-pub mod Outcome
+pub mod SortAnswer

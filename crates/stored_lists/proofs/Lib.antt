@@ -1,2 +1,2 @@
 pub mod SameLaws
-pub mod ListLaws
+pub mod StoredListLaws

@@ -10,7 +10,7 @@ use borrow.Author.Tests.{ltb-true, ltb-false, lt-ltb, le-ltb}
 use lib.Dec.{ltb}
 use lib.ListN.{length, length-append}
 use Rattle.text.specs.Text.{decimalIn, decimal}
-use Rattle.text.specs.Writing.{Put}
+use Rattle.text.specs.TextPut.{Put}
 use Rattle.text.proofs.WritingLaws.{put-then, put-as}
 
 pub decimal-one : (f n : ℕ) → n < 10 → decimalIn (suc f) n ≡ (48 + n) ∷ []

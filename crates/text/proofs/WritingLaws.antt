@@ -7,7 +7,7 @@ use native.Mathlib.Omega.{arith}
 use lib.ListN.{length, set, length-append}
 use lib.Seq.{sets, set-out, length-sets}
 use Rattle.words.proofs.ListLaws.{sets-append}
-use Rattle.text.specs.Writing.{Put}
+use Rattle.text.specs.TextPut.{Put}
 
 pub put-none : (k : ℕ) (l : List ℕ) (at : ℕ) → Put k [] l at l at
 put-none k l at = record { ends = omega arith; holds = refl; short = omega arith }
@@ -42,19 +42,19 @@ put-wide h f = record { ends = f .ends; holds = f .holds; short = omega (arith, 
 
 -- ---- a loop of writers: what is written, with the rest of the text, makes the whole; at most `done` bytes are written
 
-pub record Going (rest whole : List ℕ) (done : ℕ) (old : List ℕ) (at : ℕ) (new : List ℕ) (end : ℕ) : Type 0 where
+pub record TextGoing (rest whole : List ℕ) (done : ℕ) (old : List ℕ) (at : ℕ) (new : List ℕ) (end : ℕ) : Type 0 where
   pub held : sets new end rest ≡ sets old at whole
   pub count : end + length rest ≡ at + length whole
   pub short : end ≤ at + done
 
-pub going-start : (whole old : List ℕ) (at : ℕ) → Going whole whole 0 old at old at
+pub going-start : (whole old : List ℕ) (at : ℕ) → TextGoing whole whole 0 old at old at
 going-start whole old at = record { held = refl; count = refl; short = omega arith }
 
-module _ {rest whole : List ℕ} {done : ℕ} {old : List ℕ} {at : ℕ} {new : List ℕ} {end : ℕ} (G : Going rest whole done old at new end) where
+module _ {rest whole : List ℕ} {done : ℕ} {old : List ℕ} {at : ℕ} {new : List ℕ} {end : ℕ} (G : TextGoing rest whole done old at new end) where
   pub going-long : length new ≡ length old
   going-long = sym (length-sets new end rest) ∙ ap length (G .held) ∙ length-sets old at whole
 
-  pub going-more : {k more : ℕ} (xs rest′ : List ℕ) {new′ : List ℕ} {end′ : ℕ} → rest ≡ xs ++ rest′ → Put k xs new end new′ end′ → done + k ≤ more → Going rest′ whole more old at new′ end′
+  pub going-more : {k more : ℕ} (xs rest′ : List ℕ) {new′ : List ℕ} {end′ : ℕ} → rest ≡ xs ++ rest′ → Put k xs new end new′ end′ → done + k ≤ more → TextGoing rest′ whole more old at new′ end′
   going-more {k} {more} xs rest′ {new′} {end′} e f h =
       record {
         held = (rw (f .holds, f .ends) (sym (sets-append new end xs rest′))) ∙ ap (sets new end) (sym e) ∙ G .held;

@@ -4,7 +4,7 @@ ghost use mathlib.Core.List.{[], _∷_, _++_};
 ghost use Prim.Native.Nat.{_+_, _^_, _<_};
 ghost use lib.ListN.{length};
 ghost use Rattle.text.specs.Text.{decimal};
-ghost use Rattle.text.specs.Writing.{Put};
+ghost use Rattle.text.specs.TextPut.{Put};
 
 pub fn put(out: &mut [u8], at: usize, b: u8) -> usize
     requires { ⌜ at < 2 ^ 63 ⌝ }

@@ -14,7 +14,7 @@ use lib.Seq.{length-take-le, take-all, take-at, drop-at}
 use Rattle.words.proofs.ListLaws.{zeros-front}
 use Rattle.pinmap.specs.declared.Found.{Found}
 use Rattle.pinmap.specs.declared.Found.the-variants.{Value, Missing}
-use Rattle.pinmap.specs.PinMap.{Entry, entry, look, foundOf, putIn, lastPut, lastFrom, afterPuts}
+use Rattle.pinmap.specs.PinMap.{Entry, entry, look, lookAnswer, putIn, lastPut, lastFrom, afterPuts}
 use Rattle.pinmap.proofs.PinMapLaws.{replaced-same, replaced-other}
 use Rattle.pinmap.proofs.HoldsLaws.{last-snoc, puts-look}
 use Rattle.plan_record.specs.declared.bodies.Body.{Body}
@@ -31,14 +31,14 @@ use Rattle.plan_positions.specs.Places.{plannedTable}
 use Rattle.plan_positions.specs.Input.{plannedBit, input}
 use Rattle.plan_positions.proofs.WinnerLaws.{by-none, planned-winner}
 use Rattle.plan_positions.proofs.PlannedLaws.{slot-read, planned-look, planned-length}
-use Rattle.values.specs.Known.{heldBit, foundPut, foundBelow, bitPuts, knownPuts, Clear, Numbered}
-use Rattle.values.proofs.BitLaws.{bit-none, planned-lt}
+use Rattle.values.specs.Known.{heldBit, foundPut, foundBelow, bitPuts, knownPuts, Clear, WinnersTabled}
+use Rattle.values.proofs.PlannedBitLaws.{bit-none, planned-lt}
 
 -- ---- the entry of one pin
 
-pub found-none : (t : List ℕ) (x : ℕ) (o : Option ℕ) → o ≡ none → t ≡ afterPuts t (foundPut x o)
+pub nothing-put : (t : List ℕ) (x : ℕ) (o : Option ℕ) → o ≡ none → t ≡ afterPuts t (foundPut x o)
 unfolding foundPut afterPuts
-found-none t x o h = sym (ap (λ (q : Option ℕ). afterPuts t (foundPut x q)) h)
+nothing-put t x o h = sym (ap (λ (q : Option ℕ). afterPuts t (foundPut x q)) h)
 
 pub found-one : (t : List ℕ) (x v : ℕ) (o : Option ℕ) → o ≡ some v → putIn t x v ≡ afterPuts t (foundPut x o)
 unfolding foundPut afterPuts
@@ -46,7 +46,7 @@ found-one t x v o h = sym (ap (λ (q : Option ℕ). afterPuts t (foundPut x q)) 
 
 module _ (d old new t : List ℕ) (x w : ℕ) where
   pub put-none : w ≡ 0 → t ≡ afterPuts t (foundPut x (plannedBit old new (plannedBy d w)))
-  put-none h = found-none t x _ (ap (λ (v : ℕ). plannedBit old new (plannedBy d v)) h ∙ (ap (plannedBit old new) (by-none d) ∙ bit-none old new))
+  put-none h = nothing-put t x _ (ap (λ (v : ℕ). plannedBit old new (plannedBy d v)) h ∙ (ap (plannedBit old new) (by-none d) ∙ bit-none old new))
 
   pub put-bit : (u : List ℕ) (r : ℕ) → some r ≡ plannedBit old new (plannedBy d w) → u ≡ putIn t x r
       → u ≡ afterPuts t (foundPut x (plannedBit old new (plannedBy d w)))
@@ -155,12 +155,12 @@ module _ (d : List ℕ) (p : ℕ) (old new : List ℕ) where
 
 -- ---- one slot more, as the code reads it: x is the pin of slot j, t the words with the winners
 
-module _ (d : List ℕ) (p : ℕ) (b : Body) (old new room : List ℕ) (ready : Numbered d p b room) (j x : ℕ) (l : j < 8192) (read : x ≡ slotAt d p 0 (8192 + j)) where
+module _ (d : List ℕ) (p : ℕ) (b : Body) (old new room : List ℕ) (ready : WinnersTabled d p b room) (j x : ℕ) (l : j < 8192) (read : x ≡ slotAt d p 0 (8192 + j)) where
   pub bit-empty : x ≡ empty
       → room ≡ afterPuts (take 32768 room) (foundPut (slotAt d p 0 (8192 + j)) (heldBit d old new (slotAt d p 0 (8192 + j)))) ++ drop 32768 room
   bit-empty h =
       sym (take-append-drop 32768 room)
-      ∙ ap (λ (a : List ℕ). a ++ drop 32768 room) (found-none (take 32768 room) (slotAt d p 0 (8192 + j)) _ (held-empty d p old new _ (sym read ∙ h)))
+      ∙ ap (λ (a : List ℕ). a ++ drop 32768 room) (nothing-put (take 32768 room) (slotAt d p 0 (8192 + j)) _ (held-empty d p old new _ (sym read ∙ h)))
 
   module _ (held : x ≡ empty → ⊥) (t : List ℕ) (part : t ≡ drop 32768 room) where
     slot-look : look t x ≡ some (winner d x)
@@ -168,11 +168,11 @@ module _ (d : List ℕ) (p : ℕ) (b : Body) (old new room : List ℕ) (ready : 
         ap (λ (a : List ℕ). look a x) (part ∙ ready .winners)
         ∙ planned-look d p x (length (drop 32768 room)) (omega (arith, length-drop 32768 room, ready .wide)) held (ap (readsPin d p) read ∙ slot-read d p j l)
 
-    pub bit-value : (f : Found) (w : ℕ) (u : List ℕ) → f ≡ foundOf (look t x) → f ≡ Value w
+    pub bit-value : (f : Found) (w : ℕ) (u : List ℕ) → f ≡ lookAnswer (look t x) → f ≡ Value w
         → u ≡ afterPuts (take 32768 room) (foundPut x (plannedBit old new (plannedBy d w)))
         → u ++ drop 32768 room ≡ afterPuts (take 32768 room) (foundPut (slotAt d p 0 (8192 + j)) (heldBit d old new (slotAt d p 0 (8192 + j)))) ++ drop 32768 room
     bit-value f w u a v e =
-        let k : Value w ≡ Value (winner d x) = sym v ∙ (a ∙ ap foundOf slot-look) in
+        let k : Value w ≡ Value (winner d x) = sym v ∙ (a ∙ ap lookAnswer slot-look) in
         let g : w ≡ winner d x = cc in
         let o : plannedBit old new (plannedBy d w) ≡ heldBit d old new x =
         ap (λ (y : ℕ). plannedBit old new (plannedBy d y)) g ∙ (ap (plannedBit old new) (sym (planned-winner d x)) ∙ sym (held-pin d p old new x held))
@@ -182,9 +182,9 @@ module _ (d : List ℕ) (p : ℕ) (b : Body) (old new room : List ℕ) (ready : 
         in
         ap (λ (c : List ℕ). c ++ drop 32768 room) (e ∙ ap (afterPuts (take 32768 room)) q)
 
-    pub bit-missing : (f : Found) → f ≡ foundOf (look t x) → f ≡ Missing → ⊥
+    pub bit-missing : (f : Found) → f ≡ lookAnswer (look t x) → f ≡ Missing → ⊥
     bit-missing f a v =
-        let k : Missing ≡ Value (winner d x) = sym v ∙ (a ∙ ap foundOf slot-look) in
+        let k : Missing ≡ Value (winner d x) = sym v ∙ (a ∙ ap lookAnswer slot-look) in
         let z : _≡_ {A = ℕ} 0 1 = cc in
         omega arith
 
@@ -199,7 +199,7 @@ clear-front room c = ap (take 32768) (c .is) ∙ zeros-front (length room) 32768
 module _ (d : List ℕ) (p : ℕ) (b : Body) (old new : List ℕ) where
   pub fill-first : (room ys : List ℕ) → BodyOf d p b → 0 < b .stages → Clear room
       → ys ≡ plannedTable d p (length (take (length room - 32768) (drop 32768 room)))
-      → Numbered d p b (take 32768 room ++ (ys ++ drop (length room - 32768) (drop 32768 room)))
+      → WinnersTabled d p b (take 32768 room ++ (ys ++ drop (length room - 32768) (drop 32768 room)))
       × (take 32768 (take 32768 room ++ (ys ++ drop (length room - 32768) (drop 32768 room))) ≡ filled 32768 (bitPuts d p old new 0))
   fill-first room ys body stages c e =
       let n : length (take 32768 room) ≡ 32768 = length-take-le 32768 room (omega (arith, c .wide)) in
@@ -219,9 +219,9 @@ module _ (d : List ℕ) (p : ℕ) (b : Body) (old new : List ℕ) where
         t ∙ (clear-front room c ∙ found-start (λ i. slotAt d p 0 (8192 + i)) (heldBit d old new) (replicate 32768 0)),
       )
 
-  pub fill-next : (room u : List ℕ) (j : ℕ) → Numbered d p b room → take 32768 room ≡ filled 32768 (bitPuts d p old new j)
+  pub fill-next : (room u : List ℕ) (j : ℕ) → WinnersTabled d p b room → take 32768 room ≡ filled 32768 (bitPuts d p old new j)
       → u ≡ afterPuts (take 32768 room) (foundPut (slotAt d p 0 (8192 + j)) (heldBit d old new (slotAt d p 0 (8192 + j)))) ++ drop 32768 room
-      → (length u ≡ length room) × Numbered d p b u × (take 32768 u ≡ filled 32768 (bitPuts d p old new (j + 1)))
+      → (length u ≡ length room) × WinnersTabled d p b u × (take 32768 u ≡ filled 32768 (bitPuts d p old new (j + 1)))
   fill-next room u j r h e =
       let q = foundPut (slotAt d p 0 (8192 + j)) (heldBit d old new (slotAt d p 0 (8192 + j))) in
       let n : length (afterPuts (take 32768 room) q) ≡ 32768 = puts-length (take 32768 room) q ∙ length-take-le 32768 room (omega (arith, r .wide)) in

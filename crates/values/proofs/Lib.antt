@@ -1,3 +1,3 @@
-pub mod BitLaws
+pub mod PlannedBitLaws
 pub mod KnownLaws
-pub mod AnswerLaws
+pub mod ValueAnswerLaws

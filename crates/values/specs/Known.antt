@@ -48,14 +48,14 @@ pub record Clear (room : List ℕ) : Type 0 where
   pub is : room ≡ replicate (length room) 0
 
 -- the words after those have the pins that part p reads, each with the number of the entry that wins for it
-pub record Numbered (d : List ℕ) (p : ℕ) (b : Body) (room : List ℕ) : Type 0 where
+pub record WinnersTabled (d : List ℕ) (p : ℕ) (b : Body) (room : List ℕ) : Type 0 where
   pub body : BodyOf d p b
   pub stages : 0 < b .stages
   pub wide : 65536 ≤ length room
   pub winners : drop 32768 room ≡ plannedTable d p (length (drop 32768 room))
 
 -- a plan that the value of a pin is asked of
-pub record Asked (d room : List ℕ) : Type 0 where
+pub record ValueAsked (d room : List ℕ) : Type 0 where
   pub form : planForm d ≡ true
   pub gates : badGate d ≡ none
   pub clear : Clear room

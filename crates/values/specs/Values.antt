@@ -11,9 +11,9 @@ use lib.Seq.{sets}
 use Rattle.plan_record.specs.Record.{gatesOf}
 use Rattle.words.specs.Pins.{empty}
 use Rattle.words.specs.Answer.{Answer, good, refused, atItem, nowhere}
-use Rattle.plan_record.specs.Form.{roomWords, planForm}
+use Rattle.plan_record.specs.Form.{planRoomWords, planForm}
 use Rattle.plan_gates.specs.Gates.{badGate, value}
-use Rattle.plan_gates.specs.Values.{gateWords}
+use Rattle.plan_gates.specs.GateValues.{gateWords}
 use Rattle.plan_positions.specs.Input.{input}
 use Rattle.values.specs.declared.Valued.{Valued}
 use Rattle.values.specs.declared.Valued.the-variants.{Bit, Refused}
@@ -46,9 +46,9 @@ valued (some g) o = refused (atItem 6 g)
 valued none o = o
 
 -- and before it 5, and before all 32: the lent room has r words
-unfoldable pub outcome : List ℕ → ℕ → List ℕ → List ℕ → ℕ → ℕ → ℕ → Answer Bits
-outcome d p old new r b x =
-    elim (leb (roomWords d) r) [
+unfoldable pub valueAnswer : List ℕ → ℕ → List ℕ → List ℕ → ℕ → ℕ → ℕ → Answer Bits
+valueAnswer d p old new r b x =
+    elim (leb (planRoomWords d) r) [
       | false ↦ refused (nowhere 32)
       | true ↦ elim (planForm d) [ false ↦ refused (nowhere 5) | true ↦ valued (badGate d) (lentBits d p old new b x) ]
     ]
@@ -64,5 +64,5 @@ bitsAfter (good x) bits = sets bits 0 (x .gates)
 bitsAfter (refused q) bits = bits
 
 -- the lent room then holds zeros; one that is too short holds what it held
-unfoldable pub roomAfter : List ℕ → List ℕ → List ℕ
-roomAfter d room = elim (leb (roomWords d) (length room)) [ false ↦ room | true ↦ replicate (length room) 0 ]
+unfoldable pub valueRoomAfter : List ℕ → List ℕ → List ℕ
+valueRoomAfter d room = elim (leb (planRoomWords d) (length room)) [ false ↦ room | true ↦ replicate (length room) 0 ]

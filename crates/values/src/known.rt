@@ -13,7 +13,7 @@ ghost use Rattle.plan_record.specs.Body.{BodyOf};
 ghost use Rattle.plan_slots.specs.Puts.{filled};
 ghost use Rattle.plan_positions.specs.Winners.{plannedBy};
 ghost use Rattle.plan_positions.specs.Input.{plannedBit};
-ghost use Rattle.values.specs.Known.{heldBit, foundPut, bitPuts, knownPuts, Clear, Numbered};
+ghost use Rattle.values.specs.Known.{heldBit, foundPut, bitPuts, knownPuts, Clear, WinnersTabled};
 use pinmap::Found;
 use pinmap::look_up;
 use plan_positions::planned::fill_planned;
@@ -73,7 +73,7 @@ fn put_slot_bit(
     room: &mut [u32],
     j: usize,
 )
-    requires { ⌜ Numbered (now d) p body (now room) × (j < 8192) ⌝ }
+    requires { ⌜ WinnersTabled (now d) p body (now room) × (j < 8192) ⌝ }
     ensures { λ _. ⌜ now (room .exit) ≡ afterPuts (take 32768 (now (room .entry))) (foundPut (slotAt (now (d .entry)) p 0 (8192 + j)) (heldBit (now (d .entry)) (now (old .entry)) (now (new .entry)) (slotAt (now (d .entry)) p 0 (8192 + j)))) ++ drop 32768 (now (room .entry)) ⌝ }
 {
     let pin = slot(d, p, body, 0, 8192 + j);

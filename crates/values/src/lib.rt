@@ -4,8 +4,8 @@ pub mod known;
 ghost use mathlib.Core.Path.{_≡_};
 ghost use lib.ListN.{length, replicate};
 ghost use Rattle.words.specs.Answer.{refused, atItem};
-ghost use Rattle.values.specs.Known.{Asked};
-ghost use Rattle.values.specs.Values.{bitWords, pinValue, gateValues, lentBits, outcome, valuedOf, bitsAfter, roomAfter};
+ghost use Rattle.values.specs.Known.{ValueAsked};
+ghost use Rattle.values.specs.Values.{bitWords, pinValue, gateValues, lentBits, valueAnswer, valuedOf, bitsAfter, valueRoomAfter};
 use known::fill_known;
 use plan_gates::check_gates;
 use plan_record::form::plan_form;
@@ -44,7 +44,7 @@ fn fill_bits(
     bits: &mut [u32],
     pin: Pin,
 ) -> u32
-    requires { ⌜ Asked (now plan) (now room) × (length (now bits) ≡ bitWords (now plan)) ⌝ }
+    requires { ⌜ ValueAsked (now plan) (now room) × (length (now bits) ≡ bitWords (now plan)) ⌝ }
     ensures { λ r. ⌜ r ≡ pinValue (now (plan .entry)) part (now (old .entry)) (now (new .entry)) (pin .0) ⌝ }
     ensures { λ _. ⌜ now (room .exit) ≡ replicate (length (now (room .entry))) 0 ⌝ }
     ensures { λ _. ⌜ now (bits .exit) ≡ gateValues (now (plan .entry)) part (now (old .entry)) (now (new .entry)) ⌝ }
@@ -80,7 +80,7 @@ fn value_lent(
     bits: &mut [u32],
     pin: Pin,
 ) -> Valued
-    requires { ⌜ Asked (now plan) (now room) ⌝ }
+    requires { ⌜ ValueAsked (now plan) (now room) ⌝ }
     ensures { λ r. ⌜ r ≡ valuedOf (lentBits (now (plan .entry)) part (now (old .entry)) (now (new .entry)) (length (now (bits .entry))) (pin .0)) ⌝ }
     ensures { λ _. ⌜ now (room .exit) ≡ replicate (length (now (room .entry))) 0 ⌝ }
     ensures { λ _. ⌜ now (bits .exit) ≡ bitsAfter (lentBits (now (plan .entry)) part (now (old .entry)) (now (new .entry)) (length (now (bits .entry))) (pin .0)) (now (bits .entry)) ⌝ }
@@ -102,9 +102,9 @@ pub fn value(
     bits: &mut [u32],
     pin: Pin,
 ) -> Valued
-    ensures { λ r. ⌜ r ≡ valuedOf (outcome (now (plan .entry)) part (now (old .entry)) (now (new .entry)) (length (now (room .entry))) (length (now (bits .entry))) (pin .0)) ⌝ }
-    ensures { λ _. ⌜ now (room .exit) ≡ roomAfter (now (plan .entry)) (now (room .entry)) ⌝ }
-    ensures { λ _. ⌜ now (bits .exit) ≡ bitsAfter (outcome (now (plan .entry)) part (now (old .entry)) (now (new .entry)) (length (now (room .entry))) (length (now (bits .entry))) (pin .0)) (now (bits .entry)) ⌝ }
+    ensures { λ r. ⌜ r ≡ valuedOf (valueAnswer (now (plan .entry)) part (now (old .entry)) (now (new .entry)) (length (now (room .entry))) (length (now (bits .entry))) (pin .0)) ⌝ }
+    ensures { λ _. ⌜ now (room .exit) ≡ valueRoomAfter (now (plan .entry)) (now (room .entry)) ⌝ }
+    ensures { λ _. ⌜ now (bits .exit) ≡ bitsAfter (valueAnswer (now (plan .entry)) part (now (old .entry)) (now (new .entry)) (length (now (room .entry))) (length (now (bits .entry))) (pin .0)) (now (bits .entry)) ⌝ }
 {
     if room.len() < room_words(plan) {
         return refuse(ROOM_SHORT, 0);

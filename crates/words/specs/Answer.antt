@@ -21,8 +21,8 @@ abbrev pub nowhere : ℕ → Refusal
 nowhere n = atItem n 0
 
 -- what is told of a refusal
-abbrev pub numbers : Refusal → List ℕ
-numbers q = q .number ∷ q .part ∷ q .item ∷ []
+abbrev pub refusalNumbers : Refusal → List ℕ
+refusalNumbers q = q .number ∷ q .part ∷ q .item ∷ []
 
 -- k numbers: those of a list, then zeros
 abbrev pub padded : ℕ → List ℕ → List ℕ
@@ -33,4 +33,4 @@ padded (suc k) (x ∷ l) = x ∷ padded k l
 -- the numbers that are handed out, what is returned and k more: of something good 0 and what f tells of it, else what is told of the refusal
 abbrev pub handed : {A : Type 0} → ℕ → (A → List ℕ) → Answer A → List ℕ
 handed k f (good x) = padded (suc k) (0 ∷ f x)
-handed k f (refused q) = padded (suc k) (numbers q)
+handed k f (refused q) = padded (suc k) (refusalNumbers q)

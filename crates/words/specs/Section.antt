@@ -6,8 +6,8 @@ use Prim.Native.Nat.{ℕ, zero, suc, _+_, _*_, _/_, _%_, _^_}
 use lib.ListN.{getD}
 
 -- the word of entry i: t is i / 32, k is i / 8 % 4, h is i % 8 / 2; its half is e, which is i % 2
-unfoldable pub placeOf : ℕ → ℕ → ℕ
-placeOf n i = i / 8 % 4 * (4 * n) + (i / 32 * 4 + i % 8 / 2)
+unfoldable pub wordOfEntry : ℕ → ℕ → ℕ
+wordOfEntry n i = i / 8 % 4 * (4 * n) + (i / 32 * 4 + i % 8 / 2)
 
 -- the entry in half e of word w
 unfoldable pub entryOf : ℕ → ℕ → ℕ → ℕ
@@ -20,7 +20,7 @@ halfOf x (suc e) = x / 2 ^ 16
 
 -- entry i of a section
 unfoldable pub halfAt : ℕ → List ℕ → ℕ → ℕ
-halfAt n s i = halfOf (getD s (placeOf n i) 0) (i % 2)
+halfAt n s i = halfOf (getD s (wordOfEntry n i) 0) (i % 2)
 
 -- the list f 0, f 1, .. of m numbers
 unfoldable pub listOf : (ℕ → ℕ) → ℕ → List ℕ

@@ -4,10 +4,10 @@ use mathlib.Core.List.{List}
 use Prim.Native.Nat.{ℕ}
 use native.Mathlib.Omega.{arith}
 use borrow.Author.Needs.{needs}
-use Rattle.aiger.specs.Reading.{startOf}
-use Rattle.aiger_read.specs.Told.{startTold}
+use Rattle.aiger.specs.Reading.{gatesStart}
+use Rattle.aiger_read.specs.ReadTold.{startTold}
 use Rattle.aiger_read.specs.declared.start.Start.the-variants.{At as StartAt}
-use Rattle.aiger_read.proofs.ListLaws.{header-bound, read-no-start, read-bad, read-short, read-whole}
+use Rattle.aiger_read.proofs.ReadPassLaws.{header-bound, read-no-start, read-bad, read-short, read-whole}
 use Rattle.aiger_read.proofs.read_gates.Statement.{statement}
 use Rattle.aiger_read.proofs.read_gates.Tie as tie
 
@@ -15,7 +15,7 @@ use Rattle.aiger_read.proofs.read_gates.Tie as tie
 abbrev bytes-in : tie.After-known-told → List ℕ
 bytes-in c = c .before .before .before .before .before .before .args .bytes .now
 
-start-in : (c : tie.After-known-told) → startTold (startOf (bytes-in c)) ≡ StartAt (c .before .header .given .0 .0) (c .before .header .given .0 .1 .0)
+start-in : (c : tie.After-known-told) → startTold (gatesStart (bytes-in c)) ≡ StartAt (c .before .header .given .0 .0) (c .before .header .given .0 .1 .0)
 start-in c = sym (c .before .before .before .start-of .ensures) ∙ c .before .header .given .1
 
 add-t11 : tie.Need-add-t11

@@ -1,7 +1,7 @@
 -- `aiger_write::write_gates` meets its contract: 33, then 14, else the text. Assumes nothing.
 use mathlib.Core.Path.{sym, _∙_}
 use borrow.Author.Needs.{needs}
-use Rattle.aiger_write.proofs.ListLaws.{measured, write-other, write-short, write-whole}
+use Rattle.aiger_write.proofs.WritePassLaws.{measured, write-other, write-short, write-whole}
 use Rattle.aiger_write.proofs.write_gates.Statement.{statement}
 use Rattle.aiger_write.proofs.write_gates.Tie as tie
 

@@ -15,11 +15,13 @@ unfolding afterList
 returns c =
     let lent = c .before .before .before in
     let m = lent .before .before .before .before in
-    let a = m .before .before .before .before .before .before .args in
+    let start = m .before .before .before .before .before .before in
+    let a = start .args in
     let o = listed (a .records .now) (length (a .out .now)) (length (a .room .now)) in
     let made = m .list .ensures in
     let numbers = c .tell-listed .ensures ∙ (ap listedNumbers (made .0) ∙ listed-told o) in
     also numbers (also (made .1 .0) (also (made .1 .1) refl))
 
 pub juolgesot-list-spec : {M : Type 1} → statement M
-juolgesot-list-spec = tie.close (tie.spec (λ c κs. search needs) (λ c κs. search needs) (λ c. search needs) (λ c. search needs) returns)
+juolgesot-list-spec = tie.close
+    (tie.spec (λ c κs. search needs) (λ c κs. search needs) (λ c. search needs) (λ c. search needs) returns)

@@ -3,7 +3,7 @@
 use mathlib.Core.Path.{refl, ap, _∙_}
 use lib.ListN.{length}
 use borrow.Author.Needs.{needs}
-use Rattle.repair_nodes.specs.Outcome.{placed}
+use Rattle.repair_nodes.specs.RepairAnswer.{placed}
 use Rattle.capi.specs.Exported.{afterPlaceBit}
 use Rattle.capi.specs.Numbers.{repairedNumbers}
 use Rattle.capi.proofs.ToldLaws.{also, repaired-told}
@@ -16,11 +16,13 @@ returns c =
     let lent = c .before .before .before in
     let m = lent .before .before .before .before .before .before in
     let given = m .before .before .before .before .before .before in
-    let a = given .before .before .before .before .args in
+    let start = given .before .before .before .before in
+    let a = start .args in
     let o = placed 13 (a .gates .now) (a .levels .now) (a .counts .now) (a .slots .now) (length (a .after .now)) (length (a .room .now)) (a .level) (a .slot) (a .node) in
     let made = m .place-bit .ensures in
     let numbers = c .tell-repaired .ensures ∙ (ap repairedNumbers (made .0) ∙ repaired-told o) in
     also numbers (also (made .1 .0) (also (made .1 .1 .0) (also (made .1 .1 .1) refl)))
 
 pub juolgesot-place-bit-spec : {M : Type 1} → statement M
-juolgesot-place-bit-spec = tie.close (tie.spec (λ c κs. search needs) (λ c κs. search needs) (λ c. search needs) (λ c. search needs) (λ c. search needs) returns)
+juolgesot-place-bit-spec = tie.close
+    (tie.spec (λ c κs. search needs) (λ c κs. search needs) (λ c. search needs) (λ c. search needs) (λ c. search needs) returns)

@@ -15,11 +15,13 @@ unfolding afterPlanSizes
 returns c =
     let lent = c .before .before .before .before .before in
     let m = lent .before .before in
-    let a = m .before .before .before .before .args in
+    let start = m .before .before .before .before in
+    let a = start .args in
     let o = sizing 256 (a .plan .now) (length (a .room .now)) in
     let made = m .plan-sizes .ensures in
     let numbers = c .tell-flattened .ensures ∙ (ap flattenedNumbers (made .0) ∙ flattened-told o) in
     also numbers (also (made .1) refl)
 
 pub juolgesot-plan-sizes-spec : {M : Type 1} → statement M
-juolgesot-plan-sizes-spec = tie.close (tie.spec (λ c κs. search needs) (λ c κs. search needs) (λ c. search needs) returns)
+juolgesot-plan-sizes-spec = tie.close
+    (tie.spec (λ c κs. search needs) (λ c κs. search needs) (λ c. search needs) returns)

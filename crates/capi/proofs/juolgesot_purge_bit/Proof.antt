@@ -3,7 +3,7 @@
 use mathlib.Core.Path.{refl, ap, _∙_}
 use lib.ListN.{length}
 use borrow.Author.Needs.{needs}
-use Rattle.repair_nodes.specs.Outcome.{cleared}
+use Rattle.repair_nodes.specs.RepairAnswer.{cleared}
 use Rattle.capi.specs.Exported.{afterPurgeBit}
 use Rattle.capi.specs.Numbers.{repairedNumbers}
 use Rattle.capi.proofs.ToldLaws.{also, repaired-told}
@@ -23,4 +23,5 @@ returns c =
     also numbers (also (made .1 .0) (also (made .1 .1 .0) (also (made .1 .1 .1) refl)))
 
 pub juolgesot-purge-bit-spec : {M : Type 1} → statement M
-juolgesot-purge-bit-spec = tie.close (tie.spec (λ c κs. search needs) (λ c κs. search needs) (λ c. search needs) (λ c. search needs) (λ c. search needs) returns)
+juolgesot-purge-bit-spec = tie.close
+    (tie.spec (λ c κs. search needs) (λ c κs. search needs) (λ c. search needs) (λ c. search needs) (λ c. search needs) returns)

@@ -4,7 +4,7 @@ use mathlib.Core.Path.{refl, ap, _∙_}
 use lib.ListN.{length}
 use borrow.Author.Needs.{needs}
 use Rattle.aiger.specs.Writing.{writeAiger}
-use Rattle.aiger.specs.Outcome.{holding}
+use Rattle.aiger.specs.AigerAnswer.{holding}
 use Rattle.capi.specs.Exported.{afterWriteAiger}
 use Rattle.capi.specs.Numbers.{textNumbers}
 use Rattle.capi.proofs.ToldLaws.{also, text-told}
@@ -23,4 +23,5 @@ returns c =
     also numbers (also (made .1) refl)
 
 pub juolgesot-write-aiger-spec : {M : Type 1} → statement M
-juolgesot-write-aiger-spec = tie.close (tie.spec (λ c κs. search needs) (λ c κs. search needs) (λ c. search needs) returns)
+juolgesot-write-aiger-spec = tie.close
+    (tie.spec (λ c κs. search needs) (λ c κs. search needs) (λ c. search needs) returns)

@@ -13,4 +13,5 @@ returns-2 c =
     ap (λ (l : List ℕ). l ++ (0 ∷ 0 ∷ [])) (c .hand-refusal .ensures) ∙ ap flattenedNumbers (sym (c .before .before .before .before .answer2 .given .1))
 
 pub tell-flattened-spec : {M : Type 1} → statement M
-tell-flattened-spec = tie.close (tie.spec (λ c. search needs) (λ c. search needs) (λ c κs. search needs) (λ c. search needs) returns-2)
+tell-flattened-spec = tie.close
+    (tie.spec (λ c. search needs) (λ c. search needs) (λ c κs. search needs) (λ c. search needs) returns-2)

@@ -13,4 +13,5 @@ returns-2 c =
     ap (λ (l : List ℕ). l ++ (0 ∷ 0 ∷ [])) (c .hand-refusal .ensures) ∙ ap gatesNumbers (sym (c .before .before .before .before .answer2 .given .1))
 
 pub tell-gates-spec : {M : Type 1} → statement M
-tell-gates-spec = tie.close (tie.spec (λ c. search needs) (λ c. search needs) (λ c κs. search needs) (λ c. search needs) returns-2)
+tell-gates-spec = tie.close
+    (tie.spec (λ c. search needs) (λ c. search needs) (λ c κs. search needs) (λ c. search needs) returns-2)

@@ -1,48 +1,38 @@
 -- The words are written where both slices are long enough; else it is refusal 14.
 -- Assumes nothing.
 use mathlib.Core.Path.{sym, ap, _∙_}
-use Prim.Native.Nat.{ℕ, _-_}
+use Prim.Native.Nat.{ℕ}
 use lib.ListN.{length}
 use lib.ListN.{replicate}
 use Rattle.words.specs.Answer.{nowhere}
 use Rattle.script_assembly.specs.Assembly.{scriptStarts, scriptWords}
 use Rattle.flatten.specs.declared.Flattened.the-variants.{Built}
 use Rattle.flatten.specs.Flatten.{sizesOf}
-use Rattle.flatten.specs.Answers.{flattenedOf}
-use Rattle.flatten.proofs.AnswerLaws.{plan-room, long-enough, too-short, laid-built, laid-refused}
+use Rattle.flatten.specs.FlattenedAnswer.{flattenedOf}
+use Rattle.flatten.proofs.BuildAnswerLaws.{plan-room, long-enough, too-short, laid-built, laid-refused}
 use borrow.Author.Needs.{needs}
 use Rattle.flatten.proofs.build_accepted.Statement.{statement}
 use Rattle.flatten.proofs.build_accepted.Tie as tie
 
-sizes-of-requires : tie.Need-sizes-of-requires
-sizes-of-requires c κs = search needs
-
-enough-requires : tie.Need-enough-requires
-enough-requires c κs = search needs
-
 write-plan-requires : tie.Need-write-plan-requires
 write-plan-requires c κs =
-    let a = c .before .before .before .before .before .before .before .before .before .before .before .args in
-    plan-room (a .plan .now) (length (a .starts .now)) (length (a .words .now)) (c .before .before .before .before .before .sizes-of .result) (c .before .before .before .before .before .sizes-of .ensures) (c .before .before .before .before .enough .result) (c .before .before .before .before .enough .ensures) (a .room .now) (c .before .before .before .before .before .before .before .before .before .before .before .pre) (c .before .before .before .if1 .taken)
-
-clear-requires : tie.Need-clear-requires
-clear-requires c κs = search needs
-
-same-length : tie.Need-same-length
-same-length c = search needs
-
-same-length-2 : tie.Need-same-length-2
-same-length-2 c = search needs
-
-same-length-3 : tie.Need-same-length-3
-same-length-3 c = search needs
+    let at-if1 = c .before .before .before in
+    let at-sizes-of = at-if1 .before .before in
+    let start = at-sizes-of .before .before .before .before .before .before in
+    let a = start .args in
+    plan-room (a .plan .now) (length (a .starts .now)) (length (a .words .now)) (at-sizes-of .sizes-of .result) (at-sizes-of .sizes-of .ensures) (at-if1 .before .enough .result) (at-if1 .before .enough .ensures) (a .room .now) (start .pre) (at-if1 .if1 .taken)
 
 returns : tie.Need-returns
 returns c =
-    let a = c .before .before .before .before .before .before .before .before .before .before .before .before .before .before .before .before .before .before .before .before .before .before .args in
-    let w = c .before .before .before .before .before .before .before .before .before .before .write-plan in
-    let e = long-enough (a .plan .now) (length (a .starts .now)) (length (a .words .now)) (c .before .before .before .before .before .before .before .before .before .before .before .before .before .before .before .before .sizes-of .result) (c .before .before .before .before .before .before .before .before .before .before .before .before .before .before .before .before .sizes-of .ensures) (c .before .before .before .before .before .before .before .before .before .before .before .before .before .before .before .enough .result) (c .before .before .before .before .before .before .before .before .before .before .before .before .before .before .before .enough .ensures) (c .before .before .before .before .before .before .before .before .before .before .before .before .before .before .if1 .taken) in (
-      ap Built (c .before .before .before .before .before .before .before .before .before .before .before .before .before .before .before .before .sizes-of .ensures) ∙ sym (ap flattenedOf e),
+    let way = c .before .before .before .before .before in
+    let at-write-plan = way .before .before .before .before .before in
+    let at-if1 = at-write-plan .before .before .before .before in
+    let at-sizes-of = at-if1 .before .before in
+    let start = at-sizes-of .before .before .before .before .before .before in
+    let a = start .args in
+    let w = at-write-plan .write-plan in
+    let e = long-enough (a .plan .now) (length (a .starts .now)) (length (a .words .now)) (at-sizes-of .sizes-of .result) (at-sizes-of .sizes-of .ensures) (at-if1 .before .enough .result) (at-if1 .before .enough .ensures) (at-if1 .if1 .taken) in (
+      ap Built (at-sizes-of .sizes-of .ensures) ∙ sym (ap flattenedOf e),
       (
         c .before .before .clear .ensures ∙ ap (λ (n : ℕ). replicate n 0) (w .kept .1 .0),
         (
@@ -52,16 +42,13 @@ returns c =
       ),
     )
 
-clear-requires-2 : tie.Need-clear-requires-2
-clear-requires-2 c κs = search needs
-
-same-length-4 : tie.Need-same-length-4
-same-length-4 c = search needs
-
 returns-2 : tie.Need-returns-2
 returns-2 c =
-    let a = c .before .before .before .before .before .before .before .before .before .before .before .before .args in
-    let e = too-short (a .plan .now) (length (a .starts .now)) (length (a .words .now)) (c .before .before .before .before .before .before .sizes-of .result) (c .before .before .before .before .before .before .sizes-of .ensures) (c .before .before .before .before .before .enough .result) (c .before .before .before .before .before .enough .ensures) (c .before .before .before .before .if1 .left) in (
+    let at-if1 = c .before .before .before .before in
+    let at-sizes-of = at-if1 .before .before in
+    let start = at-sizes-of .before .before .before .before .before .before in
+    let a = start .args in
+    let e = too-short (a .plan .now) (length (a .starts .now)) (length (a .words .now)) (at-sizes-of .sizes-of .result) (at-sizes-of .sizes-of .ensures) (at-if1 .before .enough .result) (at-if1 .before .enough .ensures) (at-if1 .if1 .left) in (
       sym (ap flattenedOf e),
       (
         c .before .before .clear2 .ensures,
@@ -72,15 +59,5 @@ returns-2 c =
 pub build-accepted-spec : {M : Type 1} → statement M
 build-accepted-spec =
     tie.close
-    (tie.spec
-    sizes-of-requires
-    enough-requires
-    write-plan-requires
-    clear-requires
-    same-length
-    same-length-2
-    same-length-3
-    returns
-    clear-requires-2
-    same-length-4
-    returns-2)
+    (tie.spec (λ c κs. search needs) (λ c κs. search needs) write-plan-requires (λ c κs. search needs) (λ c. search needs)
+    (λ c. search needs) (λ c. search needs) returns (λ c κs. search needs) (λ c. search needs) returns-2)

@@ -1,8 +1,7 @@
 -- One comparison, then the other.
 -- Assumes nothing.
-use Prim.Native.Nat.{_-_}
 use native.Mathlib.Omega.{arith}
-use Rattle.flatten.proofs.AnswerLaws.{test-on, test-off}
+use Rattle.flatten.proofs.BuildAnswerLaws.{test-on, test-off}
 use Rattle.flatten.proofs.enough.Statement.{statement}
 use Rattle.flatten.proofs.enough.Tie as tie
 
@@ -13,4 +12,5 @@ returns-2 : tie.Need-returns-2
 returns-2 c = test-off (c .before .before .args .sizes .starts) (c .before .before .args .starts) _ (omega arith)
 
 pub enough-spec : {M : Type 1} → statement M
-enough-spec = tie.close (tie.spec returns returns-2)
+enough-spec = tie.close
+    (tie.spec returns returns-2)

@@ -6,9 +6,9 @@ use native.Mathlib.Omega.{arith}
 use borrow.Author.Needs.{needs}
 use Rattle.words.specs.Tests.{firstFrom}
 use Rattle.gatelist.specs.GateList.{beforeOver}
-use Rattle.gatelist.specs.Words.{listPin, wholeGates, allGates, listRight, badList}
+use Rattle.gatelist.specs.ListWords.{listPin, wholeGates, allGates, listRight, badList}
 use Rattle.gatelist.proofs.GateListLaws.{before-first, before-next}
-use Rattle.gatelist.proofs.WordLaws.{list-from, list-fault, list-next, list-cut, list-good}
+use Rattle.gatelist.proofs.ListWordLaws.{list-from, list-fault, list-next, list-cut, list-good}
 use Rattle.gatelist.proofs.check_list.Statement.{statement}
 use Rattle.gatelist.proofs.check_list.Tie as tie
 

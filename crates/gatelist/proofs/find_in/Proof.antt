@@ -2,28 +2,28 @@
 -- Assumes nothing.
 use mathlib.Core.Path.{sym, ap, _∙_}
 use borrow.Author.Needs.{needs}
-use Rattle.gatelist.specs.Words.{listedOf}
-use Rattle.gatelist.proofs.WordLaws.{found-gate, found-none}
+use Rattle.gatelist.specs.ListWords.{gateListedOf}
+use Rattle.gatelist.proofs.ListWordLaws.{found-gate, found-none}
 use Rattle.gatelist.proofs.find_in.Statement.{statement}
 use Rattle.gatelist.proofs.find_in.Tie as tie
 
 returns : tie.Need-returns
 returns c =
     let s = c .before .before .before .before in
-    ap listedOf (sym (found-gate (s .args .l .now) (s .pre) (s .args .pin .0) _ (sym (c .before .has-pin .ensures) ∙ c .if1 .taken)))
+    ap gateListedOf (sym (found-gate (s .args .l .now) (s .pre) (s .args .pin .0) _ (sym (c .before .has-pin .ensures) ∙ c .if1 .taken)))
 
 returns-2 : tie.Need-returns-2
 returns-2 c =
     let p = c .before .before .before in
     let s = p .before .before .before .before in
-    ap listedOf (sym (found-gate (s .args .l .now) (s .pre) (s .args .pin .0) _ (sym (c .before .has-pin2 .ensures) ∙ c .if2 .taken)))
+    ap gateListedOf (sym (found-gate (s .args .l .now) (s .pre) (s .args .pin .0) _ (sym (c .before .has-pin2 .ensures) ∙ c .if2 .taken)))
 
 returns-3 : tie.Need-returns-3
 returns-3 c =
     let p = c .before .before .before in
     let s = p .before .before .before .before in
     let f = c .before .before .first-not-below .ensures in
-    ap listedOf (sym (found-none (s .args .l .now) (s .pre) (s .args .pin .0) _ f (sym (c .before .has-pin2 .ensures) ∙ c .if2 .left)))
+    ap gateListedOf (sym (found-none (s .args .l .now) (s .pre) (s .args .pin .0) _ f (sym (c .before .has-pin2 .ensures) ∙ c .if2 .left)))
 
 pub find-in-spec : {M : Type 1} → statement M
 find-in-spec =

@@ -4,10 +4,10 @@ use mathlib.Core.Path.{_≡_}
 use Prim.Native.Nat.{_-_}
 use native.Mathlib.Omega.{arith}
 use borrow.Author.Needs.{needs}
-use Rattle.sort.specs.Search.{Between}
-use Rattle.sort.proofs.SearchLaws.{search-right, search-left, between-least}
-use Rattle.gatelist.specs.Words.{listPin, wholeGates}
-use Rattle.gatelist.proofs.WordLaws.{ascending}
+use Rattle.sort.specs.HalfSearch.{Between}
+use Rattle.sort.proofs.HalfSearchLaws.{search-right, search-left, between-least}
+use Rattle.gatelist.specs.ListWords.{listPin, wholeGates}
+use Rattle.gatelist.proofs.ListWordLaws.{ascending}
 use Rattle.gatelist.proofs.first_not_below.Statement.{statement}
 use Rattle.gatelist.proofs.first_not_below.Tie as tie
 

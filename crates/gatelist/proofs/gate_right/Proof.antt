@@ -6,7 +6,7 @@ use native.Mathlib.Omega.{arith}
 use lib.Dec.{ltb}
 use borrow.Author.Needs.{needs}
 use Rattle.gatelist.specs.GateList.{beforeOver}
-use Rattle.gatelist.specs.Words.{listPin, listFirst, listSecond}
+use Rattle.gatelist.specs.ListWords.{listPin, listFirst, listSecond}
 use Rattle.gatelist.proofs.GateListLaws.{right-not-above, right-not-first, right-last}
 use Rattle.gatelist.proofs.gate_right.Statement.{statement}
 use Rattle.gatelist.proofs.gate_right.Tie as tie

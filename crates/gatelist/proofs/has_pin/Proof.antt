@@ -7,7 +7,7 @@ use native.Mathlib.Omega.{arith}
 use borrow.Author.Needs.{needs}
 use borrow.Author.Tests.{lt-ltb, le-ltb}
 use lib.Dec.{eqb}
-use Rattle.gatelist.specs.Words.{listPin, wholeGates}
+use Rattle.gatelist.specs.ListWords.{listPin, wholeGates}
 use Rattle.gatelist.proofs.has_pin.Statement.{statement}
 use Rattle.gatelist.proofs.has_pin.Tie as tie
 

@@ -1,7 +1,7 @@
 -- `listing::answer_to` meets its contract: a bad record, or what the rounds of the read set give. Assumes nothing.
 use Rattle.listing.proofs.AnswerToLaws.{to-bad, to-few, to-front, to-rounds, to-refused, to-section}
-use Rattle.listing.proofs.ListLaws.{room-zeros}
-use Rattle.listing.proofs.KeyLaws.{refused-in, keys-few}
+use Rattle.listing.proofs.ListedTextLaws.{room-zeros}
+use Rattle.listing.proofs.RecordBitLaws.{refused-in, keys-few}
 use Rattle.listing.specs.Records.{records}
 use mathlib.Core.Path.{sym, _∙_}
 use borrow.Author.Needs.{needs}

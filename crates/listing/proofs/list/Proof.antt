@@ -1,5 +1,5 @@
 -- `listing::list` meets its contract: the answer's text is the listing, and its length decides. Assumes nothing.
-use Rattle.listing.proofs.ListLaws.{list-short-room, room-kept, room-zeros, lists-short, lists-text}
+use Rattle.listing.proofs.ListedTextLaws.{list-short-room, room-kept, room-zeros, lists-short, lists-text}
 use mathlib.Core.Path.{sym, _∙_}
 use borrow.Author.Needs.{needs}
 use Rattle.listing.proofs.list.Statement.{statement}

@@ -1,5 +1,5 @@
 -- `listing::text_of` meets its contract: where the bytes hold every text and the room is enough, `list` gives the text. Assumes nothing.
-use Rattle.listing.proofs.LengthLaws.{text-never, text-given}
+use Rattle.listing.proofs.TextLengthLaws.{text-never, text-given}
 use lib.Dec.{lit≤}
 use mathlib.Core.Path.{sym, _∙_}
 use borrow.Author.Needs.{needs}

@@ -1,7 +1,7 @@
--- `pinmap::look_up` meets its contract: one law of CodeLaws for each end of the probe.
+-- `pinmap::look_up` meets its contract: one law of PinMapCodeLaws for each end of the probe.
 -- Assumes nothing.
 use borrow.Author.Needs.{needs}
-use Rattle.pinmap.proofs.CodeLaws.{within, look-free, look-taken, look-nowhere}
+use Rattle.pinmap.proofs.PinMapCodeLaws.{within, look-free, look-taken, look-nowhere}
 use Rattle.pinmap.proofs.look_up.Statement.{statement}
 use Rattle.pinmap.proofs.look_up.Tie as tie
 

@@ -6,7 +6,7 @@ use native.Mathlib.Omega.{arith}
 use Rattle.words.proofs.RoundLaws.{next-lt}
 use Rattle.pinmap.specs.PinMap.{capacity}
 use Rattle.pinmap.proofs.ProbeLaws.{home-lt, slot-none}
-use Rattle.pinmap.proofs.CodeLaws.{Probing, probing-start, probing-free, probing-taken, probing-on, probing-over}
+use Rattle.pinmap.proofs.PinMapCodeLaws.{Probing, probing-start, probing-free, probing-taken, probing-on, probing-over}
 use borrow.Author.Needs.{needs}
 use Rattle.pinmap.proofs.probe.Statement.{statement}
 use Rattle.pinmap.proofs.probe.Tie as tie

@@ -1,8 +1,8 @@
--- `pinmap::put` meets its contract: one law of CodeLaws for each end of the probe.
+-- `pinmap::put` meets its contract: one law of PinMapCodeLaws for each end of the probe.
 -- Assumes nothing.
 use lib.ListN.{length-set}
 use borrow.Author.Needs.{needs}
-use Rattle.pinmap.proofs.CodeLaws.{within, put-free, put-taken, put-nowhere}
+use Rattle.pinmap.proofs.PinMapCodeLaws.{within, put-free, put-taken, put-nowhere}
 use Rattle.pinmap.proofs.put.Statement.{statement}
 use Rattle.pinmap.proofs.put.Tie as tie
 

@@ -1,7 +1,7 @@
--- `pinmap::put_where_there` meets its contract: one law of CodeLaws for each end of the probe.
+-- `pinmap::put_where_there` meets its contract: one law of PinMapCodeLaws for each end of the probe.
 -- Assumes nothing.
 use borrow.Author.Needs.{needs}
-use Rattle.pinmap.proofs.CodeLaws.{within, there-free, there-taken, there-nowhere}
+use Rattle.pinmap.proofs.PinMapCodeLaws.{within, there-free, there-taken, there-nowhere}
 use Rattle.pinmap.proofs.put_where_there.Statement.{statement}
 use Rattle.pinmap.proofs.put_where_there.Tie as tie
 

@@ -1,7 +1,7 @@
 -- The three ends of refusal 7 in a part.
 -- Assumes nothing.
 use native.Mathlib.Omega.{arith}
-use Rattle.plan_counts.proofs.PartLaws.{counts-location, counts-fine, counts-many}
+use Rattle.plan_counts.proofs.PartCountLaws.{counts-location, counts-fine, counts-many}
 use borrow.Author.Needs.{needs}
 use Rattle.plan_counts.proofs.bad_counts.Statement.{statement}
 use Rattle.plan_counts.proofs.bad_counts.Tie as tie

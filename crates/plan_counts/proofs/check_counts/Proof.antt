@@ -5,10 +5,10 @@ use Prim.Native.Nat.{_-_, _≤_, _<_}
 use native.Mathlib.Omega.{arith}
 use Rattle.plan_record.specs.Record.{partsOf, bodyAt}
 use Rattle.words.specs.Tests.{lowestFrom}
-use Rattle.plan_record.proofs.FormLaws.{formed, body-ready}
+use Rattle.plan_record.proofs.PlanFormLaws.{formed, body-ready}
 use Rattle.plan_counts.specs.Counts.{badCounts, refusal7}
 use Rattle.words.proofs.FoundLaws.{pass-start, pass-fault, pass-next, pass-end}
-use Rattle.plan_counts.proofs.PartLaws.{countable}
+use Rattle.plan_counts.proofs.PartCountLaws.{countable}
 use borrow.Author.Needs.{needs}
 use Rattle.plan_counts.proofs.check_counts.Statement.{statement}
 use Rattle.plan_counts.proofs.check_counts.Tie as tie

@@ -4,7 +4,7 @@ use Prim.Native.Nat.{_≤_}
 use native.Mathlib.Omega.{arith}
 use Rattle.plan_record.specs.Record.{endpointsOf}
 use Rattle.plan_counts.specs.Counts.{writeOuts}
-use Rattle.plan_counts.proofs.PartLaws.{duplicates-few}
+use Rattle.plan_counts.proofs.PartCountLaws.{duplicates-few}
 use borrow.Author.Needs.{needs}
 use Rattle.plan_counts.proofs.counts_of.Statement.{statement}
 use Rattle.plan_counts.proofs.counts_of.Tie as tie

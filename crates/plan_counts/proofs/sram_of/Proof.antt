@@ -2,7 +2,7 @@
 -- Assumes nothing.
 use mathlib.Core.Path.{sym}
 use native.Mathlib.Omega.{arith}
-use Rattle.plan_counts.proofs.PartLaws.{sram-yes, sram-no}
+use Rattle.plan_counts.proofs.PartCountLaws.{sram-yes, sram-no}
 use Rattle.plan_counts.proofs.sram_of.Statement.{statement}
 use Rattle.plan_counts.proofs.sram_of.Tie as tie
 

@@ -6,7 +6,7 @@ use native.Mathlib.Omega.{arith}
 use Rattle.words.specs.Sum.{sumTo}
 use Rattle.plan_record.specs.Record.{endpointsOf}
 use Rattle.plan_counts.specs.Counts.{isSram}
-use Rattle.plan_counts.proofs.PartLaws.{sramsTo, srams-more}
+use Rattle.plan_counts.proofs.PartCountLaws.{sramsTo, srams-more}
 use borrow.Author.Needs.{needs}
 use Rattle.plan_counts.proofs.srams_of.Statement.{statement}
 use Rattle.plan_counts.proofs.srams_of.Tie as tie

@@ -3,7 +3,7 @@
 use Prim.Native.Nat.{ℕ, _<_}
 use native.Mathlib.Omega.{arith}
 use Rattle.plan_gates.proofs.GateLaws.{gate-at}
-use Rattle.plan_gates.proofs.CodeLaws.{found-some, first-under, second-under, bit-known, bit-stored, bit-neither, bit-gate}
+use Rattle.plan_gates.proofs.ValueCodeLaws.{gate-there, first-under, second-under, bit-known, bit-stored, bit-neither, bit-gate}
 use borrow.Author.Needs.{needs}
 use borrow.Fn.Kinds.{In}
 use borrow.Fn.PlainCycle.{Measures, is, falls, and}
@@ -50,31 +50,13 @@ calls t = (
   and-gate-reads.Learnt,
 )
 
-value-look-up-requires : (t : ℕ) → value-lts.Need-look-up-requires (calls t) (value-at t) value.Post
-value-look-up-requires t c κs = search needs
-
-value-enum-known-v : (t : ℕ) → value-lts.Need-enum-known-v (calls t) (value-at t) value.Post
-value-enum-known-v t c = search needs
-
-value-enum-told : (t : ℕ) → value-lts.Need-enum-told (calls t) (value-at t) value.Post
-value-enum-told t c = search needs
-
-value-find-gate-requires : (t : ℕ) → value-lts.Need-find-gate-requires (calls t) (value-at t) value.Post
-value-find-gate-requires t c κs = search needs
-
-value-enum-known-g : (t : ℕ) → value-lts.Need-enum-known-g (calls t) (value-at t) value.Post
-value-enum-known-g t c = search needs
-
-value-cast-bit-at : (t : ℕ) → value-lts.Need-cast-bit-at (calls t) (value-at t) value.Post
-value-cast-bit-at t c = search needs
-
 value-bit-at-requires : (t : ℕ) → value-lts.Need-bit-at-requires (calls t) (value-at t) value.Post
 value-bit-at-requires t c κs =
     let g = c .before .before in
     let f = g .before .before in
     let l = f .before .before .before in
     let s = l .before .before .before .before in
-    let (h, e) = gate-at (s .args .d .now) (s .args .pin .0) _ (found-some _ _ _ (f .find-gate .ensures) (g .g .given .1)) in
+    let (h, e) = gate-at (s .args .d .now) (s .args .pin .0) _ (gate-there _ _ _ (f .find-gate .ensures) (g .g .given .1)) in
     let room = s .pre .1 .2 .room in
     omega arith
 
@@ -84,20 +66,11 @@ value-returns t c =
     let f = g .before .before in
     let l = f .before .before .before in
     let s = l .before .before .before .before in
-    let o = found-some _ _ _ (f .find-gate .ensures) (g .g .given .1) in
+    let o = gate-there _ _ _ (f .find-gate .ensures) (g .g .given .1) in
     bit-stored (s .args .d .now) (s .args .known .now) (s .args .bits .now) (s .args .done) (s .args .pin .0) _ _ (s .pre .1 .2)
     o
     (omega arith)
     (c .bit-at .ensures)
-
-value-gate-first-requires : (t : ℕ) → value-lts.Need-gate-first-requires (calls t) (value-at t) value.Post
-value-gate-first-requires t c κs = search needs
-
-value-gate-second-requires : (t : ℕ) → value-lts.Need-gate-second-requires (calls t) (value-at t) value.Post
-value-gate-second-requires t c κs = search needs
-
-value-pin-requires : (t : ℕ) → value-lts.Need-pin-requires (calls t) (value-at t) value.Post
-value-pin-requires t c κs = search needs
 
 value-value-requires : (t : ℕ) → value-lts.Need-value-requires (calls t) (value-at t) value.Post
 value-value-requires t c κs =
@@ -106,12 +79,10 @@ value-value-requires t c κs =
     let f = g .before .before in
     let l = f .before .before .before in
     let s = l .before .before .before .before in
-    let h : c .pin .result .0 < s .args .pin .0 = first-under (s .args .d .now) (s .pre .1 .0 .gates) (s .args .pin .0) _ (f .find-gate .ensures) _
+    let pin = s .args .pin in
+    let h : c .pin .result .0 < pin .0 = first-under (s .args .d .now) (s .pre .1 .0 .gates) (pin .0) _ (f .find-gate .ensures) _
     (g .g .given .1) _ _ (first .gate-first .ensures) (c .pin .ensures) in
     (omega arith, (s .pre .1 .0, omega arith, s .pre .1 .2))
-
-value-pin-requires-2 : (t : ℕ) → value-lts.Need-pin-requires-2 (calls t) (value-at t) value.Post
-value-pin-requires-2 t c κs = search needs
 
 value-value-requires-2 : (t : ℕ) → value-lts.Need-value-requires-2 (calls t) (value-at t) value.Post
 value-value-requires-2 t c κs =
@@ -120,15 +91,10 @@ value-value-requires-2 t c κs =
     let f = g .before .before in
     let l = f .before .before .before in
     let s = l .before .before .before .before in
-    let h : c .pin2 .result .0 < s .args .pin .0 = second-under (s .args .d .now) (s .pre .1 .0 .gates) (s .args .pin .0) _ (f .find-gate .ensures) _
+    let pin = s .args .pin in
+    let h : c .pin2 .result .0 < pin .0 = second-under (s .args .d .now) (s .pre .1 .0 .gates) (pin .0) _ (f .find-gate .ensures) _
     (g .g .given .1) _ _ (second .gate-second .ensures) (c .pin2 .ensures) in
     (omega arith, (s .pre .1 .0, omega arith, s .pre .1 .2))
-
-value-and-gate-requires : (t : ℕ) → value-lts.Need-and-gate-requires (calls t) (value-at t) value.Post
-value-and-gate-requires t c κs = search needs
-
-value-enum-told-2 : (t : ℕ) → value-lts.Need-enum-told-2 (calls t) (value-at t) value.Post
-value-enum-told-2 t c = search needs
 
 value-returns-2 : (t : ℕ) → value-lts.Need-returns-2 (calls t) (value-at t) value.Post
 value-returns-2 t c =
@@ -148,7 +114,7 @@ value-returns-3 t c =
     let told = f .before in
     let l = told .before .before in
     let s = l .before .before .before .before in
-    let o = found-some _ _ _ (f .find-gate .ensures) (g .g .given .1) in (
+    let o = gate-there _ _ _ (f .find-gate .ensures) (g .g .given .1) in (
       bit-gate (s .args .d .now) (s .args .known .now) (s .pre .1 .0) (s .args .pin .0) _ (l .look-up .ensures) _ _ _ _ _ _ _ _
           (told .enum-told .given .1)
           o
@@ -177,22 +143,22 @@ pub +value-spec : {M : Type 1} → statement M
 +value-spec = close μ-value λ t. value-lts.spec (calls t)
     (value-at t)
     value.Post
-    (value-look-up-requires t)
-    (value-enum-known-v t)
-    (value-enum-told t)
-    (value-find-gate-requires t)
-    (value-enum-known-g t)
-    (value-cast-bit-at t)
+    (λ c κs. search needs)
+    (λ c. search needs)
+    (λ c. search needs)
+    (λ c κs. search needs)
+    (λ c. search needs)
+    (λ c. search needs)
     (value-bit-at-requires t)
     (value-returns t)
-    (value-gate-first-requires t)
-    (value-gate-second-requires t)
-    (value-pin-requires t)
+    (λ c κs. search needs)
+    (λ c κs. search needs)
+    (λ c κs. search needs)
     (value-value-requires t)
-    (value-pin-requires-2 t)
+    (λ c κs. search needs)
     (value-value-requires-2 t)
-    (value-and-gate-requires t)
-    (value-enum-told-2 t)
+    (λ c κs. search needs)
+    (λ c. search needs)
     (value-returns-2 t)
     (value-returns-3 t)
     (value-returns-4 t)

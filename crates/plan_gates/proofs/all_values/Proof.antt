@@ -6,8 +6,8 @@ use native.Mathlib.Omega.{arith}
 use lib.ListN.{length, replicate, length-replicate}
 use Rattle.plan_record.specs.Record.{gatesOf}
 use Rattle.pinmap.specs.PinMap.{look}
-use Rattle.plan_gates.specs.Values.{gateWords}
-use Rattle.plan_gates.proofs.CodeLaws.{Stored, stored-none, stored-below, stored-more, stored-all}
+use Rattle.plan_gates.specs.GateValues.{gateWords}
+use Rattle.plan_gates.proofs.ValueCodeLaws.{Stored, stored-none, stored-below, gates-stored-more, stored-all}
 use borrow.Author.Needs.{needs}
 use Rattle.plan_gates.proofs.all_values.Statement.{statement}
 use Rattle.plan_gates.proofs.all_values.Tie as tie
@@ -23,12 +23,6 @@ cleared c = ap length (c .clear .ensures) ∙ length-replicate {A = ℕ} (length
 
 room : (c : tie.After-clear Inv-loop μ-loop) → gatesOf (c .before .before .before .before .before .args .d .now) ≤ 32 * length (c .clear .last .0)
 room c = omega (arith, cleared c, c .before .before .before .before .before .pre .room)
-
-clear-requires : tie.Need-clear-requires Inv-loop μ-loop
-clear-requires c κs = search needs
-
-gates-of-requires : tie.Need-gates-of-requires Inv-loop μ-loop
-gates-of-requires c κs = search needs
 
 loop-holds : tie.Need-loop-holds Inv-loop μ-loop
 loop-holds c =
@@ -48,22 +42,13 @@ store-gate-requires c κs =
       below = stored-below (s .args .d .now) (s .args .known .now) _ _ _ (room k) (l .loop .inv .1);
     }
 
-add-g : tie.Need-add-g Inv-loop μ-loop
-add-g c = search needs
-
-loop-less : tie.Need-loop-less Inv-loop μ-loop
-loop-less c = search needs
-
 loop-again : tie.Need-loop-again Inv-loop μ-loop
 loop-again c =
     let a = c .before .before in
     let l = a .before .before .before in
     let k = l .before .before .before .before in
     let s = k .before .before .before .before .before in
-    (omega arith, stored-more (s .args .d .now) (s .args .known .now) _ _ _ _ (s .pre .given) (room k) (omega arith) (l .loop .inv .1) (a .store-gate .ensures))
-
-same-length : tie.Need-same-length Inv-loop μ-loop
-same-length c = search needs
+    (omega arith, gates-stored-more (s .args .d .now) (s .args .known .now) _ _ _ _ (s .pre .given) (room k) (omega arith) (l .loop .inv .1) (a .store-gate .ensures))
 
 returns : tie.Need-returns Inv-loop μ-loop
 returns c =
@@ -76,15 +61,5 @@ returns c =
 pub all-values-spec : {M : Type 1} → statement M
 all-values-spec =
     tie.close
-    (tie.spec
-    Inv-loop
-    μ-loop
-    clear-requires
-    gates-of-requires
-    loop-holds
-    store-gate-requires
-    add-g
-    loop-less
-    loop-again
-    same-length
-    returns)
+    (tie.spec Inv-loop μ-loop (λ c κs. search needs) (λ c κs. search needs) loop-holds store-gate-requires (λ c. search needs)
+    (λ c. search needs) loop-again (λ c. search needs) returns)

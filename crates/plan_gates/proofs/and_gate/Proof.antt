@@ -5,12 +5,6 @@ use Rattle.plan_gates.proofs.GateLaws.{and-gate-is}
 use Rattle.plan_gates.proofs.and_gate.Statement.{statement}
 use Rattle.plan_gates.proofs.and_gate.Tie as tie
 
-inversion-requires : tie.Need-inversion-requires
-inversion-requires c κs = search needs
-
-inversion-requires-2 : tie.Need-inversion-requires-2
-inversion-requires-2 c κs = search needs
-
 returns : tie.Need-returns
 returns c =
     let s = c .before .before in
@@ -18,4 +12,5 @@ returns c =
     (s .pre .0) (s .pre .1) (c .before .inversion .ensures) (c .inversion2 .ensures)
 
 pub and-gate-spec : {M : Type 1} → statement M
-and-gate-spec = tie.close (tie.spec inversion-requires inversion-requires-2 returns)
+and-gate-spec = tie.close
+    (tie.spec (λ c κs. search needs) (λ c κs. search needs) returns)

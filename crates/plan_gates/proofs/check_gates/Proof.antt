@@ -8,7 +8,7 @@ use Rattle.plan_record.specs.Record.{gatesOf}
 use Rattle.words.specs.Tests.{firstFrom}
 use Rattle.words.proofs.FoundLaws.{look-fault, look-next, look-end}
 use Rattle.plan_gates.specs.Gates.{pinBefore, gateRight, badGate}
-use Rattle.plan_gates.proofs.GateLaws.{before-first, before-next, bad-from}
+use Rattle.plan_gates.proofs.GateLaws.{pin-before-first, pin-before-next, bad-from}
 use Rattle.plan_gates.proofs.check_gates.Statement.{statement}
 use Rattle.plan_gates.proofs.check_gates.Tie as tie
 
@@ -19,23 +19,8 @@ Inv-loop d gates before₀ g₀ before g =
 abbrev μ-loop : tie.MeasureT-loop
 μ-loop d gates before₀ g₀ before g = gates - g
 
-gates-of-requires : tie.Need-gates-of-requires Inv-loop μ-loop
-gates-of-requires c κs = search needs
-
 loop-holds : tie.Need-loop-holds Inv-loop μ-loop
-loop-holds c = (omega arith, sym (before-first _), bad-from _)
-
-gate-right-requires : tie.Need-gate-right-requires Inv-loop μ-loop
-gate-right-requires c κs = search needs
-
-gate-pin-requires : tie.Need-gate-pin-requires Inv-loop μ-loop
-gate-pin-requires c κs = search needs
-
-add-g : tie.Need-add-g Inv-loop μ-loop
-add-g c = search needs
-
-loop-less : tie.Need-loop-less Inv-loop μ-loop
-loop-less c = search needs
+loop-holds c = (omega arith, sym (pin-before-first _), bad-from _)
 
 loop-again : tie.Need-loop-again Inv-loop μ-loop
 loop-again c =
@@ -43,10 +28,7 @@ loop-again c =
     let l = t .before .before .before in
     let d = l .before .before .before .args .d .now in
     let e = sym (t .before .gate-right .ensures) ∙ t .if1 .taken in
-    (omega arith, c .gate-pin .ensures ∙ sym (before-next d (l .loop .g)), look-next (gateRight d) _ (l .loop .g) _ (l .loop .inv .2) (omega arith) e)
-
-cast-t7 : tie.Need-cast-t7 Inv-loop μ-loop
-cast-t7 c = search needs
+    (omega arith, c .gate-pin .ensures ∙ sym (pin-before-next d (l .loop .g)), look-next (gateRight d) _ (l .loop .g) _ (l .loop .inv .2) (omega arith) e)
 
 returns : tie.Need-returns Inv-loop μ-loop
 returns c =
@@ -64,16 +46,5 @@ returns-2 c =
 pub check-gates-spec : {M : Type 1} → statement M
 check-gates-spec =
     tie.close
-    (tie.spec
-    Inv-loop
-    μ-loop
-    gates-of-requires
-    loop-holds
-    gate-right-requires
-    gate-pin-requires
-    add-g
-    loop-less
-    loop-again
-    cast-t7
-    returns
-    returns-2)
+    (tie.spec Inv-loop μ-loop (λ c κs. search needs) loop-holds (λ c κs. search needs) (λ c κs. search needs) (λ c. search needs)
+    (λ c. search needs) loop-again (λ c. search needs) returns returns-2)

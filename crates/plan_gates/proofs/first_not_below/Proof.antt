@@ -4,8 +4,8 @@ use mathlib.Core.Path.{_≡_}
 use Prim.Native.Nat.{_-_}
 use native.Mathlib.Omega.{arith}
 use borrow.Author.Needs.{needs}
-use Rattle.sort.specs.Search.{Between}
-use Rattle.sort.proofs.SearchLaws.{search-right, search-left, between-least}
+use Rattle.sort.specs.HalfSearch.{Between}
+use Rattle.sort.proofs.HalfSearchLaws.{search-right, search-left, between-least}
 use Rattle.plan_record.specs.Record.{gatesOf, gatePin}
 use Rattle.plan_gates.proofs.GateLaws.{pins-monotone}
 use Rattle.plan_gates.proofs.first_not_below.Statement.{statement}
@@ -17,35 +17,11 @@ Inv-loop d pin low₀ high₀ low high = Between (gatePin d) (gatesOf d) (pin .0
 abbrev μ-loop : tie.MeasureT-loop
 μ-loop d pin low₀ high₀ low high = high - low
 
-gates-of-requires : tie.Need-gates-of-requires Inv-loop μ-loop
-gates-of-requires c κs = search needs
-
-loop-holds : tie.Need-loop-holds Inv-loop μ-loop
-loop-holds c = search needs
-
-sub-middle : tie.Need-sub-middle Inv-loop μ-loop
-sub-middle c = search needs
-
-add-middle : tie.Need-add-middle Inv-loop μ-loop
-add-middle c = search needs
-
-gate-pin-requires : tie.Need-gate-pin-requires Inv-loop μ-loop
-gate-pin-requires c κs = search needs
-
-add-low : tie.Need-add-low Inv-loop μ-loop
-add-low c = search needs
-
-loop-less : tie.Need-loop-less Inv-loop μ-loop
-loop-less c = search needs
-
 loop-again : tie.Need-loop-again Inv-loop μ-loop
 loop-again c =
     let l = c .before .before .before .before .before in
     let s = l .before .before .before in
     search-right (gatePin (s .args .d .now)) _ _ _ _ _ (pins-monotone (s .args .d .now) (s .pre)) (l .loop .inv) (omega arith) (omega arith)
-
-loop-less-2 : tie.Need-loop-less-2 Inv-loop μ-loop
-loop-less-2 c = search needs
 
 loop-again-2 : tie.Need-loop-again-2 Inv-loop μ-loop
 loop-again-2 c =
@@ -63,17 +39,5 @@ returns c =
 pub first-not-below-spec : {M : Type 1} → statement M
 first-not-below-spec =
     tie.close
-    (tie.spec
-    Inv-loop
-    μ-loop
-    gates-of-requires
-    loop-holds
-    sub-middle
-    add-middle
-    gate-pin-requires
-    add-low
-    loop-less
-    loop-again
-    loop-less-2
-    loop-again-2
-    returns)
+    (tie.spec Inv-loop μ-loop (λ c κs. search needs) (λ c. search needs) (λ c. search needs) (λ c. search needs) (λ c κs. search needs)
+    (λ c. search needs) (λ c. search needs) loop-again (λ c. search needs) loop-again-2 returns)

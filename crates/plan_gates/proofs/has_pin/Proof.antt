@@ -11,12 +11,6 @@ use Rattle.plan_record.specs.Record.{gatesOf, gatePin}
 use Rattle.plan_gates.proofs.has_pin.Statement.{statement}
 use Rattle.plan_gates.proofs.has_pin.Tie as tie
 
-gates-of-requires : tie.Need-gates-of-requires
-gates-of-requires c κs = search needs
-
-gate-pin-requires : tie.Need-gate-pin-requires
-gate-pin-requires c κs = search needs
-
 returns : tie.Need-returns
 returns c =
     let s = c .before .before .before .before .before .before .args in
@@ -31,4 +25,5 @@ returns-2 c =
     le-ltb _ _ (c .if1 .left) ∙ ap (λ (b : Bool). b && eqb (gatePin (s .d .now) (s .g)) (s .pin .0)) (sym (le-ltb _ _ h))
 
 pub has-pin-spec : {M : Type 1} → statement M
-has-pin-spec = tie.close (tie.spec gates-of-requires gate-pin-requires returns returns-2)
+has-pin-spec = tie.close
+    (tie.spec (λ c κs. search needs) (λ c κs. search needs) returns returns-2)

@@ -4,14 +4,14 @@ use mathlib.Core.Logic.{inl, inr, ⊎-elim}
 use native.Mathlib.Omega.{arith}
 use lib.ListN.{length-set}
 use borrow.Author.Needs.{needs}
-use Rattle.reads_asked.proofs.StoreLaws.{next-joins, next-new, mask-is}
+use Rattle.reads_asked.proofs.FrontStoreLaws.{next-joins, next-new, bit-mask-is}
 use Rattle.reads_asked.proofs.ask_next.Statement.{statement}
 use Rattle.reads_asked.proofs.ask_next.Tie as tie
 
 returns : tie.Need-returns
 returns c =
     let start = c .before .before .before .before in
-    next-joins (start .args .set .now) (start .args .n) (start .args .q) (start .pre) _ (mask-is (start .args .q)) (c .before .before .before .if1 .taken) (c .before .if2 .taken)
+    next-joins (start .args .set .now) (start .args .n) (start .args .q) (start .pre) _ (bit-mask-is (start .args .q)) (c .before .before .before .if1 .taken) (c .before .if2 .taken)
 
 slice-write-set-3 : tie.Need-slice-write-set-3
 slice-write-set-3 c = simp length-set (omega arith)
@@ -19,7 +19,7 @@ slice-write-set-3 c = simp length-set (omega arith)
 returns-2 : tie.Need-returns-2
 returns-2 c =
     let start = c .before in
-    next-new (start .args .set .now) (start .args .n) (start .args .q) (start .pre) _ (mask-is (start .args .q)) (⊎-elim (λ w. inl (w .2 .left)) (λ w. inr (w .left)) (c .if1 .came))
+    next-new (start .args .set .now) (start .args .n) (start .args .q) (start .pre) _ (bit-mask-is (start .args .q)) (⊎-elim (λ w. inl (w .2 .left)) (λ w. inr (w .left)) (c .if1 .came))
 
 pub ask-next-spec : {M : Type 1} → statement M
 ask-next-spec =

@@ -4,7 +4,7 @@ use Prim.Native.Nat.{_-_}
 use native.Mathlib.Omega.{arith}
 use lib.ListN.{length}
 use borrow.Author.Needs.{needs}
-use Rattle.reads_asked.proofs.StoreLaws.{Gathered, gather-start, gather-length, gather-askable, gather-more, gather-all}
+use Rattle.reads_asked.proofs.FrontStoreLaws.{Gathered, gather-start, gather-length, gather-askable, gather-more, gather-all}
 use Rattle.reads_asked.proofs.gather.Statement.{statement}
 use Rattle.reads_asked.proofs.gather.Tie as tie
 

@@ -1,7 +1,7 @@
 -- `reads_asked::read_set` meets its contract: the set does not depend on the bits' order.
 -- Assumes nothing.
 use borrow.Author.Needs.{needs}
-use Rattle.reads_asked.proofs.StoreLaws.{sorted-gatherable, read-set-is}
+use Rattle.reads_asked.proofs.FrontStoreLaws.{sorted-gatherable, read-set-is}
 use Rattle.reads_asked.proofs.read_set.Statement.{statement}
 use Rattle.reads_asked.proofs.read_set.Tie as tie
 

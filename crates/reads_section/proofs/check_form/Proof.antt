@@ -7,7 +7,7 @@ use lib.ListN.{length}
 use Rattle.reads.specs.ReadSet.{pairsOf, broken}
 use Rattle.words.specs.Found.{itemOf}
 use Rattle.words.specs.declared.found.Item.the-variants as item
-use Rattle.reads_section.proofs.FormLaws.{brokenAt, bad-low, bad-word, bad-mask, good-pair, bad-half, good-end}
+use Rattle.reads_section.proofs.PairFormLaws.{brokenAt, bad-low, bad-word, bad-mask, good-pair, bad-half, good-end}
 use borrow.Author.Needs.{needs}
 use Rattle.reads_section.proofs.check_form.Statement.{statement}
 use Rattle.reads_section.proofs.check_form.Tie as tie

@@ -6,8 +6,8 @@ use Prim.Native.Nat.{_-_, _≤_, max}
 use native.Mathlib.Omega.{arith}
 use lib.ListN.{drop}
 use Rattle.reads.specs.Search.{longest}
-use Rattle.reads_try.specs.Decoded.{lanesAt}
-use Rattle.reads_try.proofs.TableLaws.{filled-row}
+use Rattle.reads_try.specs.TableLanes.{lanesAt}
+use Rattle.reads_try.proofs.LaneTableLaws.{filled-row}
 use Rattle.reads_section.proofs.ReadoutLaws.{longest-step, longest-end}
 use borrow.Author.Needs.{needs}
 use Rattle.reads_section.proofs.longest_row.Statement.{statement}

@@ -6,9 +6,9 @@ use native.Mathlib.Nat.{add-zero}
 use native.Mathlib.Omega.{arith}
 use lib.ListN.{length, drop, length-set}
 use lib.Seq.{sets}
-use Rattle.reads.specs.Words.{roundWords}
-use Rattle.reads_try.specs.Decoded.{lanesAt}
-use Rattle.reads_try.proofs.TableLaws.{filled-named}
+use Rattle.reads.specs.ReadSection.{roundWords}
+use Rattle.reads_try.specs.TableLanes.{lanesAt}
+use Rattle.reads_try.proofs.LaneTableLaws.{filled-named}
 use Rattle.reads_section.proofs.ReadoutLaws.{read-word, read-mask, round-step, round-end}
 use borrow.Author.Needs.{needs}
 use Rattle.reads_section.proofs.write_round.Statement.{statement}

@@ -6,8 +6,8 @@ use native.Mathlib.Nat.{sub-zero}
 use native.Mathlib.Omega.{arith}
 use lib.ListN.{length}
 use lib.Seq.{sets}
-use Rattle.reads.specs.Words.{roundsFrom}
-use Rattle.reads_try.specs.Decoded.{lanesAt}
+use Rattle.reads.specs.ReadSection.{roundsFrom}
+use Rattle.reads_try.specs.TableLanes.{lanesAt}
 use Rattle.reads_section.proofs.ReadoutLaws.{rounds-step, rounds-end, at-step, at-next}
 use borrow.Author.Needs.{needs}
 use Rattle.reads_section.proofs.write_rounds.Statement.{statement}

@@ -8,11 +8,11 @@ use lib.ListN.{getD}
 use borrow.Author.Needs.{needs}
 use Rattle.reads.specs.ReadSet.{total}
 use Rattle.reads.specs.Search.{firstRoom}
-use Rattle.reads_try.specs.Decoded.{lanesAt}
-use Rattle.reads_try.specs.Tries.{foundOf}
+use Rattle.reads_try.specs.TableLanes.{lanesAt}
+use Rattle.reads_try.specs.Tries.{laneFound}
 use Rattle.words.proofs.RoundLaws.{next-lt}
 use Rattle.reads.proofs.SearchLaws.{room-here, room-on, room-none}
-use Rattle.reads_try.proofs.TableLaws.{lane-at, row-bits-le, row-in}
+use Rattle.reads_try.proofs.LaneTableLaws.{lane-at, row-bits-le, row-in}
 use Rattle.reads_try.proofs.find_lane.Statement.{statement}
 use Rattle.reads_try.proofs.find_lane.Tie as tie
 
@@ -46,7 +46,7 @@ returns c =
     let way = c .before .before in
     let l = way .before .before .loop in
     let h : bitsAt (called way) (l .j) + called way .args .b ≤ 32 = omega (arith, loaded way) in
-    ap foundOf (sym (room-here _ _ _ _ _ (way .before .loop-test .taken) h) ∙ l .inv .2)
+    ap laneFound (sym (room-here _ _ _ _ _ (way .before .loop-test .taken) h) ∙ l .inv .2)
 
 loop-again : tie.Need-loop-again Inv-loop μ-loop
 loop-again c =
@@ -59,7 +59,7 @@ returns-2 : tie.Need-returns-2 Inv-loop μ-loop
 returns-2 c =
     let l = c .before .loop in
     let z : l .left ≡ 0 = omega arith in
-    ap foundOf (sym (room-none _ _ _ _) ∙ (rw z at (l .inv .2)))
+    ap laneFound (sym (room-none _ _ _ _) ∙ (rw z at (l .inv .2)))
 
 pub find-lane-spec : {M : Type 1} → statement M
 find-lane-spec =

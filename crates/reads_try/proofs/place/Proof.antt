@@ -6,7 +6,7 @@ use native.Mathlib.Omega.{arith}
 use lib.ListN.{getD}
 use borrow.Author.Needs.{needs}
 use Rattle.words.specs.Bit.{pop}
-use Rattle.reads_try.proofs.PlaceLaws.{place-search, place-put, place-lt, place-full, place-lane}
+use Rattle.reads_try.proofs.PairPlacedLaws.{place-search, place-put, place-lt, place-full, place-lane}
 use Rattle.reads_try.proofs.place.Statement.{statement}
 use Rattle.reads_try.proofs.place.Tie as tie
 

@@ -6,9 +6,9 @@ use native.Mathlib.Omega.{arith}
 use lib.ListN.{length, getD, drop}
 use borrow.Author.Needs.{needs}
 use Rattle.reads.specs.ReadSet.{total}
-use Rattle.reads_try.specs.Decoded.{laneOf}
-use Rattle.reads_try.proofs.PairLaws.{count-le}
-use Rattle.reads_try.proofs.TableLaws.{row-end, row-stop, row-length-on, row-total-on}
+use Rattle.reads_try.specs.TableLanes.{laneOf}
+use Rattle.reads_try.proofs.SetPairLaws.{mask-bits-le}
+use Rattle.reads_try.proofs.LaneTableLaws.{row-end, row-stop, row-length-on, row-total-on}
 use Rattle.reads_try.proofs.row_load.Statement.{statement}
 use Rattle.reads_try.proofs.row_load.Tie as tie
 
@@ -45,7 +45,7 @@ shared-slice-read-count c =
     omega (arith, start .pre .named _ (at-loop-test .loop-test .taken))
 
 add-bits : tie.Need-add-bits Inv-loop μ-loop
-add-bits c = omega (arith, count-le _ _ (c .count .ensures))
+add-bits c = omega (arith, mask-bits-le _ _ (c .count .ensures))
 
 loop-again : tie.Need-loop-again Inv-loop μ-loop
 loop-again c =
@@ -56,7 +56,7 @@ loop-again c =
     let i = at-loop-test .before .loop .pairs in
     let h = at-loop-test .loop-test .taken in
     let p : 0 < getD es i 0 = omega arith in
-    omega (arith, c .count .ensures, row-total-on ws es i h p, row-length-on ws es i h p, count-le _ _ (c .count .ensures))
+    omega (arith, c .count .ensures, row-total-on ws es i h p, row-length-on ws es i h p, mask-bits-le _ _ (c .count .ensures))
 
 returns-2 : tie.Need-returns-2 Inv-loop μ-loop
 unfolding total

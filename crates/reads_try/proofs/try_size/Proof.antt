@@ -9,10 +9,10 @@ use lib.ListN.{length, getD, drop, length-drop}
 use lib.Seq.{slice}
 use borrow.Author.Needs.{needs}
 use Rattle.reads.specs.ReadSet.{Pair, pairsOf}
-use Rattle.reads_try.specs.Table.{runOf}
-use Rattle.reads_try.specs.Decoded.{pairAt}
+use Rattle.reads_try.specs.LaneTable.{runOf}
+use Rattle.reads_try.specs.TableLanes.{pairAt}
 use Rattle.reads_try.specs.Tries.{triedOf}
-use Rattle.reads_try.proofs.PairLaws.{span-step}
+use Rattle.reads_try.proofs.SetPairLaws.{span-step}
 use Rattle.reads_try.proofs.TryLaws.{Held, Piece, held-start, held-length, held-stop, held-placeable, run-step, run-next, run-ended, piece-step, piece-small}
 use Rattle.reads_try.proofs.try_size.Statement.{statement}
 use Rattle.reads_try.proofs.try_size.Tie as tie

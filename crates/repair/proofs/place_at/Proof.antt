@@ -2,7 +2,7 @@
 -- Assumes nothing.
 use native.Mathlib.Omega.{arith}
 use Rattle.repair_settle.proofs.EndLaws.{refused-end}
-use Rattle.repair.proofs.CodeLaws.{at-24, at-25, at-26, at-judged, at-placed}
+use Rattle.repair.proofs.RepairCodeLaws.{at-24, at-25, at-26, at-judged, at-placed}
 use borrow.Author.Needs.{needs}
 use Rattle.repair.proofs.place_at.Statement.{statement}
 use Rattle.repair.proofs.place_at.Tie as tie

@@ -5,10 +5,10 @@ use Prim.Native.Nat.{_≤_, _<_}
 use native.Mathlib.Omega.{arith}
 use borrow.Author.Tests.{leb-true, leb-false}
 use lib.ListN.{length}
-use Rattle.repair_nodes.specs.Outcome.{roomWords}
+use Rattle.repair_nodes.specs.RepairAnswer.{repairRoomWords}
 use Rattle.repair_settle.proofs.EndLaws.{refused-end}
-use Rattle.repair.proofs.OutcomeLaws.{room-short, place-32}
-use Rattle.repair.proofs.WholeLaws.{zeros-length, zeros-own, room-left, whole-end}
+use Rattle.repair.proofs.RepairAnswerLaws.{room-short, place-32}
+use Rattle.repair.proofs.RepairWholeLaws.{zeros-length, zeros-own, room-left, whole-end}
 use borrow.Author.Needs.{needs}
 use Rattle.repair.proofs.place_bit.Statement.{statement}
 use Rattle.repair.proofs.place_bit.Tie as tie
@@ -21,7 +21,7 @@ place-over-requires c κs =
     let b1 = r .before .before .before .before .before .before in
     let s = b1 .before .before in
     let room = s .args .room .now in
-    let h : roomWords (s .args .counts .now) ≤ length room = leb-true _ _ (sym (r .room-enough .ensures) ∙ t1 .if1 .taken) in
+    let h : repairRoomWords (s .args .counts .now) ≤ length room = leb-true _ _ (sym (r .room-enough .ensures) ∙ t1 .if1 .taken) in
     (zeros-own room (e .clear .last .0) (e .clear .ensures), omega (arith, zeros-length room (e .clear .last .0) (e .clear .ensures)))
 
 returns : tie.Need-returns
@@ -36,7 +36,7 @@ returns c =
     let s = b2 .before .before in
     let counts = s .args .counts .now in
     let room = s .args .room .now in
-    let h : roomWords counts ≤ length room = leb-true _ _ (sym (r .room-enough .ensures) ∙ t1 .if1 .taken) in
+    let h : repairRoomWords counts ≤ length room = leb-true _ _ (sym (r .room-enough .ensures) ∙ t1 .if1 .taken) in
     let l = zeros-length room (e .clear .last .0) (e .clear .ensures) in
     whole-end _ _ _ _ _ _ _ counts room (rw l at (d .place-over .ensures))
     (room-left room (e .clear .last .0) (e .clear .ensures) counts (d .place-over .last .1 .1 .1 .1 .1 .0) _ h (d .place-over .kept .1 .1 .1 .1 .1 .0) (g .clear2 .ensures))
@@ -51,7 +51,7 @@ returns-2 c =
     let counts = s .args .counts .now in
     let slots = s .args .slots .now in
     let after = s .args .after .now in
-    let h : length room < roomWords counts = leb-false _ _ (sym (r .room-enough .ensures) ∙ t1 .if1 .left) in
+    let h : length room < repairRoomWords counts = leb-false _ _ (sym (r .room-enough .ensures) ∙ t1 .if1 .left) in
     whole-end _ _ _ _ _ _ _ counts room
     (refused-end _ _ slots after 32 0 (place-32 (s .args .gates .now) (s .args .levels .now) counts slots (length after) (s .args .level) (s .args .slot) (s .args .node .0) (length room) h) (c .refused .ensures))
     (sym (room-short counts room h))

@@ -2,8 +2,8 @@
 -- Assumes nothing.
 use mathlib.Core.Path.{sym}
 use native.Mathlib.Omega.{arith}
-use Rattle.repair.proofs.OutcomeLaws.{place-high}
-use Rattle.repair.proofs.CodeLaws.{place-by}
+use Rattle.repair.proofs.RepairAnswerLaws.{place-high}
+use Rattle.repair.proofs.RepairCodeLaws.{place-by}
 use borrow.Author.Needs.{needs}
 use Rattle.repair.proofs.place_form.Statement.{statement}
 use Rattle.repair.proofs.place_form.Tie as tie

@@ -7,7 +7,7 @@ use lib.ListN.{replicate, length-replicate}
 use lib.Seq.{length-take-le}
 use Rattle.repair_nodes.specs.Placing.{placing}
 use Rattle.repair_settle.proofs.SpotLaws.{placing-sound}
-use Rattle.repair.proofs.CodeLaws.{placing-few, list-size, list-spots, list-spotted}
+use Rattle.repair.proofs.RepairCodeLaws.{placing-few, list-size, list-spots, list-spotted}
 use borrow.Author.Needs.{needs}
 use Rattle.repair.proofs.place_node.Statement.{statement}
 use Rattle.repair.proofs.place_node.Tie as tie

@@ -1,7 +1,7 @@
 -- `repair::place_of` meets its contract: the place's subtree is inside the stage.
 -- Assumes nothing.
 use native.Mathlib.Omega.{arith}
-use Rattle.repair.proofs.CodeLaws.{width-small, placed-place}
+use Rattle.repair.proofs.RepairCodeLaws.{width-small, placed-place}
 use borrow.Author.Needs.{needs}
 use Rattle.repair.proofs.place_of.Statement.{statement}
 use Rattle.repair.proofs.place_of.Tie as tie

@@ -4,13 +4,13 @@ use mathlib.Core.Path.{sym, _∙_}
 use Prim.Native.Nat.{_^_, _≤_}
 use native.Mathlib.Omega.{arith}
 use lib.ListN.{length}
-use Rattle.repair_nodes.specs.Counts.{countsRight}
-use Rattle.repair_nodes.specs.Outcome.{placeRight}
-use Rattle.repair_tally.proofs.StepLaws.{told-true, told-false}
+use Rattle.repair_nodes.specs.CountList.{countsRight}
+use Rattle.repair_nodes.specs.RepairAnswer.{placeRight}
+use Rattle.repair_tally.proofs.TallyStepLaws.{told-true, told-false}
 use Rattle.repair_settle.proofs.EndLaws.{refused-end}
-use Rattle.repair.proofs.FormLaws.{entered-true, entered-false}
-use Rattle.repair.proofs.OutcomeLaws.{place-5, place-6, place-on}
-use Rattle.repair.proofs.WholeLaws.{place-parts, form-pin, form-place, form-counts, form-right}
+use Rattle.repair.proofs.CountFormLaws.{entered-true, entered-false}
+use Rattle.repair.proofs.RepairAnswerLaws.{place-5, place-6, place-on}
+use Rattle.repair.proofs.RepairWholeLaws.{place-parts, form-pin, form-place, form-counts, form-right}
 use Rattle.words.proofs.FoundLaws.{item-some, item-none}
 use borrow.Author.Needs.{needs}
 use Rattle.repair.proofs.place_over.Statement.{statement}

@@ -8,7 +8,7 @@ use lib.ListN.{replicate, length-replicate}
 use lib.Seq.{length-take-le}
 use Rattle.repair_nodes.specs.Clearing.{clearing}
 use Rattle.repair_settle.proofs.SpotLaws.{clearing-sound}
-use Rattle.repair.proofs.CodeLaws.{clearing-few, list-size, list-spots, list-spotted, small-default, at-cleared}
+use Rattle.repair.proofs.RepairCodeLaws.{clearing-few, list-size, list-spots, list-spotted, small-default, at-cleared}
 use borrow.Author.Needs.{needs}
 use Rattle.repair.proofs.purge_at.Statement.{statement}
 use Rattle.repair.proofs.purge_at.Tie as tie

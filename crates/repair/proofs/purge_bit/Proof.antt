@@ -5,10 +5,10 @@ use Prim.Native.Nat.{_≤_, _<_}
 use native.Mathlib.Omega.{arith}
 use borrow.Author.Tests.{leb-true, leb-false}
 use lib.ListN.{length}
-use Rattle.repair_nodes.specs.Outcome.{roomWords}
+use Rattle.repair_nodes.specs.RepairAnswer.{repairRoomWords}
 use Rattle.repair_settle.proofs.EndLaws.{refused-end}
-use Rattle.repair.proofs.OutcomeLaws.{room-short, clear-32}
-use Rattle.repair.proofs.WholeLaws.{zeros-length, zeros-own, room-left, whole-end}
+use Rattle.repair.proofs.RepairAnswerLaws.{room-short, clear-32}
+use Rattle.repair.proofs.RepairWholeLaws.{zeros-length, zeros-own, room-left, whole-end}
 use borrow.Author.Needs.{needs}
 use Rattle.repair.proofs.purge_bit.Statement.{statement}
 use Rattle.repair.proofs.purge_bit.Tie as tie
@@ -20,7 +20,7 @@ purge-over-requires c κs =
     let r = t1 .before in
     let s = r .before .before .before .before .before .before in
     let room = s .args .room .now in
-    let h : roomWords (s .args .counts .now) ≤ length room = leb-true _ _ (sym (r .room-enough .ensures) ∙ t1 .if1 .taken) in
+    let h : repairRoomWords (s .args .counts .now) ≤ length room = leb-true _ _ (sym (r .room-enough .ensures) ∙ t1 .if1 .taken) in
     (zeros-own room (e .clear .last .0) (e .clear .ensures), omega (arith, zeros-length room (e .clear .last .0) (e .clear .ensures)))
 
 returns : tie.Need-returns
@@ -34,7 +34,7 @@ returns c =
     let s = r .before .before .before .before .before .before in
     let counts = s .args .counts .now in
     let room = s .args .room .now in
-    let h : roomWords counts ≤ length room = leb-true _ _ (sym (r .room-enough .ensures) ∙ t1 .if1 .taken) in
+    let h : repairRoomWords counts ≤ length room = leb-true _ _ (sym (r .room-enough .ensures) ∙ t1 .if1 .taken) in
     let l = zeros-length room (e .clear .last .0) (e .clear .ensures) in
     whole-end _ _ _ _ _ _ _ counts room (rw l at (d .purge-over .ensures))
     (room-left room (e .clear .last .0) (e .clear .ensures) counts (d .purge-over .last .1 .1 .1 .0) _ h (d .purge-over .kept .1 .1 .1 .0) (g .clear2 .ensures))
@@ -44,7 +44,7 @@ returns-2 c =
     let t1 = c .before in
     let r = t1 .before in
     let s = r .before .before .before .before .before .before in
-    let h : length (s .args .room .now) < roomWords (s .args .counts .now) = leb-false _ _ (sym (r .room-enough .ensures) ∙ t1 .if1 .left) in
+    let h : length (s .args .room .now) < repairRoomWords (s .args .counts .now) = leb-false _ _ (sym (r .room-enough .ensures) ∙ t1 .if1 .left) in
     whole-end _ _ _ _ _ _ _ (s .args .counts .now) (s .args .room .now)
     (refused-end _ _ (s .args .slots .now) (s .args .after .now) 32 0 (clear-32 (s .args .counts .now) (s .args .slots .now) (length (s .args .after .now)) (s .args .level) (s .args .slot) (length (s .args .room .now)) h) (c .refused .ensures))
     (sym (room-short (s .args .counts .now) (s .args .room .now) h))

@@ -2,13 +2,13 @@
 -- Assumes nothing.
 use mathlib.Core.Path.{sym, _∙_}
 use lib.ListN.{length}
-use Rattle.repair_nodes.specs.Counts.{countsRight}
-use Rattle.repair_nodes.specs.Outcome.{placeRight}
-use Rattle.repair_tally.proofs.StepLaws.{told-true, told-false}
+use Rattle.repair_nodes.specs.CountList.{countsRight}
+use Rattle.repair_nodes.specs.RepairAnswer.{placeRight}
+use Rattle.repair_tally.proofs.TallyStepLaws.{told-true, told-false}
 use Rattle.repair_settle.proofs.EndLaws.{refused-end}
-use Rattle.repair.proofs.FormLaws.{entered-true, entered-false}
-use Rattle.repair.proofs.OutcomeLaws.{clear-5, clear-on}
-use Rattle.repair.proofs.WholeLaws.{place-parts, both-place, both-counts, both-right}
+use Rattle.repair.proofs.CountFormLaws.{entered-true, entered-false}
+use Rattle.repair.proofs.RepairAnswerLaws.{clear-5, clear-on}
+use Rattle.repair.proofs.RepairWholeLaws.{place-parts, both-place, both-counts, both-right}
 use borrow.Author.Needs.{needs}
 use Rattle.repair.proofs.purge_over.Statement.{statement}
 use Rattle.repair.proofs.purge_over.Tie as tie

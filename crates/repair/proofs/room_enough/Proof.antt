@@ -2,7 +2,7 @@
 -- Assumes nothing.
 use native.Mathlib.Omega.{arith}
 use lib.ListN.{length}
-use Rattle.repair.proofs.WholeLaws.{room-under, room-by}
+use Rattle.repair.proofs.RepairWholeLaws.{room-under, room-by}
 use borrow.Author.Needs.{needs}
 use Rattle.repair.proofs.room_enough.Statement.{statement}
 use Rattle.repair.proofs.room_enough.Tie as tie

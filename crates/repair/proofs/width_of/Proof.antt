@@ -1,6 +1,6 @@
 -- `repair::width_of` meets its contract: a shift of 1 is a power of two.
 -- Assumes nothing.
-use Rattle.repair.proofs.CodeLaws.{width-shifted}
+use Rattle.repair.proofs.RepairCodeLaws.{width-shifted}
 use borrow.Author.Needs.{needs}
 use Rattle.repair.proofs.width_of.Statement.{statement}
 use Rattle.repair.proofs.width_of.Tie as tie

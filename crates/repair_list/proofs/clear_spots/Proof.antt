@@ -4,7 +4,7 @@ use mathlib.Core.Path.{_≡_, refl, sym, _∙_}
 use Prim.Native.Nat.{_*_, _-_, _/_, _≤_}
 use native.Mathlib.Omega.{arith}
 use lib.ListN.{length, drop}
-use Rattle.repair_nodes.specs.Stage.{spotsOf, stored, emptied}
+use Rattle.repair_nodes.specs.Stage.{spotsOf, spotsStored, emptied}
 use Rattle.repair_list.proofs.RelistLaws.{clear-on, clear-end}
 use borrow.Author.Needs.{needs}
 use Rattle.repair_list.proofs.clear_spots.Statement.{statement}
@@ -12,7 +12,7 @@ use Rattle.repair_list.proofs.clear_spots.Tie as tie
 
 abbrev Inv-loop : tie.InvT-loop
 Inv-loop spots slots₀ count k₀ slots k =
-    (k ≤ length spots / 2) × (length slots ≡ length slots₀) × (stored slots (emptied (spotsOf (drop (2 * k) spots))) ≡ stored slots₀ (emptied (spotsOf spots)))
+    (k ≤ length spots / 2) × (length slots ≡ length slots₀) × (spotsStored slots (emptied (spotsOf (drop (2 * k) spots))) ≡ spotsStored slots₀ (emptied (spotsOf spots)))
 
 abbrev μ-loop : tie.MeasureT-loop
 μ-loop spots slots₀ count k₀ slots k = count - k

@@ -5,8 +5,8 @@ use mathlib.Core.Logic.{⊎-elim}
 use Prim.Native.Nat.{_+_, _*_, _-_, _/_, _≤_}
 use native.Mathlib.Omega.{arith}
 use lib.ListN.{length, getD}
-use Rattle.repair_nodes.specs.Counts.{nonzero}
-use Rattle.repair_list.specs.Relist.{valueIn, entriesIn}
+use Rattle.repair_nodes.specs.CountList.{nonzero}
+use Rattle.repair_list.specs.Relist.{countInMap, entriesIn}
 use Rattle.repair_list.proofs.RelistLaws.{leftFrom, left-size, left-one-size, left-none-size, left-end}
 use borrow.Author.Needs.{needs}
 use Rattle.repair_list.proofs.left_count.Statement.{statement}
@@ -36,10 +36,10 @@ loop-again c =
     let s = a .before .before .before in
     let x = getD (s .args .counts .now) (2 * a .loop .i) 0 in
     let z = left-size (s .args .map .now) (s .args .counts .now) (a .loop .i) (omega arith) in
-    let v : u .number-of .result ≡ valueIn (s .args .map .now) x = u .number-of .ensures in
+    let v : u .number-of .result ≡ countInMap (s .args .map .now) x = u .number-of .ensures in
     ⊎-elim
-    (λ w. (omega arith, omega arith, omega (arith, a .loop .inv .2, left-one-size (s .args .map .now) x (λ (e : valueIn (s .args .map .now) x ≡ 0). omega arith))))
-    (λ w. let e : valueIn (s .args .map .now) x ≡ 0 = omega arith in
+    (λ w. (omega arith, omega arith, omega (arith, a .loop .inv .2, left-one-size (s .args .map .now) x (λ (e : countInMap (s .args .map .now) x ≡ 0). omega arith))))
+    (λ w. let e : countInMap (s .args .map .now) x ≡ 0 = omega arith in
     (omega arith, omega arith, omega (arith, a .loop .inv .2, left-none-size (s .args .map .now) x e)))
     (c .if1 .came)
 

@@ -4,7 +4,7 @@ use mathlib.Core.Path.{_≡_, refl, sym, _∙_}
 use Prim.Native.Nat.{_*_, _-_, _/_, _≤_}
 use native.Mathlib.Omega.{arith}
 use lib.ListN.{length, drop}
-use Rattle.repair_nodes.specs.Stage.{spotsOf, stored}
+use Rattle.repair_nodes.specs.Stage.{spotsOf, spotsStored}
 use Rattle.repair_list.proofs.RelistLaws.{store-on, store-end}
 use borrow.Author.Needs.{needs}
 use Rattle.repair_list.proofs.store_spots.Statement.{statement}
@@ -12,7 +12,7 @@ use Rattle.repair_list.proofs.store_spots.Tie as tie
 
 abbrev Inv-loop : tie.InvT-loop
 Inv-loop spots slots₀ count k₀ slots k =
-    (k ≤ length spots / 2) × (length slots ≡ length slots₀) × (stored slots (spotsOf (drop (2 * k) spots)) ≡ stored slots₀ (spotsOf spots))
+    (k ≤ length spots / 2) × (length slots ≡ length slots₀) × (spotsStored slots (spotsOf (drop (2 * k) spots)) ≡ spotsStored slots₀ (spotsOf spots))
 
 abbrev μ-loop : tie.MeasureT-loop
 μ-loop spots slots₀ count k₀ slots k = count - k

@@ -5,7 +5,7 @@ use Prim.Native.Nat.{_+_, _*_, _-_, _/_, _≤_}
 use native.Mathlib.Omega.{arith}
 use lib.ListN.{length}
 use lib.Seq.{sets}
-use Rattle.repair_nodes.specs.Counts.{countWords, nonzero}
+use Rattle.repair_nodes.specs.CountList.{countWords, nonzero}
 use Rattle.repair_list.specs.Relist.{entriesIn}
 use Rattle.repair_list.proofs.RelistLaws.{leftFrom, left-size, left-on, left-last}
 use borrow.Author.Needs.{needs}

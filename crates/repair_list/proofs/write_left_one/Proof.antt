@@ -5,8 +5,8 @@ use Prim.Native.Nat.{_+_, _*_, _<_}
 use native.Mathlib.Omega.{arith}
 use lib.ListN.{length}
 use lib.Seq.{lt-length-set}
-use Rattle.repair_list.specs.Relist.{valueIn}
-use Rattle.repair_list.proofs.RelistLaws.{left-one-size, listed-none, listed-one}
+use Rattle.repair_list.specs.Relist.{countInMap}
+use Rattle.repair_list.proofs.RelistLaws.{left-one-size, entries-put-none, listed-one}
 use borrow.Author.Needs.{needs}
 use Rattle.repair_list.proofs.write_left_one.Statement.{statement}
 use Rattle.repair_list.proofs.write_left_one.Tie as tie
@@ -15,28 +15,28 @@ returns : tie.Need-returns
 returns c =
     let u = c .before in
     let s = u .before .before .before in
-    let e : valueIn (s .args .map .now) (s .args .node .0) ≡ 0 = omega (arith, u .number-of .ensures) in
-    listed-none (s .args .map .now) (s .args .after .now) (s .args .n) (s .args .node .0) e
+    let e : countInMap (s .args .map .now) (s .args .node .0) ≡ 0 = omega (arith, u .number-of .ensures) in
+    entries-put-none (s .args .map .now) (s .args .after .now) (s .args .n) (s .args .node .0) e
 
 mul-after : tie.Need-mul-after
 mul-after c =
     let u = c .before in
     let s = u .before .before .before in
-    let k = left-one-size (s .args .map .now) (s .args .node .0) (λ (e : valueIn (s .args .map .now) (s .args .node .0) ≡ 0). omega (arith, u .number-of .ensures)) in
+    let k = left-one-size (s .args .map .now) (s .args .node .0) (λ (e : countInMap (s .args .map .now) (s .args .node .0) ≡ 0). omega (arith, u .number-of .ensures)) in
     omega (arith, s .pre .1)
 
 slice-write-after : tie.Need-slice-write-after
 slice-write-after c =
     let u = c .before in
     let s = u .before .before .before in
-    let k = left-one-size (s .args .map .now) (s .args .node .0) (λ (e : valueIn (s .args .map .now) (s .args .node .0) ≡ 0). omega (arith, u .number-of .ensures)) in
+    let k = left-one-size (s .args .map .now) (s .args .node .0) (λ (e : countInMap (s .args .map .now) (s .args .node .0) ≡ 0). omega (arith, u .number-of .ensures)) in
     omega (arith, s .pre .1)
 
 slice-write-after-2 : tie.Need-slice-write-after-2
 slice-write-after-2 c =
     let u = c .before in
     let s = u .before .before .before in
-    let k = left-one-size (s .args .map .now) (s .args .node .0) (λ (e : valueIn (s .args .map .now) (s .args .node .0) ≡ 0). omega (arith, u .number-of .ensures)) in
+    let k = left-one-size (s .args .map .now) (s .args .node .0) (λ (e : countInMap (s .args .map .now) (s .args .node .0) ≡ 0). omega (arith, u .number-of .ensures)) in
     let h : 2 * s .args .n + 1 < length (s .args .after .now) = omega (arith, s .pre .1) in
     lt-length-set (s .args .after .now) (2 * s .args .n) (s .args .node .0) h
 

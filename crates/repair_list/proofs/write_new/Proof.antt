@@ -5,7 +5,7 @@ use Prim.Native.Nat.{ℕ, _+_, _*_, _-_, _≤_}
 use native.Mathlib.Omega.{arith}
 use lib.ListN.{length, drop}
 use lib.Seq.{sets}
-use Rattle.repair_nodes.specs.Counts.{countWords}
+use Rattle.repair_nodes.specs.CountList.{countWords}
 use Rattle.repair_list.specs.Relist.{entriesOf}
 use Rattle.repair_list.proofs.RelistLaws.{new-on, new-end}
 use borrow.Author.Needs.{needs}

@@ -4,8 +4,8 @@ use mathlib.Core.Path.{sym}
 use mathlib.Core.List.{[]}
 use native.Mathlib.Omega.{arith}
 use lib.Seq.{length-take-le}
-use Rattle.repair_nodes.specs.Counts.{countsOf, nodesOf}
-use Rattle.repair_tally.proofs.StepLaws.{told-new, told-over}
+use Rattle.repair_nodes.specs.CountList.{countsOf, nodesOf}
+use Rattle.repair_tally.proofs.TallyStepLaws.{told-new, told-over}
 use Rattle.repair_settle.proofs.SpotLaws.{nodes-askable, new-askable}
 use Rattle.repair_settle.proofs.EndLaws.{refused-end, short-slots, up-new, place-short, place-end, place-over}
 use borrow.Author.Needs.{needs}

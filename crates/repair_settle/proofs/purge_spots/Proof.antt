@@ -2,7 +2,7 @@
 -- Assumes nothing.
 use mathlib.Core.List.{[]}
 use native.Mathlib.Omega.{arith}
-use Rattle.repair_tally.proofs.StepLaws.{told-true, told-false}
+use Rattle.repair_tally.proofs.TallyStepLaws.{told-true, told-false}
 use Rattle.repair_settle.proofs.SpotLaws.{nodes-askable}
 use Rattle.repair_settle.proofs.EndLaws.{refused-end, purge-short, purge-slots, purge-list, purge-end}
 use borrow.Author.Needs.{needs}

@@ -4,7 +4,7 @@ use mathlib.Core.Path.{_≡_, _∙_}
 use mathlib.Core.Logic.{⊎-elim}
 use Prim.Native.Nat.{ℕ, _-_, _/_, _<_}
 use native.Mathlib.Omega.{arith}
-use Rattle.gatelist.specs.Words.{listFirst, listSecond}
+use Rattle.gatelist.specs.ListWords.{listFirst, listSecond}
 use Rattle.repair_nodes.specs.Placing.{levelAt}
 use Rattle.repair_subtree.specs.Subtree.{Added}
 use Rattle.repair_subtree.proofs.SubtreeLaws.{listed-gate, listed-none, gate-whole, added-is}

@@ -4,7 +4,7 @@ use mathlib.Core.Path.{_≡_}
 use Prim.Native.Nat.{ℕ, _/_, _<_}
 use native.Mathlib.Omega.{arith}
 use lib.ListN.{length}
-use Rattle.gatelist.specs.Words.{listFirst, listSecond}
+use Rattle.gatelist.specs.ListWords.{listFirst, listSecond}
 use Rattle.repair_nodes.specs.Placing.{levelAt}
 use Rattle.repair_subtree.proofs.SubtreeLaws.{listed-gate, listed-none, gate-whole}
 use Rattle.repair_subtree.proofs.JudgeCode.{judge-none, judge-above, judge-last, judge-down, judge-split, judge-missing}

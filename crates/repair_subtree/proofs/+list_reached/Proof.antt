@@ -3,7 +3,7 @@
 use mathlib.Core.Path.{_≡_}
 use native.Mathlib.Omega.{arith}
 use Rattle.words.specs.Pins.{empty}
-use Rattle.repair_nodes.proofs.PlaceLaws.{rooted-positive}
+use Rattle.repair_nodes.proofs.PlacingLaws.{rooted-positive}
 use Rattle.repair_subtree.proofs.SubtreeLaws.{added-none}
 use Rattle.repair_subtree.proofs.ListingLaws.{reach-none, reach-puttable, reach-last, reach-first, reach-second, reach-done}
 use borrow.Author.Needs.{needs}

@@ -4,7 +4,7 @@ use mathlib.Core.Path.{_≡_, sym}
 use native.Mathlib.Omega.{arith}
 use Rattle.words.specs.Pins.{empty}
 use Rattle.repair_nodes.specs.Stage.{slotIn}
-use Rattle.repair_nodes.proofs.PlaceLaws.{rooted-positive}
+use Rattle.repair_nodes.proofs.PlacingLaws.{rooted-positive}
 use Rattle.repair_subtree.proofs.SubtreeLaws.{empty-not, empty-last, empty-on, empty-off}
 use borrow.Author.Needs.{needs}
 use Prim.Native.Nat.{ℕ, _<_}

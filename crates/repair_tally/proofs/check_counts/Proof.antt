@@ -4,9 +4,9 @@ use mathlib.Core.Path.{_≡_, refl, sym, _∙_}
 use Prim.Native.Nat.{_*_, _-_, _/_, _%_, _≤_}
 use native.Mathlib.Omega.{arith}
 use lib.ListN.{length, drop}
-use Rattle.repair_nodes.specs.Counts.{countsOf}
+use Rattle.repair_nodes.specs.CountList.{countsOf}
 use Rattle.repair_tally.specs.Tally.{through, entering}
-use Rattle.repair_tally.proofs.StepLaws.{told-true, told-false, all-odd, all-even, check-on, check-stop, check-end}
+use Rattle.repair_tally.proofs.TallyStepLaws.{told-true, told-false, all-odd, all-even, check-on, check-stop, check-end}
 use borrow.Author.Needs.{needs}
 use Rattle.repair_tally.proofs.check_counts.Statement.{statement}
 use Rattle.repair_tally.proofs.check_counts.Tie as tie

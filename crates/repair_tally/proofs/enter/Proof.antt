@@ -3,7 +3,7 @@
 use mathlib.Core.Path.{sym, ap, _∙_}
 use mathlib.Core.Option.{some}
 use native.Mathlib.Omega.{arith}
-use Rattle.repair_tally.proofs.StepLaws.{found-value, found-missing, enter-no-pin, enter-zero, enter-twice, enter-new}
+use Rattle.repair_tally.proofs.TallyStepLaws.{found-value, found-missing, enter-no-pin, enter-zero, enter-twice, enter-new}
 use borrow.Author.Needs.{needs}
 use Rattle.repair_tally.proofs.enter.Statement.{statement}
 use Rattle.repair_tally.proofs.enter.Tie as tie

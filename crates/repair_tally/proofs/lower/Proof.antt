@@ -3,7 +3,7 @@
 use mathlib.Core.Path.{sym, ap, _∙_}
 use mathlib.Core.Option.{some}
 use native.Mathlib.Omega.{arith}
-use Rattle.repair_tally.proofs.StepLaws.{found-value, found-missing, lower-missing, lower-zero, lower-there}
+use Rattle.repair_tally.proofs.TallyStepLaws.{found-value, found-missing, lower-missing, lower-zero, lower-there}
 use borrow.Author.Needs.{needs}
 use Rattle.repair_tally.proofs.lower.Statement.{statement}
 use Rattle.repair_tally.proofs.lower.Tie as tie

@@ -1,7 +1,7 @@
 -- `repair_tally::raise` meets its contract: by what the map has.
 -- Assumes nothing.
 use native.Mathlib.Omega.{arith}
-use Rattle.repair_tally.proofs.StepLaws.{found-value, found-missing, raise-there, raise-over, raise-new}
+use Rattle.repair_tally.proofs.TallyStepLaws.{found-value, found-missing, raise-there, raise-over, raise-new}
 use borrow.Author.Needs.{needs}
 use Rattle.repair_tally.proofs.raise.Statement.{statement}
 use Rattle.repair_tally.proofs.raise.Tie as tie

@@ -5,7 +5,7 @@ use Prim.Native.Nat.{_*_, _-_, _/_, _≤_}
 use native.Mathlib.Omega.{arith}
 use lib.ListN.{length}
 use Rattle.repair_tally.specs.Tally.{through, lowering, nodesIn}
-use Rattle.repair_tally.proofs.StepLaws.{nodesFrom, told-true, told-false, way-on, way-stop, way-skip, way-end}
+use Rattle.repair_tally.proofs.TallyStepLaws.{nodesFrom, told-true, told-false, way-on, way-stop, way-skip, way-end}
 use borrow.Author.Needs.{needs}
 use Rattle.repair_tally.proofs.tally_down.Statement.{statement}
 use Rattle.repair_tally.proofs.tally_down.Tie as tie

@@ -6,7 +6,7 @@ use Prim.Native.Nat.{_*_, _-_, _/_, _≤_}
 use native.Mathlib.Omega.{arith}
 use lib.ListN.{length, take}
 use Rattle.repair_tally.specs.Tally.{through, raised, raising, nodesIn}
-use Rattle.repair_tally.proofs.StepLaws.{nodesFrom, told-new, told-over, new-most, way-on, way-stop, way-skip, way-end}
+use Rattle.repair_tally.proofs.TallyStepLaws.{nodesFrom, told-new, told-over, new-most, way-on, way-stop, way-skip, way-end}
 use borrow.Author.Needs.{needs}
 use Rattle.repair_tally.proofs.tally_up.Statement.{statement}
 use Rattle.repair_tally.proofs.tally_up.Tie as tie

@@ -6,7 +6,7 @@ use Prim.Native.Nat.{_≤_}
 use native.Mathlib.Omega.{arith}
 use lib.ListN.{length, drop}
 use lib.Seq.{length-take-le}
-use Rattle.rounds.proofs.OutcomeLaws.{short-post, long-post, part-length}
+use Rattle.rounds.proofs.RoundsAnswerLaws.{short-post, long-post, part-length}
 use borrow.Author.Needs.{needs}
 use Rattle.rounds.proofs.map_global_read_to_rounds.Statement.{statement}
 use Rattle.rounds.proofs.map_global_read_to_rounds.Tie as tie

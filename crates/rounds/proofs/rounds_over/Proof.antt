@@ -7,10 +7,10 @@ use native.Mathlib.Omega.{arith}
 use lib.ListN.{length}
 use Rattle.reads.specs.ReadSet.{pairsOf, broken}
 use Rattle.reads.specs.Search.{longest}
-use Rattle.reads.proofs.OutcomeLaws.{placed-sound}
+use Rattle.reads.proofs.SetAnswerLaws.{placed-sound}
 use Rattle.words.proofs.FoundLaws.{item-some, item-none}
-use Rattle.rounds.specs.Rounds.{Searchable}
-use Rattle.rounds.proofs.OutcomeLaws.{is-many, is-bad, is-none, is-stuck, is-packed, is-short, is-placed, refused-post, placed-post, searchable, lost, Win, won, size-fits}
+use Rattle.rounds.specs.Rounds.{SetSearchable}
+use Rattle.rounds.proofs.RoundsAnswerLaws.{is-many, is-bad, is-none, is-stuck, is-packed, is-short, is-placed, refused-post, placed-post, searchable, lost, Win, won, size-fits}
 use borrow.Author.Needs.{needs}
 use Rattle.rounds.proofs.rounds_over.Statement.{statement}
 use Rattle.rounds.proofs.rounds_over.Tie as tie
@@ -25,7 +25,7 @@ form-in c = item-none _ (sym (c .before .before .check-form .ensures) ∙ c .enu
 search-in : (c : tie.Else2)
     → let way = c .before .before .before .before .before in
     let start = way .before .before .before .before .before in
-    Searchable (start .args .set .now) (length (start .args .table .now)) (length (start .args .keys .now)) (length (start .args .scratch .now)) (start .args .lanes)
+    SetSearchable (start .args .set .now) (length (start .args .table .now)) (length (start .args .keys .now)) (length (start .args .scratch .now)) (start .args .lanes)
 search-in c =
     let at-if1 = c .before .before .before .before in
     let at-shared-slice-known = at-if1 .before .before .before .before .before in

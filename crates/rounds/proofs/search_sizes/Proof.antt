@@ -5,7 +5,7 @@ use Prim.Native.Nat.{_*_}
 use native.Mathlib.Omega.{arith}
 use lib.ListN.{length, replicate}
 use Rattle.reads.specs.ReadSet.{pairsOf}
-use Rattle.rounds.proofs.SizeLaws.{zeros-length, cleared, Left, pairs-whole, search-few, search-still, search-start, left-end, left-on, left-won}
+use Rattle.rounds.proofs.PieceSizeLaws.{zeros-length, table-cleared, Left, pairs-whole, search-few, search-still, search-start, left-end, left-on, left-won}
 use borrow.Author.Needs.{needs}
 use Rattle.rounds.proofs.search_sizes.Statement.{statement}
 use Rattle.rounds.proofs.search_sizes.Tie as tie
@@ -22,7 +22,7 @@ loop-holds c =
     let way = c .before .before .before .before in
     let start = way .before .before .before .before in
     let s = start .pre in
-    (refl, refl, cleared (start .args .table .now) _ (c .before .before .clear .ensures) (s .room), search-start s)
+    (refl, refl, table-cleared (start .args .table .now) _ (c .before .before .clear .ensures) (s .room), search-start s)
 
 try-pieces-requires : tie.Need-try-pieces-requires Inv-loop μ-loop
 try-pieces-requires c κs =
@@ -69,7 +69,7 @@ loop-again c =
     let t = at-try-pieces .try-pieces in (
       t .kept .1 .1 .0 ∙ l .inv .0,
       t .kept .1 .1 .1 .0 ∙ l .inv .1,
-      cleared (t .last .1 .0) (32 * start .args .lanes) (c .before .before .clear2 .ensures) (t .kept .1 .0 ∙ zeros-length (l .inv .2)),
+      table-cleared (t .last .1 .0) (32 * start .args .lanes) (c .before .before .clear2 .ensures) (t .kept .1 .0 ∙ zeros-length (l .inv .2)),
       left-on _ _ (search-few (start .pre)) (l .k) (at-loop-test .loop-test .taken) (l .inv .3) _ (t .ensures .0) (at-if1 .if1 .left),
     )
 

@@ -4,7 +4,7 @@ use mathlib.Core.Path.{refl, sym, ap, _∙_}
 use mathlib.Core.List.{_++_}
 use lib.Seq.{take-at, length-take-le}
 use Rattle.reads_try.specs.Tries.{isAll}
-use Rattle.rounds.proofs.SizeLaws.{count-few, orderable, ready, tried-is, tried-table, front-room}
+use Rattle.rounds.proofs.PieceSizeLaws.{count-few, orderable, ready, tried-is, tried-table, front-room}
 use borrow.Author.Needs.{needs}
 use Rattle.rounds.proofs.try_pieces.Statement.{statement}
 use Rattle.rounds.proofs.try_pieces.Tie as tie

@@ -3,16 +3,10 @@
 use mathlib.Core.Path.{sym, _∙_}
 use lib.ListN.{length}
 use Rattle.words.proofs.FoundLaws.{item-some, item-none}
-use Rattle.run.proofs.AnswerLaws.{again, told-short, told-block, told-turn, told-run, accepted}
+use Rattle.run.proofs.RunAnswerLaws.{again, told-short, told-block, told-turn, told-run, accepted}
 use borrow.Author.Needs.{needs}
 use Rattle.run.proofs.run.Statement.{statement}
 use Rattle.run.proofs.run.Tie as tie
-
-blocks-of-requires : tie.Need-blocks-of-requires
-blocks-of-requires c κs = search needs
-
-refuse-requires : tie.Need-refuse-requires
-refuse-requires c κs = search needs
 
 returns : tie.Need-returns
 returns c =
@@ -21,36 +15,10 @@ returns c =
     let start = way .before in
     told-short (start .args .words .now) (start .args .starts .now) (start .args .turns .now) (start .args .old .now) (start .args .new .now) (start .args .room .now) _ (at-blocks-of .blocks-of .ensures) (c .before .if1 .taken) _ (c .refuse .ensures)
 
-clear-requires : tie.Need-clear-requires
-clear-requires c κs = search needs
-
-bad-block-requires : tie.Need-bad-block-requires
-bad-block-requires c κs = search needs
-
-enum-known-i : tie.Need-enum-known-i
-enum-known-i c = search needs
-
-refuse-requires-2 : tie.Need-refuse-requires-2
-refuse-requires-2 c κs = search needs
-
-enum-told : tie.Need-enum-told
-enum-told c = search needs
-
-bad-turn-requires : tie.Need-bad-turn-requires
-bad-turn-requires c κs = search needs
-
-enum-known-i-2 : tie.Need-enum-known-i-2
-enum-known-i-2 c = search needs
-
-refuse-requires-3 : tie.Need-refuse-requires-3
-refuse-requires-3 c κs = search needs
-
-enum-told-2 : tie.Need-enum-told-2
-enum-told-2 c = search needs
-
 run-well-requires : tie.Need-run-well-requires
 run-well-requires c κs =
-    let at-enum-told = c .before .before .before .before .before in
+    let at-bad-turn = c .before .before .before .before in
+    let at-enum-told = at-bad-turn .before in
     let at-bad-block = at-enum-told .before .before in
     let at-clear = at-bad-block .before .before .before in
     let at-if1 = at-clear .before .before in
@@ -59,10 +27,7 @@ run-well-requires c κs =
     let start = way .before in
     accepted (start .args .words .now) (start .args .starts .now) (start .args .turns .now) (start .args .old .now) (start .args .new .now) (start .args .room .now) _
     (at-blocks-of .blocks-of .ensures) (at-if1 .if1 .left) _ (at-clear .clear .ensures) (item-none _ (sym (at-bad-block .bad-block .ensures) ∙ at-enum-told .enum-told .given .1))
-    (item-none _ (sym (c .before .before .before .before .bad-turn .ensures) ∙ c .before .before .enum-told2 .given .1)) _ (search needs)
-
-same-length : tie.Need-same-length
-same-length c = search needs
+    (item-none _ (sym (at-bad-turn .bad-turn .ensures) ∙ c .before .before .enum-told2 .given .1)) _ (search needs)
 
 returns-2 : tie.Need-returns-2
 returns-2 c =
@@ -76,12 +41,10 @@ returns-2 c =
     (at-blocks-of .blocks-of .ensures) (at-if1 .if1 .left) _ (at-clear .clear .ensures) _ (item-some _ _ (sym (at-bad-block .bad-block .ensures) ∙ c .before .before .i .given .1)) _
     (c .refuse2 .ensures)
 
-same-length-2 : tie.Need-same-length-2
-same-length-2 c = search needs
-
 returns-3 : tie.Need-returns-3
 returns-3 c =
-    let at-enum-told = c .before .before .before .before .before in
+    let at-bad-turn = c .before .before .before .before in
+    let at-enum-told = at-bad-turn .before in
     let at-bad-block = at-enum-told .before .before in
     let at-clear = at-bad-block .before .before .before in
     let at-if1 = at-clear .before .before in
@@ -90,13 +53,7 @@ returns-3 c =
     let start = way .before in
     told-turn (start .args .words .now) (start .args .starts .now) (start .args .turns .now) (start .args .old .now) (start .args .new .now) (start .args .room .now) _
     (at-blocks-of .blocks-of .ensures) (at-if1 .if1 .left) _ (at-clear .clear .ensures) (item-none _ (sym (at-bad-block .bad-block .ensures) ∙ at-enum-told .enum-told .given .1)) _
-    (item-some _ _ (sym (c .before .before .before .before .bad-turn .ensures) ∙ c .before .before .i2 .given .1)) _ (c .refuse3 .ensures)
-
-same-length-3 : tie.Need-same-length-3
-same-length-3 c = search needs
-
-same-length-4 : tie.Need-same-length-4
-same-length-4 c = search needs
+    (item-some _ _ (sym (at-bad-turn .bad-turn .ensures) ∙ c .before .before .i2 .given .1)) _ (c .refuse3 .ensures)
 
 returns-4 : tie.Need-returns-4
 returns-4 c =
@@ -119,24 +76,6 @@ returns-4 c =
 pub run-spec : {M : Type 1} → statement M
 run-spec =
     tie.close
-    (tie.spec
-    blocks-of-requires
-    refuse-requires
-    returns
-    clear-requires
-    bad-block-requires
-    enum-known-i
-    refuse-requires-2
-    enum-told
-    bad-turn-requires
-    enum-known-i-2
-    refuse-requires-3
-    enum-told-2
-    run-well-requires
-    same-length
-    returns-2
-    same-length-2
-    returns-3
-    same-length-3
-    same-length-4
-    returns-4)
+    (tie.spec (λ c κs. search needs) (λ c κs. search needs) returns (λ c κs. search needs) (λ c κs. search needs) (λ c. search needs)
+    (λ c κs. search needs) (λ c. search needs) (λ c κs. search needs) (λ c. search needs) (λ c κs. search needs) (λ c. search needs)
+    run-well-requires (λ c. search needs) returns-2 (λ c. search needs) returns-3 (λ c. search needs) (λ c. search needs) returns-4)

@@ -1,13 +1,10 @@
 -- `run::run_well` meets its contract: the blocks begin, take their turns and tell what is left; each step's facts are those of the one before.
 -- Assumes nothing.
 use lib.ListN.{length}
-use Rattle.run.proofs.AnswerLaws.{again, beginnings, goods-begun, run-left, run-new}
+use Rattle.run.proofs.RunAnswerLaws.{again, beginnings, goods-begun, run-left, run-new}
 use borrow.Author.Needs.{needs}
 use Rattle.run.proofs.run_well.Statement.{statement}
 use Rattle.run.proofs.run_well.Tie as tie
-
-blocks-of-requires : tie.Need-blocks-of-requires
-blocks-of-requires c κs = search needs
 
 begin-blocks-requires : tie.Need-begin-blocks-requires
 begin-blocks-requires c κs =
@@ -18,11 +15,12 @@ begin-blocks-requires c κs =
 
 take-turns-requires : tie.Need-take-turns-requires
 take-turns-requires c κs =
-    let at-blocks-of = c .before .before .before .before .before .before in
+    let at-begin-blocks = c .before .before .before .before in
+    let at-blocks-of = at-begin-blocks .before .before in
     let way = at-blocks-of .before .before .before .before .before .before in
     let start = way .before in
     let starts = start .args .starts .now in
-    (starts, goods-begun (start .args .words .now) starts (start .args .turns .now) _ _ (start .args .rooms .now) (start .pre) _ (search needs) _ (at-blocks-of .blocks-of .ensures) (c .before .before .before .before .begin-blocks .ensures), start .pre .named)
+    (starts, goods-begun (start .args .words .now) starts (start .args .turns .now) _ _ (start .args .rooms .now) (start .pre) _ (search needs) _ (at-blocks-of .blocks-of .ensures) (at-begin-blocks .begin-blocks .ensures), start .pre .named)
 
 turns-left-requires : tie.Need-turns-left-requires
 turns-left-requires c κs =
@@ -34,15 +32,6 @@ turns-left-requires c κs =
     let starts = start .args .starts .now in
     let begun = goods-begun (start .args .words .now) starts (start .args .turns .now) _ _ (start .args .rooms .now) (start .pre) _ (search needs) _ (at-blocks-of .blocks-of .ensures) (at-begin-blocks .begin-blocks .ensures) in
     (starts, _, _, at-blocks-of .blocks-of .ensures, at-take-turns .take-turns .ensures .0 starts begun (start .pre .named))
-
-clear-requires : tie.Need-clear-requires
-clear-requires c κs = search needs
-
-same-length : tie.Need-same-length
-same-length c = search needs
-
-same-length-2 : tie.Need-same-length-2
-same-length-2 c = search needs
 
 returns : tie.Need-returns
 returns c =
@@ -70,12 +59,5 @@ returns c =
 pub run-well-spec : {M : Type 1} → statement M
 run-well-spec =
     tie.close
-    (tie.spec
-    blocks-of-requires
-    begin-blocks-requires
-    take-turns-requires
-    turns-left-requires
-    clear-requires
-    same-length
-    same-length-2
-    returns)
+    (tie.spec (λ c κs. search needs) begin-blocks-requires take-turns-requires turns-left-requires (λ c κs. search needs)
+    (λ c. search needs) (λ c. search needs) returns)

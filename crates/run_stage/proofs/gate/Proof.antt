@@ -10,4 +10,5 @@ unfolding gateWord
 returns c = search needs
 
 pub gate-spec : {M : Type 1} → statement M
-gate-spec = tie.close (tie.spec returns)
+gate-spec = tie.close
+    (tie.spec returns)

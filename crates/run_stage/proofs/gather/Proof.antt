@@ -18,9 +18,6 @@ abbrev μ-loop : tie.MeasureT-loop
 loop-holds : tie.Need-loop-holds Inv-loop μ-loop
 loop-holds c = (omega arith, gathered-none _ _ _)
 
-gather-word-requires : tie.Need-gather-word-requires Inv-loop μ-loop
-gather-word-requires c κs = search needs
-
 add-l : tie.Need-add-l Inv-loop μ-loop
 add-l c = omega arith
 
@@ -42,9 +39,6 @@ loop-again c =
     let start = head .before .before .before in
     (omega arith, gathered-more _ _ (start .args .l .now) _ _ _ (head .loop .inv .1) (c .gather-word .ensures) (omega arith) (omega arith) (start .pre .3))
 
-same-length : tie.Need-same-length Inv-loop μ-loop
-same-length c = search needs
-
 returns : tie.Need-returns Inv-loop μ-loop
 returns c =
     let e : c .before .loop .j ≡ c .before .before .before .before .args .n = omega arith in
@@ -53,16 +47,5 @@ returns c =
 pub gather-spec : {M : Type 1} → statement M
 gather-spec =
     tie.close
-    (tie.spec
-    Inv-loop
-    μ-loop
-    loop-holds
-    gather-word-requires
-    add-l
-    mul-l
-    slice-write-l
-    add-j
-    loop-less
-    loop-again
-    same-length
+    (tie.spec Inv-loop μ-loop loop-holds (λ c κs. search needs) add-l mul-l slice-write-l add-j loop-less loop-again (λ c. search needs)
     returns)

@@ -18,9 +18,6 @@ abbrev μ-loop : tie.MeasureT-loop
 loop-holds : tie.Need-loop-holds Inv-loop μ-loop
 loop-holds c = (omega arith, bits-none _ _ _ _)
 
-pair-of-requires : tie.Need-pair-of-requires Inv-loop μ-loop
-pair-of-requires c κs = search needs
-
 picked-requires : tie.Need-picked-requires Inv-loop μ-loop
 picked-requires c κs =
     let start = c .before .before .before .before .before in
@@ -28,21 +25,6 @@ picked-requires c κs =
     let low = start .pre .4 (32 * start .args .j + 2 * head .h) (omega arith) in
     let high = start .pre .4 (32 * start .args .j + 2 * head .h + 1) (omega arith) in
     (omega (arith, c .pair-of .ensures .0), omega (arith, c .pair-of .ensures .1))
-
-mul-x : tie.Need-mul-x Inv-loop μ-loop
-mul-x c = search needs
-
-cast-x : tie.Need-cast-x Inv-loop μ-loop
-cast-x c = search needs
-
-shl-x : tie.Need-shl-x Inv-loop μ-loop
-shl-x c = search needs
-
-add-h : tie.Need-add-h Inv-loop μ-loop
-add-h c = search needs
-
-loop-less : tie.Need-loop-less Inv-loop μ-loop
-loop-less c = search needs
 
 loop-again : tie.Need-loop-again Inv-loop μ-loop
 loop-again c =
@@ -58,16 +40,5 @@ returns c =
 pub gather-word-spec : {M : Type 1} → statement M
 gather-word-spec =
     tie.close
-    (tie.spec
-    Inv-loop
-    μ-loop
-    loop-holds
-    pair-of-requires
-    picked-requires
-    mul-x
-    cast-x
-    shl-x
-    add-h
-    loop-less
-    loop-again
-    returns)
+    (tie.spec Inv-loop μ-loop loop-holds (λ c κs. search needs) picked-requires (λ c. search needs) (λ c. search needs) (λ c. search needs)
+    (λ c. search needs) (λ c. search needs) loop-again returns)

@@ -5,7 +5,7 @@ use borrow.Author.Needs.{needs}
 use native.Mathlib.Omega.{arith}
 use mathlib.Core.Path.{_≡_}
 use Rattle.run_stage.specs.Level.{LevelIn}
-use Rattle.run_stage.proofs.FillLaws.{filled-none}
+use Rattle.run_stage.proofs.StoreLoopLaws.{filled-none}
 use Rattle.run_stage.proofs.LevelLaws.{level-more}
 use Rattle.run_stage.proofs.level.Statement.{statement}
 use Rattle.run_stage.proofs.level.Tie as tie
@@ -21,9 +21,6 @@ loop-holds c = (omega arith, omega arith, filled-none _ _ _)
 
 mul-loop : tie.Need-mul-loop Inv-loop μ-loop
 mul-loop c = omega arith
-
-gate-at-requires : tie.Need-gate-at-requires Inv-loop μ-loop
-gate-at-requires c κs = search needs
 
 mul-l : tie.Need-mul-l Inv-loop μ-loop
 mul-l c = omega arith
@@ -43,9 +40,6 @@ loop-again c =
     let start = head .before .before .before in
     (omega arith, omega arith, level-more (start .args .t .now) (start .args .l .now) _ _ _ _ (head .loop .inv .2) (omega arith) (omega arith) (omega arith) (c .gate-at .ensures))
 
-same-length : tie.Need-same-length Inv-loop μ-loop
-same-length c = search needs
-
 returns : tie.Need-returns Inv-loop μ-loop
 returns c =
     let e : c .before .loop .w ≡ 2 * c .before .before .before .before .args .m = omega arith in
@@ -54,16 +48,5 @@ returns c =
 pub level-spec : {M : Type 1} → statement M
 level-spec =
     tie.close
-    (tie.spec
-    Inv-loop
-    μ-loop
-    loop-holds
-    mul-loop
-    gate-at-requires
-    mul-l
-    slice-write-l
-    add-w
-    loop-less
-    loop-again
-    same-length
+    (tie.spec Inv-loop μ-loop loop-holds mul-loop (λ c κs. search needs) mul-l slice-write-l add-w loop-less loop-again (λ c. search needs)
     returns)

@@ -3,12 +3,12 @@
 use borrow.Author.Needs.{needs}
 use native.Mathlib.Omega.{arith}
 use lib.ListN.{length-set}
-use Rattle.run_stage.proofs.LevelLaws.{Going, going-none, going-more, levels-end}
+use Rattle.run_stage.proofs.LevelLaws.{LevelsGoing, going-none, going-more, levels-end}
 use Rattle.run_stage.proofs.levels.Statement.{statement}
 use Rattle.run_stage.proofs.levels.Tie as tie
 
 abbrev Inv-loop : tie.InvT-loop
-Inv-loop l₀ t n m₀ l m = Going t l₀ l n m
+Inv-loop l₀ t n m₀ l m = LevelsGoing t l₀ l n m
 
 abbrev μ-loop : tie.MeasureT-loop
 μ-loop l₀ t n m₀ l m = m
@@ -37,9 +37,6 @@ shared-slice-read-low-word-2 c = omega arith
 shared-slice-read-low-word-3 : tie.Need-shared-slice-read-low-word-3 Inv-loop μ-loop
 shared-slice-read-low-word-3 c = omega arith
 
-low-word-requires : tie.Need-low-word-requires Inv-loop μ-loop
-low-word-requires c κs = search needs
-
 slice-write-l : tie.Need-slice-write-l Inv-loop μ-loop
 slice-write-l c = omega arith
 
@@ -47,26 +44,15 @@ same-length : tie.Need-same-length Inv-loop μ-loop
 same-length c = simp length-set (omega arith)
 
 returns : tie.Need-returns Inv-loop μ-loop
-returns c = λ k e.
-    let after = c .before .before .before .before .before in
+returns c =
+    let way = c .before .before .before .before .before in
+    λ k e.
+    let after = way in
     let start = after .before .before .before .before in
     levels-end (start .args .t .now) (start .args .l .now) (after .before .loop .l) _ _ k _ (after .before .loop .inv) (after .loop-test .left) (omega arith) (c .low-word .ok) (c .low-word .ensures) e
 
 pub levels-spec : {M : Type 1} → statement M
 levels-spec =
     tie.close
-    (tie.spec
-    Inv-loop
-    μ-loop
-    loop-holds
-    level-requires
-    loop-less
-    loop-again
-    slice-read-low-word
-    shared-slice-read-low-word
-    shared-slice-read-low-word-2
-    shared-slice-read-low-word-3
-    low-word-requires
-    slice-write-l
-    same-length
-    returns)
+    (tie.spec Inv-loop μ-loop loop-holds level-requires loop-less loop-again slice-read-low-word shared-slice-read-low-word
+    shared-slice-read-low-word-2 shared-slice-read-low-word-3 (λ c κs. search needs) slice-write-l same-length returns)

@@ -5,25 +5,13 @@ use Prim.Native.Nat.{ℕ}
 use lib.Bits.{mask-lt}
 use Rattle.words.specs.Bit.{bit}
 use borrow.Author.Needs.{needs}
-use Rattle.run_stage.proofs.LowLaws.{low-start, low-chain, start-is}
+use Rattle.run_stage.proofs.LowLaws.{low-start, low-chain, low-start-is}
 use Rattle.run_stage.proofs.low_word.Statement.{statement}
 use Rattle.run_stage.proofs.low_word.Tie as tie
 
 low-step-requires : tie.Need-low-step-requires
 low-step-requires c κs =
-    (search needs, refl, λ p h. ap (λ (x : ℕ). bit x p) (start-is _ (c .fits .one .fits)) ∙ low-start (c .args .one) 0 0 0 .zeros p h)
-
-low-step-requires-2 : tie.Need-low-step-requires-2
-low-step-requires-2 c κs = search needs
-
-low-step-requires-3 : tie.Need-low-step-requires-3
-low-step-requires-3 c κs = search needs
-
-low-step-requires-4 : tie.Need-low-step-requires-4
-low-step-requires-4 c κs = search needs
-
-low-step-requires-5 : tie.Need-low-step-requires-5
-low-step-requires-5 c κs = search needs
+    (search needs, refl, λ p h. ap (λ (x : ℕ). bit x p) (low-start-is _ (c .fits .one .fits)) ∙ low-start (c .args .one) 0 0 0 .zeros p h)
 
 cast-result : tie.Need-cast-result
 cast-result c = record { fits = mask-lt (c .low-step5 .result) 32 }
@@ -41,11 +29,5 @@ returns c =
 pub low-word-spec : {M : Type 1} → statement M
 low-word-spec =
     tie.close
-    (tie.spec
-    low-step-requires
-    low-step-requires-2
-    low-step-requires-3
-    low-step-requires-4
-    low-step-requires-5
-    cast-result
+    (tie.spec low-step-requires (λ c κs. search needs) (λ c κs. search needs) (λ c κs. search needs) (λ c κs. search needs) cast-result
     returns)

@@ -6,19 +6,10 @@ use Rattle.run_stage.proofs.GatherLaws.{pair-low, pair-high, pair-in}
 use Rattle.run_stage.proofs.pair_of.Statement.{statement}
 use Rattle.run_stage.proofs.pair_of.Tie as tie
 
-mul-result : tie.Need-mul-result
-mul-result c = search needs
-
 mul-result-2 : tie.Need-mul-result-2
 mul-result-2 c =
     let lt = pair-in (c .args .n) (c .args .j) (c .args .h) (c .pre .1) (c .pre .0) in
     omega arith
-
-mul-result-3 : tie.Need-mul-result-3
-mul-result-3 c = search needs
-
-add-result : tie.Need-add-result
-add-result c = search needs
 
 add-result-2 : tie.Need-add-result-2
 add-result-2 c =
@@ -42,12 +33,5 @@ returns c = (pair-low _ _ _ _ (c .before .pre .1), pair-high _ _ _ _ (c .before 
 pub pair-of-spec : {M : Type 1} → statement M
 pair-of-spec =
     tie.close
-    (tie.spec
-    mul-result
-    mul-result-2
-    mul-result-3
-    add-result
-    add-result-2
-    mul-result-4
-    shared-slice-read-result
+    (tie.spec (λ c. search needs) mul-result-2 (λ c. search needs) (λ c. search needs) add-result-2 mul-result-4 shared-slice-read-result
     returns)

@@ -9,24 +9,6 @@ use Rattle.run_stage.proofs.StageEndLaws.{cut, entry-cut, entries-cut}
 use Rattle.run_stage.proofs.section_word.Statement.{statement}
 use Rattle.run_stage.proofs.section_word.Tie as tie
 
-section-requires : tie.Need-section-requires
-section-requires c κs = search needs
-
-add-to : tie.Need-add-to
-add-to c = search needs
-
-mul-gather-word : tie.Need-mul-gather-word
-mul-gather-word c = search needs
-
-sub-gather-word : tie.Need-sub-gather-word
-sub-gather-word c = search needs
-
-part-gather-word-start : tie.Need-part-gather-word-start
-part-gather-word-start c = search needs
-
-part-gather-word-end : tie.Need-part-gather-word-end
-part-gather-word-end c = search needs
-
 gather-word-requires : tie.Need-gather-word-requires
 gather-word-requires c κs =
     let known = c .before in
@@ -48,12 +30,5 @@ returns c = λ b h.
 pub section-word-spec : {M : Type 1} → statement M
 section-word-spec =
     tie.close
-    (tie.spec
-    section-requires
-    add-to
-    mul-gather-word
-    sub-gather-word
-    part-gather-word-start
-    part-gather-word-end
-    gather-word-requires
-    returns)
+    (tie.spec (λ c κs. search needs) (λ c. search needs) (λ c. search needs) (λ c. search needs) (λ c. search needs) (λ c. search needs)
+    gather-word-requires returns)

@@ -9,27 +9,6 @@ use Rattle.run_stage.proofs.StageEndLaws.{cut, entries-cut, stage-end}
 use Rattle.run_stage.proofs.stage_turn.Statement.{statement}
 use Rattle.run_stage.proofs.stage_turn.Tie as tie
 
-section-requires : tie.Need-section-requires
-section-requires c κs = search needs
-
-add-lanes : tie.Need-add-lanes
-add-lanes c = search needs
-
-add-to : tie.Need-add-to
-add-to c = search needs
-
-mul-gather : tie.Need-mul-gather
-mul-gather c = search needs
-
-sub-gather : tie.Need-sub-gather
-sub-gather c = search needs
-
-part-gather-start : tie.Need-part-gather-start
-part-gather-start c = search needs
-
-part-gather-end : tie.Need-part-gather-end
-part-gather-end c = search needs
-
 gather-requires : tie.Need-gather-requires
 gather-requires c κs =
     let known = c .before .before in
@@ -38,18 +17,6 @@ gather-requires c κs =
     let from = known .section .result in
     let p = cut W from (from + 4096) _ 4096 (known .section .ensures .0) refl (omega arith) in
     (omega arith, omega (arith, p .long), omega arith, entries-cut 256 W _ _ _ p (omega (arith, start .pre .1)) (start .pre .2))
-
-mul-levels : tie.Need-mul-levels
-mul-levels c = search needs
-
-sub-levels : tie.Need-sub-levels
-sub-levels c = search needs
-
-part-levels-start : tie.Need-part-levels-start
-part-levels-start c = search needs
-
-part-levels-end : tie.Need-part-levels-end
-part-levels-end c = search needs
 
 levels-requires : tie.Need-levels-requires
 levels-requires c κs =
@@ -60,39 +27,24 @@ levels-requires c κs =
     let t = cut (start .args .words .now) (from + 4096) (from + 5120) _ 1024 refl (omega arith) (omega arith) in
     ((8, refl), omega (arith, gathered .gather .ensures .long), omega (arith, t .long))
 
-same-length : tie.Need-same-length
-same-length c = search needs
-
 returns : tie.Need-returns
 returns c =
     let staged = c .before .before in
     let gathered = staged .before .before .before .before .before in
     let known = gathered .before .before .before in
     let start = known .before .before .before in
+    let k = start .args .k in
     let W = start .args .words .now in
     let from = known .section .result in
-    let at : from ≡ sectionAt 256 W (start .args .at) (start .args .k) = known .section .ensures .0 in
+    let at : from ≡ sectionAt 256 W (start .args .at) k = known .section .ensures .0 in
     let p = cut W from (from + 4096) _ 4096 at refl (omega arith) in
-    let t = cut W (from + 4096) (from + 5120) (sectionAt 256 W (start .args .at) (start .args .k) + 4096) 1024 (ap (λ (x : ℕ). x + 4096) at) (omega arith) (omega arith) in
-    stage-end 256 W (start .args .at) (start .args .k) 8 refl _ _ (start .args .l .now) _ _ p t (entries-cut 256 W _ _ _ p (omega (arith, start .pre .1)) (start .pre .2)) (start .pre .3)
+    let t = cut W (from + 4096) (from + 5120) (sectionAt 256 W (start .args .at) k + 4096) 1024 (ap (λ (x : ℕ). x + 4096) at) (omega arith) (omega arith) in
+    stage-end 256 W (start .args .at) k 8 refl _ _ (start .args .l .now) _ _ p t (entries-cut 256 W _ _ _ p (omega (arith, start .pre .1)) (start .pre .2)) (start .pre .3)
     (gathered .gather .ensures) (staged .levels .ensures 8 refl) (λ i. c .slice-known3 .given i .fits)
 
 pub stage-turn-spec : {M : Type 1} → statement M
 stage-turn-spec =
     tie.close
-    (tie.spec
-    section-requires
-    add-lanes
-    add-to
-    mul-gather
-    sub-gather
-    part-gather-start
-    part-gather-end
-    gather-requires
-    mul-levels
-    sub-levels
-    part-levels-start
-    part-levels-end
-    levels-requires
-    same-length
-    returns)
+    (tie.spec (λ c κs. search needs) (λ c. search needs) (λ c. search needs) (λ c. search needs) (λ c. search needs) (λ c. search needs)
+    (λ c. search needs) gather-requires (λ c. search needs) (λ c. search needs) (λ c. search needs) (λ c. search needs) levels-requires
+    (λ c. search needs) returns)

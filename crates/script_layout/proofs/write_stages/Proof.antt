@@ -8,8 +8,8 @@ use lib.Seq.{sets}
 use Rattle.plan_record.specs.Record.{majorsOf}
 use Rattle.script_assembly.specs.Assembly.{majorStarts, majorWords}
 use Rattle.script_layout.specs.Layout.{NextOf}
-use Rattle.script_layout.proofs.StoreLaws.{stored-length}
-use Rattle.script_layout.proofs.StageLaws.{none-next, no-words, no-starts, start-few, stage-room, stage-words, stage-starts-stored}
+use Rattle.script_layout.proofs.ListStoreLaws.{stores-length}
+use Rattle.script_layout.proofs.StageWriteLaws.{none-next, no-words, no-starts, start-few, stage-room, stage-words, stage-starts-stored}
 use borrow.Author.Needs.{needs}
 use Rattle.script_layout.proofs.write_stages.Statement.{statement}
 use Rattle.script_layout.proofs.write_stages.Tie as tie
@@ -25,18 +25,6 @@ Inv-loop d room₀ starts₀ words₀ blocks majors next₀ s₀ room starts wor
 abbrev μ-loop : tie.MeasureT-loop
 μ-loop d room₀ starts₀ words₀ blocks majors next₀ s₀ room starts words next s = majors - s
 
-blocks-of-requires : tie.Need-blocks-of-requires Inv-loop μ-loop
-blocks-of-requires c κs = search needs
-
-cast-blocks : tie.Need-cast-blocks Inv-loop μ-loop
-cast-blocks c = search needs
-
-majors-of-requires : tie.Need-majors-of-requires Inv-loop μ-loop
-majors-of-requires c κs = search needs
-
-cast-majors : tie.Need-cast-majors Inv-loop μ-loop
-cast-majors c = search needs
-
 loop-holds : tie.Need-loop-holds Inv-loop μ-loop
 loop-holds c =
     let a = c .before .before .before .before .before .before in
@@ -44,60 +32,66 @@ loop-holds c =
 
 mul-write-stage : tie.Need-mul-write-stage Inv-loop μ-loop
 mul-write-stage c =
-    let a = c .before .before .before .before .before .before .before .before .before in
+    let at-majors-of = c .before .before .before in
+    let a = at-majors-of .before .before .before .before .before .before in
     let l = c .before .before .loop in
-    omega (arith, start-few (a .args .d .now) (a .args .room .now) _ _ (a .pre) (l .s) _ (omega (arith, c .before .before .before .majors-of .ensures)) (c .before .before .before .before .blocks-of .ensures))
+    omega (arith, start-few (a .args .d .now) (a .args .room .now) _ _ (a .pre) (l .s) _ (omega (arith, at-majors-of .majors-of .ensures)) (at-majors-of .before .blocks-of .ensures))
 
 write-stage-requires : tie.Need-write-stage-requires Inv-loop μ-loop
 write-stage-requires c κs =
-    let a = c .before .before .before .before .before .before .before .before .before .before .before in
-    let l = c .before .before .before .before .loop in
-    stage-room (a .args .d .now) (a .args .room .now) _ _ (a .pre) (l .s) _ (omega (arith, c .before .before .before .before .before .majors-of .ensures)) (c .before .before .before .before .before .before .blocks-of .ensures) (l .next) (l .inv .2) (l .room) (l .inv .1) _ _ (stored-length (a .args .starts .now) (l .starts) 0 (majorStarts 256 (a .args .d .now) (l .s)) (l .inv .3)) (stored-length (a .args .words .now) (l .words) 0 (majorWords 256 (a .args .d .now) (l .s)) (l .inv .4))
-
-add-s : tie.Need-add-s Inv-loop μ-loop
-add-s c = search needs
-
-loop-less : tie.Need-loop-less Inv-loop μ-loop
-loop-less c = search needs
+    let at-loop = c .before .before .before .before in
+    let way = at-loop .before .before .before .before in
+    let a = way .before .before .before in
+    let d = a .args .d .now in
+    let l = at-loop .loop in
+    stage-room d (a .args .room .now) _ _ (a .pre) (l .s) _ (omega (arith, at-loop .before .majors-of .ensures)) (at-loop .before .before .blocks-of .ensures) (l .next)
+    (l .inv .2) (l .room) (l .inv .1) _ _ (stores-length (a .args .starts .now) (l .starts) 0 (majorStarts 256 d (l .s)) (l .inv .3))
+    (stores-length (a .args .words .now) (l .words) 0 (majorWords 256 d (l .s)) (l .inv .4))
 
 loop-again : tie.Need-loop-again Inv-loop μ-loop
 loop-again c =
-    let a = c .before .before .before .before .before .before .before .before .before .before .before .before .before .before .before .before .before .before in
-    let l = c .before .before .before .before .before .before .before .before .before .before .before .loop in
-    let w = c .before .before .before .before .before .before .write-stage in (
+    let at-write-stage = c .before .before .before .before .before .before in
+    let at-loop = at-write-stage .before .before .before .before .before in
+    let at-blocks-of = at-loop .before .before in
+    let a = at-blocks-of .before .before .before .before .before in
+    let d = a .args .d .now in
+    let room = a .args .room .now in
+    let l = at-loop .loop in
+    let w = at-write-stage .write-stage in (
       omega arith,
       w .ensures .1 .0 ∙ l .inv .1,
       w .ensures .0,
-      stage-starts-stored (a .args .d .now) (a .args .room .now) _ _ (a .pre) (l .s) _ (omega (arith, c .before .before .before .before .before .before .before .before .before .before .before .before .majors-of .ensures)) (c .before .before .before .before .before .before .before .before .before .before .before .before .before .blocks-of .ensures) (a .args .starts .now) (l .starts) _ (l .inv .3) (w .ensures .1 .1 .0),
-      stage-words (a .args .d .now) (a .args .room .now) _ _ (a .pre) (l .s) _ (omega (arith, c .before .before .before .before .before .before .before .before .before .before .before .before .majors-of .ensures)) (c .before .before .before .before .before .before .before .before .before .before .before .before .before .blocks-of .ensures) (l .next) (l .inv .2) (a .args .words .now) (l .words) _ (l .inv .4) (w .ensures .1 .1 .1),
+      stage-starts-stored d room _ _ (a .pre) (l .s) _ (omega (arith, at-loop .before .majors-of .ensures)) (at-blocks-of .blocks-of .ensures) (a .args .starts .now) (l .starts) _ (l .inv .3) (w .ensures .1 .1 .0),
+      stage-words d room _ _ (a .pre) (l .s) _ (omega (arith, at-loop .before .majors-of .ensures)) (at-blocks-of .blocks-of .ensures) (l .next) (l .inv .2) (a .args .words .now) (l .words) _ (l .inv .4) (w .ensures .1 .1 .1),
     )
-
-same-length : tie.Need-same-length Inv-loop μ-loop
-same-length c = search needs
 
 same-length-2 : tie.Need-same-length-2 Inv-loop μ-loop
 same-length-2 c =
-    let a = c .before .before .before .before .before .before .before .before in
+    let way = c .before .before .before .before in
+    let a = way .before .before .before .before in
     let l = c .before .loop in
-    stored-length (a .args .starts .now) (l .starts) 0 (majorStarts 256 (a .args .d .now) (l .s)) (l .inv .3)
+    stores-length (a .args .starts .now) (l .starts) 0 (majorStarts 256 (a .args .d .now) (l .s)) (l .inv .3)
 
 same-length-3 : tie.Need-same-length-3 Inv-loop μ-loop
 same-length-3 c =
-    let a = c .before .before .before .before .before .before .before .before in
+    let way = c .before .before .before .before in
+    let a = way .before .before .before .before in
     let l = c .before .loop in
-    stored-length (a .args .words .now) (l .words) 0 (majorWords 256 (a .args .d .now) (l .s)) (l .inv .4)
+    stores-length (a .args .words .now) (l .words) 0 (majorWords 256 (a .args .d .now) (l .s)) (l .inv .4)
 
 returns : tie.Need-returns Inv-loop μ-loop
 returns c =
-    let a = c .before .before .before .before .before .before .before .before in
+    let way = c .before .before .before .before in
+    let a = way .before .before .before .before in
+    let d = a .args .d .now in
     let l = c .before .loop in
-    let e : l .s ≡ majorsOf (a .args .d .now) = omega (arith, c .before .before .majors-of .ensures) in (
-      l .inv .2 .at ∙ ap (λ (n : ℕ). length (majorWords 256 (a .args .d .now) n)) e,
+    let e : l .s ≡ majorsOf d = omega (arith, c .before .before .majors-of .ensures) in (
+      l .inv .2 .at ∙ ap (λ (n : ℕ). length (majorWords 256 d n)) e,
       (
         l .inv .1,
         (
-          l .inv .3 ∙ ap (λ (n : ℕ). sets (a .args .starts .now) 0 (majorStarts 256 (a .args .d .now) n)) e,
-          l .inv .4 ∙ ap (λ (n : ℕ). sets (a .args .words .now) 0 (majorWords 256 (a .args .d .now) n)) e,
+          l .inv .3 ∙ ap (λ (n : ℕ). sets (a .args .starts .now) 0 (majorStarts 256 d n)) e,
+          l .inv .4 ∙ ap (λ (n : ℕ). sets (a .args .words .now) 0 (majorWords 256 d n)) e,
         ),
       ),
     )
@@ -105,20 +99,6 @@ returns c =
 pub write-stages-spec : {M : Type 1} → statement M
 write-stages-spec =
     tie.close
-    (tie.spec
-    Inv-loop
-    μ-loop
-    blocks-of-requires
-    cast-blocks
-    majors-of-requires
-    cast-majors
-    loop-holds
-    mul-write-stage
-    write-stage-requires
-    add-s
-    loop-less
-    loop-again
-    same-length
-    same-length-2
-    same-length-3
+    (tie.spec Inv-loop μ-loop (λ c κs. search needs) (λ c. search needs) (λ c κs. search needs) (λ c. search needs) loop-holds
+    mul-write-stage write-stage-requires (λ c. search needs) (λ c. search needs) loop-again (λ c. search needs) same-length-2 same-length-3
     returns)

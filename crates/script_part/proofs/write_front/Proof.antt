@@ -5,9 +5,9 @@ use mathlib.Core.List.{_++_}
 use Prim.Native.Nat.{_*_}
 use native.Mathlib.Omega.{arith}
 use lib.Seq.{length-take-le}
-use Rattle.reads.specs.Words.{readSection}
+use Rattle.reads.specs.ReadSection.{readSection}
 use Rattle.plan_reads.proofs.CheckLaws.{set-size}
-use Rattle.script.proofs.PartLaws.{two-parts}
+use Rattle.script.proofs.PutMidLaws.{two-parts}
 use Rattle.script_part.proofs.BuildLaws.{lanes-are, pins-won-there, rounds-few, reads-room, pairs-numbered, front-length, first-length}
 use borrow.Author.Needs.{needs}
 use Rattle.script_part.proofs.write_front.Statement.{statement}

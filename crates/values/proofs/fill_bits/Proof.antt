@@ -1,9 +1,9 @@
--- `values::fill_bits` meets its contract. The values over the table of state bits are those of the definition (AnswerLaws).
+-- `values::fill_bits` meets its contract. The values over the table of state bits are those of the definition (ValueAnswerLaws).
 -- Assumes nothing.
 use mathlib.Core.Path.{_∙_}
 use mathlib.Core.Logic.{⊎-elim}
 use native.Mathlib.Omega.{arith}
-use Rattle.values.proofs.AnswerLaws.{known-length, given, value-is, value-empty, fillable, all-valued, values-are, cleared}
+use Rattle.values.proofs.ValueAnswerLaws.{known-length, given, value-is, value-empty, fillable, all-valued, values-are, lent-cleared}
 use borrow.Author.Needs.{needs}
 use Rattle.values.proofs.fill_bits.Statement.{statement}
 use Rattle.values.proofs.fill_bits.Tie as tie
@@ -61,7 +61,7 @@ returns c =
     ∙ value-is (o .plan .now) (o .part) (o .old .now) (o .new .now) _ (f .fill-known .ensures) (s .pre .0 .gates) (o .pin .0) _ (omega (arith, j .before .struct-known .given, w .0 .taken)) (w .4 .ensures .0))
     (λ w. w .1 ∙ value-empty (o .plan .now) (o .part) (o .old .now) (o .new .now) (o .pin .0) (w .0 .left))
     (j .if1 .came) in
-    let zeros = cleared (o .room .now) (f .fill-known .last .1 .1 .1 .1 .0) _ (z .clear .ensures) (r .room .given) in
+    let zeros = lent-cleared (o .room .now) (f .fill-known .last .1 .1 .1 .1 .0) _ (z .clear .ensures) (r .room .given) in
     let values = values-are (o .plan .now) (o .part) (o .old .now) (o .new .now) _ (f .fill-known .ensures) (s .pre .0 .form) (s .pre .0 .gates) _ _
     (s .pre .1)
     (v .all-values .ensures) in

@@ -6,11 +6,11 @@ use Prim.Native.Nat.{_≤_, _<_}
 use native.Mathlib.Omega.{arith}
 use borrow.Author.Tests.{not-true, not-false}
 use lib.ListN.{length}
-use Rattle.plan_record.specs.Form.{roomWords, planForm}
+use Rattle.plan_record.specs.Form.{planRoomWords, planForm}
 use Rattle.words.specs.Answer.{Answer}
 use Rattle.values.specs.Values.{Bits, valuedOf, bitsAfter}
 use Rattle.words.proofs.FoundLaws.{item-some, item-none}
-use Rattle.values.proofs.AnswerLaws.{out-short, out-form, out-gate, out-lent, bits-kept, room-short, room-zeros, room-again, room-asked}
+use Rattle.values.proofs.ValueAnswerLaws.{out-short, out-form, out-gate, out-lent, bits-kept, room-short, room-zeros, room-again, room-asked}
 use borrow.Author.Needs.{needs}
 use Rattle.values.proofs.value.Statement.{statement}
 use Rattle.values.proofs.value.Tie as tie
@@ -18,7 +18,7 @@ use Rattle.values.proofs.value.Tie as tie
 abbrev start : tie.After-room-words → tie.Start
 start c = c .before .before .before .before .before .before
 
-enough : (c : tie.Else1) → roomWords (start (c .before) .args .plan .now) ≤ length (start (c .before) .args .room .now)
+enough : (c : tie.Else1) → planRoomWords (start (c .before) .args .plan .now) ≤ length (start (c .before) .args .room .now)
 enough c = omega (arith, c .before .room-words .ensures .0, c .if1 .left)
 
 abbrev plan-of : tie.Else2 → tie.Start
@@ -33,7 +33,7 @@ returns : tie.Need-returns
 returns c =
     let w = c .before .before in
     let o = start w .args in
-    let h : length (o .room .now) < roomWords (o .plan .now) = omega (arith, w .room-words .ensures .0, c .before .if1 .taken) in
+    let h : length (o .room .now) < planRoomWords (o .plan .now) = omega (arith, w .room-words .ensures .0, c .before .if1 .taken) in
     let e = out-short (o .plan .now) (o .part) (o .old .now) (o .new .now) (length (o .bits .now)) (o .pin .0) (length (o .room .now)) h in
     (c .refuse .ensures ∙ ap valuedOf (sym e), (room-short (o .plan .now) (o .room .now) h, bits-kept _ 32 0 (o .bits .now) e))
 

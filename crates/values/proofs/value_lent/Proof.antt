@@ -8,7 +8,7 @@ use lib.ListN.{length, drop}
 use lib.Seq.{length-take-le}
 use Rattle.values.specs.declared.Valued.the-variants.{Bit}
 use Rattle.values.specs.Values.{gateValues, valuedOf}
-use Rattle.values.proofs.AnswerLaws.{lent-short, lent-enough, bits-kept, bits-held, values-length}
+use Rattle.values.proofs.ValueAnswerLaws.{lent-short, lent-enough, bits-kept, bits-held, values-length}
 use borrow.Author.Needs.{needs}
 use Rattle.values.proofs.value_lent.Statement.{statement}
 use Rattle.values.proofs.value_lent.Tie as tie

@@ -2,7 +2,7 @@
 use native.Mathlib.Omega.{arith}
 use borrow.Author.Needs.{needs}
 use lib.ListN.{length-set}
-use Rattle.aiger_read.proofs.ListLaws.{Filling, filling-start, filling-next, filling-bad, filling-end}
+use Rattle.aiger_read.proofs.ReadPassLaws.{Filling, filling-start, filling-next, filling-bad, filling-end}
 use Rattle.aiger_read.proofs.lists.fill.Statement.{statement}
 use Rattle.aiger_read.proofs.lists.fill.Tie as tie
 

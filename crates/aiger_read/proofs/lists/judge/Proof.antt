@@ -4,13 +4,13 @@ use Prim.Native.Nat.{_+_, _^_, _≤_}
 use native.Mathlib.Omega.{arith}
 use borrow.Author.Needs.{needs}
 use Rattle.aiger.specs.Reading.{gatesFrom}
-use Rattle.aiger_read.specs.Told.{judgedOf}
-use Rattle.aiger_read.proofs.ListLaws.{judged-next, judged-bad, judged-end}
+use Rattle.aiger_read.specs.ReadTold.{gatesJudged}
+use Rattle.aiger_read.proofs.ReadPassLaws.{judged-next, judged-bad, judged-end}
 use Rattle.aiger_read.proofs.lists.judge.Statement.{statement}
 use Rattle.aiger_read.proofs.lists.judge.Tie as tie
 
 abbrev Inv-loop : tie.InvT-loop
-Inv-loop bytes gates at left₀ pin₀ i₀ left pin i = (pin + left ≤ 2 ^ 30 + 1) × (judgedOf (gatesFrom bytes left pin i) ≡ judgedOf (gatesFrom bytes gates pin₀ at))
+Inv-loop bytes gates at left₀ pin₀ i₀ left pin i = (pin + left ≤ 2 ^ 30 + 1) × (gatesJudged (gatesFrom bytes left pin i) ≡ gatesJudged (gatesFrom bytes gates pin₀ at))
 
 abbrev μ-loop : tie.MeasureT-loop
 μ-loop bytes gates at left₀ pin₀ i₀ left pin i = left

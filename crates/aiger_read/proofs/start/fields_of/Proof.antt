@@ -7,7 +7,7 @@ use borrow.Author.Needs.{needs}
 use lib.ListN.{length}
 use Rattle.aiger.specs.Reading.{Number, fieldAt}
 use Rattle.aiger_read.proofs.FieldLaws.{ValueIs, value-parts}
-use Rattle.aiger_read.proofs.StartLaws.{wrong-m, wrong-i, wrong-l, wrong-o, wrong-a, wrong-sum, right-sum}
+use Rattle.aiger_read.proofs.HeaderReadLaws.{wrong-m, wrong-i, wrong-l, wrong-o, wrong-a, wrong-sum, right-sum}
 use Rattle.aiger_read.proofs.start.fields_of.Statement.{statement}
 use Rattle.aiger_read.proofs.start.fields_of.Tie as tie
 

@@ -1,7 +1,7 @@
 -- `aiger_read::start::header_of` meets its contract: the fields of a marked file. Assumes nothing.
 use mathlib.Core.Path.{sym, _∙_}
 use borrow.Author.Needs.{needs}
-use Rattle.aiger_read.proofs.StartLaws.{header-yes, header-no}
+use Rattle.aiger_read.proofs.HeaderReadLaws.{header-yes, header-no}
 use Rattle.aiger_read.proofs.start.header_of.Statement.{statement}
 use Rattle.aiger_read.proofs.start.header_of.Tie as tie
 

@@ -1,6 +1,6 @@
 -- `aiger_read::start::is_marked` meets its contract, byte by byte. Assumes nothing.
 use borrow.Author.Needs.{needs}
-use Rattle.aiger_read.proofs.StartLaws.{mark-short, mark-a, mark-i, mark-g, mark-blank}
+use Rattle.aiger_read.proofs.HeaderReadLaws.{mark-short, mark-a, mark-i, mark-g, mark-blank}
 use Rattle.aiger_read.proofs.start.is_marked.Statement.{statement}
 use Rattle.aiger_read.proofs.start.is_marked.Tie as tie
 

@@ -2,9 +2,9 @@
 use mathlib.Core.Path.{_≡_, sym, ap, _∙_}
 use native.Mathlib.Omega.{arith}
 use borrow.Author.Needs.{needs}
-use Rattle.aiger_read.specs.Told.{linesOf}
+use Rattle.aiger_read.specs.ReadTold.{linesOf}
 use Rattle.aiger.specs.Reading.{linesFrom}
-use Rattle.aiger_read.proofs.StartLaws.{line-next, line-wrong, lines-done}
+use Rattle.aiger_read.proofs.HeaderReadLaws.{line-next, line-wrong, lines-done}
 use Rattle.aiger_read.proofs.start.lines_from.Statement.{statement}
 use Rattle.aiger_read.proofs.start.lines_from.Tie as tie
 

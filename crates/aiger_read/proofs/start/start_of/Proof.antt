@@ -2,7 +2,7 @@
 use mathlib.Core.Path.{sym, _∙_}
 use native.Mathlib.Omega.{arith}
 use borrow.Author.Needs.{needs}
-use Rattle.aiger_read.proofs.StartLaws.{HeaderAt, start-wrong, start-header, lines-end, lines-none, start-found, start-cut}
+use Rattle.aiger_read.proofs.HeaderReadLaws.{HeaderAt, start-wrong, start-header, lines-end, lines-none, start-found, start-cut}
 use Rattle.aiger_read.proofs.start.start_of.Statement.{statement}
 use Rattle.aiger_read.proofs.start.start_of.Tie as tie
 

@@ -1,6 +1,6 @@
 -- `aiger_write::lists::inputs_of` meets its contract: no gate, pin 0, or another. Assumes nothing.
 use borrow.Author.Needs.{needs}
-use Rattle.aiger_write.proofs.ListLaws.{inputs-none}
+use Rattle.aiger_write.proofs.WritePassLaws.{inputs-none}
 use Rattle.aiger_write.proofs.lists.inputs_of.Statement.{statement}
 use Rattle.aiger_write.proofs.lists.inputs_of.Tie as tie
 

@@ -1,6 +1,6 @@
 -- `aiger_write::lists::is_right` meets its contract, test by test. Assumes nothing.
 use borrow.Author.Needs.{needs}
-use Rattle.aiger_write.proofs.ListLaws.{right-other, right-high, right-last}
+use Rattle.aiger_write.proofs.WritePassLaws.{right-other, right-high, right-last}
 use Rattle.aiger_write.proofs.lists.is_right.Statement.{statement}
 use Rattle.aiger_write.proofs.lists.is_right.Tie as tie
 

@@ -1,7 +1,7 @@
 -- `aiger_write::lists::judge` meets its contract: a gate that is cut, a last pin out of range, else gate by gate. Assumes nothing.
 use native.Mathlib.Omega.{arith}
 use borrow.Author.Needs.{needs}
-use Rattle.aiger_write.proofs.ListLaws.{judged-cut, judged-large}
+use Rattle.aiger_write.proofs.WritePassLaws.{judged-cut, judged-large}
 use Rattle.aiger_write.proofs.lists.judge.Statement.{statement}
 use Rattle.aiger_write.proofs.lists.judge.Tie as tie
 

@@ -3,7 +3,7 @@ use mathlib.Core.Path.{sym, _∙_}
 use Prim.Native.Nat.{_-_}
 use native.Mathlib.Omega.{arith}
 use borrow.Author.Needs.{needs}
-use Rattle.aiger_write.proofs.ListLaws.{right-gate, right-list, long-list, judging-start, judging-pin, judging-next, judging-bad, judging-done, Judging}
+use Rattle.aiger_write.proofs.WritePassLaws.{right-gate, right-list, long-list, judging-start, judging-pin, judging-next, judging-bad, judging-done, Judging}
 use Rattle.aiger_write.proofs.lists.judge_gates.Statement.{statement}
 use Rattle.aiger_write.proofs.lists.judge_gates.Tie as tie
 

@@ -2,15 +2,15 @@
 use Prim.Native.Nat.{_-_, _*_, _≤_}
 use native.Mathlib.Omega.{arith}
 use borrow.Author.Needs.{needs}
-use Rattle.text.proofs.WritingLaws.{going-long, Going}
-use Rattle.gatelist.specs.Words.{wholeGates}
+use Rattle.text.proofs.WritingLaws.{going-long, TextGoing}
+use Rattle.gatelist.specs.ListWords.{wholeGates}
 use Rattle.aiger.specs.Writing.{gatesBytes}
-use Rattle.aiger_write.proofs.ListLaws.{list-fits, gate-of, gates-start, gates-more, gates-done}
+use Rattle.aiger_write.proofs.WritePassLaws.{list-fits, gate-of, gates-start, gates-more, gates-done}
 use Rattle.aiger_write.proofs.lists.put_gates.Statement.{statement}
 use Rattle.aiger_write.proofs.lists.put_gates.Tie as tie
 
 abbrev Inv-loop : tie.InvT-loop
-Inv-loop out₀ at gates count end₀ g₀ out end g = (g ≤ wholeGates gates) × Going (gatesBytes gates (wholeGates gates - g) g) (gatesBytes gates (wholeGates gates) 0) (10 * g) out₀ at out end
+Inv-loop out₀ at gates count end₀ g₀ out end g = (g ≤ wholeGates gates) × TextGoing (gatesBytes gates (wholeGates gates - g) g) (gatesBytes gates (wholeGates gates) 0) (10 * g) out₀ at out end
 
 abbrev μ-loop : tie.MeasureT-loop
 μ-loop out₀ at gates count end₀ g₀ out end g = count - g

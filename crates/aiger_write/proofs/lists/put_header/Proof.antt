@@ -1,6 +1,6 @@
 -- `aiger_write::lists::put_header` meets its contract: its fields, one after the other. Assumes nothing.
 use borrow.Author.Needs.{needs}
-use Rattle.aiger_write.proofs.ListLaws.{put-head}
+use Rattle.aiger_write.proofs.WritePassLaws.{put-head}
 use Rattle.aiger_write.proofs.lists.put_header.Statement.{statement}
 use Rattle.aiger_write.proofs.lists.put_header.Tie as tie
 

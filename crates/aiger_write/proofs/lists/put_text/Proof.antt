@@ -1,6 +1,6 @@
 -- `aiger_write::lists::put_text` meets its contract: the header, then the gates. Assumes nothing.
 use borrow.Author.Needs.{needs}
-use Rattle.aiger_write.proofs.ListLaws.{text-put}
+use Rattle.aiger_write.proofs.WritePassLaws.{text-put}
 use Rattle.aiger_write.proofs.lists.put_text.Statement.{statement}
 use Rattle.aiger_write.proofs.lists.put_text.Tie as tie
 

@@ -3,8 +3,8 @@
 use mathlib.Core.Path.{_≡_, ap, _∙_}
 use Prim.Native.Nat.{_*_, _-_, _≤_}
 use native.Mathlib.Omega.{arith}
-use Rattle.script_assembly.specs.Steps.{emptyBlocks}
-use Rattle.flatten.proofs.SizeLaws.{majors-few, empty-none, empty-more}
+use Rattle.script_assembly.specs.WrittenSoFar.{emptyBlocks}
+use Rattle.flatten.proofs.ScriptSizeLaws.{majors-few, empty-none, empty-more}
 use Rattle.plan_record.specs.Record.{majorsOf}
 use borrow.Author.Needs.{needs}
 use Rattle.flatten.proofs.sizes.empty_blocks.Statement.{statement}
@@ -16,35 +16,8 @@ Inv-loop d room blocks majors sum₀ s₀ sum s = (s ≤ majors) × (sum ≡ emp
 abbrev μ-loop : tie.MeasureT-loop
 μ-loop d room blocks majors sum₀ s₀ sum s = majors - s
 
-blocks-of-requires : tie.Need-blocks-of-requires Inv-loop μ-loop
-blocks-of-requires c κs = search needs
-
-majors-of-requires : tie.Need-majors-of-requires Inv-loop μ-loop
-majors-of-requires c κs = search needs
-
-cast-majors : tie.Need-cast-majors Inv-loop μ-loop
-cast-majors c = search needs
-
 loop-holds : tie.Need-loop-holds Inv-loop μ-loop
 loop-holds c = (omega arith, empty-none (c .before .before .before .before .args .d .now), omega arith)
-
-count-at-requires : tie.Need-count-at-requires Inv-loop μ-loop
-count-at-requires c κs = search needs
-
-blocks-left-requires : tie.Need-blocks-left-requires Inv-loop μ-loop
-blocks-left-requires c κs = search needs
-
-cast-sum : tie.Need-cast-sum Inv-loop μ-loop
-cast-sum c = search needs
-
-add-sum : tie.Need-add-sum Inv-loop μ-loop
-add-sum c = search needs
-
-add-s : tie.Need-add-s Inv-loop μ-loop
-add-s c = search needs
-
-loop-less : tie.Need-loop-less Inv-loop μ-loop
-loop-less c = search needs
 
 loop-again : tie.Need-loop-again Inv-loop μ-loop
 loop-again c =
@@ -66,18 +39,5 @@ returns c =
 pub empty-blocks-spec : {M : Type 1} → statement M
 empty-blocks-spec =
     tie.close
-    (tie.spec
-    Inv-loop
-    μ-loop
-    blocks-of-requires
-    majors-of-requires
-    cast-majors
-    loop-holds
-    count-at-requires
-    blocks-left-requires
-    cast-sum
-    add-sum
-    add-s
-    loop-less
-    loop-again
-    returns)
+    (tie.spec Inv-loop μ-loop (λ c κs. search needs) (λ c κs. search needs) (λ c. search needs) loop-holds (λ c κs. search needs)
+    (λ c κs. search needs) (λ c. search needs) (λ c. search needs) (λ c. search needs) (λ c. search needs) loop-again returns)

@@ -4,9 +4,9 @@ use mathlib.Core.Path.{_≡_, ap, _∙_}
 use Prim.Native.Nat.{_*_, _-_, _≤_, _<_}
 use native.Mathlib.Omega.{arith}
 use Rattle.words.specs.Sum.{sumTo}
-use Rattle.script_assembly.specs.Steps.{lengthOf}
+use Rattle.script_assembly.specs.WrittenSoFar.{lengthOf}
 use Rattle.script_layout.proofs.RowLaws.{parts-few, cell-in}
-use Rattle.flatten.proofs.SizeLaws.{majors-few, parts-none, parts-next}
+use Rattle.flatten.proofs.ScriptSizeLaws.{majors-few, parts-none, parts-next}
 use Rattle.plan_record.specs.Record.{partsOf}
 use borrow.Author.Needs.{needs}
 use Rattle.flatten.proofs.sizes.parts_words.Statement.{statement}
@@ -22,7 +22,9 @@ parts-of-requires : tie.Need-parts-of-requires Inv-loop μ-loop
 parts-of-requires c κs = majors-few (c .before .before .args .d .now) (c .before .before .args .room .now) (c .before .before .pre)
 
 loop-holds : tie.Need-loop-holds Inv-loop μ-loop
-loop-holds c = (omega arith, parts-none (c .before .before .before .before .args .d .now) (c .before .before .before .before .args .room .now) (c .before .before .before .before .pre), omega arith)
+loop-holds c =
+    let start = c .before .before .before .before in
+    (omega arith, parts-none (start .args .d .now) (start .args .room .now) (start .pre), omega arith)
 
 -- part p is one of the plan's
 inside : (c : tie.In-loop Inv-loop μ-loop) → c .before .loop .p < partsOf (c .before .before .before .before .before .before .args .d .now)
@@ -46,8 +48,8 @@ add-sum c =
 loop-again : tie.Need-loop-again Inv-loop μ-loop
 loop-again c =
     let turn = c .before .before .before in
-    let l = turn .before .loop in
-    let s = turn .before .before .before .before .before .before in (
+    let s = turn .before .before .before .before .before .before in
+    let l = turn .before .loop in (
       omega arith,
       parts-next _ _ (s .pre) (l .p) (l .sum) _ _ _ (inside turn) (l .inv .1) (c .before .before .cell-at .ensures) (c .before .stages-at .ensures) (c .part-words .ensures),
       omega (arith, c .part-words .ensures, l .inv .2),
@@ -63,5 +65,5 @@ returns c =
 pub parts-words-spec : {M : Type 1} → statement M
 parts-words-spec =
     tie.close
-    (tie.spec Inv-loop μ-loop parts-of-requires (λ c κs. search needs) loop-holds cell-at-requires stages-at-requires (λ c κs. search needs) add-sum (λ c. search needs)
-    (λ c. search needs) loop-again returns)
+    (tie.spec Inv-loop μ-loop parts-of-requires (λ c κs. search needs) loop-holds cell-at-requires stages-at-requires (λ c κs. search needs)
+    add-sum (λ c. search needs) (λ c. search needs) loop-again returns)

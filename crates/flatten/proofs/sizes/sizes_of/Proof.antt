@@ -1,35 +1,25 @@
 -- Each of the four sizes is its definition.
 -- Assumes nothing.
-use Prim.Native.Nat.{_-_}
 use native.Mathlib.Omega.{arith}
-use Rattle.flatten.proofs.SizeLaws.{starts-few, tallied, sizes-are}
+use Rattle.flatten.proofs.ScriptSizeLaws.{starts-few, tallied, sizes-are}
 use borrow.Author.Needs.{needs}
 use Rattle.flatten.proofs.sizes.sizes_of.Statement.{statement}
 use Rattle.flatten.proofs.sizes.sizes_of.Tie as tie
 
-blocks-of-requires : tie.Need-blocks-of-requires
-blocks-of-requires c κs = search needs
-
-cast-blocks : tie.Need-cast-blocks
-cast-blocks c = search needs
-
-majors-of-requires : tie.Need-majors-of-requires
-majors-of-requires c κs = search needs
-
-cast-majors : tie.Need-cast-majors
-cast-majors c = search needs
-
 mul-t6 : tie.Need-mul-t6
-mul-t6 c = omega (arith, starts-few (c .before .before .before .before .args .d .now) (c .before .before .before .before .args .room .now) (c .before .before .before .before .pre) _ _ (c .before .blocks-of .ensures) (c .majors-of .ensures))
+mul-t6 c =
+    let start = c .before .before .before .before in
+    omega (arith, starts-few (start .args .d .now) (start .args .room .now) (start .pre) _ _ (c .before .blocks-of .ensures) (c .majors-of .ensures))
 
 add-t7 : tie.Need-add-t7
-add-t7 c = omega (arith, starts-few (c .before .before .before .before .args .d .now) (c .before .before .before .before .args .room .now) (c .before .before .before .before .pre) _ _ (c .before .blocks-of .ensures) (c .majors-of .ensures))
-
-script-words-requires : tie.Need-script-words-requires
-script-words-requires c κs = search needs
+add-t7 c =
+    let start = c .before .before .before .before in
+    omega (arith, starts-few (start .args .d .now) (start .args .room .now) (start .pre) _ _ (c .before .blocks-of .ensures) (c .majors-of .ensures))
 
 state-words-requires : tie.Need-state-words-requires
-state-words-requires c κs = tallied (c .before .before .before .before .before .args .d .now) (c .before .before .before .before .before .args .room .now) (c .before .before .before .before .before .pre)
+state-words-requires c κs =
+    let start = c .before .before .before .before .before in
+    tallied (start .args .d .now) (start .args .room .now) (start .pre)
 
 sram-words-requires : tie.Need-sram-words-requires
 sram-words-requires c κs = tallied _ _ (c .before .before .before .before .before .before .pre)
@@ -46,14 +36,5 @@ returns c =
 pub sizes-of-spec : {M : Type 1} → statement M
 sizes-of-spec =
     tie.close
-    (tie.spec
-    blocks-of-requires
-    cast-blocks
-    majors-of-requires
-    cast-majors
-    mul-t6
-    add-t7
-    script-words-requires
-    state-words-requires
-    sram-words-requires
-    returns)
+    (tie.spec (λ c κs. search needs) (λ c. search needs) (λ c κs. search needs) (λ c. search needs) mul-t6 add-t7 (λ c κs. search needs)
+    state-words-requires sram-words-requires returns)

@@ -1,5 +1,5 @@
 -- `listing::answer::put_answer` meets its contract, case by case. Assumes nothing.
-use Rattle.listing.proofs.AnswerLaws.{put-is-rounds, put-is-refused, put-is-bad}
+use Rattle.listing.proofs.AnswerTextLaws.{put-is-rounds, put-is-refused, put-is-bad}
 use borrow.Author.Needs.{needs}
 use Rattle.listing.proofs.answer.put_answer.Statement.{statement}
 use Rattle.listing.proofs.answer.put_answer.Tie as tie

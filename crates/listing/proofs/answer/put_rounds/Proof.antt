@@ -1,5 +1,5 @@
 -- `listing::answer::put_rounds` meets its contract: the first line, then the lines of the lanes. Assumes nothing.
-use Rattle.listing.proofs.AnswerLaws.{put-rounds}
+use Rattle.listing.proofs.AnswerTextLaws.{put-rounds}
 use borrow.Author.Needs.{needs}
 use Rattle.listing.proofs.answer.put_rounds.Statement.{statement}
 use Rattle.listing.proofs.answer.put_rounds.Tie as tie

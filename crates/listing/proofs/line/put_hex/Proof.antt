@@ -2,7 +2,7 @@
 use Rattle.listing.specs.Line.{hex, hexIn}
 use Prim.Native.Nat.{_-_, _≤_}
 use mathlib.Core.List.{[], _∷_}
-use Rattle.text.proofs.WritingLaws.{Going, going-start, going-long, going-more, going-done}
+use Rattle.text.proofs.WritingLaws.{TextGoing, going-start, going-long, going-more, going-done}
 use Rattle.listing.proofs.LineLaws.{hex-top}
 use mathlib.Core.Path.{_≡_, _∙_}
 use native.Mathlib.Omega.{arith}
@@ -11,7 +11,7 @@ use Rattle.listing.proofs.line.put_hex.Statement.{statement}
 use Rattle.listing.proofs.line.put_hex.Tie as tie
 
 abbrev Inv-loop : tie.InvT-loop
-Inv-loop out₀ at n end₀ k₀ out end k = (k ≤ 8) × Going (hexIn k n) (hex n) (8 - k) out₀ at out end
+Inv-loop out₀ at n end₀ k₀ out end k = (k ≤ 8) × TextGoing (hexIn k n) (hex n) (8 - k) out₀ at out end
 
 abbrev μ-loop : tie.MeasureT-loop
 μ-loop out₀ at n end₀ k₀ out end k = k

@@ -1,16 +1,16 @@
 -- `listing::lines::put_lane` meets its contract. The invariant: what is written, with the rounds that are left, is the whole text. Assumes nothing.
 use native.Mathlib.Nat.{sub-zero}
-use Rattle.listing.proofs.SectionLaws.{next-round, last-round}
-use Rattle.listing.specs.Section.{lanePlaces}
+use Rattle.listing.proofs.SectionLineLaws.{next-round, last-round}
+use Rattle.listing.specs.SectionLines.{laneRoundLines}
 use Prim.Native.Nat.{_-_, _*_, _≤_}
-use Rattle.text.proofs.WritingLaws.{Going, going-start, going-long, going-more, going-done}
+use Rattle.text.proofs.WritingLaws.{TextGoing, going-start, going-long, going-more, going-done}
 use native.Mathlib.Omega.{arith}
 use borrow.Author.Needs.{needs}
 use Rattle.listing.proofs.lines.put_lane.Statement.{statement}
 use Rattle.listing.proofs.lines.put_lane.Tie as tie
 
 abbrev Inv-loop : tie.InvT-loop
-Inv-loop out₀ at section lane rounds end₀ round₀ out end round = (round ≤ rounds) × Going (lanePlaces 256 section lane (rounds - round) round) (lanePlaces 256 section lane rounds 0) (74 * round) out₀ at out end
+Inv-loop out₀ at section lane rounds end₀ round₀ out end round = (round ≤ rounds) × TextGoing (laneRoundLines 256 section lane (rounds - round) round) (laneRoundLines 256 section lane rounds 0) (74 * round) out₀ at out end
 
 abbrev μ-loop : tie.MeasureT-loop
 μ-loop out₀ at section lane rounds end₀ round₀ out end round = rounds - round

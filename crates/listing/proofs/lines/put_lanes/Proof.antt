@@ -1,15 +1,15 @@
 -- `listing::lines::put_lanes` meets its contract. The invariant: what is written, with the lanes that are left, is the whole text. Assumes nothing.
-use Rattle.listing.proofs.SectionLaws.{next-lane, last-lane}
-use Rattle.listing.specs.Section.{places}
+use Rattle.listing.proofs.SectionLineLaws.{next-lane, last-lane}
+use Rattle.listing.specs.SectionLines.{sectionLines}
 use Prim.Native.Nat.{_-_, _*_, _^_, _≤_}
-use Rattle.text.proofs.WritingLaws.{Going, going-start, going-long, going-more, going-done}
+use Rattle.text.proofs.WritingLaws.{TextGoing, going-start, going-long, going-more, going-done}
 use native.Mathlib.Omega.{arith}
 use borrow.Author.Needs.{needs}
 use Rattle.listing.proofs.lines.put_lanes.Statement.{statement}
 use Rattle.listing.proofs.lines.put_lanes.Tie as tie
 
 abbrev Inv-loop : tie.InvT-loop
-Inv-loop out₀ at section rounds end₀ lane₀ out end lane = (lane ≤ 256) × Going (places 256 section rounds (256 - lane) lane) (places 256 section rounds 256 0) (lane * (74 * 2 ^ 32)) out₀ at out end
+Inv-loop out₀ at section rounds end₀ lane₀ out end lane = (lane ≤ 256) × TextGoing (sectionLines 256 section rounds (256 - lane) lane) (sectionLines 256 section rounds 256 0) (lane * (74 * 2 ^ 32)) out₀ at out end
 
 abbrev μ-loop : tie.MeasureT-loop
 μ-loop out₀ at section rounds end₀ lane₀ out end lane = 256 - lane

@@ -1,7 +1,7 @@
 -- `listing::lines::put_place` meets its contract: no line where the mask is 0, else the line of the two words. Assumes nothing.
 use Rattle.text.proofs.WritingLaws.{put-none, put-is}
 use mathlib.Core.List.{[]}
-use Rattle.listing.proofs.SectionLaws.{no-line, one-line}
+use Rattle.listing.proofs.SectionLineLaws.{no-line, one-line}
 use mathlib.Core.Path.{sym, _∙_}
 use borrow.Author.Needs.{needs}
 use Rattle.listing.proofs.lines.put_place.Statement.{statement}

@@ -1,6 +1,6 @@
 -- `listing::records::read_records` meets its contract. The invariant: the keys stored, with those that the records from here on ask for, are all of
 -- them. Assumes nothing.
-use Rattle.listing.proofs.RecordLaws.{Reading, reading-start, reading-more, reading-asked, reading-refused, stop-full, stop-bad}
+use Rattle.listing.proofs.ListingRecordLaws.{Reading, reading-start, reading-more, reading-asked, reading-refused, stop-full, stop-bad}
 use lib.ListN.{length}
 use Prim.Native.Nat.{_-_}
 use mathlib.Core.Path.{sym, _∙_}

@@ -1,5 +1,5 @@
 -- `listing::records::read_set_of` meets its contract: the keys read are at the front of the local words, and small. Assumes nothing.
-use Rattle.listing.proofs.KeyLaws.{asked-in, refused-in, set-refused, set-asked, told-few, told-keys, told-front, told-settable}
+use Rattle.listing.proofs.RecordBitLaws.{read-asked, refused-in, set-refused, set-asked, told-few, told-keys, told-front, told-settable}
 use mathlib.Core.Path.{refl, sym, _∙_}
 use borrow.Author.Needs.{needs}
 use Rattle.listing.proofs.records.read_set_of.Statement.{statement}
@@ -33,7 +33,7 @@ returns-2 c =
     let at-n = at-read-set .before .before .before .before .before in
     let at-read-records = at-n .before .before .before in
     let start = at-read-records .before .before .before .before in
-    set-asked _ _ _ _ _ (asked-in _ _ _ (sym (at-n .n .given .1) ∙ at-read-records .read-records .ensures .0) .0)
+    set-asked _ _ _ _ _ (read-asked _ _ _ (sym (at-n .n .given .1) ∙ at-read-records .read-records .ensures .0) .0)
     (told-keys (start .args .s .now) (at-read-records .read-records .ensures .1) _ (sym (at-n .n .given .1) ∙ at-read-records .read-records .ensures .0))
     (at-read-set .read-set .ensures .0) (at-read-set .read-set .ensures .1 .1 .1)
 

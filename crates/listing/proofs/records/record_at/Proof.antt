@@ -1,7 +1,7 @@
 -- `listing::records::record_at` meets its contract: one law of the definition for each answer. Assumes nothing.
 use Rattle.listing.specs.declared.records.Record.the-variants.{Position}
 use Prim.Native.Nat.{ℕ, _+_, _^_}
-use Rattle.listing.proofs.RecordLaws.{at-length, after-end, right-end, unknown-kind, cut-body, unstaged, staged}
+use Rattle.listing.proofs.ListingRecordLaws.{at-length, after-end, right-end, unknown-kind, cut-body, unstaged, staged}
 use mathlib.Core.Path.{ap, _∙_}
 use native.Mathlib.Omega.{arith}
 use borrow.Author.Needs.{needs}

@@ -4,9 +4,9 @@ use mathlib.Core.Path.{_≡_, ap, ap₂, sym, _∙_}
 use Prim.Native.Nat.{ℕ, _+_, _-_, _≤_, _<_}
 use native.Mathlib.Omega.{arith}
 use Rattle.plan_blocks.specs.Blocks.{leastTo}
-use Rattle.plan_blocks.specs.Fill.{costsOf, lesser}
-use Rattle.plan_blocks.proofs.BlockLaws.{least-is, least-start, least-next}
-use Rattle.plan_blocks.proofs.RecordLaws.{cost-at}
+use Rattle.plan_blocks.specs.TableFill.{costsOf, lesser}
+use Rattle.plan_blocks.proofs.LeastCostLaws.{least-is, least-start, least-next}
+use Rattle.plan_blocks.proofs.BlockCostLaws.{cost-at}
 use borrow.Author.Needs.{needs}
 use Rattle.plan_blocks.proofs.costs.least_block.Statement.{statement}
 use Rattle.plan_blocks.proofs.costs.least_block.Tie as tie
@@ -19,27 +19,6 @@ abbrev μ-loop : tie.MeasureT-loop
 
 loop-holds : tie.Need-loop-holds Inv-loop μ-loop
 loop-holds c = (omega arith, omega arith, omega arith, sym (least-start _))
-
-mul-cheaper : tie.Need-mul-cheaper Inv-loop μ-loop
-mul-cheaper c = search needs
-
-element-copy-out-cheaper : tie.Need-element-copy-out-cheaper Inv-loop μ-loop
-element-copy-out-cheaper c = search needs
-
-mul-cheaper-2 : tie.Need-mul-cheaper-2 Inv-loop μ-loop
-mul-cheaper-2 c = search needs
-
-element-copy-out-cheaper-2 : tie.Need-element-copy-out-cheaper-2 Inv-loop μ-loop
-element-copy-out-cheaper-2 c = search needs
-
-cheaper-requires : tie.Need-cheaper-requires Inv-loop μ-loop
-cheaper-requires c κs = search needs
-
-add-i : tie.Need-add-i Inv-loop μ-loop
-add-i c = search needs
-
-loop-less : tie.Need-loop-less Inv-loop μ-loop
-loop-less c = search needs
 
 loop-again : tie.Need-loop-again Inv-loop μ-loop
 loop-again c =
@@ -64,4 +43,5 @@ returns c =
 pub least-block-spec : {M : Type 1} → statement M
 least-block-spec =
     tie.close
-    (tie.spec Inv-loop μ-loop loop-holds mul-cheaper element-copy-out-cheaper mul-cheaper-2 element-copy-out-cheaper-2 cheaper-requires add-i loop-less loop-again returns)
+    (tie.spec Inv-loop μ-loop loop-holds (λ c. search needs) (λ c. search needs) (λ c. search needs) (λ c. search needs)
+    (λ c κs. search needs) (λ c. search needs) (λ c. search needs) loop-again returns)

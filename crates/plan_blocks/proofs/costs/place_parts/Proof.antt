@@ -4,13 +4,13 @@ use mathlib.Core.Path.{_≡_}
 use Prim.Native.Nat.{_+_, _-_, _≤_}
 use native.Mathlib.Omega.{arith}
 use Rattle.plan_record.specs.Record.{stagesOf}
-use Rattle.plan_blocks.proofs.StepLaws.{Placed, placed-none, placed-long, placed-counts, put-ready, placed-more}
+use Rattle.plan_blocks.proofs.OnePartMoreLaws.{PartsPlaced, placed-none, placed-long, placed-counts, put-ready, placed-more}
 use borrow.Author.Needs.{needs}
 use Rattle.plan_blocks.proofs.costs.place_parts.Statement.{statement}
 use Rattle.plan_blocks.proofs.costs.place_parts.Tie as tie
 
 abbrev Inv-loop : tie.InvT-loop
-Inv-loop d room₀ n base count placed₀ i₀ room placed i = (i ≤ count) × Placed n (λ j. stagesOf d (base + j)) (λ j. base + j) room₀ room placed i
+Inv-loop d room₀ n base count placed₀ i₀ room placed i = (i ≤ count) × PartsPlaced n (λ j. stagesOf d (base + j)) (λ j. base + j) room₀ room placed i
 
 abbrev μ-loop : tie.MeasureT-loop
 μ-loop d room₀ n base count placed₀ i₀ room placed i = count - i
@@ -23,9 +23,6 @@ loop-holds c =
 block-for-requires : tie.Need-block-for-requires Inv-loop μ-loop
 block-for-requires c κs = let t = c .before .before .before .before .pre .0 in (t .some-block, t .few-blocks)
 
-add-part-cost : tie.Need-add-part-cost Inv-loop μ-loop
-add-part-cost c = search needs
-
 part-cost-requires : tie.Need-part-cost-requires Inv-loop μ-loop
 part-cost-requires c κs =
     let t = c .before .before .before .before .before .pre .0 in
@@ -33,37 +30,35 @@ part-cost-requires c κs =
 
 with-part-requires : tie.Need-with-part-requires Inv-loop μ-loop
 with-part-requires c κs =
-    let t = c .before .before .before .before .before .before .pre .0 in
-    let l = c .before .before .before .loop in
+    let at-loop = c .before .before .before in
+    let start = at-loop .before .before .before in
+    let t = start .pre .0 in
+    let l = at-loop .loop in
     let u = c .before .before .loop-test .taken in
     put-ready _ _ _ _ (t .some-block) (t .few-blocks) _ _ _ (l .inv .1) _ (c .before .block-for .ensures .0) _ (c .part-cost .ensures)
     (omega (arith, t .few, u)) (λ j v. t .stages j (omega (arith, u)))
 
-add-put-block : tie.Need-add-put-block Inv-loop μ-loop
-add-put-block c = search needs
-
 put-block-requires : tie.Need-put-block-requires Inv-loop μ-loop
 put-block-requires c κs =
-    let t = c .before .before .before .before .before .before .before .before .pre .0 in
-    let l = c .before .before .before .before .before .loop in (
+    let at-block-for = c .before .before .before in
+    let start = at-block-for .before .before .before .before .before in
+    let t = start .pre .0 in
+    let l = at-block-for .before .before .loop in (
       omega (arith, t .parts),
       omega (arith, placed-long _ _ _ _ (t .some-block) (t .few-blocks) _ _ _ (l .inv .1), t .inside),
-      omega (arith, c .before .before .before .block-for .ensures .1, t .few-blocks),
+      omega (arith, at-block-for .block-for .ensures .1, t .few-blocks),
     )
-
-add-i : tie.Need-add-i Inv-loop μ-loop
-add-i c = search needs
-
-loop-less : tie.Need-loop-less Inv-loop μ-loop
-loop-less c = search needs
 
 loop-again : tie.Need-loop-again Inv-loop μ-loop
 loop-again c =
-    let t = c .before .before .before .before .before .before .before .before .before .before .before .pre .0 in
-    let l = c .before .before .before .before .before .before .before .before .loop in (
+    let at-with-part = c .before .before .before .before in
+    let at-loop = at-with-part .before .before .before .before in
+    let start = at-loop .before .before .before in
+    let t = start .pre .0 in
+    let l = at-loop .loop in (
       omega arith,
-      placed-more _ _ _ _ (t .some-block) (t .few-blocks) _ _ _ (l .inv .1) _ (c .before .before .before .before .before .before .block-for .ensures .0) _ (c .before .before .before .before .before .part-cost .ensures)
-          _ (c .before .before .before .before .with-part .ensures) _ (c .before .before .put-block .ensures),
+      placed-more _ _ _ _ (t .some-block) (t .few-blocks) _ _ _ (l .inv .1) _ (at-with-part .before .before .block-for .ensures .0) _ (at-with-part .before .part-cost .ensures)
+          _ (at-with-part .with-part .ensures) _ (c .before .before .put-block .ensures),
     )
 
 same-length : tie.Need-same-length Inv-loop μ-loop
@@ -82,4 +77,5 @@ returns c =
 pub place-parts-spec : {M : Type 1} → statement M
 place-parts-spec =
     tie.close
-    (tie.spec Inv-loop μ-loop loop-holds block-for-requires add-part-cost part-cost-requires with-part-requires add-put-block put-block-requires add-i loop-less loop-again same-length returns)
+    (tie.spec Inv-loop μ-loop loop-holds block-for-requires (λ c. search needs) part-cost-requires with-part-requires (λ c. search needs)
+    put-block-requires (λ c. search needs) (λ c. search needs) loop-again same-length returns)

@@ -20,7 +20,7 @@ use contract.Running.{givenOf, tables, tablesOf}
 use types.Kit.{Given, ‵, raw, some, later, _⊛_, _$_, _∵_, !, qed, by, move, keep, drop, use1, use2, use3, split, join, pick, show, rewrite, fsplit, fjoin, fpick, fpack, feqL, suffices, frame, await, done}
 use types.Tokens.{lft-new, lft-end}
 use types.Part.{agg}
-use types.Run.{look, init, forget, stop, from, load, lit, addr, of-opd, and-then, no-more, assigns, land, returns, enter, alloc1, alloc0, params1, pass1, pass0, free1, free0}
+use types.Run.{look, init, forget, stop, from, load, addr, of-opd, and-then, no-more, assigns, land, returns, enter, alloc1, alloc0, params1, pass1, pass0, free1, free0}
 use types.SemTy.{Arr, cells}
 use types.Share.{arr-parts}
 use sound.WpLaws.{FmC, fmOf, WpFn-mono}
@@ -46,7 +46,7 @@ use denote.Triple.Walked.{says, needs, Stays, stay-none, walkOf, goes-none, Walk
 use denote.Exit.{yes}
 use borrow.Rule.Slice.Shared.{parts-cells}
 use Rattle.plan_blocks.specs.declared.costs.BlockCost.{BlockCost}
-use Rattle.plan_blocks.specs.Fill.{withPart, Puttable}
+use Rattle.plan_blocks.specs.TableFill.{withPart, PartPuttable}
 use Rattle.plan_blocks.proofs.costs.BlockCost as T
 use Rattle.plan_blocks.proofs.costs.BlockCost.Laws as T′
 use Rattle.plan_blocks.proofs.costs.put_part as put
@@ -101,7 +101,7 @@ module _ {M : Type 1} (𝓤 : URA M) (H : Heap 𝓤) (A : Atoms 𝓤) (mem : Mem
   Put = tripleOf 𝓤 H A put.signature (put.spec 𝓤 H A mem run)
 
 module _ {M : Type 1} (𝓤 : URA M) (H : Heap 𝓤) (A : Atoms 𝓤) (W : Given 𝓤 H A) (mem : Memory → SProp 𝓤) (run : Routine → Fun 𝓤) (ys : List BlockCost) (v : Val) (i n : ℕ)
-    (is : Is R ys (v ∷ [])) (i-fits : i < 2 ^ 64) (n-fits : n < 2 ^ 32) (p : Puttable ys i n) where
+    (is : Is R ys (v ∷ [])) (i-fits : i < 2 ^ 64) (n-fits : n < 2 ^ 32) (p : PartPuttable ys i n) where
   abbrev a : List BlockCost × (ℕ × (ℕ × Unit {0}))
   a = (ys, (i, (n, tt)))
 
@@ -175,7 +175,7 @@ module _ {M : Type 1} (𝓤 : URA M) (H : Heap 𝓤) (A : Atoms 𝓤) (W : Given
   walks : (C : Calls 𝓤 H) (Λ : Loops 𝓤 H) → FmC 𝓤 H (W .laws) C → Triple 𝓤 (C #put) (Put 𝓤 H A mem run) → Walks 𝓤 H A f.ended stayed (WpFn 𝓤 H C Λ code.function) (f.clauses 𝓤 H A mem run)
   walks C Λ fm known = walked 𝓤 H A f.ended stayed (f.clauses 𝓤 H A mem run) (WpFn 𝓤 H C Λ code.function)
       (λ κs. (array-vals (LL.vals T.the-type T′.the-laws), (uint-vals w64, (uint-vals w32, tt)))) (λ κs. (array-tells T.the-row (LL.vals T.the-type T′.the-laws) (LL.tells T.the-type T′.the-laws) 1024, (uint-tells w64, (uint-tells w32, tt))))
-      (λ κs qs bounds a g are. needs 𝓤 (Puttable (a .0) (a .1 .0) (a .1 .1 .0)) _ (λ p.
+      (λ κs qs bounds a g are. needs 𝓤 (PartPuttable (a .0) (a .1 .0) (a .1 .1 .0)) _ (λ p.
       walk 𝓤 H A W mem run (a .0) _ (a .1 .0) (a .1 .1 .0) (are .0) (are .1 .0 .1) (are .1 .1 .0 .1) p C Λ fm known))
 
 meets : {M : Type 1} (𝓤 : URA M) (H : Heap 𝓤) (A : Atoms 𝓤) → Given 𝓤 H A → (mem : Memory → SProp 𝓤) (run : Routine → Fun 𝓤) (𝓣 : Tables 𝓤 H)

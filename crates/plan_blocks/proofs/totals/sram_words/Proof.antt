@@ -12,11 +12,9 @@ parts-of-requires c κs = majors-few _ _ (c .before .before .pre)
 column-sum-requires : tie.Need-column-sum-requires
 column-sum-requires c κs = column-in _ _ (c .before .before .before .pre) _ (c .parts-of .ensures .0) _ (omega arith)
 
-mul-result : tie.Need-mul-result
-mul-result c = search needs
-
 returns : tie.Need-returns
 returns c = sram-sum _ _ (c .before .before .before .before .pre) _ (c .before .parts-of .ensures .0) _ (c .column-sum .ensures .0)
 
 pub sram-words-spec : {M : Type 1} → statement M
-sram-words-spec = tie.close (tie.spec parts-of-requires column-sum-requires mul-result returns)
+sram-words-spec = tie.close
+    (tie.spec parts-of-requires column-sum-requires (λ c. search needs) returns)

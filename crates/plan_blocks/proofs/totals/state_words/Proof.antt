@@ -6,23 +6,11 @@ use Rattle.plan_blocks.proofs.TallyLaws.{majors-few, column-in, state-s
 use Rattle.plan_blocks.proofs.totals.state_words.Statement.{statement}
 use Rattle.plan_blocks.proofs.totals.state_words.Tie as tie
 
-layout-of-requires : tie.Need-layout-of-requires
-layout-of-requires c κs = search needs
-
-cast-result : tie.Need-cast-result
-cast-result c = search needs
-
-add-result : tie.Need-add-result
-add-result c = search needs
-
 parts-of-requires : tie.Need-parts-of-requires
 parts-of-requires c κs = majors-few _ _ (c .before .before .before .pre)
 
 column-sum-requires : tie.Need-column-sum-requires
 column-sum-requires c κs = column-in _ _ (c .before .before .before .before .pre) _ (c .parts-of .ensures .0) _ (omega arith)
-
-add-result-2 : tie.Need-add-result-2
-add-result-2 c = search needs
 
 returns : tie.Need-returns
 returns c = state-sum _ _ (c .before .before .before .before .before .pre) _ (c .before .parts-of .ensures .0) _ _ (c .before .before .layout-of .ensures) (c .column-sum .ensures .0)
@@ -30,11 +18,5 @@ returns c = state-sum _ _ (c .before .before .before .before .before .pre) _ (c 
 pub state-words-spec : {M : Type 1} → statement M
 state-words-spec =
     tie.close
-    (tie.spec
-    layout-of-requires
-    cast-result
-    add-result
-    parts-of-requires
-    column-sum-requires
-    add-result-2
+    (tie.spec (λ c κs. search needs) (λ c. search needs) (λ c. search needs) parts-of-requires column-sum-requires (λ c. search needs)
     returns)

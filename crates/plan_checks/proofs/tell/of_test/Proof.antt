@@ -4,17 +4,9 @@ use borrow.Author.Needs.{needs}
 use Rattle.plan_checks.proofs.tell.of_test.Statement.{statement}
 use Rattle.plan_checks.proofs.tell.of_test.Tie as tie
 
--- src/tell.rt:45:9
-returns : tie.Need-returns
-returns c = search needs
-
--- src/tell.rt:47:5
-refuse-requires : tie.Need-refuse-requires
-refuse-requires c κs = search needs
-
--- src/tell.rt:41:1
 returns-2 : tie.Need-returns-2
 returns-2 c = rw (c .before .if1 .left) (c .refuse .ensures)
 
 pub of-test-spec : {M : Type 1} → statement M
-of-test-spec = tie.close (tie.spec returns refuse-requires returns-2)
+of-test-spec = tie.close
+    (tie.spec (λ c. search needs) (λ c κs. search needs) returns-2)

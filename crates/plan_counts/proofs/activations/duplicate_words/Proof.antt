@@ -5,7 +5,7 @@ use Prim.Native.Nat.{_+_, _/_, _≤_}
 use native.Mathlib.Omega.{arith}
 use lib.ListN.{length}
 use Rattle.plan_counts.specs.Counts.{duplicatesIn}
-use Rattle.plan_counts.proofs.KeyLaws.{extras-sorted}
+use Rattle.plan_counts.proofs.ActivationLaws.{extras-sorted}
 use borrow.Author.Needs.{needs}
 use Rattle.plan_counts.proofs.activations.duplicate_words.Statement.{statement}
 use Rattle.plan_counts.proofs.activations.duplicate_words.Tie as tie

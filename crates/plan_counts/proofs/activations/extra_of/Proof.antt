@@ -2,7 +2,7 @@
 -- Assumes nothing.
 use mathlib.Core.Path.{sym}
 use native.Mathlib.Omega.{arith}
-use Rattle.plan_counts.proofs.CountLaws.{extra-same, extra-yes, extra-no}
+use Rattle.plan_counts.proofs.DifferentLaws.{extra-same, extra-yes, extra-no}
 use Rattle.plan_counts.proofs.activations.extra_of.Statement.{statement}
 use Rattle.plan_counts.proofs.activations.extra_of.Tie as tie
 

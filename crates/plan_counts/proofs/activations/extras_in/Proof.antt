@@ -4,8 +4,8 @@ use mathlib.Core.Path.{_≡_}
 use Prim.Native.Nat.{_+_, _-_, _≤_}
 use native.Mathlib.Omega.{arith}
 use lib.ListN.{length, drop}
-use Rattle.plan_counts.specs.Steps.{extras}
-use Rattle.plan_counts.proofs.KeyLaws.{extras-more, extras-end}
+use Rattle.plan_counts.specs.Neighbours.{extras}
+use Rattle.plan_counts.proofs.ActivationLaws.{extras-more, extras-end}
 use borrow.Author.Needs.{needs}
 use Rattle.plan_counts.proofs.activations.extras_in.Statement.{statement}
 use Rattle.plan_counts.proofs.activations.extras_in.Tie as tie

@@ -1,7 +1,7 @@
 -- The key of each kind; a staged pin doubled fits, since the pin is in range.
 -- Assumes nothing.
 use native.Mathlib.Omega.{arith}
-use Rattle.plan_counts.proofs.KeyLaws.{output-key, staged-key, register-key}
+use Rattle.plan_counts.proofs.ActivationLaws.{output-key, staged-key, register-key}
 use borrow.Author.Needs.{needs}
 use Rattle.plan_counts.proofs.activations.key_of.Statement.{statement}
 use Rattle.plan_counts.proofs.activations.key_of.Tie as tie

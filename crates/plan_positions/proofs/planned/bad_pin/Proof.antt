@@ -18,17 +18,7 @@ returns c =
     let o = s .args in
     list-fine (o .d .now) (o .p) (o .body) (o .room .now) (o .state) (o .n) (s .pre .0) (o .list .now) (s .pre .1) (sym (c .before .pins-right .ensures) ∙ c .if1 .taken)
 
-bad-slot-requires : tie.Need-bad-slot-requires
-bad-slot-requires c κs = search needs
-
-returns-2 : tie.Need-returns-2
-returns-2 c = search needs
-
 pub bad-pin-spec : {M : Type 1} → statement M
 bad-pin-spec =
     tie.close
-    (tie.spec
-    pins-right-requires
-    returns
-    bad-slot-requires
-    returns-2)
+    (tie.spec pins-right-requires returns (λ c κs. search needs) (λ c. search needs))

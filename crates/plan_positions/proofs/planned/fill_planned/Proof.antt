@@ -9,20 +9,14 @@ use Rattle.plan_positions.specs.Winners.{winnerPuts}
 use Rattle.plan_positions.proofs.planned.fill_planned.Statement.{statement}
 use Rattle.plan_positions.proofs.planned.fill_planned.Tie as tie
 
-fill-reads-requires : tie.Need-fill-reads-requires
-fill-reads-requires c κs = search needs
-
-fill-winners-requires : tie.Need-fill-winners-requires
-fill-winners-requires c κs = search needs
-
-same-length : tie.Need-same-length
-same-length c = search needs
-
 returns : tie.Need-returns
 returns c =
-    let s = c .before .before .before .before .before .before .before .before .before .before .args in
-    c .before .before .fill-winners .ensures ∙ ap (λ (t : List ℕ). afterRenewals t (winnerPuts (s .d .now))) (c .before .before .before .before .before .before .fill-reads .ensures)
+    let at-fill-reads = c .before .before .before .before .before .before in
+    let start = at-fill-reads .before .before .before .before in
+    let s = start .args in
+    c .before .before .fill-winners .ensures ∙ ap (λ (t : List ℕ). afterRenewals t (winnerPuts (s .d .now))) (at-fill-reads .fill-reads .ensures)
 
 pub fill-planned-spec : {M : Type 1} → statement M
 fill-planned-spec =
-    tie.close (tie.spec fill-reads-requires fill-winners-requires same-length returns)
+    tie.close
+    (tie.spec (λ c κs. search needs) (λ c κs. search needs) (λ c. search needs) returns)

@@ -5,14 +5,11 @@ use native.Mathlib.Omega.{arith}
 use borrow.Author.Needs.{needs}
 use lib.ListN.{length}
 use lib.Seq.{length-take-le}
-use Rattle.plan_record.proofs.FormLaws.{formed}
+use Rattle.plan_record.proofs.PlanFormLaws.{formed}
 use Rattle.plan_positions.proofs.WinnerLaws.{listed}
 use Rattle.plan_positions.proofs.PlannedLaws.{part-stages, part-wide, part-front, part-slots, part-cleared, list-front, list-size, list-small}
 use Rattle.plan_positions.proofs.planned.judge_listed.Statement.{statement}
 use Rattle.plan_positions.proofs.planned.judge_listed.Tie as tie
-
-slice-relend-prefix-list-planned : tie.Need-slice-relend-prefix-list-planned
-slice-relend-prefix-list-planned c = search needs
 
 slice-aggregate-list-planned : tie.Need-slice-aggregate-list-planned
 slice-aggregate-list-planned c =
@@ -26,70 +23,59 @@ list-planned-requires c κs =
     (listed (s .args .d .now) (s .pre .0 .plan .form), s .pre .0 .body, part-stages (s .args .d .now) (s .args .p) (s .args .body) (s .args .room .now) (s .args .state) (s .pre .0), omega (arith, length-take-le 32768 (s .args .room .now) wide), s .pre .1)
 
 parts-earlier-requires : tie.Need-parts-earlier-requires
-parts-earlier-requires c κs = formed _ (c .before .before .before .before .before .before .before .before .before .before .before .pre .0 .plan .form) .head .majors
-
-slice-reshare-prefix-bad-pin : tie.Need-slice-reshare-prefix-bad-pin
-slice-reshare-prefix-bad-pin c = search needs
+parts-earlier-requires c κs =
+    let way = c .before .before .before .before .before .before in
+    let start = way .before .before .before .before .before in
+    formed _ (start .pre .0 .plan .form) .head .majors
 
 slice-aggregate-bad-pin : tie.Need-slice-aggregate-bad-pin
 slice-aggregate-bad-pin c =
-    let k = c .before .before .before .before .before .before .before in
+    let way = c .before .before .before .before in
+    let k = way .before .before .before in
     let s = k .before .before .before .before .before .before in
     list-size (s .args .d .now) (s .args .p) (s .args .list .now) _ _ (s .pre .1) (k .list-planned .ensures .0) (k .list-planned .ensures .1 .1 .0)
 
 bad-pin-requires : tie.Need-bad-pin-requires
 bad-pin-requires c κs =
-    let k = c .before .before .before .before .before .before .before in
+    let way = c .before .before .before .before in
+    let k = way .before .before .before in
     let s = k .before .before .before .before .before .before in
+    let d = s .args .d .now in
+    let p = s .args .p in
+    let list = s .args .list .now in
     let e = k .list-planned .ensures in (
-      part-slots (s .args .d .now) (s .args .p) (s .args .body) (s .args .room .now) (s .args .state) (s .pre .0) _ _ (e .1 .0) refl _ (c .before .parts-earlier .ensures),
-      list-front (s .args .d .now) (s .args .p) (s .args .list .now) _ _ (s .pre .1) (e .0) (e .1 .1 .0),
-      list-small (s .args .d .now) (s .args .p) (s .args .list .now) _ _ (s .pre .1) (e .0) (e .1 .1 .0) (e .1 .1 .1),
+      part-slots d p (s .args .body) (s .args .room .now) (s .args .state) (s .pre .0) _ _ (e .1 .0) refl _ (c .before .parts-earlier .ensures),
+      list-front d p list _ _ (s .pre .1) (e .0) (e .1 .1 .0),
+      list-small d p list _ _ (s .pre .1) (e .0) (e .1 .1 .0) (e .1 .1 .1),
     )
-
-slice-relend-prefix-clear : tie.Need-slice-relend-prefix-clear
-slice-relend-prefix-clear c = search needs
 
 slice-aggregate-clear : tie.Need-slice-aggregate-clear
 slice-aggregate-clear c =
-    let k = c .before .before .before .before .before .before .before .before .before in
+    let way = c .before .before .before .before .before in
+    let k = way .before .before .before .before in
     let s = k .before .before .before .before .before .before in
     part-front (s .args .d .now) (s .args .p) (s .args .body) (s .args .room .now) (s .args .state) (s .pre .0) _ _ (k .list-planned .ensures .1 .0) refl
 
-clear-requires : tie.Need-clear-requires
-clear-requires c κs = search needs
-
 same-length : tie.Need-same-length
 same-length c =
-    let k = c .before .before .before .before .before .before .before .before .before .before .before .before in
+    let way = c .before .before .before .before .before .before in
+    let k = way .before .before .before .before .before .before in
     let s = k .before .before .before .before .before .before in
     ap length (part-cleared (s .args .d .now) (s .args .p) (s .args .body) (s .args .room .now) (s .args .state) (s .pre .0) _ _ (k .list-planned .ensures .1 .0) refl _ (c .before .before .clear .ensures))
 
-same-length-2 : tie.Need-same-length-2
-same-length-2 c = search needs
-
 returns : tie.Need-returns
 returns c =
-    let k = c .before .before .before .before .before .before .before .before .before .before .before .before in
+    let at-bad-pin = c .before .before .before .before in
+    let way = at-bad-pin .before .before .before .before in
+    let k = way .before .before .before .before in
     let s = k .before .before .before .before .before .before in (
-      c .before .before .before .before .bad-pin .ensures,
+      at-bad-pin .bad-pin .ensures,
       part-cleared (s .args .d .now) (s .args .p) (s .args .body) (s .args .room .now) (s .args .state) (s .pre .0) _ _ (k .list-planned .ensures .1 .0) refl _ (c .before .before .clear .ensures),
     )
 
 pub judge-listed-spec : {M : Type 1} → statement M
 judge-listed-spec =
     tie.close
-    (tie.spec
-    slice-relend-prefix-list-planned
-    slice-aggregate-list-planned
-    list-planned-requires
-    parts-earlier-requires
-    slice-reshare-prefix-bad-pin
-    slice-aggregate-bad-pin
-    bad-pin-requires
-    slice-relend-prefix-clear
-    slice-aggregate-clear
-    clear-requires
-    same-length
-    same-length-2
-    returns)
+    (tie.spec (λ c. search needs) slice-aggregate-list-planned list-planned-requires parts-earlier-requires (λ c. search needs)
+    slice-aggregate-bad-pin bad-pin-requires (λ c. search needs) slice-aggregate-clear (λ c κs. search needs) same-length
+    (λ c. search needs) returns)

@@ -9,23 +9,12 @@ use Rattle.plan_positions.specs.Winners.{winnerPuts}
 use Rattle.plan_positions.proofs.planned.list_planned.Statement.{statement}
 use Rattle.plan_positions.proofs.planned.list_planned.Tie as tie
 
-list-reads-requires : tie.Need-list-reads-requires
-list-reads-requires c κs = search needs
-
-fill-winners-requires : tie.Need-fill-winners-requires
-fill-winners-requires c κs = search needs
-
-same-length : tie.Need-same-length
-same-length c = search needs
-
-same-length-2 : tie.Need-same-length-2
-same-length-2 c = search needs
-
 returns : tie.Need-returns
 returns c =
     let won = c .before .before in
     let read = won .before .before .before .before .before .before in
-    let o = read .before .before .before .before .before .before .args in (
+    let start = read .before .before .before .before .before .before in
+    let o = start .args in (
       read .list-reads .ensures .0,
       (won .fill-winners .ensures ∙ ap (λ (t : List ℕ). afterRenewals t (winnerPuts (o .d .now))) (read .list-reads .ensures .1 .0), read .list-reads .ensures .1 .1),
     )
@@ -33,9 +22,4 @@ returns c =
 pub list-planned-spec : {M : Type 1} → statement M
 list-planned-spec =
     tie.close
-    (tie.spec
-    list-reads-requires
-    fill-winners-requires
-    same-length
-    same-length-2
-    returns)
+    (tie.spec (λ c κs. search needs) (λ c κs. search needs) (λ c. search needs) (λ c. search needs) returns)

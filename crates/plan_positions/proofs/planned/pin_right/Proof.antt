@@ -13,15 +13,6 @@ slice-aggregate-look-up c = let s = c .before .before .before in sym (length-tak
 look-up-requires : tie.Need-look-up-requires
 look-up-requires c κs = c .before .before .before .pre .2 .small
 
-enum-known-w : tie.Need-enum-known-w
-enum-known-w c = search needs
-
-place-right-requires : tie.Need-place-right-requires
-place-right-requires c κs = search needs
-
-enum-told : tie.Need-enum-told
-enum-told c = search needs
-
 returns : tie.Need-returns
 returns c =
     let looked = c .before .before .before .before in
@@ -39,11 +30,4 @@ returns-2 c =
 pub pin-right-spec : {M : Type 1} → statement M
 pin-right-spec =
     tie.close
-    (tie.spec
-    slice-aggregate-look-up
-    look-up-requires
-    enum-known-w
-    place-right-requires
-    enum-told
-    returns
-    returns-2)
+    (tie.spec slice-aggregate-look-up look-up-requires (λ c. search needs) (λ c κs. search needs) (λ c. search needs) returns returns-2)

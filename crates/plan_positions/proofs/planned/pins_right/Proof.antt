@@ -9,12 +9,12 @@ use borrow.Author.Needs.{needs}
 use lib.ListN.{length}
 use Rattle.words.specs.Tests.{allBelow}
 use Rattle.words.proofs.TestLaws.{all-on, all-less, all-fault}
-use Rattle.plan_positions.specs.Places.{pinRight}
+use Rattle.plan_positions.specs.Places.{listedPinRight}
 use Rattle.plan_positions.proofs.planned.pins_right.Statement.{statement}
 use Rattle.plan_positions.proofs.planned.pins_right.Tie as tie
 
 abbrev Inv-loop : tie.InvT-loop
-Inv-loop d room state n list i₀ i = (i ≤ length list) × (allBelow (pinRight d n list) i ≡ true)
+Inv-loop d room state n list i₀ i = (i ≤ length list) × (allBelow (listedPinRight d n list) i ≡ true)
 
 abbrev μ-loop : tie.MeasureT-loop
 μ-loop d room state n list i₀ i = length list - i
@@ -22,12 +22,6 @@ abbrev μ-loop : tie.MeasureT-loop
 loop-holds : tie.Need-loop-holds Inv-loop μ-loop
 unfolding allBelow
 loop-holds c = (omega arith, refl)
-
-mul-pin-right : tie.Need-mul-pin-right Inv-loop μ-loop
-mul-pin-right c = search needs
-
-shared-slice-read-pin-right : tie.Need-shared-slice-read-pin-right Inv-loop μ-loop
-shared-slice-read-pin-right c = search needs
 
 cast-pin-right : tie.Need-cast-pin-right Inv-loop μ-loop
 cast-pin-right c =
@@ -41,41 +35,28 @@ pin-right-requires c κs =
 
 returns : tie.Need-returns Inv-loop μ-loop
 returns c =
-    let l = c .before .before .before .before in
-    let o = l .before .before .before .before .args in
-    sym (all-fault (pinRight (o .d .now) (o .n) (o .list .now)) (length (o .list .now)) (l .loop .i) (c .before .before .before .loop-test .taken) (sym (c .before .pin-right .ensures) ∙ not-true _ (c .if1 .taken)))
-
-add-i : tie.Need-add-i Inv-loop μ-loop
-add-i c = search needs
-
-loop-less : tie.Need-loop-less Inv-loop μ-loop
-loop-less c = search needs
+    let at-loop-test = c .before .before .before in
+    let l = at-loop-test .before in
+    let start = l .before .before .before .before in
+    let o = start .args in
+    sym (all-fault (listedPinRight (o .d .now) (o .n) (o .list .now)) (length (o .list .now)) (l .loop .i) (at-loop-test .loop-test .taken) (sym (c .before .pin-right .ensures) ∙ not-true _ (c .if1 .taken)))
 
 loop-again : tie.Need-loop-again Inv-loop μ-loop
 loop-again c =
-    let l = c .before .before .before .before in
-    let o = l .before .before .before .before .args in
-    (omega (arith, c .before .before .before .loop-test .taken), all-on (pinRight (o .d .now) (o .n) (o .list .now)) (l .loop .i) (l .loop .inv .1) (sym (c .before .pin-right .ensures) ∙ not-false _ (c .if1 .left)))
+    let at-loop-test = c .before .before .before in
+    let l = at-loop-test .before in
+    let start = l .before .before .before .before in
+    let o = start .args in
+    (omega (arith, at-loop-test .loop-test .taken), all-on (listedPinRight (o .d .now) (o .n) (o .list .now)) (l .loop .i) (l .loop .inv .1) (sym (c .before .pin-right .ensures) ∙ not-false _ (c .if1 .left)))
 
 returns-2 : tie.Need-returns-2 Inv-loop μ-loop
 returns-2 c =
     let l = c .before in
     let o = l .before .before .before .before .args in
-    sym (all-less (pinRight (o .d .now) (o .n) (o .list .now)) (length (o .list .now)) (l .loop .i) (omega arith) (l .loop .inv .1))
+    sym (all-less (listedPinRight (o .d .now) (o .n) (o .list .now)) (length (o .list .now)) (l .loop .i) (omega arith) (l .loop .inv .1))
 
 pub pins-right-spec : {M : Type 1} → statement M
 pins-right-spec =
     tie.close
-    (tie.spec
-    Inv-loop
-    μ-loop
-    loop-holds
-    mul-pin-right
-    shared-slice-read-pin-right
-    cast-pin-right
-    pin-right-requires
-    returns
-    add-i
-    loop-less
-    loop-again
-    returns-2)
+    (tie.spec Inv-loop μ-loop loop-holds (λ c. search needs) (λ c. search needs) cast-pin-right pin-right-requires returns
+    (λ c. search needs) (λ c. search needs) loop-again returns-2)

@@ -5,7 +5,7 @@ use Prim.Native.Nat.{_-_, _≤_, _<_}
 use native.Mathlib.Omega.{arith}
 use borrow.Author.Needs.{needs}
 use lib.ListN.{length}
-use Rattle.plan_record.proofs.FormLaws.{formed, body-ready}
+use Rattle.plan_record.proofs.PlanFormLaws.{formed, body-ready}
 use Rattle.plan_record.specs.Record.{partsOf, bodyAt}
 use Rattle.words.specs.Tests.{lowestFrom}
 use Rattle.words.proofs.FoundLaws.{pass-start, pass-fault, pass-next, pass-end}
@@ -22,7 +22,10 @@ abbrev μ-loop : tie.MeasureT-loop
 μ-loop d room₀ state parts at₀ p₀ room at p = parts - p
 
 -- the part is one of the plan's
-among : (c : tie.In-loop Inv-loop μ-loop) → c .before .loop .p < partsOf (c .before .before .before .before .before .before .before .before .args .d .now)
+among : (c : tie.In-loop Inv-loop μ-loop)
+    → let way = c .before .before .before .before in
+    let start = way .before .before .before .before in
+    c .before .loop .p < partsOf (start .args .d .now)
 among c = omega (arith, c .loop-test .taken, c .before .before .before .parts-of .ensures .0)
 
 state-words-requires : tie.Need-state-words-requires Inv-loop μ-loop
@@ -39,21 +42,25 @@ unfolding positions.refusal12
 loop-holds c = (omega arith, c .first-body .ensures .0, refl, pass-start _ _)
 
 body-at-requires : tie.Need-body-at-requires Inv-loop μ-loop
-body-at-requires c κs = body-ready _ (formed _ (c .before .before .before .before .before .before .before .before .pre .form) .sizes) _ _ (among c) (c .before .loop .inv .1)
+body-at-requires c κs =
+    let way = c .before .before .before .before in
+    let start = way .before .before .before .before in
+    body-ready _ (formed _ (start .pre .form) .sizes) _ _ (among c) (c .before .loop .inv .1)
 
 judge-part-requires : tie.Need-judge-part-requires Inv-loop μ-loop
 judge-part-requires c κs =
     let walked = c .before in
-    let l = c .before .before .before .loop in
-    let s = c .before .before .before .before .before .before .before .before .before .before in
+    let at-state-words = walked .before .before .before .before .before in
+    let s = at-state-words .before .before .before .before in
+    let l = walked .before .before .loop in
     part-ready (s .args .d .now) (s .args .room .now) (l .room) (l .p) (walked .body-at .result) _ (s .pre) (l .inv .2) (walked .body-at .ensures)
-    (among (c .before .before)) (c .before .before .before .before .before .before .state-words .ensures)
-
-enum-known-i : tie.Need-enum-known-i Inv-loop μ-loop
-enum-known-i c = search needs
+    (among (walked .before)) (at-state-words .state-words .ensures)
 
 same-length : tie.Need-same-length Inv-loop μ-loop
-same-length c = ap length (c .before .before .before .before .before .judge-part .ensures .1 ∙ c .before .before .before .before .before .before .before .before .before .loop .inv .2)
+same-length c =
+    let at-judge-part = c .before .before .before .before .before in
+    let at-loop = at-judge-part .before .before .before .before in
+    ap length (at-judge-part .judge-part .ensures .1 ∙ at-loop .loop .inv .2)
 
 returns : tie.Need-returns Inv-loop μ-loop
 returns c =
@@ -64,28 +71,16 @@ returns c =
       judged .judge-part .ensures .1 ∙ l .inv .2,
     )
 
-enum-told : tie.Need-enum-told Inv-loop μ-loop
-enum-told c = search needs
-
-add-p : tie.Need-add-p Inv-loop μ-loop
-add-p c = search needs
-
-loop-less : tie.Need-loop-less Inv-loop μ-loop
-loop-less c = search needs
-
 loop-again : tie.Need-loop-again Inv-loop μ-loop
 loop-again c =
     let judged = c .before .before .before .before in
     let turn = judged .before .before .before in
     let l = turn .before .loop in (
       omega arith,
-      c .before .before .before .before .before .before .body-at .ensures .end,
+      judged .before .before .body-at .ensures .end,
       judged .judge-part .ensures .1 ∙ l .inv .2,
       pass-next _ _ _ _ (l .inv .3) (among turn) _ (judged .judge-part .ensures .0) (c .enum-told .given .1),
     )
-
-same-length-2 : tie.Need-same-length-2 Inv-loop μ-loop
-same-length-2 c = search needs
 
 returns-2 : tie.Need-returns-2 Inv-loop μ-loop
 returns-2 c = (pass-end _ _ _ _ (c .before .loop .inv .3) (omega (arith, c .before .before .before .parts-of .ensures .0)), c .before .loop .inv .2)
@@ -93,21 +88,6 @@ returns-2 c = (pass-end _ _ _ _ (c .before .loop .inv .3) (omega (arith, c .befo
 pub refusal12-spec : {M : Type 1} → statement M
 refusal12-spec =
     tie.close
-    (tie.spec
-    Inv-loop
-    μ-loop
-    state-words-requires
-    parts-of-requires
-    first-body-requires
-    loop-holds
-    body-at-requires
-    judge-part-requires
-    enum-known-i
-    same-length
-    returns
-    enum-told
-    add-p
-    loop-less
-    loop-again
-    same-length-2
+    (tie.spec Inv-loop μ-loop state-words-requires parts-of-requires first-body-requires loop-holds body-at-requires judge-part-requires
+    (λ c. search needs) same-length returns (λ c. search needs) (λ c. search needs) (λ c. search needs) loop-again (λ c. search needs)
     returns-2)

@@ -7,12 +7,6 @@ use Rattle.plan_positions.proofs.PlannedLaws.{slot-empty, slot-there, s
 use Rattle.plan_positions.proofs.planned.slot_right.Statement.{statement}
 use Rattle.plan_positions.proofs.planned.slot_right.Tie as tie
 
-add-slot : tie.Need-add-slot
-add-slot c = search needs
-
-slot-requires : tie.Need-slot-requires
-slot-requires c κs = search needs
-
 returns : tie.Need-returns
 returns c =
     let o = c .before .before .before .before .args in
@@ -35,9 +29,4 @@ returns-2 c =
 pub slot-right-spec : {M : Type 1} → statement M
 slot-right-spec =
     tie.close
-    (tie.spec
-    add-slot
-    slot-requires
-    returns
-    pin-right-requires
-    returns-2)
+    (tie.spec (λ c. search needs) (λ c κs. search needs) returns pin-right-requires returns-2)

@@ -11,4 +11,5 @@ returns-2 : tie.Need-returns-2
 returns-2 c = latest-first _ _ _ (c .if1 .left)
 
 pub later-first-spec : {M : Type 1} → statement M
-later-first-spec = tie.close (tie.spec returns returns-2)
+later-first-spec = tie.close
+    (tie.spec returns returns-2)

@@ -17,34 +17,10 @@ Inv-loop d p majors first₀ next₀ s₀ first next s = (s ≤ majors) × (firs
 abbrev μ-loop : tie.MeasureT-loop
 μ-loop d p majors first₀ next₀ s₀ first next s = majors - s
 
-majors-of-requires : tie.Need-majors-of-requires Inv-loop μ-loop
-majors-of-requires c κs = search needs
-
-cast-majors : tie.Need-cast-majors Inv-loop μ-loop
-cast-majors c = search needs
-
 loop-holds : tie.Need-loop-holds Inv-loop μ-loop
 loop-holds c =
     let s = c .before .before .args in
     (omega arith, earlier-none (s .d .now) (s .p) .0, earlier-none (s .d .now) (s .p) .1, omega arith)
-
-later-first-requires : tie.Need-later-first-requires Inv-loop μ-loop
-later-first-requires c κs = search needs
-
-count-at-requires : tie.Need-count-at-requires Inv-loop μ-loop
-count-at-requires c κs = search needs
-
-cast-next : tie.Need-cast-next Inv-loop μ-loop
-cast-next c = search needs
-
-add-next : tie.Need-add-next Inv-loop μ-loop
-add-next c = search needs
-
-add-s : tie.Need-add-s Inv-loop μ-loop
-add-s c = search needs
-
-loop-less : tie.Need-loop-less Inv-loop μ-loop
-loop-less c = search needs
 
 loop-again : tie.Need-loop-again Inv-loop μ-loop
 loop-again c =
@@ -66,17 +42,5 @@ returns c =
 pub parts-earlier-spec : {M : Type 1} → statement M
 parts-earlier-spec =
     tie.close
-    (tie.spec
-    Inv-loop
-    μ-loop
-    majors-of-requires
-    cast-majors
-    loop-holds
-    later-first-requires
-    count-at-requires
-    cast-next
-    add-next
-    add-s
-    loop-less
-    loop-again
-    returns)
+    (tie.spec Inv-loop μ-loop (λ c κs. search needs) (λ c. search needs) loop-holds (λ c κs. search needs) (λ c κs. search needs)
+    (λ c. search needs) (λ c. search needs) (λ c. search needs) (λ c. search needs) loop-again returns)

@@ -8,17 +8,9 @@ use Rattle.plan_rows.specs.Rows.{cellAt}
 use Rattle.plan_positions.proofs.ranks.start_at.Statement.{statement}
 use Rattle.plan_positions.proofs.ranks.start_at.Tie as tie
 
-cell-at-requires : tie.Need-cell-at-requires
-cell-at-requires c κs = search needs
-
-cast-p : tie.Need-cast-p
-cast-p c = search needs
-
-cell-at-requires-2 : tie.Need-cell-at-requires-2
-cell-at-requires-2 c κs = search needs
-
 returns : tie.Need-returns
 returns c = c .cell-at2 .ensures ∙ ap (λ (p : ℕ). cellAt (c .before .before .before .args .room .now) p col.stateStart) (c .before .cell-at .ensures)
 
 pub start-at-spec : {M : Type 1} → statement M
-start-at-spec = tie.close (tie.spec cell-at-requires cast-p cell-at-requires-2 returns)
+start-at-spec = tie.close
+    (tie.spec (λ c κs. search needs) (λ c. search needs) (λ c κs. search needs) returns)

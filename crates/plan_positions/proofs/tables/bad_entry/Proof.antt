@@ -21,17 +21,8 @@ abbrev μ-loop : tie.MeasureT-loop
 loop-holds : tie.Need-loop-holds Inv-loop μ-loop
 loop-holds c = (omega arith, look-start _ _)
 
-entry-right-requires : tie.Need-entry-right-requires Inv-loop μ-loop
-entry-right-requires c κs = search needs
-
 returns : tie.Need-returns Inv-loop μ-loop
 returns c = look-fault _ _ _ _ (c .before .before .before .loop .inv .1) (omega arith) (sym (c .before .entry-right .ensures) ∙ not-true _ (c .if1 .taken))
-
-add-i : tie.Need-add-i Inv-loop μ-loop
-add-i c = search needs
-
-loop-less : tie.Need-loop-less Inv-loop μ-loop
-loop-less c = search needs
 
 loop-again : tie.Need-loop-again Inv-loop μ-loop
 loop-again c = (omega arith, look-next _ _ _ _ (c .before .before .before .loop .inv .1) (omega arith) (sym (c .before .entry-right .ensures) ∙ not-false _ (c .if1 .left)))
@@ -42,13 +33,4 @@ returns-2 c = look-end _ _ _ _ (c .before .loop .inv .1) (omega arith)
 pub bad-entry-spec : {M : Type 1} → statement M
 bad-entry-spec =
     tie.close
-    (tie.spec
-    Inv-loop
-    μ-loop
-    loop-holds
-    entry-right-requires
-    returns
-    add-i
-    loop-less
-    loop-again
-    returns-2)
+    (tie.spec Inv-loop μ-loop loop-holds (λ c κs. search needs) returns (λ c. search needs) (λ c. search needs) loop-again returns-2)

@@ -4,23 +4,14 @@ use mathlib.Core.Path.{ap, _∙_}
 use Prim.Native.Nat.{ℕ}
 use borrow.Author.Needs.{needs}
 use lib.Dec.{leb}
-use Rattle.plan_positions.proofs.EntryLaws.{entry-low, entry-high}
+use Rattle.plan_positions.proofs.TableEntryLaws.{entry-low, entry-high}
 use Rattle.plan_positions.proofs.tables.entry_right.Statement.{statement}
 use Rattle.plan_positions.proofs.tables.entry_right.Tie as tie
-
-table-word-requires : tie.Need-table-word-requires
-table-word-requires c κs = search needs
 
 returns : tie.Need-returns
 returns c =
     let s = c .before .before .before .args in
     ap (λ (x : ℕ). leb x 8191) (c .table-word .ensures) ∙ entry-low (s .d .now) (s .p) (s .i) (c .before .if1 .taken)
-
-add-table-word : tie.Need-add-table-word
-add-table-word c = search needs
-
-table-word-requires-2 : tie.Need-table-word-requires-2
-table-word-requires-2 c κs = search needs
 
 returns-2 : tie.Need-returns-2
 returns-2 c =
@@ -29,4 +20,5 @@ returns-2 c =
 
 pub entry-right-spec : {M : Type 1} → statement M
 entry-right-spec =
-    tie.close (tie.spec table-word-requires returns add-table-word table-word-requires-2 returns-2)
+    tie.close
+    (tie.spec (λ c κs. search needs) returns (λ c. search needs) (λ c κs. search needs) returns-2)

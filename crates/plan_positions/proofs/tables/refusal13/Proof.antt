@@ -6,7 +6,7 @@ use native.Mathlib.Omega.{arith}
 use borrow.Author.Needs.{needs}
 use Rattle.plan_record.specs.Record.{partsOf, bodyAt}
 use Rattle.words.specs.Tests.{lowestFrom}
-use Rattle.plan_record.proofs.FormLaws.{formed, body-ready}
+use Rattle.plan_record.proofs.PlanFormLaws.{formed, body-ready}
 use Rattle.words.proofs.FoundLaws.{pass-start, pass-fault, pass-next, pass-end}
 use Rattle.plan_positions.specs.Places.{badEntry}
 use Rattle.plan_positions.specs.Positions as positions
@@ -36,26 +36,11 @@ loop-holds c = (omega arith, c .first-body .ensures .0, pass-start _ _)
 body-at-requires : tie.Need-body-at-requires Inv-loop μ-loop
 body-at-requires c κs = body-ready _ (formed _ (c .before .before .before .before .before .pre) .sizes) _ _ (among c) (c .before .loop .inv .1)
 
-bad-entry-requires : tie.Need-bad-entry-requires Inv-loop μ-loop
-bad-entry-requires c κs = search needs
-
-enum-known-i : tie.Need-enum-known-i Inv-loop μ-loop
-enum-known-i c = search needs
-
 returns : tie.Need-returns Inv-loop μ-loop
 returns c =
     let looked = c .before .before .before in
     let turn = looked .before .before in
     pass-fault _ _ _ _ (turn .before .loop .inv .2) (among turn) _ (looked .bad-entry .ensures) _ (c .before .i .given .1)
-
-enum-told : tie.Need-enum-told Inv-loop μ-loop
-enum-told c = search needs
-
-add-p : tie.Need-add-p Inv-loop μ-loop
-add-p c = search needs
-
-loop-less : tie.Need-loop-less Inv-loop μ-loop
-loop-less c = search needs
 
 loop-again : tie.Need-loop-again Inv-loop μ-loop
 loop-again c =
@@ -72,18 +57,5 @@ returns-2 c = pass-end _ _ _ _ (c .before .loop .inv .2) (omega (arith, c .befor
 pub refusal13-spec : {M : Type 1} → statement M
 refusal13-spec =
     tie.close
-    (tie.spec
-    Inv-loop
-    μ-loop
-    parts-of-requires
-    first-body-requires
-    loop-holds
-    body-at-requires
-    bad-entry-requires
-    enum-known-i
-    returns
-    enum-told
-    add-p
-    loop-less
-    loop-again
-    returns-2)
+    (tie.spec Inv-loop μ-loop parts-of-requires first-body-requires loop-holds body-at-requires (λ c κs. search needs) (λ c. search needs)
+    returns (λ c. search needs) (λ c. search needs) (λ c. search needs) loop-again returns-2)

@@ -18,32 +18,19 @@ Inv-loop d table₀ base count i₀ table i = (i ≤ count) × (table ≡ afterR
 abbrev μ-loop : tie.MeasureT-loop
 μ-loop d table₀ base count i₀ table i = count - i
 
-layout-base-requires : tie.Need-layout-base-requires Inv-loop μ-loop
-layout-base-requires c κs = search needs
-
-layout-of-requires : tie.Need-layout-of-requires Inv-loop μ-loop
-layout-of-requires c κs = search needs
-
 loop-holds : tie.Need-loop-holds Inv-loop μ-loop
 loop-holds c =
     let s = c .before .before .before .before in
     (search needs, chosen-none (s .args .table .now) (inUse (s .args .d .now)) (layoutPin (s .args .d .now)) layoutNumber)
 
-renew-layout-requires : tie.Need-renew-layout-requires Inv-loop μ-loop
-renew-layout-requires c κs = search needs
-
-add-i : tie.Need-add-i Inv-loop μ-loop
-add-i c = search needs
-
-loop-less : tie.Need-loop-less Inv-loop μ-loop
-loop-less c = search needs
-
 loop-again : tie.Need-loop-again Inv-loop μ-loop
 loop-again c =
-    let s = c .before .before .before .before .before .before .before .before .before .before .args in (
+    let at-loop = c .before .before .before .before .before in
+    let start = at-loop .before .before .before .before .before in
+    let s = start .args in (
       omega arith,
       c .before .before .renew-layout .ensures
-          ∙ chosen-more (s .table .now) _ (inUse (s .d .now)) (layoutPin (s .d .now)) layoutNumber (c .before .before .before .before .before .loop .i) (c .before .before .before .before .before .loop .inv .1),
+          ∙ chosen-more (s .table .now) _ (inUse (s .d .now)) (layoutPin (s .d .now)) layoutNumber (at-loop .loop .i) (at-loop .loop .inv .1),
     )
 
 same-length : tie.Need-same-length Inv-loop μ-loop
@@ -58,15 +45,5 @@ returns c =
 pub fill-layout-spec : {M : Type 1} → statement M
 fill-layout-spec =
     tie.close
-    (tie.spec
-    Inv-loop
-    μ-loop
-    layout-base-requires
-    layout-of-requires
-    loop-holds
-    renew-layout-requires
-    add-i
-    loop-less
-    loop-again
-    same-length
-    returns)
+    (tie.spec Inv-loop μ-loop (λ c κs. search needs) (λ c κs. search needs) loop-holds (λ c κs. search needs) (λ c. search needs)
+    (λ c. search needs) loop-again same-length returns)

@@ -5,7 +5,7 @@ use Prim.Native.Nat.{_-_}
 use native.Mathlib.Omega.{arith}
 use borrow.Author.Needs.{needs}
 use lib.ListN.{length}
-use Rattle.plan_reads.proofs.BitLaws.{Asking, asking-start, asking-length, asking-pin, asking-more, asking-all}
+use Rattle.plan_reads.proofs.ListedBitLaws.{Asking, asking-start, asking-length, asking-pin, asking-more, asking-all}
 use Rattle.plan_reads.proofs.asked.ask_bits.Statement.{statement}
 use Rattle.plan_reads.proofs.asked.ask_bits.Tie as tie
 
@@ -18,12 +18,6 @@ abbrev μ-loop : tie.MeasureT-loop
 loop-holds : tie.Need-loop-holds Inv-loop μ-loop
 loop-holds c = asking-start _ _
 
-mul-bit-of-pin : tie.Need-mul-bit-of-pin Inv-loop μ-loop
-mul-bit-of-pin c = search needs
-
-slice-read-bit-of-pin : tie.Need-slice-read-bit-of-pin Inv-loop μ-loop
-slice-read-bit-of-pin c = search needs
-
 cast-bit-of-pin : tie.Need-cast-bit-of-pin Inv-loop μ-loop
 cast-bit-of-pin c =
     let l = c .before .before in
@@ -35,15 +29,6 @@ bit-of-pin-requires c κs =
     let l = c .before .before in
     let s = l .before .before .before .before in
     asking-pin (s .args .d .now) (s .args .keys .now) (l .loop .keys) (l .loop .i) (l .loop .inv) (c .before .loop-test .taken) (s .args .pins .now) (s .pre)
-
-mul-keys : tie.Need-mul-keys Inv-loop μ-loop
-mul-keys c = search needs
-
-slice-write-keys : tie.Need-slice-write-keys Inv-loop μ-loop
-slice-write-keys c = search needs
-
-add-i : tie.Need-add-i Inv-loop μ-loop
-add-i c = search needs
 
 loop-less : tie.Need-loop-less Inv-loop μ-loop
 loop-less c =
@@ -66,18 +51,5 @@ returns c = asking-all _ _ _ _ (c .before .loop .inv) (omega arith)
 pub ask-bits-spec : {M : Type 1} → statement M
 ask-bits-spec =
     tie.close
-    (tie.spec
-    Inv-loop
-    μ-loop
-    loop-holds
-    mul-bit-of-pin
-    slice-read-bit-of-pin
-    cast-bit-of-pin
-    bit-of-pin-requires
-    mul-keys
-    slice-write-keys
-    add-i
-    loop-less
-    loop-again
-    same-length
-    returns)
+    (tie.spec Inv-loop μ-loop loop-holds (λ c. search needs) (λ c. search needs) cast-bit-of-pin bit-of-pin-requires (λ c. search needs)
+    (λ c. search needs) (λ c. search needs) loop-less loop-again same-length returns)

@@ -21,4 +21,5 @@ returns-2 c =
     entry-staged _ _ (by .before .before .pre) _ (by .planned-by .ensures) _ refl (omega arith) (c .if1 .left)
 
 pub bit-of-entry-spec : {M : Type 1} → statement M
-bit-of-entry-spec = tie.close (tie.spec planned-by-requires (λ c. search needs) returns (λ c. search needs) returns-2)
+bit-of-entry-spec = tie.close
+    (tie.spec planned-by-requires (λ c. search needs) returns (λ c. search needs) returns-2)

@@ -4,7 +4,7 @@ use native.Mathlib.Omega.{arith}
 use borrow.Author.Needs.{needs}
 use Rattle.plan_positions.proofs.PlannedLaws.{list-size}
 use Rattle.plan_reads.proofs.SearchedLaws.{pins-are}
-use Rattle.plan_reads.proofs.BitLaws.{list-won, bits-count, bits-back, bits-narrow}
+use Rattle.plan_reads.proofs.ListedBitLaws.{list-won, bits-count, bits-back, bits-narrow}
 use Rattle.plan_reads.proofs.asked.list_bits.Statement.{statement}
 use Rattle.plan_reads.proofs.asked.list_bits.Tie as tie
 
@@ -12,9 +12,6 @@ list-planned-requires : tie.Need-list-planned-requires
 list-planned-requires c κs =
     let s = c .before .before .before .before .before in
     (s .pre .2, s .pre .0, s .pre .1, omega (arith, s .pre .5), s .pre .4)
-
-slice-relend-prefix-ask-bits : tie.Need-slice-relend-prefix-ask-bits
-slice-relend-prefix-ask-bits c = search needs
 
 slice-aggregate-ask-bits : tie.Need-slice-aggregate-ask-bits
 slice-aggregate-ask-bits c =
@@ -26,18 +23,15 @@ ask-bits-requires : tie.Need-ask-bits-requires
 ask-bits-requires c κs =
     let k = c .before .before .before .before .before .before in
     let s = k .before .before .before .before .before .before in
+    let d = s .args .d .now in
+    let p = s .args .p in
     let e = k .list-planned .ensures in
-    list-won (s .args .d .now) (s .args .p) (s .args .keys .now) _ _ (s .pre .4) (e .0) (e .1 .1 .0) _ (pins-are (s .args .d .now) (s .args .p) (s .args .pins .now) _ (e .1 .0) (s .pre .5) (s .pre .3)) (e .1 .1 .1)
-
-same-length : tie.Need-same-length
-same-length c = search needs
-
-same-length-2 : tie.Need-same-length-2
-same-length-2 c = search needs
+    list-won d p (s .args .keys .now) _ _ (s .pre .4) (e .0) (e .1 .1 .0) _ (pins-are d p (s .args .pins .now) _ (e .1 .0) (s .pre .5) (s .pre .3)) (e .1 .1 .1)
 
 returns : tie.Need-returns
 returns c =
-    let k = c .before .before .before .before .before .before .before .before .before in
+    let way = c .before .before .before .before .before in
+    let k = way .before .before .before .before in
     let s = k .before .before .before .before .before .before in
     let o = s .args in
     let e = k .list-planned .ensures in
@@ -49,11 +43,5 @@ returns c =
 pub list-bits-spec : {M : Type 1} → statement M
 list-bits-spec =
     tie.close
-    (tie.spec
-    list-planned-requires
-    slice-relend-prefix-ask-bits
-    slice-aggregate-ask-bits
-    ask-bits-requires
-    same-length
-    same-length-2
+    (tie.spec list-planned-requires (λ c. search needs) slice-aggregate-ask-bits ask-bits-requires (λ c. search needs) (λ c. search needs)
     returns)

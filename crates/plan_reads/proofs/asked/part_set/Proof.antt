@@ -2,48 +2,39 @@
 -- Assumes nothing.
 use mathlib.Core.Path.{refl}
 use borrow.Author.Needs.{needs}
-use Rattle.plan_reads.proofs.BitLaws.{asked-size, asked-settable, asked-count, asked-set}
+use Rattle.plan_reads.proofs.ListedBitLaws.{asked-size, asked-settable, asked-count, asked-set}
 use Rattle.plan_reads.proofs.asked.part_set.Statement.{statement}
 use Rattle.plan_reads.proofs.asked.part_set.Tie as tie
 
-list-bits-requires : tie.Need-list-bits-requires
-list-bits-requires c κs = search needs
-
-slice-relend-prefix-read-set : tie.Need-slice-relend-prefix-read-set
-slice-relend-prefix-read-set c = search needs
-
 slice-aggregate-read-set : tie.Need-slice-aggregate-read-set
 slice-aggregate-read-set c =
-    let a = c .before .before .before .before .before .list-bits in
-    let s = c .before .before .before .before .before .before .before .before .before .before .before .before .before in
+    let at-list-bits = c .before .before .before .before .before in
+    let way = at-list-bits .before .before .before .before in
+    let s = way .before .before .before .before in
+    let a = at-list-bits .list-bits in
     let o = s .args in
     asked-size (o .d .now) (o .p) (o .keys .now) (o .scratch .now) (o .set .now) _ _ (s .pre .4) (a .ensures .0) (a .ensures .1 .1 .0) (a .ensures .1 .1 .1)
 
 read-set-requires : tie.Need-read-set-requires
 read-set-requires c κs =
-    let a = c .before .before .before .before .before .before .before .list-bits in
-    let s = c .before .before .before .before .before .before .before .before .before .before .before .before .before .before .before in
+    let way = c .before .before .before .before in
+    let at-list-bits = way .before .before .before in
+    let way-2 = at-list-bits .before .before .before .before in
+    let s = way-2 .before .before .before .before in
+    let a = at-list-bits .list-bits in
     let o = s .args in
     asked-settable (o .d .now) (o .p) (o .keys .now) (o .scratch .now) (o .set .now) _ _ (s .pre .4) (a .ensures .0) (a .ensures .1 .1 .0) (a .ensures .1 .1 .1) _ refl
 
-same-length : tie.Need-same-length
-same-length c = search needs
-
-same-length-2 : tie.Need-same-length-2
-same-length-2 c = search needs
-
-same-length-3 : tie.Need-same-length-3
-same-length-3 c = search needs
-
-same-length-4 : tie.Need-same-length-4
-same-length-4 c = search needs
-
 returns : tie.Need-returns
 returns c =
-    let a = c .before .before .before .before .before .before .before .before .before .before .before .before .before .before .list-bits in
-    let s = c .before .before .before .before .before .before .before .before .before .before .before .before .before .before .before .before .before .before .before .before .before .before in
+    let at-read-set = c .before .before .before .before .before .before in
+    let way = at-read-set .before .before .before .before in
+    let at-list-bits = way .before .before .before .before in
+    let way-2 = at-list-bits .before .before .before .before in
+    let s = way-2 .before .before .before .before in
+    let a = at-list-bits .list-bits in
     let o = s .args in
-    let r = c .before .before .before .before .before .before .read-set in (
+    let r = at-read-set .read-set in (
       asked-count (o .d .now) (o .p) (o .keys .now) (o .scratch .now) (o .set .now) _ _ (s .pre .4) (a .ensures .0) (a .ensures .1 .1 .0) (a .ensures .1 .1 .1) (s .pre .3) _ _ _ refl (r .ensures .0) (r .ensures .1 .1 .1),
       (a .ensures .1 .0, asked-set (o .d .now) (o .p) (o .keys .now) (o .scratch .now) (o .set .now) _ _ (s .pre .4) (a .ensures .0) (a .ensures .1 .1 .0) (a .ensures .1 .1 .1) (s .pre .3) _ _ _ refl (r .ensures .0) (r .ensures .1 .1 .1)),
     )
@@ -51,13 +42,5 @@ returns c =
 pub part-set-spec : {M : Type 1} → statement M
 part-set-spec =
     tie.close
-    (tie.spec
-    list-bits-requires
-    slice-relend-prefix-read-set
-    slice-aggregate-read-set
-    read-set-requires
-    same-length
-    same-length-2
-    same-length-3
-    same-length-4
-    returns)
+    (tie.spec (λ c κs. search needs) (λ c. search needs) slice-aggregate-read-set read-set-requires (λ c. search needs) (λ c. search needs)
+    (λ c. search needs) (λ c. search needs) returns)

@@ -7,11 +7,11 @@ use native.Mathlib.Omega.{arith}
 use borrow.Author.Needs.{needs}
 use lib.ListN.{length}
 use Rattle.plan_record.specs.Record.{partsOf}
-use Rattle.plan_record.proofs.FormLaws.{formed, body-ready}
+use Rattle.plan_record.proofs.PlanFormLaws.{formed, body-ready}
 use Rattle.plan_positions.proofs.WinnerLaws.{listed}
-use Rattle.plan_blocks.proofs.FillLaws.{put-none}
-use Rattle.plan_reads.specs.Answers.{roundRows}
-use Rattle.plan_reads.proofs.EntryLaws.{all-planned}
+use Rattle.plan_blocks.proofs.CellLaws.{put-none}
+use Rattle.plan_reads.specs.PartReadAnswers.{roundRows}
+use Rattle.plan_reads.proofs.FirstEntryLaws.{all-planned}
 use Rattle.plan_reads.proofs.CheckLaws.{Passing, passing-start, passing-place, passing-fault, passing-on, none-early, passed-fine, passed-full, rows-long, rows-clear, row-inside, rows-more, rows-fault, rows-all}
 use Rattle.plan_reads.proofs.check.check_reads.Statement.{statement}
 use Rattle.plan_reads.proofs.check.check_reads.Tie as tie
@@ -34,77 +34,116 @@ loop-holds c = (passing-start _ _ _ (c .first-body .ensures .0), sym (put-none _
 
 body-at-requires : tie.Need-body-at-requires Inv-loop μ-loop
 body-at-requires c κs =
-    let s = c .before .before .before .before .before .before .before .before .before in
-    body-ready _ (formed _ (s .pre .0 .form) .sizes) _ _ (omega (arith, c .loop-test .taken, c .before .before .before .parts-of .ensures .0)) (c .before .loop .inv .0 .place)
+    let at-parts-of = c .before .before .before in
+    let s = at-parts-of .before .before .before .before .before .before in
+    body-ready _ (formed _ (s .pre .0 .form) .sizes) _ _ (omega (arith, c .loop-test .taken, at-parts-of .parts-of .ensures .0)) (c .before .loop .inv .0 .place)
 
 check-part-requires : tie.Need-check-part-requires Inv-loop μ-loop
 check-part-requires c κs =
-    let s = c .before .before .before .before .before .before .before .before .before .before .before .before .before .before in
-    let l = c .before .before .before .before .before .before .loop in
-    let b = c .before .before .before .before .body-at .ensures in
-    let among : l .p < partsOf (s .args .d .now) = omega (arith, c .before .before .before .before .before .loop-test .taken, c .before .before .before .before .before .before .before .before .parts-of .ensures .0) in (
+    let at-body-at = c .before .before .before .before in
+    let at-parts-of = at-body-at .before .before .before .before in
+    let s = at-parts-of .before .before .before .before .before .before in
+    let d = s .args .d .now in
+    let l = at-body-at .before .before .loop in
+    let b = at-body-at .body-at .ensures in
+    let among : l .p < partsOf d = omega (arith, at-body-at .before .loop-test .taken, at-parts-of .parts-of .ensures .0) in (
       b,
       omega (arith, b .stages, formed _ (s .pre .0 .form) .part _ among .some-stages),
       listed _ (s .pre .0 .form),
       all-planned _ (s .pre .0 .planned) _ among,
       record { keys-room = omega (arith, l .inv .2, s .pre .1 .keys-room); scratch-room = omega (arith, l .inv .3, s .pre .1 .scratch-room); set-room = omega (arith, l .inv .4, s .pre .1 .set-room) },
-      rows-clear (s .args .d .now) (s .args .room .now) _ (l .p) (l .inv .1) (s .pre .0 .cleared),
+      rows-clear d (s .args .room .now) _ (l .p) (l .inv .1) (s .pre .0 .cleared),
     )
-
-is-nothing-requires : tie.Need-is-nothing-requires Inv-loop μ-loop
-is-nothing-requires c κs = search needs
 
 same-length : tie.Need-same-length Inv-loop μ-loop
 same-length c =
-    let s = c .before .before .before .before .before .before .before .before .before .before .before .before .before .before .before .before .before .before .before .before .before .before .before .before .before .args in
-    let l = c .before .before .before .before .before .before .before .before .before .before .before .before .before .before .before .before .before .loop in
-    c .before .before .before .before .before .before .before .before .before .before .check-part .kept .1 .1 .1 .0 ∙ rows-long (s .d .now) (s .room .now) _ (l .p) (l .inv .1)
+    let way = c .before .before .before .before .before in
+    let at-check-part = way .before .before .before .before .before in
+    let way-2 = at-check-part .before .before .before .before in
+    let at-loop = way-2 .before .before .before in
+    let way-3 = at-loop .before .before .before .before in
+    let start = way-3 .before .before .before .before in
+    let s = start .args in
+    let l = at-loop .loop in
+    at-check-part .check-part .kept .1 .1 .1 .0 ∙ rows-long (s .d .now) (s .room .now) _ (l .p) (l .inv .1)
 
 same-length-2 : tie.Need-same-length-2 Inv-loop μ-loop
-same-length-2 c = c .before .before .before .before .before .before .before .before .before .before .check-part .kept .1 .1 .1 .1 .0 ∙ c .before .before .before .before .before .before .before .before .before .before .before .before .before .before .before .before .before .loop .inv .2
+same-length-2 c =
+    let way = c .before .before .before .before .before in
+    let at-check-part = way .before .before .before .before .before in
+    let way-2 = at-check-part .before .before .before .before in
+    let at-loop = way-2 .before .before .before in
+    at-check-part .check-part .kept .1 .1 .1 .1 .0 ∙ at-loop .loop .inv .2
 
 same-length-3 : tie.Need-same-length-3 Inv-loop μ-loop
-same-length-3 c = c .before .before .before .before .before .before .before .before .before .before .check-part .kept .1 .1 .1 .1 .1 .0 ∙ c .before .before .before .before .before .before .before .before .before .before .before .before .before .before .before .before .before .loop .inv .3
+same-length-3 c =
+    let way = c .before .before .before .before .before in
+    let at-check-part = way .before .before .before .before .before in
+    let way-2 = at-check-part .before .before .before .before in
+    let at-loop = way-2 .before .before .before in
+    at-check-part .check-part .kept .1 .1 .1 .1 .1 .0 ∙ at-loop .loop .inv .3
 
 same-length-4 : tie.Need-same-length-4 Inv-loop μ-loop
-same-length-4 c = c .before .before .before .before .before .before .before .before .before .before .check-part .kept .1 .1 .1 .1 .1 .1 .0 ∙ c .before .before .before .before .before .before .before .before .before .before .before .before .before .before .before .before .before .loop .inv .4
+same-length-4 c =
+    let way = c .before .before .before .before .before in
+    let at-check-part = way .before .before .before .before .before in
+    let way-2 = at-check-part .before .before .before .before in
+    let at-loop = way-2 .before .before .before in
+    at-check-part .check-part .kept .1 .1 .1 .1 .1 .1 .0 ∙ at-loop .loop .inv .4
 
 returns : tie.Need-returns Inv-loop μ-loop
 returns c =
-    let s = c .before .before .before .before .before .before .before .before .before .before .before .before .before .before .before .before .before .before .before .before .before .before .before .before .before .args in
-    let l = c .before .before .before .before .before .before .before .before .before .before .before .before .before .before .before .before .before .loop in
-    let k = c .before .before .before .before .before .before .before .before .before .before .check-part in
-    let there = passing-place (s .d .now) _ (l .at) (l .full) (l .p) (c .before .before .before .before .before .before .before .before .before .before .before .before .before .before .before .before .before .before .before .parts-of .ensures .0) (c .before .before .before .before .before .before .before .before .before .before .before .before .before .before .before .before .loop-test .taken) (l .inv .0) _ (k .ensures .0) _ (c .before .is-nothing .ensures) (c .if1 .taken) in (
-      passing-fault (s .d .now) _ (l .at) (l .full) (l .p) (c .before .before .before .before .before .before .before .before .before .before .before .before .before .before .before .before .before .before .before .parts-of .ensures .0) (c .before .before .before .before .before .before .before .before .before .before .before .before .before .before .before .before .loop-test .taken) (l .inv .0) _ (k .ensures .0) _ (c .before .is-nothing .ensures) (c .if1 .taken),
+    let way = c .before .before .before .before .before in
+    let at-check-part = way .before .before .before .before .before in
+    let at-loop-test = at-check-part .before .before .before .before .before .before in
+    let at-parts-of = at-loop-test .before .before .before in
+    let start = at-parts-of .before .before .before .before .before .before in
+    let s = start .args in
+    let l = at-loop-test .before .loop in
+    let k = at-check-part .check-part in
+    let there = passing-place (s .d .now) _ (l .at) (l .full) (l .p) (at-parts-of .parts-of .ensures .0) (at-loop-test .loop-test .taken) (l .inv .0) _ (k .ensures .0) _ (c .before .is-nothing .ensures) (c .if1 .taken) in (
+      passing-fault (s .d .now) _ (l .at) (l .full) (l .p) (at-parts-of .parts-of .ensures .0) (at-loop-test .loop-test .taken) (l .inv .0) _ (k .ensures .0) _ (c .before .is-nothing .ensures) (c .if1 .taken),
       rows-fault (s .d .now) (s .room .now) _ (l .p) (k .ensures .1 ∙ l .inv .1) there,
     )
 
-full-after-requires : tie.Need-full-after-requires Inv-loop μ-loop
-full-after-requires c κs = search needs
-
 put-rounds-requires : tie.Need-put-rounds-requires Inv-loop μ-loop
 put-rounds-requires c κs =
-    let s = c .before .before .before .before .before .before .before .before .before .before .before .before .before .before .before .before .before .before .before .before .before .before .before .before .before .before .before in
-    let l = c .before .before .before .before .before .before .before .before .before .before .before .before .before .before .before .before .before .before .before .loop in
-    let k = c .before .before .before .before .before .before .before .before .before .before .before .before .check-part in
-    let among : l .p < partsOf (s .args .d .now) = omega (arith, c .before .before .before .before .before .before .before .before .before .before .before .before .before .before .before .before .before .before .loop-test .taken, c .before .before .before .before .before .before .before .before .before .before .before .before .before .before .before .before .before .before .before .before .before .parts-of .ensures .0) in (
+    let way = c .before .before .before .before .before .before in
+    let at-check-part = way .before .before .before .before .before .before in
+    let at-loop-test = at-check-part .before .before .before .before .before .before in
+    let at-parts-of = at-loop-test .before .before .before in
+    let s = at-parts-of .before .before .before .before .before .before in
+    let d = s .args .d .now in
+    let l = at-loop-test .before .loop in
+    let k = at-check-part .check-part in
+    let among : l .p < partsOf d = omega (arith, at-loop-test .loop-test .taken, at-parts-of .parts-of .ensures .0) in (
       omega (arith, among, formed _ (s .pre .0 .form) .sizes .headed .parts),
-      row-inside (s .args .d .now) (s .args .room .now) _ (l .p) (k .ensures .1 ∙ l .inv .1) (s .pre .0 .cleared) among,
+      row-inside d (s .args .room .now) _ (l .p) (k .ensures .1 ∙ l .inv .1) (s .pre .0 .cleared) among,
     )
 
-add-p : tie.Need-add-p Inv-loop μ-loop
-add-p c = search needs
-
 loop-less : tie.Need-loop-less Inv-loop μ-loop
-loop-less c = omega (arith, c .before .before .before .before .before .before .before .before .before .before .before .before .before .before .before .before .before .before .before .before .before .loop-test .taken)
+loop-less c =
+    let way = c .before .before .before .before .before .before in
+    let way-2 = way .before .before .before .before .before in
+    let way-3 = way-2 .before .before .before .before .before in
+    let at-loop-test = way-3 .before .before .before .before .before in
+    omega (arith, at-loop-test .loop-test .taken)
 
 loop-again : tie.Need-loop-again Inv-loop μ-loop
 loop-again c =
-    let s = c .before .before .before .before .before .before .before .before .before .before .before .before .before .before .before .before .before .before .before .before .before .before .before .before .before .before .before .before .before .before .args in
-    let l = c .before .before .before .before .before .before .before .before .before .before .before .before .before .before .before .before .before .before .before .before .before .before .loop in
-    let q = c .before .before .before .before .before .before .before .before .before .before .before .before .before .before .before .check-part in
+    let at-full-after = c .before .before .before .before in
+    let way = at-full-after .before .before .before .before .before .before in
+    let at-check-part = way .before .before .before .before .before in
+    let at-body-at = at-check-part .before .before .before .before .before in
+    let at-parts-of = at-body-at .before .before .before .before in
+    let start = at-parts-of .before .before .before .before .before .before in
+    let s = start .args in
+    let l = at-body-at .before .before .loop in
+    let q = at-check-part .check-part in
     let k = q .kept in (
-      passing-on (s .d .now) _ (l .at) (l .full) (l .p) (c .before .before .before .before .before .before .before .before .before .before .before .before .before .before .before .before .before .before .before .before .before .before .before .before .parts-of .ensures .0) (c .before .before .before .before .before .before .before .before .before .before .before .before .before .before .before .before .before .before .before .before .before .loop-test .taken) (l .inv .0) _ (q .ensures .0) _ (c .before .before .before .before .before .before .is-nothing .ensures) (c .before .before .before .before .before .if1 .left) _ _ (c .before .before .before .before .full-after .ensures) (c .before .before .before .before .before .before .before .before .before .before .before .before .before .before .before .before .before .before .before .before .body-at .ensures .end),
+      passing-on (s .d .now) _ (l .at) (l .full) (l .p) (at-parts-of .parts-of .ensures .0) (at-body-at .before .loop-test .taken) (l .inv .0) _ (q .ensures .0) _
+          (at-full-after .before .before .is-nothing .ensures) (at-full-after .before .if1 .left) _ _ (at-full-after .full-after .ensures)
+          (at-body-at .body-at .ensures .end),
       c .before .before .put-rounds .ensures ∙ rows-more (s .d .now) (s .room .now) _ (l .p) (q .ensures .1 ∙ l .inv .1) _ (q .ensures .0) _ refl,
       k .1 .1 .1 .1 .0 ∙ l .inv .2,
       k .1 .1 .1 .1 .1 .0 ∙ l .inv .3,
@@ -113,7 +152,9 @@ loop-again c =
 
 same-length-5 : tie.Need-same-length-5 Inv-loop μ-loop
 same-length-5 c =
-    let s = c .before .before .before .before .before .before .before .before .before .before .args in
+    let way = c .before .before .before .before .before in
+    let start = way .before .before .before .before .before in
+    let s = start .args in
     let l = c .before .before .loop in
     rows-long (s .d .now) (s .room .now) _ (l .p) (l .inv .1)
 
@@ -128,16 +169,20 @@ same-length-8 c = c .before .before .loop .inv .4
 
 returns-2 : tie.Need-returns-2 Inv-loop μ-loop
 returns-2 c =
-    let s = c .before .before .before .before .before .before .before .before .before .before .args in
+    let at-parts-of = c .before .before .before .before in
+    let start = at-parts-of .before .before .before .before .before .before in
+    let s = start .args in
     let l = c .before .before .loop in
-    let count = c .before .before .before .before .parts-of .ensures .0 in (
+    let count = at-parts-of .parts-of .ensures .0 in (
       passed-fine (s .d .now) _ (l .at) (l .full) (l .p) count (omega arith) (l .inv .0) (c .if2 .taken),
       rows-all (s .d .now) (s .room .now) _ (l .p) (l .inv .1) (omega (arith, count, l .inv .0 .so-far)) (none-early (s .d .now) _ (l .at) (l .full) (l .p) count (omega arith) (l .inv .0)),
     )
 
 same-length-9 : tie.Need-same-length-9 Inv-loop μ-loop
 same-length-9 c =
-    let s = c .before .before .before .before .before .before .before .before .before .before .args in
+    let way = c .before .before .before .before .before in
+    let start = way .before .before .before .before .before in
+    let s = start .args in
     let l = c .before .before .loop in
     rows-long (s .d .now) (s .room .now) _ (l .p) (l .inv .1)
 
@@ -152,9 +197,11 @@ same-length-12 c = c .before .before .loop .inv .4
 
 returns-3 : tie.Need-returns-3 Inv-loop μ-loop
 returns-3 c =
-    let s = c .before .before .before .before .before .before .before .before .before .before .args in
+    let at-parts-of = c .before .before .before .before in
+    let start = at-parts-of .before .before .before .before .before .before in
+    let s = start .args in
     let l = c .before .before .loop in
-    let count = c .before .before .before .before .parts-of .ensures .0 in (
+    let count = at-parts-of .parts-of .ensures .0 in (
       passed-full (s .d .now) _ (l .at) (l .full) (l .p) count (omega arith) (l .inv .0) (c .if2 .left),
       rows-all (s .d .now) (s .room .now) _ (l .p) (l .inv .1) (omega (arith, count, l .inv .0 .so-far)) (none-early (s .d .now) _ (l .at) (l .full) (l .p) count (omega arith) (l .inv .0)),
     )
@@ -162,32 +209,7 @@ returns-3 c =
 pub check-reads-spec : {M : Type 1} → statement M
 check-reads-spec =
     tie.close
-    (tie.spec
-    Inv-loop
-    μ-loop
-    parts-of-requires
-    first-body-requires
-    loop-holds
-    body-at-requires
-    check-part-requires
-    is-nothing-requires
-    same-length
-    same-length-2
-    same-length-3
-    same-length-4
-    returns
-    full-after-requires
-    put-rounds-requires
-    add-p
-    loop-less
-    loop-again
-    same-length-5
-    same-length-6
-    same-length-7
-    same-length-8
-    returns-2
-    same-length-9
-    same-length-10
-    same-length-11
-    same-length-12
+    (tie.spec Inv-loop μ-loop parts-of-requires first-body-requires loop-holds body-at-requires check-part-requires (λ c κs. search needs)
+    same-length same-length-2 same-length-3 same-length-4 returns (λ c κs. search needs) put-rounds-requires (λ c. search needs) loop-less
+    loop-again same-length-5 same-length-6 same-length-7 same-length-8 returns-2 same-length-9 same-length-10 same-length-11 same-length-12
     returns-3)

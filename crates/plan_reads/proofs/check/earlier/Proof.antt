@@ -1,8 +1,7 @@
 -- `plan_reads::check::earlier` meets its contract.
 -- Assumes nothing.
-use mathlib.Core.Path.{sym}
 use borrow.Author.Tests.{eq-eqb, ne-eqb}
-use Rattle.plan_reads.specs.Answers.{earlierOf}
+use Rattle.plan_reads.specs.PartReadAnswers.{earlierOf}
 use Rattle.plan_reads.proofs.check.earlier.Statement.{statement}
 use Rattle.plan_reads.proofs.check.earlier.Tie as tie
 
@@ -15,4 +14,5 @@ unfolding earlierOf
 returns-2 c = rw (ne-eqb _ _ (c .if1 .left), earlierOf)
 
 pub earlier-spec : {M : Type 1} → statement M
-earlier-spec = tie.close (tie.spec returns returns-2)
+earlier-spec = tie.close
+    (tie.spec returns returns-2)

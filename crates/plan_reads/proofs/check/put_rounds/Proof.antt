@@ -9,4 +9,5 @@ returns : tie.Need-returns
 returns c = c .before .before .put-cell .ensures ∙ rw (c .before .before .before .rounds-of .ensures)
 
 pub put-rounds-spec : {M : Type 1} → statement M
-put-rounds-spec = tie.close (tie.spec (λ c κs. search needs) (λ c κs. search needs) (λ c. search needs) returns)
+put-rounds-spec = tie.close
+    (tie.spec (λ c κs. search needs) (λ c κs. search needs) (λ c. search needs) returns)

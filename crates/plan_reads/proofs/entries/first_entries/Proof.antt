@@ -6,7 +6,7 @@ use native.Mathlib.Omega.{arith}
 use borrow.Author.Needs.{needs}
 use lib.ListN.{length-set, length, getD}
 use Rattle.words.proofs.SectionLaws.{listOf-is}
-use Rattle.plan_reads.proofs.EntryLaws.{entries-on}
+use Rattle.plan_reads.proofs.FirstEntryLaws.{entries-on}
 use Rattle.plan_reads.specs.Entries.{firstEntry}
 use Rattle.plan_reads.proofs.entries.first_entries.Statement.{statement}
 use Rattle.plan_reads.proofs.entries.first_entries.Tie as tie
@@ -17,51 +17,24 @@ Inv-loop d p body pins set bases entries₀ i₀ entries i = (i ≤ 8192) × (le
 abbrev μ-loop : tie.MeasureT-loop
 μ-loop d p body pins set bases entries₀ i₀ entries i = 8192 - i
 
-loop-holds : tie.Need-loop-holds Inv-loop μ-loop
-loop-holds c = search needs
-
-first-entry-requires : tie.Need-first-entry-requires Inv-loop μ-loop
-first-entry-requires c κs = search needs
-
-mul-entries : tie.Need-mul-entries Inv-loop μ-loop
-mul-entries c = search needs
-
-slice-write-entries : tie.Need-slice-write-entries Inv-loop μ-loop
-slice-write-entries c = search needs
-
-add-i : tie.Need-add-i Inv-loop μ-loop
-add-i c = search needs
-
-loop-less : tie.Need-loop-less Inv-loop μ-loop
-loop-less c = search needs
-
 loop-again : tie.Need-loop-again Inv-loop μ-loop
 loop-again c =
-    let o = c .before .before .before .before .before .before .before .before .args in
+    let way = c .before .before .before .before in
+    let start = way .before .before .before .before in
+    let o = start .args in
     let l = c .before .before .loop in
     (omega arith, length-set (l .entries) _ _ ∙ l .inv .1, entries-on (firstEntry 256 (o .d .now) (o .p)) (l .entries) (l .i) _ (omega arith) (l .inv .2) (c .first-entry .ensures))
 
-same-length : tie.Need-same-length Inv-loop μ-loop
-same-length c = search needs
-
 returns : tie.Need-returns Inv-loop μ-loop
 returns c =
-    let o = c .before .before .before .before .before .before .before .args in
+    let way = c .before .before .before .before in
+    let start = way .before .before .before in
+    let o = start .args in
     let l = c .before .loop in
     (listOf-is (firstEntry 256 (o .d .now) (o .p)) 8192 (l .entries) (l .inv .1) (λ k h. l .inv .2 k (omega arith) .0), λ k h. l .inv .2 k (omega arith) .1)
 
 pub first-entries-spec : {M : Type 1} → statement M
 first-entries-spec =
     tie.close
-    (tie.spec
-    Inv-loop
-    μ-loop
-    loop-holds
-    first-entry-requires
-    mul-entries
-    slice-write-entries
-    add-i
-    loop-less
-    loop-again
-    same-length
-    returns)
+    (tie.spec Inv-loop μ-loop (λ c. search needs) (λ c κs. search needs) (λ c. search needs) (λ c. search needs) (λ c. search needs)
+    (λ c. search needs) loop-again (λ c. search needs) returns)

@@ -15,26 +15,19 @@ Inv-loop set table lanes bases₀ j₀ bases j = (j ≤ lanes) × (length bases 
 abbrev μ-loop : tie.MeasureT-loop
 μ-loop set table lanes bases₀ j₀ bases j = lanes - j
 
-loop-holds : tie.Need-loop-holds Inv-loop μ-loop
-loop-holds c = search needs
-
 lane-bases-requires : tie.Need-lane-bases-requires Inv-loop μ-loop
 lane-bases-requires c κs =
     let o = c .before .before .before .before .before .before in
     (readable-row (o .pre .0) (c .before .loop-test .taken), omega (arith, o .pre .0 .few), omega (arith, o .pre .1, c .before .before .loop .inv .1))
 
-add-j : tie.Need-add-j Inv-loop μ-loop
-add-j c = search needs
-
-loop-less : tie.Need-loop-less Inv-loop μ-loop
-loop-less c = search needs
-
 loop-again : tie.Need-loop-again Inv-loop μ-loop
 loop-again c =
-    let o = c .before .before .before .before .before .before .before .before .before .args in
-    let l = c .before .before .before .before .before .loop in
+    let at-loop-test = c .before .before .before .before in
+    let start = at-loop-test .before .before .before .before .before in
+    let o = start .args in
+    let l = at-loop-test .before .loop in
     let e = c .before .before .lane-bases .ensures in
-    (omega arith, (ap length e ∙ lane-length _ _ _) ∙ l .inv .1, lanes-on (o .set .now) (o .table .now) (o .lanes) (l .j) (l .bases) _ (c .before .before .before .before .loop-test .taken) e ∙ l .inv .2)
+    (omega arith, (ap length e ∙ lane-length _ _ _) ∙ l .inv .1, lanes-on (o .set .now) (o .table .now) (o .lanes) (l .j) (l .bases) _ (at-loop-test .loop-test .taken) e ∙ l .inv .2)
 
 same-length : tie.Need-same-length Inv-loop μ-loop
 same-length c = c .before .loop .inv .1
@@ -48,13 +41,4 @@ returns c =
 pub fill-bases-spec : {M : Type 1} → statement M
 fill-bases-spec =
     tie.close
-    (tie.spec
-    Inv-loop
-    μ-loop
-    loop-holds
-    lane-bases-requires
-    add-j
-    loop-less
-    loop-again
-    same-length
-    returns)
+    (tie.spec Inv-loop μ-loop (λ c. search needs) lane-bases-requires (λ c. search needs) (λ c. search needs) loop-again same-length returns)

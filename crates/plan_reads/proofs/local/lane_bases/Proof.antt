@@ -5,7 +5,7 @@ use Prim.Native.Nat.{_+_, _-_, _*_, _/_, _<_, _≤_}
 use native.Mathlib.Omega.{arith}
 use borrow.Author.Needs.{needs}
 use lib.ListN.{length, getD}
-use Rattle.reads_try.proofs.PairLaws.{count-le}
+use Rattle.reads_try.proofs.SetPairLaws.{mask-bits-le}
 use Rattle.plan_reads.proofs.BaseLaws.{Walked, walked-start, walked-length, walked-entry, walked-sum, walked-on, walked-all}
 use Rattle.plan_reads.proofs.local.lane_bases.Statement.{statement}
 use Rattle.plan_reads.proofs.local.lane_bases.Tie as tie
@@ -17,7 +17,9 @@ abbrev μ-loop : tie.MeasureT-loop
 μ-loop set table j bases₀ r₀ sum₀ bases r sum = r
 
 -- the word of the table names a pair of the set
-entry-in : (c : tie.In-loop Inv-loop μ-loop) → (0 < getD (c .before .before .before .before .before .before .args .table .now) (32 * c .before .before .before .before .before .before .args .j + (c .before .loop .r - 1)) 0) × (getD (c .before .before .before .before .before .before .args .table .now) (32 * c .before .before .before .before .before .before .args .j + (c .before .loop .r - 1)) 0 ≤ length (c .before .before .before .before .before .before .args .set .now) / 2)
+entry-in : (c : tie.In-loop Inv-loop μ-loop) →
+    (0 < getD (c .before .before .before .before .before .before .args .table .now) (32 * c .before .before .before .before .before .before .args .j + (c .before .loop .r - 1)) 0)
+    × (getD (c .before .before .before .before .before .before .args .table .now) (32 * c .before .before .before .before .before .before .args .j + (c .before .loop .r - 1)) 0 ≤ length (c .before .before .before .before .before .before .args .set .now) / 2)
 entry-in c =
     let o = c .before .before .before .before .before .before in
     let l = c .before .loop in
@@ -28,34 +30,10 @@ size-in c =
     let o = c .before .before .before .before .before in
     walked-length (o .args .set .now) (o .args .table .now) (o .args .j) (o .pre .0) (o .args .bases .now) _ _ _ (c .loop .inv)
 
-lane-load-requires : tie.Need-lane-load-requires Inv-loop μ-loop
-lane-load-requires c κs = search needs
-
-cast-sum : tie.Need-cast-sum Inv-loop μ-loop
-cast-sum c = search needs
-
-mul-sum : tie.Need-mul-sum Inv-loop μ-loop
-mul-sum c = search needs
-
 loop-holds : tie.Need-loop-holds Inv-loop μ-loop
 loop-holds c =
     let o = c .before .before .before .before in
     walked-start (o .args .set .now) (o .args .table .now) (o .args .j) (o .pre .0) (o .args .bases .now) _ (c .lane-load .ensures .1)
-
-sub-r : tie.Need-sub-r Inv-loop μ-loop
-sub-r c = search needs
-
-mul-e : tie.Need-mul-e Inv-loop μ-loop
-mul-e c = search needs
-
-add-e : tie.Need-add-e Inv-loop μ-loop
-add-e c = search needs
-
-mul-e-2 : tie.Need-mul-e-2 Inv-loop μ-loop
-mul-e-2 c = search needs
-
-shared-slice-read-e : tie.Need-shared-slice-read-e Inv-loop μ-loop
-shared-slice-read-e c = search needs
 
 cast-e : tie.Need-cast-e Inv-loop μ-loop
 cast-e c = omega (arith, entry-in (c .before))
@@ -67,7 +45,10 @@ mul-bases : tie.Need-mul-bases Inv-loop μ-loop
 mul-bases c = omega (arith, entry-in (c .before))
 
 slice-write-bases : tie.Need-slice-write-bases Inv-loop μ-loop
-slice-write-bases c = omega (arith, entry-in (c .before), size-in (c .before .before), c .before .before .before .before .before .before .before .pre .2)
+slice-write-bases c =
+    let way = c .before .before .before .before in
+    let start = way .before .before .before in
+    omega (arith, entry-in (c .before), size-in (c .before .before), start .pre .2)
 
 mul-count : tie.Need-mul-count Inv-loop μ-loop
 mul-count c = omega (arith, entry-in (c .before))
@@ -81,23 +62,19 @@ mul-count-2 c = omega (arith, entry-in (c .before))
 shared-slice-read-count : tie.Need-shared-slice-read-count Inv-loop μ-loop
 shared-slice-read-count c = omega (arith, entry-in (c .before .before))
 
-count-requires : tie.Need-count-requires Inv-loop μ-loop
-count-requires c κs = search needs
-
 add-sum : tie.Need-add-sum Inv-loop μ-loop
 add-sum c =
-    let o = c .before .before .before .before .before .before .before .before .before in
-    let l = c .before .before .before .before .loop in
-    omega (arith, walked-sum (o .args .set .now) (o .args .table .now) (o .args .j) (o .pre .0) (o .args .bases .now) (l .bases) (l .r) (l .sum) _ (l .inv) (c .before .before .before .loop-test .taken) refl, count-le _ _ (c .count .ensures))
-
-loop-less : tie.Need-loop-less Inv-loop μ-loop
-loop-less c = search needs
+    let at-loop-test = c .before .before .before in
+    let o = at-loop-test .before .before .before .before .before .before in
+    let l = at-loop-test .before .loop in
+    omega (arith, walked-sum (o .args .set .now) (o .args .table .now) (o .args .j) (o .pre .0) (o .args .bases .now) (l .bases) (l .r) (l .sum) _ (l .inv) (at-loop-test .loop-test .taken) refl, mask-bits-le _ _ (c .count .ensures))
 
 loop-again : tie.Need-loop-again Inv-loop μ-loop
 loop-again c =
-    let o = c .before .before .before .before .before .before .before .before .before in
-    let l = c .before .before .before .before .loop in
-    walked-on (o .args .set .now) (o .args .table .now) (o .args .j) (o .pre .0) (o .args .bases .now) (l .bases) (l .r) (l .sum) _ (l .inv) (c .before .before .before .loop-test .taken) refl _ _ refl (c .count .ensures)
+    let at-loop-test = c .before .before .before in
+    let o = at-loop-test .before .before .before .before .before .before in
+    let l = at-loop-test .before .loop in
+    walked-on (o .args .set .now) (o .args .table .now) (o .args .j) (o .pre .0) (o .args .bases .now) (l .bases) (l .r) (l .sum) _ (l .inv) (at-loop-test .loop-test .taken) refl _ _ refl (c .count .ensures)
 
 same-length : tie.Need-same-length Inv-loop μ-loop
 same-length c = size-in (c .before)
@@ -111,29 +88,6 @@ returns c =
 pub lane-bases-spec : {M : Type 1} → statement M
 lane-bases-spec =
     tie.close
-    (tie.spec
-    Inv-loop
-    μ-loop
-    lane-load-requires
-    cast-sum
-    mul-sum
-    loop-holds
-    sub-r
-    mul-e
-    add-e
-    mul-e-2
-    shared-slice-read-e
-    cast-e
-    sub-bases
-    mul-bases
-    slice-write-bases
-    mul-count
-    sub-count
-    mul-count-2
-    shared-slice-read-count
-    count-requires
-    add-sum
-    loop-less
-    loop-again
-    same-length
-    returns)
+    (tie.spec Inv-loop μ-loop (λ c κs. search needs) (λ c. search needs) (λ c. search needs) loop-holds (λ c. search needs)
+    (λ c. search needs) (λ c. search needs) (λ c. search needs) (λ c. search needs) cast-e sub-bases mul-bases slice-write-bases mul-count
+    sub-count mul-count-2 shared-slice-read-count (λ c κs. search needs) add-sum (λ c. search needs) loop-again same-length returns)

@@ -6,44 +6,17 @@ use native.Mathlib.Omega.{arith}
 use borrow.Author.Needs.{needs}
 use lib.ListN.{getD}
 use Rattle.words.specs.Bit.{pop}
-use Rattle.reads_try.proofs.PairLaws.{count-le}
+use Rattle.reads_try.proofs.SetPairLaws.{mask-bits-le}
 use Rattle.plan_reads.specs.Bases.{localBy}
 use Rattle.plan_reads.proofs.local.local_position.Statement.{statement}
 use Rattle.plan_reads.proofs.local.local_position.Tie as tie
-
-find-pair-requires : tie.Need-find-pair-requires
-find-pair-requires c κs = search needs
-
-mul-result : tie.Need-mul-result
-mul-result c = search needs
-
-shared-slice-read-result : tie.Need-shared-slice-read-result
-shared-slice-read-result c = search needs
-
-mul-count-above : tie.Need-mul-count-above
-mul-count-above c = search needs
-
-add-count-above : tie.Need-add-count-above
-add-count-above c = search needs
-
-mul-count-above-2 : tie.Need-mul-count-above-2
-mul-count-above-2 c = search needs
-
-shared-slice-read-count-above : tie.Need-shared-slice-read-count-above
-shared-slice-read-count-above c = search needs
-
-cast-count-above : tie.Need-cast-count-above
-cast-count-above c = search needs
-
-count-above-requires : tie.Need-count-above-requires
-count-above-requires c κs = search needs
 
 add-result : tie.Need-add-result
 add-result c =
     let o = c .before .before .before .before .before .before in
     let e = c .before .before .before .find-pair .ensures .0 in
     let b = ap (λ (k : ℕ). getD (o .args .bases .now) k 0) e in
-    omega (arith, count-le _ _ (c .count-above .ensures), o .pre .small, b)
+    omega (arith, mask-bits-le _ _ (c .count-above .ensures), o .pre .small, b)
 
 returns : tie.Need-returns
 unfolding localBy
@@ -57,15 +30,5 @@ returns c =
 pub local-position-spec : {M : Type 1} → statement M
 local-position-spec =
     tie.close
-    (tie.spec
-    find-pair-requires
-    mul-result
-    shared-slice-read-result
-    mul-count-above
-    add-count-above
-    mul-count-above-2
-    shared-slice-read-count-above
-    cast-count-above
-    count-above-requires
-    add-result
-    returns)
+    (tie.spec (λ c κs. search needs) (λ c. search needs) (λ c. search needs) (λ c. search needs) (λ c. search needs) (λ c. search needs)
+    (λ c. search needs) (λ c. search needs) (λ c κs. search needs) add-result returns)

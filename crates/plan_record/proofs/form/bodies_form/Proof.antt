@@ -11,7 +11,7 @@ use Rattle.words.specs.Tests.{allBelow}
 use Rattle.plan_record.specs.Record.{partsOf, endpointsOf, bodyAt}
 use Rattle.plan_record.specs.Form.{endpointForm}
 use Rattle.words.proofs.TestLaws.{all-on, all-less, all-fault}
-use Rattle.plan_record.proofs.FormLaws.{body-ready}
+use Rattle.plan_record.proofs.PlanFormLaws.{body-ready}
 use Rattle.plan_record.proofs.form.bodies_form.Statement.{statement}
 use Rattle.plan_record.proofs.form.bodies_form.Tie as tie
 

@@ -5,7 +5,7 @@ use mathlib.Core.Bool.{_&&_}
 use Prim.Native.Nat.{ℕ}
 use borrow.Author.Needs.{needs}
 use Rattle.plan_record.specs.Form.{endpointNumbers}
-use Rattle.plan_record.proofs.FormLaws.{other-kind}
+use Rattle.plan_record.proofs.PlanFormLaws.{other-kind}
 use Rattle.plan_record.proofs.form.endpoint_numbers.Statement.{statement}
 use Rattle.plan_record.proofs.form.endpoint_numbers.Tie as tie
 

@@ -8,13 +8,13 @@ use borrow.Author.Tests.{not-true, not-false}
 use borrow.Author.Needs.{needs}
 use Rattle.words.specs.Tests.{allBelow}
 use Rattle.plan_record.specs.Record.{partsOf}
-use Rattle.plan_record.specs.Form.{partForm}
+use Rattle.plan_record.specs.Form.{partHeadForm}
 use Rattle.words.proofs.TestLaws.{all-on, all-less, all-fault}
 use Rattle.plan_record.proofs.form.heads_form.Statement.{statement}
 use Rattle.plan_record.proofs.form.heads_form.Tie as tie
 
 abbrev Inv-loop : tie.InvT-loop
-Inv-loop d heads parts p₀ p = (p ≤ parts) × (allBelow (partForm d) p ≡ true)
+Inv-loop d heads parts p₀ p = (p ≤ parts) × (allBelow (partHeadForm d) p ≡ true)
 
 abbrev μ-loop : tie.MeasureT-loop
 μ-loop d heads parts p₀ p = parts - p
@@ -28,19 +28,19 @@ returns c =
     let at-loop = c .before .before .before in
     let start = at-loop .before .before .before .before in
     let d = start .args .d .now in
-    sym (all-fault (partForm d) (partsOf d) (at-loop .loop .p) (omega arith) (sym (c .before .part-form .ensures) ∙ not-true _ (c .if1 .taken)))
+    sym (all-fault (partHeadForm d) (partsOf d) (at-loop .loop .p) (omega arith) (sym (c .before .part-form .ensures) ∙ not-true _ (c .if1 .taken)))
 
 loop-again : tie.Need-loop-again Inv-loop μ-loop
 loop-again c =
     let at-loop = c .before .before .before in
     let start = at-loop .before .before .before .before in
     let d = start .args .d .now in
-    (omega arith, all-on (partForm d) (at-loop .loop .p) (at-loop .loop .inv .1) (sym (c .before .part-form .ensures) ∙ not-false _ (c .if1 .left)))
+    (omega arith, all-on (partHeadForm d) (at-loop .loop .p) (at-loop .loop .inv .1) (sym (c .before .part-form .ensures) ∙ not-false _ (c .if1 .left)))
 
 returns-2 : tie.Need-returns-2 Inv-loop μ-loop
 returns-2 c =
     let d = c .before .before .before .before .before .args .d .now in
-    sym (all-less (partForm d) (partsOf d) (c .before .loop .p) (omega arith) (c .before .loop .inv .1))
+    sym (all-less (partHeadForm d) (partsOf d) (c .before .loop .p) (omega arith) (c .before .loop .inv .1))
 
 pub heads-form-spec : {M : Type 1} → statement M
 heads-form-spec =

@@ -10,7 +10,7 @@ use lib.ListN.{length}
 use Rattle.plan_record.specs.Record.{bodyAt, partsOf}
 use Rattle.plan_record.specs.Form.{lengthForm}
 use Rattle.plan_record.proofs.RecordLaws.{body-step, stages-at, endpoints-at}
-use Rattle.plan_record.proofs.FormLaws.{PartRanges, part-in, length-past}
+use Rattle.plan_record.proofs.PlanFormLaws.{PartRanges, part-in, length-past}
 use Rattle.plan_record.proofs.form.length_form.Statement.{statement}
 use Rattle.plan_record.proofs.form.length_form.Tie as tie
 

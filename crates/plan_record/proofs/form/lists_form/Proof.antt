@@ -7,7 +7,7 @@ use borrow.Author.Needs.{needs}
 use Rattle.words.specs.Tests.{allBelow}
 use Rattle.plan_record.specs.Record.{gatesOf, layoutOf, positionsOf}
 use Rattle.plan_record.specs.Form.{gateForm, layoutForm, positionForm}
-use Rattle.plan_record.proofs.FormLaws.{heads-in, lists-are}
+use Rattle.plan_record.proofs.PlanFormLaws.{heads-in, lists-are}
 use Rattle.plan_record.proofs.form.lists_form.Statement.{statement}
 use Rattle.plan_record.proofs.form.lists_form.Tie as tie
 

@@ -1,12 +1,12 @@
 -- The definition, with the words that were read.
 -- Assumes nothing.
 use borrow.Author.Needs.{needs}
-use Rattle.plan_record.specs.Form.{partForm}
+use Rattle.plan_record.specs.Form.{partHeadForm}
 use Rattle.plan_record.proofs.form.part_form.Statement.{statement}
 use Rattle.plan_record.proofs.form.part_form.Tie as tie
 
 returns : tie.Need-returns
-unfolding partForm
+unfolding partHeadForm
 returns c = cc
 
 pub part-form-spec : {M : Type 1} → statement M

@@ -7,7 +7,7 @@ use borrow.Author.Tests.{not-true, not-false}
 use borrow.Author.Needs.{needs}
 use Rattle.plan_record.specs.Record.{majorsOf}
 use Rattle.plan_record.specs.Form.{headForm, countsForm}
-use Rattle.plan_record.proofs.FormLaws.{head-ranges, parts-range, plan-is}
+use Rattle.plan_record.proofs.PlanFormLaws.{head-ranges, parts-range, plan-is}
 use Rattle.plan_record.proofs.form.plan_form.Statement.{statement}
 use Rattle.plan_record.proofs.form.plan_form.Tie as tie
 

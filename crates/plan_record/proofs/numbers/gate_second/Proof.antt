@@ -7,21 +7,6 @@ use Rattle.plan_record.specs.Record.{wordAt}
 use Rattle.plan_record.proofs.numbers.gate_second.Statement.{statement}
 use Rattle.plan_record.proofs.numbers.gate_second.Tie as tie
 
-gate-base-requires : tie.Need-gate-base-requires
-gate-base-requires c κs = search needs
-
-mul-word-at : tie.Need-mul-word-at
-mul-word-at c = search needs
-
-add-word-at : tie.Need-add-word-at
-add-word-at c = search needs
-
-add-word-at-2 : tie.Need-add-word-at-2
-add-word-at-2 c = search needs
-
-word-at-requires : tie.Need-word-at-requires
-word-at-requires c κs = search needs
-
 returns : tie.Need-returns
 returns c =
     let b = c .before in
@@ -29,4 +14,5 @@ returns c =
     c .word-at .ensures ∙ ap (λ (i : ℕ). wordAt (s .d .now) (i + 3 * s .g + 2)) (b .gate-base .ensures .0)
 
 pub gate-second-spec : {M : Type 1} → statement M
-gate-second-spec = tie.close (tie.spec gate-base-requires mul-word-at add-word-at add-word-at-2 word-at-requires returns)
+gate-second-spec = tie.close
+    (tie.spec (λ c κs. search needs) (λ c. search needs) (λ c. search needs) (λ c. search needs) (λ c κs. search needs) returns)

@@ -7,14 +7,9 @@ use borrow.Author.Needs.{needs}
 use Rattle.plan_record.proofs.numbers.layout_pin.Statement.{statement}
 use Rattle.plan_record.proofs.numbers.layout_pin.Tie as tie
 
-add-word-at : tie.Need-add-word-at
-add-word-at c = search needs
-
-word-at-requires : tie.Need-word-at-requires
-word-at-requires c κs = search needs
-
 returns : tie.Need-returns
 returns c = let s = c .before .before in c .word-at .ensures ∙ ap (λ (b : ℕ). wordAt (s .args .d .now) (b + s .args .i)) (s .pre .0)
 
 pub layout-pin-spec : {M : Type 1} → statement M
-layout-pin-spec = tie.close (tie.spec add-word-at word-at-requires returns)
+layout-pin-spec = tie.close
+    (tie.spec (λ c. search needs) (λ c κs. search needs) returns)

@@ -7,17 +7,9 @@ use borrow.Author.Needs.{needs}
 use Rattle.plan_record.proofs.numbers.stages_at.Statement.{statement}
 use Rattle.plan_record.proofs.numbers.stages_at.Tie as tie
 
-mul-word-at : tie.Need-mul-word-at
-mul-word-at c = search needs
-
-add-word-at : tie.Need-add-word-at
-add-word-at c = search needs
-
-word-at-requires : tie.Need-word-at-requires
-word-at-requires c κs = search needs
-
 returns : tie.Need-returns
 returns c = let s = c .before .before in c .word-at .ensures ∙ ap (λ (b : ℕ). wordAt (s .args .d .now) (b + 2 * s .args .p)) (s .pre .0)
 
 pub stages-at-spec : {M : Type 1} → statement M
-stages-at-spec = tie.close (tie.spec mul-word-at add-word-at word-at-requires returns)
+stages-at-spec = tie.close
+    (tie.spec (λ c. search needs) (λ c. search needs) (λ c κs. search needs) returns)

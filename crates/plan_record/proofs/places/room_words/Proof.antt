@@ -5,19 +5,19 @@ use Prim.Native.Nat.{ℕ, _+_, _*_, min}
 use native.Mathlib.Omega.{arith}
 use borrow.Author.Needs.{needs}
 use Rattle.plan_record.specs.Record.{majorsOf, partsBefore}
-use Rattle.plan_record.specs.Form.{roomWords}
+use Rattle.plan_record.specs.Form.{planRoomWords}
 use Rattle.plan_record.proofs.places.room_words.Statement.{statement}
 use Rattle.plan_record.proofs.places.room_words.Tie as tie
 
 returns : tie.Need-returns
-unfolding roomWords
+unfolding planRoomWords
 returns c =
     let d = c .before .before .before .before .args .d .now in
     let m : c .before .before .word-at .result ≡ min (majorsOf d) 64 = omega arith in
     (ap (λ (s : ℕ). 65536 + 16 * s) (c .parts-before .ensures .0 ∙ ap (partsBefore d) m), omega arith)
 
 returns-2 : tie.Need-returns-2
-unfolding roomWords
+unfolding planRoomWords
 returns-2 c =
     let d = c .before .before .before .before .args .d .now in
     let m : 64 ≡ min (majorsOf d) 64 = omega arith in

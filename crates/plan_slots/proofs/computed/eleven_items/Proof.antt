@@ -9,8 +9,8 @@ use Rattle.plan_slots.specs.Slots.{elevenRight}
 use Rattle.words.specs.Found.{itemOf}
 use Rattle.plan_slots.specs.Items.{overItems}
 use Rattle.plan_slots.proofs.ItemLaws.{zero-right, stage-next, stage-eight, stage-fault, stage-end}
-use Rattle.plan_slots.proofs.RightLaws.{eleven-zero}
-use Rattle.plan_slots.proofs.RunLaws.{eleven-eight}
+use Rattle.plan_slots.proofs.SlotTestLaws.{eleven-zero}
+use Rattle.plan_slots.proofs.EmptyRunLaws.{eleven-eight}
 use Rattle.plan_slots.proofs.computed.eleven_items.Statement.{statement}
 use Rattle.plan_slots.proofs.computed.eleven_items.Tie as tie
 
@@ -27,15 +27,6 @@ loop-holds c =
     let o = c .before .before .args in
     (omega arith, omega arith, zero-right (elevenRight (o .d .now) (o .p)) (o .s) (eleven-zero (o .d .now) (o .p) (o .s)))
 
-eighth-empty-requires : tie.Need-eighth-empty-requires Inv-loop μ-loop
-eighth-empty-requires c κs = search needs
-
-add-q : tie.Need-add-q Inv-loop μ-loop
-add-q c = search needs
-
-loop-less : tie.Need-loop-less Inv-loop μ-loop
-loop-less c = search needs
-
 loop-again : tie.Need-loop-again Inv-loop μ-loop
 loop-again c =
     let l = c .before .before .before in
@@ -44,27 +35,12 @@ loop-again c =
     let (fits, on) = stage-eight (elevenRight (o .d .now) (o .p)) (o .s) (l .loop .q) _ (l .loop .inv .2) (c .before .before .loop-test .taken) eight in
     (omega arith, fits, on)
 
-eleven-right-requires : tie.Need-eleven-right-requires Inv-loop μ-loop
-eleven-right-requires c κs = search needs
-
-add-q-2 : tie.Need-add-q-2 Inv-loop μ-loop
-add-q-2 c = search needs
-
-loop-less-2 : tie.Need-loop-less-2 Inv-loop μ-loop
-loop-less-2 c = search needs
-
 loop-again-2 : tie.Need-loop-again-2 Inv-loop μ-loop
 loop-again-2 c =
     let t = c .before .before .before .before in
     let l = t .before in
     let o = l .before .before .before .args in
     (omega arith, omega arith, stage-next (elevenRight (o .d .now) (o .p)) (o .s) (l .loop .q) _ (l .loop .inv .2) (t .loop-test .taken) (sym (c .before .eleven-right .ensures) ∙ c .if2 .taken))
-
-mul-t10 : tie.Need-mul-t10 Inv-loop μ-loop
-mul-t10 c = search needs
-
-add-t11 : tie.Need-add-t11 Inv-loop μ-loop
-add-t11 c = search needs
 
 returns : tie.Need-returns Inv-loop μ-loop
 returns c =
@@ -82,19 +58,5 @@ returns-2 c =
 pub eleven-items-spec : {M : Type 1} → statement M
 eleven-items-spec =
     tie.close
-    (tie.spec
-    Inv-loop
-    μ-loop
-    loop-holds
-    eighth-empty-requires
-    add-q
-    loop-less
-    loop-again
-    eleven-right-requires
-    add-q-2
-    loop-less-2
-    loop-again-2
-    mul-t10
-    add-t11
-    returns
-    returns-2)
+    (tie.spec Inv-loop μ-loop loop-holds (λ c κs. search needs) (λ c. search needs) (λ c. search needs) loop-again (λ c κs. search needs)
+    (λ c. search needs) (λ c. search needs) loop-again-2 (λ c. search needs) (λ c. search needs) returns returns-2)

@@ -6,21 +6,14 @@ use Rattle.plan_slots.proofs.PutLaws.{filled-with}
 use Rattle.plan_slots.proofs.computed.eleven_part.Statement.{statement}
 use Rattle.plan_slots.proofs.computed.eleven_part.Tie as tie
 
-fill-reads-requires : tie.Need-fill-reads-requires
-fill-reads-requires c κs = search needs
-
 eleven-stages-requires : tie.Need-eleven-stages-requires
 eleven-stages-requires c κs =
-    let s = c .before .before .before .before .before .before .before in
+    let at-fill-reads = c .before .before .before in
+    let s = at-fill-reads .before .before .before .before in
     let o = s .args in
-    (s .pre .0, filled-with (o .table .now) _ (readPuts (o .d .now) (o .p)) (s .pre .2) (c .before .before .before .fill-reads .ensures))
-
-same-length : tie.Need-same-length
-same-length c = search needs
-
-returns : tie.Need-returns
-returns c = search needs
+    (s .pre .0, filled-with (o .table .now) _ (readPuts (o .d .now) (o .p)) (s .pre .2) (at-fill-reads .fill-reads .ensures))
 
 pub eleven-part-spec : {M : Type 1} → statement M
 eleven-part-spec =
-    tie.close (tie.spec fill-reads-requires eleven-stages-requires same-length returns)
+    tie.close
+    (tie.spec (λ c κs. search needs) eleven-stages-requires (λ c. search needs) (λ c. search needs))

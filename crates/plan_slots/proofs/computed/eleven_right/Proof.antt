@@ -1,13 +1,10 @@
--- `plan_slots::computed::eleven_right` meets its contract. One law of RightLaws for each way out.
+-- `plan_slots::computed::eleven_right` meets its contract. One law of SlotTestLaws for each way out.
 -- Assumes nothing.
 use native.Mathlib.Omega.{arith}
 use borrow.Author.Needs.{needs}
-use Rattle.plan_slots.proofs.RightLaws.{eleven-empty, eleven-carried, eleven-read, eleven-unread}
+use Rattle.plan_slots.proofs.SlotTestLaws.{eleven-empty, eleven-carried, eleven-read, eleven-unread}
 use Rattle.plan_slots.proofs.computed.eleven_right.Statement.{statement}
 use Rattle.plan_slots.proofs.computed.eleven_right.Tie as tie
-
-slot-requires : tie.Need-slot-requires
-slot-requires c κs = search needs
 
 returns : tie.Need-returns
 returns c =
@@ -15,9 +12,6 @@ returns c =
     let s = a .before .before .before in
     let o = s .args in
     eleven-empty (o .d .now) (o .table .now) (o .p) (o .s) (o .q) (a .slot .result) (s .pre .2) (a .slot .ensures) (c .if1 .taken)
-
-top-power-requires : tie.Need-top-power-requires
-top-power-requires c κs = search needs
 
 add-slot : tie.Need-add-slot
 add-slot c = omega (arith, c .top-power .ensures .1)
@@ -35,15 +29,6 @@ returns-2 c =
     let o = s .args in
     eleven-carried (o .d .now) (o .table .now) (o .p) (o .s) (o .q) (a .slot .result) (s .pre .2) (a .slot .ensures) (m .before .if1 .left) (m .top-power .result) (c .before .slot2 .result) (m .top-power .ensures .0) (c .before .slot2 .ensures) (c .if2 .taken)
 
-look-up-requires : tie.Need-look-up-requires
-look-up-requires c κs = search needs
-
-enum-told : tie.Need-enum-told
-enum-told c = search needs
-
-enum-told-2 : tie.Need-enum-told-2
-enum-told-2 c = search needs
-
 returns-3 : tie.Need-returns-3
 returns-3 c =
     let k = c .before .before in
@@ -52,7 +37,9 @@ returns-3 c =
     let a = m .before .before in
     let s = a .before .before .before in
     let o = s .args in
-    eleven-read (o .d .now) (o .table .now) (o .p) (o .s) (o .q) (a .slot .result) (s .pre .2) (a .slot .ensures) (m .before .if1 .left) (m .top-power .result) (b .slot2 .result) (m .top-power .ensures .0) (b .slot2 .ensures) (k .before .if2 .left) (s .pre .4) (k .look-up .result) (k .look-up .ensures) _ (c .enum-told .given .1)
+    eleven-read (o .d .now) (o .table .now) (o .p) (o .s) (o .q) (a .slot .result) (s .pre .2) (a .slot .ensures) (m .before .if1 .left) (m .top-power .result)
+    (b .slot2 .result) (m .top-power .ensures .0) (b .slot2 .ensures) (k .before .if2 .left) (s .pre .4) (k .look-up .result) (k .look-up .ensures) _
+    (c .enum-told .given .1)
 
 returns-4 : tie.Need-returns-4
 returns-4 c =
@@ -62,20 +49,12 @@ returns-4 c =
     let a = m .before .before in
     let s = a .before .before .before in
     let o = s .args in
-    eleven-unread (o .d .now) (o .table .now) (o .p) (o .s) (o .q) (a .slot .result) (s .pre .2) (a .slot .ensures) (m .before .if1 .left) (m .top-power .result) (b .slot2 .result) (m .top-power .ensures .0) (b .slot2 .ensures) (k .before .if2 .left) (s .pre .4) (k .look-up .result) (k .look-up .ensures) (c .enum-told2 .given .1)
+    eleven-unread (o .d .now) (o .table .now) (o .p) (o .s) (o .q) (a .slot .result) (s .pre .2) (a .slot .ensures) (m .before .if1 .left) (m .top-power .result)
+    (b .slot2 .result) (m .top-power .ensures .0) (b .slot2 .ensures) (k .before .if2 .left) (s .pre .4) (k .look-up .result) (k .look-up .ensures)
+    (c .enum-told2 .given .1)
 
 pub eleven-right-spec : {M : Type 1} → statement M
 eleven-right-spec =
     tie.close
-    (tie.spec
-    slot-requires
-    returns
-    top-power-requires
-    add-slot
-    slot-requires-2
-    returns-2
-    look-up-requires
-    enum-told
-    enum-told-2
-    returns-3
-    returns-4)
+    (tie.spec (λ c κs. search needs) returns (λ c κs. search needs) add-slot slot-requires-2 returns-2 (λ c κs. search needs)
+    (λ c. search needs) (λ c. search needs) returns-3 returns-4)

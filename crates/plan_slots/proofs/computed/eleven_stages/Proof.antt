@@ -26,18 +26,6 @@ loop-holds c =
     let o = s .args in
     (omega arith, stages-all (o .d .now) (elevenRight (o .d .now) (o .p)) (o .p) (o .body .stages) (s .pre .0 .stages))
 
-eleven-items-requires : tie.Need-eleven-items-requires Inv-loop μ-loop
-eleven-items-requires c κs = search needs
-
-enum-told : tie.Need-enum-told Inv-loop μ-loop
-enum-told c = search needs
-
-add-s : tie.Need-add-s Inv-loop μ-loop
-add-s c = search needs
-
-loop-less : tie.Need-loop-less Inv-loop μ-loop
-loop-less c = search needs
-
 loop-again : tie.Need-loop-again Inv-loop μ-loop
 loop-again c =
     let k = c .before .before in
@@ -45,14 +33,12 @@ loop-again c =
     let o = l .before .before .before .args in
     (omega (arith, k .before .if1 .taken), stages-next (overItems (elevenRight (o .d .now) (o .p))) (o .body .stages) (l .loop .s) _ (k .before .if1 .taken) (l .loop .inv .1) (item-none _ (sym (k .eleven-items .ensures) ∙ c .enum-told .given .1)))
 
-enum-known-i : tie.Need-enum-known-i Inv-loop μ-loop
-enum-known-i c = search needs
-
 returns : tie.Need-returns Inv-loop μ-loop
 returns c =
     let k = c .before .before .before in
     let l = k .before .before .before in
-    let o = l .before .before .before .args in
+    let start = l .before .before .before in
+    let o = start .args in
     ap itemOf (stages-fault (overItems (elevenRight (o .d .now) (o .p))) (o .body .stages) (l .loop .s) _ (k .before .if1 .taken) (l .loop .inv .1) _ (item-some _ _ (sym (k .eleven-items .ensures) ∙ c .before .i .given .1)))
 
 returns-2 : tie.Need-returns-2 Inv-loop μ-loop
@@ -64,15 +50,5 @@ returns-2 c =
 pub eleven-stages-spec : {M : Type 1} → statement M
 eleven-stages-spec =
     tie.close
-    (tie.spec
-    Inv-loop
-    μ-loop
-    loop-holds
-    eleven-items-requires
-    enum-told
-    add-s
-    loop-less
-    loop-again
-    enum-known-i
-    returns
-    returns-2)
+    (tie.spec Inv-loop μ-loop loop-holds (λ c κs. search needs) (λ c. search needs) (λ c. search needs) (λ c. search needs) loop-again
+    (λ c. search needs) returns returns-2)

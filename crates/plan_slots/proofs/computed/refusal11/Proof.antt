@@ -7,19 +7,12 @@ use lib.ListN.{replicate}
 use Rattle.plan_slots.proofs.computed.refusal11.Statement.{statement}
 use Rattle.plan_slots.proofs.computed.refusal11.Tie as tie
 
-eleven-parts-requires : tie.Need-eleven-parts-requires
-eleven-parts-requires c κs = search needs
-
-clear-requires : tie.Need-clear-requires
-clear-requires c κs = search needs
-
-same-length : tie.Need-same-length
-same-length c = search needs
-
 returns : tie.Need-returns
 returns c =
-    let k = c .before .before .before .before .before .before in
-    (k .eleven-parts .ensures, c .before .before .clear .ensures ∙ ap (λ (n : ℕ). replicate n 0) (c .before .before .before .before .before .room .given))
+    let at-room = c .before .before .before .before .before in
+    let k = at-room .before in
+    (k .eleven-parts .ensures, c .before .before .clear .ensures ∙ ap (λ (n : ℕ). replicate n 0) (at-room .room .given))
 
 pub refusal11-spec : {M : Type 1} → statement M
-refusal11-spec = tie.close (tie.spec eleven-parts-requires clear-requires same-length returns)
+refusal11-spec = tie.close
+    (tie.spec (λ c κs. search needs) (λ c κs. search needs) (λ c. search needs) returns)

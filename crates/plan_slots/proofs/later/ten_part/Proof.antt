@@ -29,48 +29,35 @@ loop-holds c =
     let o = s .args in
     (s .pre .1, refl, stages-first (o .d .now) (tenRight (o .d .now) (o .p)) (o .p) (o .body .stages) (s .pre .0 .stages) (s .pre .1) (ten-first (o .d .now) (o .p)))
 
-add-if1 : tie.Need-add-if1 Inv-loop μ-loop
-add-if1 c = search needs
-
 ten-stage-requires : tie.Need-ten-stage-requires Inv-loop μ-loop
 ten-stage-requires c κs =
     let l = c .before .before .before in
     let s = l .before .before .before in
     (s .pre .0, c .before .if1 .taken, omega (arith, l .loop .inv .1, s .pre .2))
 
-enum-told : tie.Need-enum-told Inv-loop μ-loop
-enum-told c = search needs
-
-add-s : tie.Need-add-s Inv-loop μ-loop
-add-s c = search needs
-
-loop-less : tie.Need-loop-less Inv-loop μ-loop
-loop-less c = search needs
-
 loop-again : tie.Need-loop-again Inv-loop μ-loop
 loop-again c =
-    let k = c .before .before .before .before in
-    let l = c .before .before .before .before .before .before .before .before in
+    let at-table = c .before .before .before in
+    let k = at-table .before in
+    let at-if1 = k .before .before in
+    let l = at-if1 .before .before in
     let s = l .before .before .before in
     let o = s .args in
-    (c .before .before .before .before .before .before .if1 .taken, c .before .before .before .table .given ∙ l .loop .inv .1, stages-next (overItems (tenRight (o .d .now) (o .p))) (o .body .stages) (l .loop .s + 1) _ (c .before .before .before .before .before .before .if1 .taken) (l .loop .inv .2) (item-none _ (sym (k .ten-stage .ensures) ∙ c .enum-told .given .1)))
-
-enum-known-i : tie.Need-enum-known-i Inv-loop μ-loop
-enum-known-i c = search needs
+    (at-if1 .if1 .taken, at-table .table .given ∙ l .loop .inv .1, stages-next (overItems (tenRight (o .d .now) (o .p))) (o .body .stages) (l .loop .s + 1) _ (at-if1 .if1 .taken) (l .loop .inv .2) (item-none _ (sym (k .ten-stage .ensures) ∙ c .enum-told .given .1)))
 
 same-length : tie.Need-same-length Inv-loop μ-loop
-same-length c = c .before .before .before .before .table .given ∙ c .before .before .before .before .before .before .before .before .before .loop .inv .1
+same-length c =
+    let at-table = c .before .before .before .before in
+    let at-loop = at-table .before .before .before .before .before in
+    at-table .table .given ∙ at-loop .loop .inv .1
 
 returns : tie.Need-returns Inv-loop μ-loop
 returns c =
     let k = c .before .before .before .before .before in
-    let l = c .before .before .before .before .before .before .before .before .before in
+    let l = k .before .before .before .before in
     let s = l .before .before .before in
     let o = s .args in
-    (ap itemOf (stages-fault (overItems (tenRight (o .d .now) (o .p))) (o .body .stages) (l .loop .s + 1) _ (c .before .before .before .before .before .before .before .if1 .taken) (l .loop .inv .2) _ (item-some _ _ (sym (k .ten-stage .ensures) ∙ c .before .i .given .1))))
-
-same-length-2 : tie.Need-same-length-2 Inv-loop μ-loop
-same-length-2 c = search needs
+    (ap itemOf (stages-fault (overItems (tenRight (o .d .now) (o .p))) (o .body .stages) (l .loop .s + 1) _ (k .before .before .if1 .taken) (l .loop .inv .2) _ (item-some _ _ (sym (k .ten-stage .ensures) ∙ c .before .i .given .1))))
 
 returns-2 : tie.Need-returns-2 Inv-loop μ-loop
 returns-2 c =
@@ -81,18 +68,5 @@ returns-2 c =
 pub ten-part-spec : {M : Type 1} → statement M
 ten-part-spec =
     tie.close
-    (tie.spec
-    Inv-loop
-    μ-loop
-    loop-holds
-    add-if1
-    ten-stage-requires
-    enum-told
-    add-s
-    loop-less
-    loop-again
-    enum-known-i
-    same-length
-    returns
-    same-length-2
-    returns-2)
+    (tie.spec Inv-loop μ-loop loop-holds (λ c. search needs) ten-stage-requires (λ c. search needs) (λ c. search needs) (λ c. search needs)
+    loop-again (λ c. search needs) same-length returns (λ c. search needs) returns-2)

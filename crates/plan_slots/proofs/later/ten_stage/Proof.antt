@@ -6,21 +6,14 @@ use Rattle.plan_slots.proofs.PutLaws.{filled-with}
 use Rattle.plan_slots.proofs.later.ten_stage.Statement.{statement}
 use Rattle.plan_slots.proofs.later.ten_stage.Tie as tie
 
-fill-positions-requires : tie.Need-fill-positions-requires
-fill-positions-requires c κs = search needs
-
 ten-items-requires : tie.Need-ten-items-requires
 ten-items-requires c κs =
-    let s = c .before .before .before .before .before .before .before in
+    let at-fill-positions = c .before .before .before in
+    let s = at-fill-positions .before .before .before .before in
     let o = s .args in
-    (s .pre .0, s .pre .1, filled-with (o .table .now) _ (positionPuts (o .d .now) (o .p) (o .s)) (s .pre .2) (c .before .before .before .fill-positions .ensures))
-
-same-length : tie.Need-same-length
-same-length c = search needs
-
-returns : tie.Need-returns
-returns c = search needs
+    (s .pre .0, s .pre .1, filled-with (o .table .now) _ (positionPuts (o .d .now) (o .p) (o .s)) (s .pre .2) (at-fill-positions .fill-positions .ensures))
 
 pub ten-stage-spec : {M : Type 1} → statement M
 ten-stage-spec =
-    tie.close (tie.spec fill-positions-requires ten-items-requires same-length returns)
+    tie.close
+    (tie.spec (λ c κs. search needs) ten-items-requires (λ c. search needs) (λ c. search needs))

@@ -8,7 +8,7 @@ use lib.Dec.{eqb}
 use Rattle.words.specs.Pins.{empty}
 use Rattle.words.specs.Tests.{allBelow}
 use Rattle.plan_slots.specs.Items.{emptyFrom}
-use Rattle.plan_slots.proofs.RunLaws.{common-more}
+use Rattle.plan_slots.proofs.EmptyRunLaws.{common-more}
 use Rattle.plan_slots.proofs.runs.eight_empty.Statement.{statement}
 use Rattle.plan_slots.proofs.runs.eight_empty.Tie as tie
 
@@ -21,18 +21,6 @@ abbrev μ-loop : tie.MeasureT-loop
 loop-holds : tie.Need-loop-holds Inv-loop μ-loop
 unfolding allBelow
 loop-holds c = (omega arith, omega arith, refl)
-
-add-slot : tie.Need-add-slot Inv-loop μ-loop
-add-slot c = search needs
-
-slot-requires : tie.Need-slot-requires Inv-loop μ-loop
-slot-requires c κs = search needs
-
-add-k : tie.Need-add-k Inv-loop μ-loop
-add-k c = search needs
-
-loop-less : tie.Need-loop-less Inv-loop μ-loop
-loop-less c = search needs
 
 loop-again : tie.Need-loop-again Inv-loop μ-loop
 loop-again c =
@@ -51,4 +39,5 @@ returns c =
 pub eight-empty-spec : {M : Type 1} → statement M
 eight-empty-spec =
     tie.close
-    (tie.spec Inv-loop μ-loop loop-holds add-slot slot-requires add-k loop-less loop-again returns)
+    (tie.spec Inv-loop μ-loop loop-holds (λ c. search needs) (λ c κs. search needs) (λ c. search needs) (λ c. search needs) loop-again
+    returns)

@@ -2,12 +2,9 @@
 -- Assumes nothing.
 use mathlib.Core.Path.{_∙_}
 use borrow.Author.Needs.{needs}
-use Rattle.plan_slots.proofs.RunLaws.{eighth-here, eighth-not}
+use Rattle.plan_slots.proofs.EmptyRunLaws.{eighth-here, eighth-not}
 use Rattle.plan_slots.proofs.runs.eighth_empty.Statement.{statement}
 use Rattle.plan_slots.proofs.runs.eighth_empty.Tie as tie
-
-eight-empty-requires : tie.Need-eight-empty-requires
-eight-empty-requires c κs = search needs
 
 returns : tie.Need-returns
 returns c =
@@ -20,4 +17,5 @@ returns-2 c =
     eighth-not (o .d .now) (o .p) (o .s) (o .q) (c .if1 .left)
 
 pub eighth-empty-spec : {M : Type 1} → statement M
-eighth-empty-spec = tie.close (tie.spec eight-empty-requires returns returns-2)
+eighth-empty-spec = tie.close
+    (tie.spec (λ c κs. search needs) returns returns-2)

@@ -8,15 +8,6 @@ use Rattle.plan_slots.specs.Items.{eighthEmpty}
 use Rattle.plan_slots.proofs.standing.nine_empty.Statement.{statement}
 use Rattle.plan_slots.proofs.standing.nine_empty.Tie as tie
 
-eighth-empty-requires : tie.Need-eighth-empty-requires
-eighth-empty-requires c κs = search needs
-
-add-eighth-empty : tie.Need-add-eighth-empty
-add-eighth-empty c = search needs
-
-eighth-empty-requires-2 : tie.Need-eighth-empty-requires-2
-eighth-empty-requires-2 c κs = search needs
-
 returns : tie.Need-returns
 returns c =
     let r = c .before .before in
@@ -33,4 +24,4 @@ returns-2 c =
 pub nine-empty-spec : {M : Type 1} → statement M
 nine-empty-spec =
     tie.close
-    (tie.spec eighth-empty-requires add-eighth-empty eighth-empty-requires-2 returns returns-2)
+    (tie.spec (λ c κs. search needs) (λ c. search needs) (λ c κs. search needs) returns returns-2)

@@ -9,7 +9,7 @@ use Rattle.plan_slots.specs.Slots.{nineRight}
 use Rattle.words.specs.Found.{itemOf}
 use Rattle.plan_slots.specs.Items.{overItems}
 use Rattle.plan_slots.proofs.ItemLaws.{stage-next, stage-eight, stage-fault, stage-end}
-use Rattle.plan_slots.proofs.RunLaws.{nine-eight}
+use Rattle.plan_slots.proofs.EmptyRunLaws.{nine-eight}
 use Rattle.plan_slots.proofs.standing.nine_later.Statement.{statement}
 use Rattle.plan_slots.proofs.standing.nine_later.Tie as tie
 
@@ -24,15 +24,6 @@ abbrev μ-loop : tie.MeasureT-loop
 loop-holds : tie.Need-loop-holds Inv-loop μ-loop
 loop-holds c = (omega arith, omega arith, refl)
 
-nine-empty-requires : tie.Need-nine-empty-requires Inv-loop μ-loop
-nine-empty-requires c κs = search needs
-
-add-x : tie.Need-add-x Inv-loop μ-loop
-add-x c = search needs
-
-loop-less : tie.Need-loop-less Inv-loop μ-loop
-loop-less c = search needs
-
 loop-again : tie.Need-loop-again Inv-loop μ-loop
 loop-again c =
     let l = c .before .before .before in
@@ -41,27 +32,12 @@ loop-again c =
     let (fits, on) = stage-eight (nineRight (o .d .now) (o .p)) (o .s) (l .loop .x) _ (l .loop .inv .2) (c .before .before .loop-test .taken) eight in
     (omega arith, fits, on)
 
-nine-right-requires : tie.Need-nine-right-requires Inv-loop μ-loop
-nine-right-requires c κs = search needs
-
-add-x-2 : tie.Need-add-x-2 Inv-loop μ-loop
-add-x-2 c = search needs
-
-loop-less-2 : tie.Need-loop-less-2 Inv-loop μ-loop
-loop-less-2 c = search needs
-
 loop-again-2 : tie.Need-loop-again-2 Inv-loop μ-loop
 loop-again-2 c =
     let t = c .before .before .before .before in
     let l = t .before in
     let o = l .before .before .args in
     (omega arith, omega arith, stage-next (nineRight (o .d .now) (o .p)) (o .s) (l .loop .x) _ (l .loop .inv .2) (t .loop-test .taken) (sym (c .before .nine-right .ensures) ∙ c .if2 .taken))
-
-mul-t9 : tie.Need-mul-t9 Inv-loop μ-loop
-mul-t9 c = search needs
-
-add-t10 : tie.Need-add-t10 Inv-loop μ-loop
-add-t10 c = search needs
 
 returns : tie.Need-returns Inv-loop μ-loop
 returns c =
@@ -79,19 +55,5 @@ returns-2 c =
 pub nine-later-spec : {M : Type 1} → statement M
 nine-later-spec =
     tie.close
-    (tie.spec
-    Inv-loop
-    μ-loop
-    loop-holds
-    nine-empty-requires
-    add-x
-    loop-less
-    loop-again
-    nine-right-requires
-    add-x-2
-    loop-less-2
-    loop-again-2
-    mul-t9
-    add-t10
-    returns
-    returns-2)
+    (tie.spec Inv-loop μ-loop loop-holds (λ c κs. search needs) (λ c. search needs) (λ c. search needs) loop-again (λ c κs. search needs)
+    (λ c. search needs) (λ c. search needs) loop-again-2 (λ c. search needs) (λ c. search needs) returns returns-2)

@@ -26,27 +26,12 @@ loop-holds c =
     let o = s .args in
     (omega arith, stages-all (o .d .now) (nineRight (o .d .now) (o .p)) (o .p) (o .body .stages) (s .pre .0 .stages))
 
-nine-items-requires : tie.Need-nine-items-requires Inv-loop μ-loop
-nine-items-requires c κs = search needs
-
-enum-told : tie.Need-enum-told Inv-loop μ-loop
-enum-told c = search needs
-
-add-s : tie.Need-add-s Inv-loop μ-loop
-add-s c = search needs
-
-loop-less : tie.Need-loop-less Inv-loop μ-loop
-loop-less c = search needs
-
 loop-again : tie.Need-loop-again Inv-loop μ-loop
 loop-again c =
     let k = c .before .before in
     let l = k .before .before .before in
     let o = l .before .before .args in
     (omega (arith, k .before .if1 .taken), stages-next (overItems (nineRight (o .d .now) (o .p))) (o .body .stages) (l .loop .s) _ (k .before .if1 .taken) (l .loop .inv .1) (item-none _ (sym (k .nine-items .ensures) ∙ c .enum-told .given .1)))
-
-enum-known-i : tie.Need-enum-known-i Inv-loop μ-loop
-enum-known-i c = search needs
 
 returns : tie.Need-returns Inv-loop μ-loop
 returns c =
@@ -64,15 +49,5 @@ returns-2 c =
 pub nine-part-spec : {M : Type 1} → statement M
 nine-part-spec =
     tie.close
-    (tie.spec
-    Inv-loop
-    μ-loop
-    loop-holds
-    nine-items-requires
-    enum-told
-    add-s
-    loop-less
-    loop-again
-    enum-known-i
-    returns
-    returns-2)
+    (tie.spec Inv-loop μ-loop loop-holds (λ c κs. search needs) (λ c. search needs) (λ c. search needs) (λ c. search needs) loop-again
+    (λ c. search needs) returns returns-2)

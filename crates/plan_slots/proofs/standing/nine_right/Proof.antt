@@ -1,23 +1,11 @@
--- `plan_slots::standing::nine_right` meets its contract. One law of RightLaws for each way out.
+-- `plan_slots::standing::nine_right` meets its contract. One law of SlotTestLaws for each way out.
 -- Assumes nothing.
 use mathlib.Core.Path.{ap, _∙_}
 use borrow.Author.Needs.{needs}
 use Rattle.plan_slots.specs.Slots.{pinRight}
-use Rattle.plan_slots.proofs.RightLaws.{nine-level, nine-position}
+use Rattle.plan_slots.proofs.SlotTestLaws.{nine-level, nine-position}
 use Rattle.plan_slots.proofs.standing.nine_right.Statement.{statement}
 use Rattle.plan_slots.proofs.standing.nine_right.Tie as tie
-
-add-slot : tie.Need-add-slot
-add-slot c = search needs
-
-slot-requires : tie.Need-slot-requires
-slot-requires c κs = search needs
-
-pin-right-requires : tie.Need-pin-right-requires
-pin-right-requires c κs = search needs
-
-slot-right-requires : tie.Need-slot-right-requires
-slot-right-requires c κs = search needs
 
 returns : tie.Need-returns
 returns c =
@@ -35,10 +23,4 @@ returns-2 c =
 pub nine-right-spec : {M : Type 1} → statement M
 nine-right-spec =
     tie.close
-    (tie.spec
-    add-slot
-    slot-requires
-    pin-right-requires
-    slot-right-requires
-    returns
-    returns-2)
+    (tie.spec (λ c. search needs) (λ c κs. search needs) (λ c κs. search needs) (λ c κs. search needs) returns returns-2)

@@ -1,6 +1,6 @@
 -- `plan_slots::standing::pin_right` meets its contract. Both ways out.
 -- Assumes nothing.
-use Rattle.plan_slots.proofs.RightLaws.{pin-empty, pin-other}
+use Rattle.plan_slots.proofs.SlotTestLaws.{pin-empty, pin-other}
 use Rattle.plan_slots.proofs.standing.pin_right.Statement.{statement}
 use Rattle.plan_slots.proofs.standing.pin_right.Tie as tie
 
@@ -11,4 +11,5 @@ returns-2 : tie.Need-returns-2
 returns-2 c = pin-other (c .before .args .pin) (c .if1 .left)
 
 pub pin-right-spec : {M : Type 1} → statement M
-pin-right-spec = tie.close (tie.spec returns returns-2)
+pin-right-spec = tie.close
+    (tie.spec returns returns-2)

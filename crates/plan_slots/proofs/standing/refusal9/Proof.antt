@@ -37,33 +37,21 @@ body-at-requires c κs =
     let s = l .before .before .before .before in
     form-ready (s .args .d .now) (s .pre .0) _ (l .loop .p) (l .loop .at) (l .before .before .parts-of .ensures .0) (c .loop-test .taken) (l .loop .inv .1)
 
-nine-part-requires : tie.Need-nine-part-requires Inv-loop μ-loop
-nine-part-requires c κs = search needs
-
-enum-told : tie.Need-enum-told Inv-loop μ-loop
-enum-told c = search needs
-
-add-p : tie.Need-add-p Inv-loop μ-loop
-add-p c = search needs
-
-loop-less : tie.Need-loop-less Inv-loop μ-loop
-loop-less c = search needs
-
 loop-again : tie.Need-loop-again Inv-loop μ-loop
 loop-again c =
     let k = c .before .before in
-    let l = k .before .before .before in
-    let d = l .before .before .before .before .args .d .now in
-    (omega (arith, k .before .before .loop-test .taken), k .before .body-at .ensures .end, pass-next (λ q. badItem d (nineRight d q) q) _ (l .loop .p) _ (l .loop .inv .2) (k .before .before .loop-test .taken) (k .nine-part .result) (k .nine-part .ensures) (c .enum-told .given .1))
-
-enum-known-i : tie.Need-enum-known-i Inv-loop μ-loop
-enum-known-i c = search needs
+    let at-loop-test = k .before .before in
+    let l = at-loop-test .before in
+    let start = l .before .before .before .before in
+    let d = start .args .d .now in
+    (omega (arith, at-loop-test .loop-test .taken), k .before .body-at .ensures .end, pass-next (λ q. badItem d (nineRight d q) q) _ (l .loop .p) _ (l .loop .inv .2) (at-loop-test .loop-test .taken) (k .nine-part .result) (k .nine-part .ensures) (c .enum-told .given .1))
 
 returns : tie.Need-returns Inv-loop μ-loop
 returns c =
     let k = c .before .before .before in
     let l = k .before .before .before in
-    let d = l .before .before .before .before .args .d .now in
+    let start = l .before .before .before .before in
+    let d = start .args .d .now in
     pass-fault (λ q. badItem d (nineRight d q) q) _ (l .loop .p) _ (l .loop .inv .2) (k .before .before .loop-test .taken) (k .nine-part .result) (k .nine-part .ensures) _ (c .before .i .given .1)
 
 returns-2 : tie.Need-returns-2 Inv-loop μ-loop
@@ -75,18 +63,5 @@ returns-2 c =
 pub refusal9-spec : {M : Type 1} → statement M
 refusal9-spec =
     tie.close
-    (tie.spec
-    Inv-loop
-    μ-loop
-    parts-of-requires
-    first-body-requires
-    loop-holds
-    body-at-requires
-    nine-part-requires
-    enum-told
-    add-p
-    loop-less
-    loop-again
-    enum-known-i
-    returns
-    returns-2)
+    (tie.spec Inv-loop μ-loop parts-of-requires first-body-requires loop-holds body-at-requires (λ c κs. search needs) (λ c. search needs)
+    (λ c. search needs) (λ c. search needs) loop-again (λ c. search needs) returns returns-2)

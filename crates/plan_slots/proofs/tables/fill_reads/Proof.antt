@@ -17,9 +17,6 @@ Inv-loop d p body table₀ j₀ table j = (j ≤ 8192) × (length table ≡ leng
 abbrev μ-loop : tie.MeasureT-loop
 μ-loop d p body table₀ j₀ table j = 8192 - j
 
-clear-requires : tie.Need-clear-requires Inv-loop μ-loop
-clear-requires c κs = search needs
-
 loop-holds : tie.Need-loop-holds Inv-loop μ-loop
 loop-holds c =
     let a = c .before .before in
@@ -28,51 +25,30 @@ loop-holds c =
     let p = o .p in
     (omega arith, refl, fill-start (λ k. slotAt d p 0 (8192 + k)) (λ k. 0) _ (length (o .table .now)) (a .clear .ensures))
 
-add-put-slot : tie.Need-add-put-slot Inv-loop μ-loop
-add-put-slot c = search needs
-
-put-slot-requires : tie.Need-put-slot-requires Inv-loop μ-loop
-put-slot-requires c κs = search needs
-
-add-j : tie.Need-add-j Inv-loop μ-loop
-add-j c = search needs
-
-loop-less : tie.Need-loop-less Inv-loop μ-loop
-loop-less c = search needs
-
 loop-again : tie.Need-loop-again Inv-loop μ-loop
 loop-again c =
     let l = c .before .before .before .before .before in
-    let o = l .before .before .before .before .before .before .before .args in
+    let way = l .before .before .before .before in
+    let start = way .before .before .before in
+    let o = start .args in
     let d = o .d .now in
     let p = o .p in
     let (size, is) = fill-more (λ k. slotAt d p 0 (8192 + k)) (λ k. 0) (l .loop .table) _ (l .loop .j) (l .loop .inv .2) (c .before .before .put-slot .ensures) in
     (omega arith, size ∙ l .loop .inv .1, is)
 
-same-length : tie.Need-same-length Inv-loop μ-loop
-same-length c = search needs
-
 returns : tie.Need-returns Inv-loop μ-loop
 unfolding readPuts
 returns c =
     let l = c .before in
-    let o = l .before .before .before .before .before .before .before .args in
+    let at-clear = l .before .before .before in
+    let start = at-clear .before .before .before .before in
+    let o = start .args in
     let d = o .d .now in
     let p = o .p in
-    fill-end (λ k. slotAt d p 0 (8192 + k)) (λ k. 0) _ (l .loop .table) (length (o .table .now)) 8192 (l .loop .j) (l .before .before .before .clear .ensures) (l .loop .inv .1) (l .loop .inv .2) (omega arith)
+    fill-end (λ k. slotAt d p 0 (8192 + k)) (λ k. 0) _ (l .loop .table) (length (o .table .now)) 8192 (l .loop .j) (at-clear .clear .ensures) (l .loop .inv .1) (l .loop .inv .2) (omega arith)
 
 pub fill-reads-spec : {M : Type 1} → statement M
 fill-reads-spec =
     tie.close
-    (tie.spec
-    Inv-loop
-    μ-loop
-    clear-requires
-    loop-holds
-    add-put-slot
-    put-slot-requires
-    add-j
-    loop-less
-    loop-again
-    same-length
-    returns)
+    (tie.spec Inv-loop μ-loop (λ c κs. search needs) loop-holds (λ c. search needs) (λ c κs. search needs) (λ c. search needs)
+    (λ c. search needs) loop-again (λ c. search needs) returns)

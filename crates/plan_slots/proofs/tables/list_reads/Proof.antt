@@ -14,9 +14,6 @@ Inv-loop d p body table₀ list₀ n₀ j₀ table list n j = Listing d p table�
 abbrev μ-loop : tie.MeasureT-loop
 μ-loop d p body table₀ list₀ n₀ j₀ table list n j = 8192 - j
 
-clear-requires : tie.Need-clear-requires Inv-loop μ-loop
-clear-requires c κs = search needs
-
 loop-holds : tie.Need-loop-holds Inv-loop μ-loop
 loop-holds c =
     let a = c .before .before in
@@ -25,37 +22,34 @@ loop-holds c =
 
 list-slot-requires : tie.Need-list-slot-requires Inv-loop μ-loop
 list-slot-requires c κs =
-    let l = c .before .before .before in
+    let at-loop-test = c .before .before in
+    let l = at-loop-test .before in
     let a = l .before .before .before in
     let s = a .before .before .before .before .before in
     let o = s .args in (
       s .pre .0,
       s .pre .1,
-      c .before .before .loop-test .taken,
-      omega (arith, listing-length (o .d .now) (o .p) _ (o .list .now) (l .loop .table) (l .loop .list) (l .loop .n) (l .loop .j) (l .loop .inv), l .loop .inv .few, c .before .before .loop-test .taken, s .pre .3),
+      at-loop-test .loop-test .taken,
+      omega (arith, listing-length (o .d .now) (o .p) _ (o .list .now) (l .loop .table) (l .loop .list) (l .loop .n) (l .loop .j) (l .loop .inv), l .loop .inv .few, at-loop-test .loop-test .taken, s .pre .3),
       listing-filled (o .d .now) (o .p) _ (o .list .now) (l .loop .table) (l .loop .list) (l .loop .n) (l .loop .j) (l .loop .inv) (length (o .table .now)) (a .clear .ensures) (s .pre .2),
     )
-
-add-j : tie.Need-add-j Inv-loop μ-loop
-add-j c = search needs
-
-loop-less : tie.Need-loop-less Inv-loop μ-loop
-loop-less c = search needs
 
 loop-again : tie.Need-loop-again Inv-loop μ-loop
 loop-again c =
     let k = c .before .before .before .before in
-    let l = k .before .before .before .before in
-    let o = l .before .before .before .before .before .before .before .before .args in
-    listing-more (o .d .now) (o .p) _ (o .list .now) (l .loop .table) (l .loop .list) (l .loop .n) (l .loop .j) (l .loop .inv) _ _ _ (k .before .before .before .loop-test .taken) (k .list-slot .ensures)
-
-same-length : tie.Need-same-length Inv-loop μ-loop
-same-length c = search needs
+    let at-loop-test = k .before .before .before in
+    let l = at-loop-test .before in
+    let way = l .before .before .before .before in
+    let start = way .before .before .before .before in
+    let o = start .args in
+    listing-more (o .d .now) (o .p) _ (o .list .now) (l .loop .table) (l .loop .list) (l .loop .n) (l .loop .j) (l .loop .inv) _ _ _ (at-loop-test .loop-test .taken) (k .list-slot .ensures)
 
 same-length-2 : tie.Need-same-length-2 Inv-loop μ-loop
 same-length-2 c =
     let l = c .before in
-    let o = l .before .before .before .before .before .before .before .before .args in
+    let way = l .before .before .before .before in
+    let start = way .before .before .before .before in
+    let o = start .args in
     listing-length (o .d .now) (o .p) _ (o .list .now) (l .loop .table) (l .loop .list) (l .loop .n) (l .loop .j) (l .loop .inv)
 
 returns : tie.Need-returns Inv-loop μ-loop
@@ -68,15 +62,5 @@ returns c =
 pub list-reads-spec : {M : Type 1} → statement M
 list-reads-spec =
     tie.close
-    (tie.spec
-    Inv-loop
-    μ-loop
-    clear-requires
-    loop-holds
-    list-slot-requires
-    add-j
-    loop-less
-    loop-again
-    same-length
-    same-length-2
-    returns)
+    (tie.spec Inv-loop μ-loop (λ c κs. search needs) loop-holds list-slot-requires (λ c. search needs) (λ c. search needs) loop-again
+    (λ c. search needs) same-length-2 returns)

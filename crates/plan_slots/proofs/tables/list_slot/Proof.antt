@@ -7,44 +7,11 @@ use Rattle.plan_slots.proofs.ListedLaws.{slot-empty, slot-again, slot-n
 use Rattle.plan_slots.proofs.tables.list_slot.Statement.{statement}
 use Rattle.plan_slots.proofs.tables.list_slot.Tie as tie
 
-add-slot : tie.Need-add-slot
-add-slot c = search needs
-
-slot-requires : tie.Need-slot-requires
-slot-requires c κs = search needs
-
 returns : tie.Need-returns
 returns c =
     let a = c .before in
     let o = a .before .before .before .before .args in
     slot-empty (o .d .now) (o .p) (o .table .now) (o .list .now) (o .n) (o .j) (a .slot .result) (a .slot .ensures) (c .if1 .taken)
-
-look-up-requires : tie.Need-look-up-requires
-look-up-requires c κs = search needs
-
-enum-told : tie.Need-enum-told
-enum-told c = search needs
-
-enum-told-2 : tie.Need-enum-told-2
-enum-told-2 c = search needs
-
-put-requires : tie.Need-put-requires
-put-requires c κs = search needs
-
-cast-list : tie.Need-cast-list
-cast-list c = search needs
-
-mul-list : tie.Need-mul-list
-mul-list c = search needs
-
-slice-write-list : tie.Need-slice-write-list
-slice-write-list c = search needs
-
-add-result : tie.Need-add-result
-add-result c = search needs
-
-same-length : tie.Need-same-length
-same-length c = search needs
 
 returns-2 : tie.Need-returns-2
 returns-2 c =
@@ -54,12 +21,6 @@ returns-2 c =
     let s = a .before .before .before .before in
     let o = s .args in
     slot-again (o .d .now) (o .p) (o .table .now) (o .list .now) (o .n) (o .j) (a .slot .result) (a .slot .ensures) (t .if1 .left) (s .pre .2) (s .pre .4) (k .look-up .result) (k .look-up .ensures) _ (c .enum-told .given .1)
-
-same-length-2 : tie.Need-same-length-2
-same-length-2 c = search needs
-
-same-length-3 : tie.Need-same-length-3
-same-length-3 c = search needs
 
 returns-3 : tie.Need-returns-3
 returns-3 c =
@@ -75,20 +36,6 @@ returns-3 c =
 pub list-slot-spec : {M : Type 1} → statement M
 list-slot-spec =
     tie.close
-    (tie.spec
-    add-slot
-    slot-requires
-    returns
-    look-up-requires
-    enum-told
-    enum-told-2
-    put-requires
-    cast-list
-    mul-list
-    slice-write-list
-    add-result
-    same-length
-    returns-2
-    same-length-2
-    same-length-3
-    returns-3)
+    (tie.spec (λ c. search needs) (λ c κs. search needs) returns (λ c κs. search needs) (λ c. search needs) (λ c. search needs)
+    (λ c κs. search needs) (λ c. search needs) (λ c. search needs) (λ c. search needs) (λ c. search needs) (λ c. search needs) returns-2
+    (λ c. search needs) (λ c. search needs) returns-3)

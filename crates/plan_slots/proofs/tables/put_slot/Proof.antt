@@ -8,20 +8,11 @@ use Rattle.plan_slots.proofs.PutLaws.{held-none, held-one}
 use Rattle.plan_slots.proofs.tables.put_slot.Statement.{statement}
 use Rattle.plan_slots.proofs.tables.put_slot.Tie as tie
 
-slot-requires : tie.Need-slot-requires
-slot-requires c κs = search needs
-
 returns : tie.Need-returns
 returns c =
     let a = c .before in
     let o = a .before .before .before .args in
     held-none (o .table .now) _ (o .v) (sym (a .slot .ensures) ∙ c .if1 .taken)
-
-put-requires : tie.Need-put-requires
-put-requires c κs = search needs
-
-same-length : tie.Need-same-length
-same-length c = search needs
 
 returns-2 : tie.Need-returns-2
 returns-2 c =
@@ -32,4 +23,5 @@ returns-2 c =
     ∙ (ap (λ (x : ℕ). putIn (o .table .now) x (o .v)) (a .slot .ensures) ∙ held-one (o .table .now) _ (o .v) (λ e. t .if1 .left (a .slot .ensures ∙ e)))
 
 pub put-slot-spec : {M : Type 1} → statement M
-put-slot-spec = tie.close (tie.spec slot-requires returns put-requires same-length returns-2)
+put-slot-spec = tie.close
+    (tie.spec (λ c κs. search needs) returns (λ c κs. search needs) (λ c. search needs) returns-2)

@@ -8,14 +8,9 @@ use Rattle.plan_slots.proofs.tables.top_power.Tie as tie
 sub-result : tie.Need-sub-result
 sub-result c = power-is (c .args .q) (c .pre .0) (c .pre .1) .0
 
-cast-result : tie.Need-cast-result
-cast-result c = search needs
-
-shl-result : tie.Need-shl-result
-shl-result c = search needs
-
 returns : tie.Need-returns
 returns c = power-shifted (c .args .q) (c .pre .0) (c .pre .1)
 
 pub top-power-spec : {M : Type 1} → statement M
-top-power-spec = tie.close (tie.spec sub-result cast-result shl-result returns)
+top-power-spec = tie.close
+    (tie.spec sub-result (λ c. search needs) (λ c. search needs) returns)

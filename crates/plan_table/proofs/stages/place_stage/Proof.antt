@@ -2,14 +2,11 @@
 -- Assumes nothing.
 use mathlib.Core.Path.{ap, sym, subst, _∙_}
 use Prim.Native.Nat.{ℕ}
-use Rattle.plan_blocks.specs.Fill.{rankedRows, StagePlaceable}
-use Rattle.plan_blocks.proofs.StageLaws.{zeros-long}
+use Rattle.plan_blocks.specs.TableFill.{rankedRows, StagePlaceable}
+use Rattle.plan_blocks.proofs.MajorStageLaws.{zeros-long}
 use borrow.Author.Needs.{needs}
 use Rattle.plan_table.proofs.stages.place_stage.Statement.{statement}
 use Rattle.plan_table.proofs.stages.place_stage.Tie as tie
-
-array-borrow-prefix-counts : tie.Need-array-borrow-prefix-counts
-array-borrow-prefix-counts c = search needs
 
 slice-aggregate-rank-stage : tie.Need-slice-aggregate-rank-stage
 slice-aggregate-rank-stage c = zeros-long 1024 (c .before .before .before .before .args .blocks) (c .before .before .before .before .pre .few-blocks)
@@ -19,14 +16,13 @@ rank-stage-requires c κs =
     let t = c .before .before .before .before in
     subst (λ (B : ℕ). StagePlaceable (t .args .d .now) (t .args .room .now) B (t .args .base) (t .args .count)) (zeros-long 1024 (t .args .blocks) (t .pre .few-blocks)) (t .pre)
 
-same-length : tie.Need-same-length
-same-length c = search needs
-
 returns : tie.Need-returns
 returns c =
-    let t = c .before .before .before .before .before .before .before .before in
-    c .before .before .before .rank-stage .ensures
+    let at-rank-stage = c .before .before .before in
+    let t = at-rank-stage .before .before .before .before .before in
+    at-rank-stage .rank-stage .ensures
     ∙ ap (λ (B : ℕ). rankedRows (t .args .d .now) (t .args .room .now) B (t .args .base) (t .args .count)) (sym (zeros-long 1024 (t .args .blocks) (t .pre .few-blocks)))
 
 pub place-stage-spec : {M : Type 1} → statement M
-place-stage-spec = tie.close (tie.spec array-borrow-prefix-counts slice-aggregate-rank-stage rank-stage-requires same-length returns)
+place-stage-spec = tie.close
+    (tie.spec (λ c. search needs) slice-aggregate-rank-stage rank-stage-requires (λ c. search needs) returns)

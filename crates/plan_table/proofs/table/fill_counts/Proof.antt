@@ -5,11 +5,11 @@ use Prim.Native.Nat.{ℕ, _-_, _≤_, _<_}
 use native.Mathlib.Omega.{arith}
 use lib.ListN.{length}
 use Rattle.plan_record.specs.Record.{partsOf, bodyAt}
-use Rattle.plan_record.proofs.FormLaws.{formed, body-ready}
+use Rattle.plan_record.proofs.PlanFormLaws.{formed, body-ready}
 use mathlib.Core.List.{List}
-use Rattle.plan_blocks.specs.Fill.{countRow, countRows, countedRoom}
-use Rattle.plan_table.proofs.TableLaws.{count-long}
-use Rattle.plan_table.proofs.WholeLaws.{majors-few, row-ready, count-none, count-more}
+use Rattle.plan_blocks.specs.TableFill.{countRow, countRows, countedRoom}
+use Rattle.plan_table.proofs.PartTableLaws.{count-long}
+use Rattle.plan_table.proofs.AllPartsLaws.{majors-few, row-ready, count-rows-none, count-more}
 use borrow.Author.Needs.{needs}
 use Rattle.plan_table.proofs.table.fill_counts.Statement.{statement}
 use Rattle.plan_table.proofs.table.fill_counts.Tie as tie
@@ -27,7 +27,7 @@ first-body-requires : tie.Need-first-body-requires Inv-loop μ-loop
 first-body-requires c κs = majors-few _ (c .before .before .before .pre .ready .form)
 
 loop-holds : tie.Need-loop-holds Inv-loop μ-loop
-loop-holds c = (omega arith, c .first-body .ensures .0, sym (count-none _ _))
+loop-holds c = (omega arith, c .first-body .ensures .0, sym (count-rows-none _ _))
 
 body-at-requires : tie.Need-body-at-requires Inv-loop μ-loop
 body-at-requires c κs =
@@ -38,23 +38,21 @@ body-at-requires c κs =
 
 fill-row-requires : tie.Need-fill-row-requires Inv-loop μ-loop
 fill-row-requires c κs =
-    let a = c .before .before .before .before .before .before .before .before in
-    let l = c .before .before .before .loop in
-    let u : l .p < partsOf (a .args .d .now) = omega (arith, c .before .before .before .before .before .parts-of .ensures .0) in
+    let at-loop = c .before .before .before in
+    let a = at-loop .before .before .before .before .before in
+    let l = at-loop .loop in
+    let u : l .p < partsOf (a .args .d .now) = omega (arith, at-loop .before .before .parts-of .ensures .0) in
     row-ready _ (a .args .room .now) (l .room) (l .p) _ (a .pre) (l .inv .2) u (c .before .body-at .ensures)
-
-add-p : tie.Need-add-p Inv-loop μ-loop
-add-p c = search needs
-
-loop-less : tie.Need-loop-less Inv-loop μ-loop
-loop-less c = search needs
 
 loop-again : tie.Need-loop-again Inv-loop μ-loop
 loop-again c =
-    let a = c .before .before .before .before .before .before .before .before .before .before .before .args in
-    let l = c .before .before .before .before .before .before .loop in (
+    let at-body-at = c .before .before .before .before in
+    let way = at-body-at .before .before .before .before in
+    let start = way .before .before .before in
+    let a = start .args in
+    let l = at-body-at .before .before .loop in (
       omega arith,
-      c .before .before .before .before .body-at .ensures .end,
+      at-body-at .body-at .ensures .end,
       c .before .before .fill-row .ensures ∙ ap (λ (r : List ℕ). countRow (a .d .now) r (l .p)) (l .inv .2) ∙ sym (count-more (a .d .now) (a .room .now) (l .p)),
     )
 
@@ -72,16 +70,5 @@ returns c =
 pub fill-counts-spec : {M : Type 1} → statement M
 fill-counts-spec =
     tie.close
-    (tie.spec
-    Inv-loop
-    μ-loop
-    parts-of-requires
-    first-body-requires
-    loop-holds
-    body-at-requires
-    fill-row-requires
-    add-p
-    loop-less
-    loop-again
-    same-length
-    returns)
+    (tie.spec Inv-loop μ-loop parts-of-requires first-body-requires loop-holds body-at-requires fill-row-requires (λ c. search needs)
+    (λ c. search needs) loop-again same-length returns)

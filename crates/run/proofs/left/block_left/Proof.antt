@@ -3,17 +3,11 @@
 use mathlib.Core.Path.{ap}
 use native.Mathlib.Omega.{arith}
 use Rattle.run_turns.specs.Phases.{phaseIs}
-use Rattle.run_turns.proofs.BlockLaws.{read-going, stage-going, store-going}
+use Rattle.run_turns.proofs.BlockTurnLaws.{read-going, stage-going, store-going}
 use Rattle.run.proofs.LeftLaws.{left-done, left-read, left-stage, left-store, ahead, stage-inside}
 use borrow.Author.Needs.{needs}
 use Rattle.run.proofs.left.block_left.Statement.{statement}
 use Rattle.run.proofs.left.block_left.Tie as tie
-
-load-state-requires : tie.Need-load-state-requires
-load-state-requires c κs = search needs
-
-enum-told : tie.Need-enum-told
-enum-told c = search needs
 
 stages-requires : tie.Need-stages-requires
 stages-requires c κs =
@@ -58,9 +52,6 @@ add-result-2 c =
     let phase = ap phaseIs (c .before .before .enum-told .given .1) in
     let ready = ahead words _ _ room (start .pre .2) _ _ _ (state .0) (state .1) (state .2) (read-going _ phase) in
     omega (arith, ready .fits, c .before .stages .ensures, c .turns-after .ensures)
-
-enum-told-2 : tie.Need-enum-told-2
-enum-told-2 c = search needs
 
 stages-requires-2 : tie.Need-stages-requires-2
 stages-requires-2 c κs =
@@ -108,17 +99,15 @@ turns-after-requires-2 c κs =
 
 add-result-4 : tie.Need-add-result-4
 add-result-4 c =
-    let load = c .before .before .before .before .before in
+    let at-enum-told2 = c .before .before .before in
+    let load = at-enum-told2 .before .before in
     let start = load .before .before .before in
     let words = start .args .words .now in
     let room = start .args .room .now in
     let state = load .load-state .ensures in
-    let phase = ap phaseIs (c .before .before .before .enum-told2 .given .1) in
+    let phase = ap phaseIs (at-enum-told2 .enum-told2 .given .1) in
     let ready = ahead words _ _ room (start .pre .2) _ _ _ (state .0) (state .1) (state .2) (stage-going _ phase) in
     omega (arith, ready .fits, c .before .before .stages2 .ensures, c .turns-after2 .ensures)
-
-enum-told-3 : tie.Need-enum-told-3
-enum-told-3 c = search needs
 
 turns-after-requires-3 : tie.Need-turns-after-requires-3
 turns-after-requires-3 c κs =
@@ -142,9 +131,6 @@ add-result-5 c =
     let ready = ahead words _ _ room (start .pre .2) _ _ _ (state .0) (state .1) (state .2) (store-going _ phase) in
     omega (arith, ready .fits, c .turns-after3 .ensures)
 
-enum-told-4 : tie.Need-enum-told-4
-enum-told-4 c = search needs
-
 returns : tie.Need-returns
 returns c =
     let load = c .before .before .before .before in
@@ -157,12 +143,13 @@ returns c =
 
 returns-2 : tie.Need-returns-2
 returns-2 c =
-    let load = c .before .before .before .before .before in
+    let at-enum-told2 = c .before .before .before in
+    let load = at-enum-told2 .before .before in
     let start = load .before .before .before in
     let words = start .args .words .now in
     let room = start .args .room .now in
     let state = load .load-state .ensures in
-    let phase = ap phaseIs (c .before .before .before .enum-told2 .given .1) in
+    let phase = ap phaseIs (at-enum-told2 .enum-told2 .given .1) in
     left-stage words room _ _ _ (state .0) (state .1) (state .2) _ (c .turns-after2 .ensures) _ (c .before .before .stages2 .ensures) phase
 
 returns-3 : tie.Need-returns-3
@@ -188,24 +175,6 @@ returns-4 c =
 pub block-left-spec : {M : Type 1} → statement M
 block-left-spec =
     tie.close
-    (tie.spec
-    load-state-requires
-    enum-told
-    stages-requires
-    add-result
-    turns-after-requires
-    add-result-2
-    enum-told-2
-    stages-requires-2
-    sub-result
-    add-result-3
-    turns-after-requires-2
-    add-result-4
-    enum-told-3
-    turns-after-requires-3
-    add-result-5
-    enum-told-4
-    returns
-    returns-2
-    returns-3
-    returns-4)
+    (tie.spec (λ c κs. search needs) (λ c. search needs) stages-requires add-result turns-after-requires add-result-2 (λ c. search needs)
+    stages-requires-2 sub-result add-result-3 turns-after-requires-2 add-result-4 (λ c. search needs) turns-after-requires-3 add-result-5
+    (λ c. search needs) returns returns-2 returns-3 returns-4)

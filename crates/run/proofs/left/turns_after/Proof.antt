@@ -24,25 +24,37 @@ part-end-requires : tie.Need-part-end-requires Inv-loop μ-loop
 part-end-requires c κs = walk-inside (c .before .before .before .before .args .words .now) _ _ _ (c .before .before .loop .inv) .1
 
 stages-requires : tie.Need-stages-requires Inv-loop μ-loop
-stages-requires c κs = walk-after (c .before .before .before .before .before .args .words .now) _ _ _ (c .before .before .before .loop .inv) (λ q. c .before .if1 .taken (c .before .before .last .ensures ∙ q)) _ (c .part-end .ensures)
+stages-requires c κs =
+    let at-loop = c .before .before .before in
+    walk-after (at-loop .before .before .args .words .now) _ _ _ (at-loop .loop .inv) (λ q. c .before .if1 .taken (c .before .before .last .ensures ∙ q)) _ (c .part-end .ensures)
 
 add-sum : tie.Need-add-sum Inv-loop μ-loop
 add-sum c =
-    let w = walk-next (c .before .before .before .before .before .before .args .words .now) _ _ _ (c .before .before .before .before .loop .inv) (λ q. c .before .before .if1 .taken (c .before .before .before .last .ensures ∙ q)) _ _ (c .before .part-end .ensures) (c .stages .ensures) in
-    omega (arith, walk-bound (c .before .before .before .before .before .before .args .words .now) _ _ _ (c .before .before .before .before .before .before .pre) w)
+    let at-last = c .before .before .before in
+    let start = at-last .before .before .before in
+    let words = start .args .words .now in
+    let w = walk-next words _ _ _ (at-last .before .loop .inv) (λ q. c .before .before .if1 .taken (at-last .last .ensures ∙ q)) _ _ (c .before .part-end .ensures) (c .stages .ensures) in
+    omega (arith, walk-bound words _ _ _ (start .pre) w)
 
 add-sum-2 : tie.Need-add-sum-2 Inv-loop μ-loop
 add-sum-2 c =
-    let w = walk-next (c .before .before .before .before .before .before .args .words .now) _ _ _ (c .before .before .before .before .loop .inv) (λ q. c .before .before .if1 .taken (c .before .before .before .last .ensures ∙ q)) _ _ (c .before .part-end .ensures) (c .stages .ensures) in
-    omega (arith, walk-bound (c .before .before .before .before .before .before .args .words .now) _ _ _ (c .before .before .before .before .before .before .pre) w)
+    let at-last = c .before .before .before in
+    let start = at-last .before .before .before in
+    let words = start .args .words .now in
+    let w = walk-next words _ _ _ (at-last .before .loop .inv) (λ q. c .before .before .if1 .taken (at-last .last .ensures ∙ q)) _ _ (c .before .part-end .ensures) (c .stages .ensures) in
+    omega (arith, walk-bound words _ _ _ (start .pre) w)
 
 loop-less : tie.Need-loop-less Inv-loop μ-loop
 loop-less c =
-    let inside = walk-inside (c .before .before .before .before .before .before .args .words .now) _ _ _ (c .before .before .before .before .loop .inv) in
+    let at-loop = c .before .before .before .before in
+    let inside = walk-inside (at-loop .before .before .args .words .now) _ _ _ (at-loop .loop .inv) in
     omega (arith, inside .0, inside .1, c .before .part-end .ensures)
 
 loop-again : tie.Need-loop-again Inv-loop μ-loop
-loop-again c = walk-next (c .before .before .before .before .before .before .args .words .now) _ _ _ (c .before .before .before .before .loop .inv) (λ q. c .before .before .if1 .taken (c .before .before .before .last .ensures ∙ q)) _ _ (c .before .part-end .ensures) (c .stages .ensures)
+loop-again c =
+    let at-last = c .before .before .before in
+    let start = at-last .before .before .before in
+    walk-next (start .args .words .now) _ _ _ (at-last .before .loop .inv) (λ q. c .before .before .if1 .taken (at-last .last .ensures ∙ q)) _ _ (c .before .part-end .ensures) (c .stages .ensures)
 
 returns : tie.Need-returns Inv-loop μ-loop
 returns c = walk-end (c .before .before .before .before .args .words .now) _ _ _ (c .before .before .loop .inv) (sym (c .before .last .ensures) ∙ c .if1 .left)
@@ -50,15 +62,4 @@ returns c = walk-end (c .before .before .before .before .args .words .now) _ _ _
 pub turns-after-spec : {M : Type 1} → statement M
 turns-after-spec =
     tie.close
-    (tie.spec
-    Inv-loop
-    μ-loop
-    loop-holds
-    last-requires
-    part-end-requires
-    stages-requires
-    add-sum
-    add-sum-2
-    loop-less
-    loop-again
-    returns)
+    (tie.spec Inv-loop μ-loop loop-holds last-requires part-end-requires stages-requires add-sum add-sum-2 loop-less loop-again returns)

@@ -24,27 +24,6 @@ loop-holds c =
     let W = c .before .before .args .words .now in
     (omega arith, zero-add _ ∙ ap (λ (m : ℕ). allLeft 256 W (blocksIn W (c .before .before .args .room .now) m 0)) (sub-zero (c .before .before .args .blocks)))
 
-mul-block-left : tie.Need-mul-block-left Inv-loop μ-loop
-mul-block-left c = search needs
-
-mul-block-left-2 : tie.Need-mul-block-left-2 Inv-loop μ-loop
-mul-block-left-2 c = search needs
-
-add-block-left : tie.Need-add-block-left Inv-loop μ-loop
-add-block-left c = search needs
-
-mul-block-left-3 : tie.Need-mul-block-left-3 Inv-loop μ-loop
-mul-block-left-3 c = search needs
-
-sub-block-left : tie.Need-sub-block-left Inv-loop μ-loop
-sub-block-left c = search needs
-
-part-block-left-start : tie.Need-part-block-left-start Inv-loop μ-loop
-part-block-left-start c = search needs
-
-part-block-left-end : tie.Need-part-block-left-end Inv-loop μ-loop
-part-block-left-end c = search needs
-
 block-left-requires : tie.Need-block-left-requires Inv-loop μ-loop
 block-left-requires c κs =
     let start = c .before .before .before .before .before in
@@ -57,12 +36,6 @@ add-sum c =
     let l = c .before .before .before .loop in
     let next = left-next (start .args .words .now) (start .args .room .now) (start .args .blocks) (l .b) (l .sum) _ _ (omega arith) (rw (lent-room (start .args .room .now) (l .b)) at (c .block-left .ensures)) (l .inv .1) in
     omega (arith, next, all-bound (start .args .words .now) (start .args .room .now) (start .pre .0) (start .pre .1) (start .pre .2) (start .pre .4), ap (λ (m : ℕ). allLeft 256 (start .args .words .now) (blocksIn (start .args .words .now) (start .args .room .now) m 0)) (start .pre .3))
-
-add-b : tie.Need-add-b Inv-loop μ-loop
-add-b c = search needs
-
-loop-less : tie.Need-loop-less Inv-loop μ-loop
-loop-less c = search needs
 
 loop-again : tie.Need-loop-again Inv-loop μ-loop
 loop-again c =
@@ -79,20 +52,5 @@ returns c =
 pub turns-left-spec : {M : Type 1} → statement M
 turns-left-spec =
     tie.close
-    (tie.spec
-    Inv-loop
-    μ-loop
-    loop-holds
-    mul-block-left
-    mul-block-left-2
-    add-block-left
-    mul-block-left-3
-    sub-block-left
-    part-block-left-start
-    part-block-left-end
-    block-left-requires
-    add-sum
-    add-b
-    loop-less
-    loop-again
-    returns)
+    (tie.spec Inv-loop μ-loop loop-holds (λ c. search needs) (λ c. search needs) (λ c. search needs) (λ c. search needs) (λ c. search needs)
+    (λ c. search needs) (λ c. search needs) block-left-requires add-sum (λ c. search needs) (λ c. search needs) loop-again returns)

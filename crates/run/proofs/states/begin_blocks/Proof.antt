@@ -18,44 +18,14 @@ abbrev μ-loop : tie.MeasureT-loop
 loop-holds : tie.Need-loop-holds Inv-loop μ-loop
 loop-holds c = (omega arith, refl, λ a l. absurd (omega arith))
 
-mul-begins : tie.Need-mul-begins Inv-loop μ-loop
-mul-begins c = search needs
-
-shared-slice-read-begins : tie.Need-shared-slice-read-begins Inv-loop μ-loop
-shared-slice-read-begins c = search needs
-
 begins-requires : tie.Need-begins-requires Inv-loop μ-loop
 begins-requires c κs = c .before .before .before .before .before .before .pre .inside (c .before .before .loop .b) (omega arith)
-
-mul-store-state : tie.Need-mul-store-state Inv-loop μ-loop
-mul-store-state c = search needs
-
-mul-store-state-2 : tie.Need-mul-store-state-2 Inv-loop μ-loop
-mul-store-state-2 c = search needs
-
-add-store-state : tie.Need-add-store-state Inv-loop μ-loop
-add-store-state c = search needs
-
-mul-store-state-3 : tie.Need-mul-store-state-3 Inv-loop μ-loop
-mul-store-state-3 c = search needs
-
-sub-store-state : tie.Need-sub-store-state Inv-loop μ-loop
-sub-store-state c = search needs
-
-part-store-state-start : tie.Need-part-store-state-start Inv-loop μ-loop
-part-store-state-start c = search needs
 
 part-store-state-end : tie.Need-part-store-state-end Inv-loop μ-loop
 part-store-state-end c = omega arith
 
 store-state-requires : tie.Need-store-state-requires Inv-loop μ-loop
 store-state-requires c κs = (ap length (lent-room (c .before .before .before .before .loop .room) (c .before .before .before .before .loop .b)) ∙ room-long _ _ (omega arith), omega (arith, c .before .begins .ensures .2))
-
-add-b : tie.Need-add-b Inv-loop μ-loop
-add-b c = search needs
-
-loop-less : tie.Need-loop-less Inv-loop μ-loop
-loop-less c = search needs
 
 loop-again : tie.Need-loop-again Inv-loop μ-loop
 loop-again c =
@@ -67,9 +37,6 @@ loop-again c =
     let next = begun-next (start .args .words .now) (start .args .starts .now) (l .room) (l .b) _ _ _ _ (l .inv .2) (omega arith) (begins .ensures .0) (begins .ensures .1) (begins .ensures .2) (c .before .before .store-state .ensures) in
     (omega arith, next .0 ∙ l .inv .1, next .1)
 
-same-length : tie.Need-same-length Inv-loop μ-loop
-same-length c = search needs
-
 returns : tie.Need-returns Inv-loop μ-loop
 returns c =
     let l = c .before .loop in
@@ -80,23 +47,6 @@ returns c =
 pub begin-blocks-spec : {M : Type 1} → statement M
 begin-blocks-spec =
     tie.close
-    (tie.spec
-    Inv-loop
-    μ-loop
-    loop-holds
-    mul-begins
-    shared-slice-read-begins
-    begins-requires
-    mul-store-state
-    mul-store-state-2
-    add-store-state
-    mul-store-state-3
-    sub-store-state
-    part-store-state-start
-    part-store-state-end
-    store-state-requires
-    add-b
-    loop-less
-    loop-again
-    same-length
-    returns)
+    (tie.spec Inv-loop μ-loop loop-holds (λ c. search needs) (λ c. search needs) begins-requires (λ c. search needs) (λ c. search needs)
+    (λ c. search needs) (λ c. search needs) (λ c. search needs) (λ c. search needs) part-store-state-end store-state-requires
+    (λ c. search needs) (λ c. search needs) loop-again (λ c. search needs) returns)

@@ -5,9 +5,6 @@ use borrow.Author.Needs.{needs}
 use Rattle.run.proofs.taking.one_turn.Statement.{statement}
 use Rattle.run.proofs.taking.one_turn.Tie as tie
 
-load-state-requires : tie.Need-load-state-requires
-load-state-requires c κs = search needs
-
 turn-requires : tie.Need-turn-requires
 turn-requires c κs =
     let at-load-state = c .before .before in
@@ -22,12 +19,6 @@ store-state-requires c κs =
     let start = at-load-state .before .before .before .before .before .before in
     let state = at-load-state .load-state .ensures in
     (search needs, stage-small (start .args .words .now) _ _ (start .args .room .now) (start .pre) _ _ _ (state .0) (state .1) (state .2) (start .args .old .now) (start .args .new .now) _ _ _ _ (at-turn .turn .ensures .0))
-
-same-length : tie.Need-same-length
-same-length c = search needs
-
-same-length-2 : tie.Need-same-length-2
-same-length-2 c = search needs
 
 returns : tie.Need-returns
 returns c =
@@ -48,10 +39,4 @@ returns c =
 pub one-turn-spec : {M : Type 1} → statement M
 one-turn-spec =
     tie.close
-    (tie.spec
-    load-state-requires
-    turn-requires
-    store-state-requires
-    same-length
-    same-length-2
-    returns)
+    (tie.spec (λ c κs. search needs) turn-requires store-state-requires (λ c. search needs) (λ c. search needs) returns)

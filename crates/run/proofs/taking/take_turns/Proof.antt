@@ -4,25 +4,19 @@ use Prim.Native.Nat.{_-_, _≤_}
 use native.Mathlib.Omega.{arith}
 use lib.ListN.{length, getD}
 use Rattle.run.proofs.StateLaws.{lent-room}
-use Rattle.run.proofs.TakingLaws.{Taken, taken-none, turn-good, turn-fits, taken-next, taken-all}
+use Rattle.run.proofs.TakingLaws.{TurnsTaken, taken-none, turn-good, turn-fits, taken-next, taken-all}
 use borrow.Author.Needs.{needs}
 use Rattle.run.proofs.taking.take_turns.Statement.{statement}
 use Rattle.run.proofs.taking.take_turns.Tie as tie
 
 abbrev Inv-loop : tie.InvT-loop
-Inv-loop words turns old new₀ room₀ i₀ new room i = (i ≤ length turns) × Taken words turns old new₀ room₀ new room i
+Inv-loop words turns old new₀ room₀ i₀ new room i = (i ≤ length turns) × TurnsTaken words turns old new₀ room₀ new room i
 
 abbrev μ-loop : tie.MeasureT-loop
 μ-loop words turns old new₀ room₀ i₀ new room i = length turns - i
 
 loop-holds : tie.Need-loop-holds Inv-loop μ-loop
 loop-holds c = (omega arith, taken-none _ _ _ _ _)
-
-mul-b : tie.Need-mul-b Inv-loop μ-loop
-mul-b c = search needs
-
-shared-slice-read-b : tie.Need-shared-slice-read-b Inv-loop μ-loop
-shared-slice-read-b c = search needs
 
 cast-b : tie.Need-cast-b Inv-loop μ-loop
 cast-b c = omega (arith, c .shared-slice-known4 .given (c .before .before .loop .i))
@@ -51,12 +45,6 @@ mul-one-turn-3 c =
     let start = at-loop .before .before .before .before .before .before in
     omega (arith, turn-fits (start .args .words .now) (start .args .turns .now) (start .args .old .now) (start .args .new .now) (start .args .room .now) _ _ _ (at-loop .loop .inv .1) (omega arith) (start .pre .0) (start .pre .1) (start .pre .2))
 
-sub-one-turn : tie.Need-sub-one-turn Inv-loop μ-loop
-sub-one-turn c = search needs
-
-part-one-turn-start : tie.Need-part-one-turn-start Inv-loop μ-loop
-part-one-turn-start c = search needs
-
 part-one-turn-end : tie.Need-part-one-turn-end Inv-loop μ-loop
 part-one-turn-end c =
     let at-loop = c .before .before .before in
@@ -72,12 +60,6 @@ one-turn-requires c κs =
     rw (lent-room (l .room) (getD turns (l .i) 0), l .inv .1 .long)
     (turn-good (start .args .words .now) turns (start .args .old .now) (start .args .new .now) (start .args .room .now) _ _ _ (l .inv .1) (omega arith) (start .pre .0) (start .pre .1) (start .pre .2))
 
-add-i : tie.Need-add-i Inv-loop μ-loop
-add-i c = search needs
-
-loop-less : tie.Need-loop-less Inv-loop μ-loop
-loop-less c = search needs
-
 loop-again : tie.Need-loop-again Inv-loop μ-loop
 loop-again c =
     let at-one-turn = c .before .before .before .before in
@@ -89,12 +71,6 @@ loop-again c =
     let own = lent-room (l .room) (getD turns (l .i) 0) in
     (omega arith, taken-next (start .args .words .now) turns (start .args .old .now) (start .args .new .now) (start .args .room .now) _ _ _ (l .inv .1) (omega arith) (start .pre .0) (start .pre .1) (start .pre .2) _ _ (search needs) (search needs) (rw own at (turn .0)) (rw own at (turn .1)))
 
-same-length : tie.Need-same-length Inv-loop μ-loop
-same-length c = search needs
-
-same-length-2 : tie.Need-same-length-2 Inv-loop μ-loop
-same-length-2 c = search needs
-
 returns : tie.Need-returns Inv-loop μ-loop
 returns c =
     let at-loop = c .before in
@@ -105,24 +81,6 @@ returns c =
 pub take-turns-spec : {M : Type 1} → statement M
 take-turns-spec =
     tie.close
-    (tie.spec
-    Inv-loop
-    μ-loop
-    loop-holds
-    mul-b
-    shared-slice-read-b
-    cast-b
-    mul-one-turn
-    mul-one-turn-2
-    add-one-turn
-    mul-one-turn-3
-    sub-one-turn
-    part-one-turn-start
-    part-one-turn-end
-    one-turn-requires
-    add-i
-    loop-less
-    loop-again
-    same-length
-    same-length-2
-    returns)
+    (tie.spec Inv-loop μ-loop loop-holds (λ c. search needs) (λ c. search needs) cast-b mul-one-turn mul-one-turn-2 add-one-turn
+    mul-one-turn-3 (λ c. search needs) (λ c. search needs) part-one-turn-end one-turn-requires (λ c. search needs) (λ c. search needs)
+    loop-again (λ c. search needs) (λ c. search needs) returns)

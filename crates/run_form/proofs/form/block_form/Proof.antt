@@ -12,14 +12,8 @@ returns c = block-none 256 _ _ _ _ _ (c .if1 .taken)
 returns-2 : tie.Need-returns-2
 returns-2 c = block-outside 256 _ _ _ _ _ (c .before .if1 .left) (c .if2 .taken)
 
-empty-form-requires : tie.Need-empty-form-requires
-empty-form-requires c κs = search needs
-
 returns-3 : tie.Need-returns-3
 returns-3 c = block-empty 256 _ _ _ _ _ (c .before .before .before .if1 .left) (c .before .before .if2 .left) (sym (c .before .empty-form .ensures) ∙ c .if3 .taken)
-
-parts-form-requires : tie.Need-parts-form-requires
-parts-form-requires c κs = search needs
 
 returns-4 : tie.Need-returns-4
 returns-4 c = block-parts 256 _ _ _ _ _ _ (c .before .before .before .before .if1 .left) (c .before .before .before .if2 .left) (sym (c .before .before .empty-form .ensures) ∙ c .before .if3 .left) (c .parts-form .ensures)
@@ -27,4 +21,4 @@ returns-4 c = block-parts 256 _ _ _ _ _ _ (c .before .before .before .before .if
 pub block-form-spec : {M : Type 1} → statement M
 block-form-spec =
     tie.close
-    (tie.spec returns returns-2 empty-form-requires returns-3 parts-form-requires returns-4)
+    (tie.spec returns returns-2 (λ c κs. search needs) returns-3 (λ c κs. search needs) returns-4)

@@ -20,9 +20,6 @@ Inv-loop words at e i₀ i = (i ≤ 256) × (allBelow (λ q. eqb (getD words (at
 abbrev μ-loop : tie.MeasureT-loop
 μ-loop words at e i₀ i = 256 - i
 
-sub-if1 : tie.Need-sub-if1 Inv-loop μ-loop
-sub-if1 c = search needs
-
 returns : tie.Need-returns Inv-loop μ-loop
 returns c = empty-other 256 _ 0 0 _ _ (λ q. c .if1 .taken (omega arith))
 
@@ -30,27 +27,12 @@ loop-holds : tie.Need-loop-holds Inv-loop μ-loop
 unfolding allBelow
 loop-holds c = (omega arith, refl)
 
-add-if2 : tie.Need-add-if2 Inv-loop μ-loop
-add-if2 c = search needs
-
-mul-if2 : tie.Need-mul-if2 Inv-loop μ-loop
-mul-if2 c = search needs
-
-shared-slice-read-if2 : tie.Need-shared-slice-read-if2 Inv-loop μ-loop
-shared-slice-read-if2 c = search needs
-
-last-mark-requires : tie.Need-last-mark-requires Inv-loop μ-loop
-last-mark-requires c κs = search needs
-
 returns-2 : tie.Need-returns-2 Inv-loop μ-loop
 returns-2 c =
     let at-loop = c .before .before .before .before in
     let start = at-loop .before .before .before in
     let long : start .args .e ≡ start .args .at + 256 = omega arith in
     empty-as 256 _ 0 0 _ _ false long (all-fault _ 256 (at-loop .loop .i) (omega arith) (ne-eqb _ _ (λ q. c .if2 .taken (q ∙ sym (c .before .last-mark .ensures)))))
-
-add-i : tie.Need-add-i Inv-loop μ-loop
-add-i c = search needs
 
 loop-less : tie.Need-loop-less Inv-loop μ-loop
 loop-less c = omega arith
@@ -68,18 +50,5 @@ returns-3 c =
 pub empty-form-spec : {M : Type 1} → statement M
 empty-form-spec =
     tie.close
-    (tie.spec
-    Inv-loop
-    μ-loop
-    sub-if1
-    returns
-    loop-holds
-    add-if2
-    mul-if2
-    shared-slice-read-if2
-    last-mark-requires
-    returns-2
-    add-i
-    loop-less
-    loop-again
-    returns-3)
+    (tie.spec Inv-loop μ-loop (λ c. search needs) returns loop-holds (λ c. search needs) (λ c. search needs) (λ c. search needs)
+    (λ c κs. search needs) returns-2 (λ c. search needs) loop-less loop-again returns-3)

@@ -21,30 +21,17 @@ Inv-loop words at sections k₀ k =
 abbrev μ-loop : tie.MeasureT-loop
 μ-loop words at sections k₀ k = sections - k
 
-stages-requires : tie.Need-stages-requires Inv-loop μ-loop
-stages-requires c κs = search needs
-
-add-sections : tie.Need-add-sections Inv-loop μ-loop
-add-sections c = search needs
-
 loop-holds : tie.Need-loop-holds Inv-loop μ-loop
 unfolding allBelow
 loop-holds c = (omega arith, omega arith, refl)
 
-section-form-requires : tie.Need-section-form-requires Inv-loop μ-loop
-section-form-requires c κs = search needs
-
 returns : tie.Need-returns Inv-loop μ-loop
 unfolding entriesForm
 returns c =
-    let within : c .before .before .before .loop .k < stagesAt (c .before .before .before .before .before .before .args .words .now) (c .before .before .before .before .before .before .args .at) + 2 = omega arith in
+    let at-loop = c .before .before .before in
+    let start = at-loop .before .before .before in
+    let within : at-loop .loop .k < stagesAt (start .args .words .now) (start .args .at) + 2 = omega arith in
     sym (all-fault _ _ _ within (sym (c .before .section-form .ensures) ∙ not-true _ (c .if1 .taken)))
-
-add-k : tie.Need-add-k Inv-loop μ-loop
-add-k c = search needs
-
-loop-less : tie.Need-loop-less Inv-loop μ-loop
-loop-less c = search needs
 
 loop-again : tie.Need-loop-again Inv-loop μ-loop
 loop-again c =
@@ -61,15 +48,5 @@ returns-2 c =
 pub entries-form-spec : {M : Type 1} → statement M
 entries-form-spec =
     tie.close
-    (tie.spec
-    Inv-loop
-    μ-loop
-    stages-requires
-    add-sections
-    loop-holds
-    section-form-requires
-    returns
-    add-k
-    loop-less
-    loop-again
-    returns-2)
+    (tie.spec Inv-loop μ-loop (λ c κs. search needs) (λ c. search needs) loop-holds (λ c κs. search needs) returns (λ c. search needs)
+    (λ c. search needs) loop-again returns-2)

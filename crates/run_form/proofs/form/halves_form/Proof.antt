@@ -11,4 +11,5 @@ returns-2 : tie.Need-returns-2
 returns-2 c = simp (le-ltb _ _ (c .if1 .left))
 
 pub halves-form-spec : {M : Type 1} → statement M
-halves-form-spec = tie.close (tie.spec returns returns-2)
+halves-form-spec = tie.close
+    (tie.spec returns returns-2)

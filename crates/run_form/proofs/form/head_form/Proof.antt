@@ -7,17 +7,8 @@ use borrow.Author.Needs.{needs}
 use Rattle.run_form.proofs.form.head_form.Statement.{statement}
 use Rattle.run_form.proofs.form.head_form.Tie as tie
 
-sub-if1 : tie.Need-sub-if1
-sub-if1 c = search needs
-
 returns : tie.Need-returns
 returns c = head-short 256 (c .before .before .args .words .now) (c .before .before .args .e) (c .before .before .args .at) (omega arith)
-
-stages-requires : tie.Need-stages-requires
-stages-requires c κs = search needs
-
-part-end-requires : tie.Need-part-end-requires
-part-end-requires c κs = search needs
 
 returns-2 : tie.Need-returns-2
 returns-2 c =
@@ -30,18 +21,6 @@ returns-3 c =
     let start = c .before .before .before .before .before .before in
     let fits : start .args .at + 256 ≤ start .args .e = omega arith in
     head-many 256 (start .args .words .now) (start .args .e) (start .args .at) fits (omega arith) (omega arith)
-
-add-result : tie.Need-add-result
-add-result c = search needs
-
-mul-result : tie.Need-mul-result
-mul-result c = search needs
-
-shared-slice-read-result : tie.Need-shared-slice-read-result
-shared-slice-read-result c = search needs
-
-last-mark-requires : tie.Need-last-mark-requires
-last-mark-requires c κs = search needs
 
 returns-4 : tie.Need-returns-4
 returns-4 c =
@@ -64,16 +43,5 @@ returns-5 c =
 pub head-form-spec : {M : Type 1} → statement M
 head-form-spec =
     tie.close
-    (tie.spec
-    sub-if1
-    returns
-    stages-requires
-    part-end-requires
-    returns-2
-    returns-3
-    add-result
-    mul-result
-    shared-slice-read-result
-    last-mark-requires
-    returns-4
-    returns-5)
+    (tie.spec (λ c. search needs) returns (λ c κs. search needs) (λ c κs. search needs) returns-2 returns-3 (λ c. search needs)
+    (λ c. search needs) (λ c. search needs) (λ c κs. search needs) returns-4 returns-5)

@@ -26,18 +26,9 @@ loop-holds : tie.Need-loop-holds Inv-loop μ-loop
 unfolding allBelow
 loop-holds c = (omega arith, refl)
 
-lane-bits-requires : tie.Need-lane-bits-requires Inv-loop μ-loop
-lane-bits-requires c κs = search needs
-
 returns : tie.Need-returns Inv-loop μ-loop
 unfolding lanesForm
 returns c = sym (all-fault _ 256 _ (c .before .before .loop-test .taken) (rw (← c .before .lane-bits .ensures) (lt-leb _ _ (c .if1 .taken))))
-
-add-i : tie.Need-add-i Inv-loop μ-loop
-add-i c = search needs
-
-loop-less : tie.Need-loop-less Inv-loop μ-loop
-loop-less c = search needs
 
 loop-again : tie.Need-loop-again Inv-loop μ-loop
 loop-again c = (omega arith, all-on _ _ (c .before .before .before .loop .inv .1) (rw (← c .before .lane-bits .ensures) (le-leb _ _ (c .if1 .left))))
@@ -51,13 +42,4 @@ returns-2 c =
 pub lanes-form-spec : {M : Type 1} → statement M
 lanes-form-spec =
     tie.close
-    (tie.spec
-    Inv-loop
-    μ-loop
-    loop-holds
-    lane-bits-requires
-    returns
-    add-i
-    loop-less
-    loop-again
-    returns-2)
+    (tie.spec Inv-loop μ-loop loop-holds (λ c κs. search needs) returns (λ c. search needs) (λ c. search needs) loop-again returns-2)

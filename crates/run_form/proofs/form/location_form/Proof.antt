@@ -5,15 +5,6 @@ use borrow.Author.Needs.{needs}
 use Rattle.run_form.proofs.form.location_form.Statement.{statement}
 use Rattle.run_form.proofs.form.location_form.Tie as tie
 
-location-requires : tie.Need-location-requires
-location-requires c κs = search needs
-
-cast-place : tie.Need-cast-place
-cast-place c = search needs
-
-stages-requires : tie.Need-stages-requires
-stages-requires c κs = search needs
-
 returns : tie.Need-returns
 returns c = location-good _ _ _ _ (c .before .before .location .ensures) (c .before .stages .ensures) (c .if1 .taken)
 
@@ -22,4 +13,5 @@ returns-2 c = location-bad _ _ _ _ (c .before .before .location .ensures) (c .be
 
 pub location-form-spec : {M : Type 1} → statement M
 location-form-spec =
-    tie.close (tie.spec location-requires cast-place stages-requires returns returns-2)
+    tie.close
+    (tie.spec (λ c κs. search needs) (λ c. search needs) (λ c κs. search needs) returns returns-2)

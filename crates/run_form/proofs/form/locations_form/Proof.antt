@@ -22,27 +22,17 @@ Inv-loop words at normal l₀ l =
 abbrev μ-loop : tie.MeasureT-loop
 μ-loop words at normal l₀ l = normal - l
 
-normal-requires : tie.Need-normal-requires Inv-loop μ-loop
-normal-requires c κs = search needs
-
 loop-holds : tie.Need-loop-holds Inv-loop μ-loop
 unfolding allBelow
 loop-holds c = (omega arith, c .normal .ensures, refl)
 
-location-form-requires : tie.Need-location-form-requires Inv-loop μ-loop
-location-form-requires c κs = search needs
-
 returns : tie.Need-returns Inv-loop μ-loop
 unfolding locationsForm
 returns c =
-    let within : c .before .before .before .loop .l < normalAt (c .before .before .before .before .before .before .args .words .now) (c .before .before .before .before .before .before .args .at) = omega arith in
+    let at-loop = c .before .before .before in
+    let start = at-loop .before .before .before in
+    let within : at-loop .loop .l < normalAt (start .args .words .now) (start .args .at) = omega arith in
     sym (all-fault _ _ _ within (sym (c .before .location-form .ensures) ∙ not-true _ (c .if1 .taken)))
-
-add-l : tie.Need-add-l Inv-loop μ-loop
-add-l c = search needs
-
-loop-less : tie.Need-loop-less Inv-loop μ-loop
-loop-less c = search needs
 
 loop-again : tie.Need-loop-again Inv-loop μ-loop
 loop-again c =
@@ -59,14 +49,5 @@ returns-2 c =
 pub locations-form-spec : {M : Type 1} → statement M
 locations-form-spec =
     tie.close
-    (tie.spec
-    Inv-loop
-    μ-loop
-    normal-requires
-    loop-holds
-    location-form-requires
-    returns
-    add-l
-    loop-less
-    loop-again
-    returns-2)
+    (tie.spec Inv-loop μ-loop (λ c κs. search needs) loop-holds (λ c κs. search needs) returns (λ c. search needs) (λ c. search needs)
+    loop-again returns-2)

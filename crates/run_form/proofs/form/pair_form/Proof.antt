@@ -6,24 +6,6 @@ use borrow.Author.Needs.{needs}
 use Rattle.run_form.proofs.form.pair_form.Statement.{statement}
 use Rattle.run_form.proofs.form.pair_form.Tie as tie
 
-mul-wide : tie.Need-mul-wide
-mul-wide c = search needs
-
-shared-slice-read-wide : tie.Need-shared-slice-read-wide
-shared-slice-read-wide c = search needs
-
-wide-requires : tie.Need-wide-requires
-wide-requires c κs = search needs
-
-add-if1 : tie.Need-add-if1
-add-if1 c = search needs
-
-mul-if1 : tie.Need-mul-if1
-mul-if1 c = search needs
-
-shared-slice-read-if1 : tie.Need-shared-slice-read-if1
-shared-slice-read-if1 c = search needs
-
 returns : tie.Need-returns
 returns c = or-then _ _ (eq-eqb _ _ (c .if1 .taken))
 
@@ -36,13 +18,5 @@ returns-3 c = read-outside _ _ _ _ _ (c .before .if1 .left) (c .before .before .
 pub pair-form-spec : {M : Type 1} → statement M
 pair-form-spec =
     tie.close
-    (tie.spec
-    mul-wide
-    shared-slice-read-wide
-    wide-requires
-    add-if1
-    mul-if1
-    shared-slice-read-if1
-    returns
-    returns-2
-    returns-3)
+    (tie.spec (λ c. search needs) (λ c. search needs) (λ c κs. search needs) (λ c. search needs) (λ c. search needs) (λ c. search needs)
+    returns returns-2 returns-3)

@@ -9,9 +9,6 @@ use borrow.Author.Needs.{needs}
 use Rattle.run_form.proofs.form.part_form.Statement.{statement}
 use Rattle.run_form.proofs.form.part_form.Tie as tie
 
-head-form-requires : tie.Need-head-form-requires
-head-form-requires c κs = search needs
-
 returns : tie.Need-returns
 returns c = part-bad 256 _ _ _ _ _ (sym (c .before .head-form .ensures) ∙ not-true _ (c .if1 .taken))
 
@@ -25,4 +22,5 @@ returns-2 : tie.Need-returns-2
 returns-2 c = part-rest 256 _ _ _ _ _ _ (sym (c .before .before .head-form .ensures) ∙ not-false _ (c .before .if1 .left)) (c .body-form .ensures)
 
 pub part-form-spec : {M : Type 1} → statement M
-part-form-spec = tie.close (tie.spec head-form-requires returns body-form-requires returns-2)
+part-form-spec = tie.close
+    (tie.spec (λ c κs. search needs) returns body-form-requires returns-2)

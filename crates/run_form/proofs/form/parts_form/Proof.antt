@@ -18,9 +18,6 @@ abbrev μ-loop : tie.MeasureT-loop
 loop-holds : tie.Need-loop-holds Inv-loop μ-loop
 loop-holds c = parts-start 256 _ _ _ _ _ (c .before .pre .0) (c .before .pre .1)
 
-part-form-requires : tie.Need-part-form-requires Inv-loop μ-loop
-part-form-requires c κs = search needs
-
 part-end-requires : tie.Need-part-end-requires Inv-loop μ-loop
 part-end-requires c κs =
     let fits = part-fits 256 _ _ _ _ (omega arith) _ _ (c .before .before .loop .inv) (sym (c .before .part-form .ensures) ∙ c .if1 .taken) in
@@ -38,8 +35,9 @@ loop-less c =
 
 loop-again : tie.Need-loop-again Inv-loop μ-loop
 loop-again c =
+    let at-part-form = c .before .before .before in
     rw (c .before .part-end .ensures)
-    (parts-more 256 _ _ _ _ (omega arith) _ _ (c .before .before .before .before .loop .inv) (sym (c .before .before .before .part-form .ensures) ∙ c .before .before .if1 .taken) (λ q. c .if2 .left (c .before .part-end .ensures ∙ q)))
+    (parts-more 256 _ _ _ _ (omega arith) _ _ (at-part-form .before .loop .inv) (sym (at-part-form .part-form .ensures) ∙ c .before .before .if1 .taken) (λ q. c .if2 .left (c .before .part-end .ensures ∙ q)))
 
 returns-2 : tie.Need-returns-2 Inv-loop μ-loop
 returns-2 c = parts-stop 256 _ _ _ _ _ _ (c .before .before .loop .inv) (sym (c .before .part-form .ensures) ∙ c .if1 .left)
@@ -47,13 +45,4 @@ returns-2 c = parts-stop 256 _ _ _ _ _ _ (c .before .before .loop .inv) (sym (c 
 pub parts-form-spec : {M : Type 1} → statement M
 parts-form-spec =
     tie.close
-    (tie.spec
-    Inv-loop
-    μ-loop
-    loop-holds
-    part-form-requires
-    part-end-requires
-    returns
-    loop-less
-    loop-again
-    returns-2)
+    (tie.spec Inv-loop μ-loop loop-holds (λ c κs. search needs) part-end-requires returns loop-less loop-again returns-2)

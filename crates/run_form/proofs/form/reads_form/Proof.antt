@@ -9,7 +9,7 @@ use Rattle.words.proofs.TestLaws.{all-on, all-fault}
 use borrow.Author.Tests.{not-true, not-false}
 use Rattle.run_machine.specs.Part.{roundsAt, readWordAt, readMaskAt}
 use Rattle.run_machine.specs.Run.{readsForm}
-use Rattle.run_form.specs.Form.{readForm}
+use Rattle.run_form.specs.PartForm.{readForm}
 use borrow.Author.Needs.{needs}
 use Rattle.run_form.proofs.form.reads_form.Statement.{statement}
 use Rattle.run_form.proofs.form.reads_form.Tie as tie
@@ -21,27 +21,17 @@ Inv-loop words at s t rounds r₀ r =
 abbrev μ-loop : tie.MeasureT-loop
 μ-loop words at s t rounds r₀ r = rounds - r
 
-rounds-requires : tie.Need-rounds-requires Inv-loop μ-loop
-rounds-requires c κs = search needs
-
 loop-holds : tie.Need-loop-holds Inv-loop μ-loop
 unfolding allBelow
 loop-holds c = (omega arith, c .rounds .ensures, refl)
 
-round-form-requires : tie.Need-round-form-requires Inv-loop μ-loop
-round-form-requires c κs = search needs
-
 returns : tie.Need-returns Inv-loop μ-loop
 unfolding readsForm
 returns c =
-    let within : c .before .before .before .loop .r < roundsAt (c .before .before .before .before .before .before .args .words .now) (c .before .before .before .before .before .before .args .at) = omega arith in
+    let at-loop = c .before .before .before in
+    let start = at-loop .before .before .before in
+    let within : at-loop .loop .r < roundsAt (start .args .words .now) (start .args .at) = omega arith in
     sym (all-fault _ _ _ within (sym (c .before .round-form .ensures) ∙ not-true _ (c .if1 .taken)))
-
-add-r : tie.Need-add-r Inv-loop μ-loop
-add-r c = search needs
-
-loop-less : tie.Need-loop-less Inv-loop μ-loop
-loop-less c = search needs
 
 loop-again : tie.Need-loop-again Inv-loop μ-loop
 loop-again c =
@@ -58,14 +48,5 @@ returns-2 c =
 pub reads-form-spec : {M : Type 1} → statement M
 reads-form-spec =
     tie.close
-    (tie.spec
-    Inv-loop
-    μ-loop
-    rounds-requires
-    loop-holds
-    round-form-requires
-    returns
-    add-r
-    loop-less
-    loop-again
-    returns-2)
+    (tie.spec Inv-loop μ-loop (λ c κs. search needs) loop-holds (λ c κs. search needs) returns (λ c. search needs) (λ c. search needs)
+    loop-again returns-2)

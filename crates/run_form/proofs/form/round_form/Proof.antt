@@ -7,7 +7,7 @@ use native.Mathlib.Omega.{arith}
 use Rattle.words.specs.Tests.{allBelow}
 use Rattle.words.proofs.TestLaws.{all-on, all-fault}
 use Rattle.run_machine.specs.Part.{readWordAt, readMaskAt}
-use Rattle.run_form.specs.Form.{readForm}
+use Rattle.run_form.specs.PartForm.{readForm}
 use mathlib.Core.Path.{refl, sym, _∙_}
 use borrow.Author.Tests.{not-true, not-false}
 use borrow.Author.Needs.{needs}
@@ -24,33 +24,9 @@ loop-holds : tie.Need-loop-holds Inv-loop μ-loop
 unfolding allBelow
 loop-holds c = (omega arith, refl)
 
-add-pair-form : tie.Need-add-pair-form Inv-loop μ-loop
-add-pair-form c = search needs
-
-mul-pair-form : tie.Need-mul-pair-form Inv-loop μ-loop
-mul-pair-form c = search needs
-
-add-pair-form-2 : tie.Need-add-pair-form-2 Inv-loop μ-loop
-add-pair-form-2 c = search needs
-
-mul-pair-form-2 : tie.Need-mul-pair-form-2 Inv-loop μ-loop
-mul-pair-form-2 c = search needs
-
-add-pair-form-3 : tie.Need-add-pair-form-3 Inv-loop μ-loop
-add-pair-form-3 c = search needs
-
-pair-form-requires : tie.Need-pair-form-requires Inv-loop μ-loop
-pair-form-requires c κs = search needs
-
 returns : tie.Need-returns Inv-loop μ-loop
 unfolding readWordAt readMaskAt
 returns c = sym (all-fault _ 256 _ (c .before .before .loop-test .taken) (sym (c .before .pair-form .ensures) ∙ not-true _ (c .if1 .taken)))
-
-add-i : tie.Need-add-i Inv-loop μ-loop
-add-i c = search needs
-
-loop-less : tie.Need-loop-less Inv-loop μ-loop
-loop-less c = search needs
 
 loop-again : tie.Need-loop-again Inv-loop μ-loop
 unfolding readWordAt readMaskAt
@@ -64,18 +40,5 @@ returns-2 c =
 pub round-form-spec : {M : Type 1} → statement M
 round-form-spec =
     tie.close
-    (tie.spec
-    Inv-loop
-    μ-loop
-    loop-holds
-    add-pair-form
-    mul-pair-form
-    add-pair-form-2
-    mul-pair-form-2
-    add-pair-form-3
-    pair-form-requires
-    returns
-    add-i
-    loop-less
-    loop-again
-    returns-2)
+    (tie.spec Inv-loop μ-loop loop-holds (λ c. search needs) (λ c. search needs) (λ c. search needs) (λ c. search needs) (λ c. search needs)
+    (λ c κs. search needs) returns (λ c. search needs) (λ c. search needs) loop-again returns-2)

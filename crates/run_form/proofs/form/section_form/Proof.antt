@@ -8,7 +8,7 @@ use borrow.Author.Count.{below-more}
 use lib.Dec.{ltb}
 use lib.ListN.{getD}
 use Rattle.run_machine.specs.Part.{sectionAt}
-use Rattle.run_form.proofs.EntryLaws.{entries-good, entries-bad}
+use Rattle.run_form.proofs.SectionEntryLaws.{entries-good, entries-bad}
 use mathlib.Core.Path.{sym, _∙_}
 use borrow.Author.Tests.{not-true, not-false}
 use borrow.Author.Needs.{needs}
@@ -23,32 +23,11 @@ Inv-loop words at k from w₀ w =
 abbrev μ-loop : tie.MeasureT-loop
 μ-loop words at k from w₀ w = 4096 - w
 
-section-requires : tie.Need-section-requires Inv-loop μ-loop
-section-requires c κs = search needs
-
 loop-holds : tie.Need-loop-holds Inv-loop μ-loop
 loop-holds c = (omega arith, c .section .ensures .0, λ v h. absurd (omega arith))
 
-add-halves-form : tie.Need-add-halves-form Inv-loop μ-loop
-add-halves-form c = search needs
-
-mul-halves-form : tie.Need-mul-halves-form Inv-loop μ-loop
-mul-halves-form c = search needs
-
-shared-slice-read-halves-form : tie.Need-shared-slice-read-halves-form Inv-loop μ-loop
-shared-slice-read-halves-form c = search needs
-
-halves-form-requires : tie.Need-halves-form-requires Inv-loop μ-loop
-halves-form-requires c κs = search needs
-
 returns : tie.Need-returns Inv-loop μ-loop
 returns c = sym (entries-bad 256 _ _ _ _ (c .before .before .before .before .loop .inv .1) _ (c .before .before .before .loop-test .taken) (sym (c .before .halves-form .ensures) ∙ not-true _ (c .if1 .taken)))
-
-add-w : tie.Need-add-w Inv-loop μ-loop
-add-w c = search needs
-
-loop-less : tie.Need-loop-less Inv-loop μ-loop
-loop-less c = search needs
 
 loop-again : tie.Need-loop-again Inv-loop μ-loop
 loop-again c =
@@ -61,17 +40,5 @@ returns-2 c = sym (entries-good 256 _ _ _ _ (c .before .loop .inv .1) (λ w h. c
 pub section-form-spec : {M : Type 1} → statement M
 section-form-spec =
     tie.close
-    (tie.spec
-    Inv-loop
-    μ-loop
-    section-requires
-    loop-holds
-    add-halves-form
-    mul-halves-form
-    shared-slice-read-halves-form
-    halves-form-requires
-    returns
-    add-w
-    loop-less
-    loop-again
-    returns-2)
+    (tie.spec Inv-loop μ-loop (λ c κs. search needs) loop-holds (λ c. search needs) (λ c. search needs) (λ c. search needs)
+    (λ c κs. search needs) returns (λ c. search needs) (λ c. search needs) loop-again returns-2)

@@ -8,42 +8,6 @@ use borrow.Author.Needs.{needs}
 use Rattle.run_form.proofs.form.stores_form.Statement.{statement}
 use Rattle.run_form.proofs.form.stores_form.Tie as tie
 
-add-wide : tie.Need-add-wide
-add-wide c = search needs
-
-mul-wide : tie.Need-mul-wide
-mul-wide c = search needs
-
-shared-slice-read-wide : tie.Need-shared-slice-read-wide
-shared-slice-read-wide c = search needs
-
-wide-requires : tie.Need-wide-requires
-wide-requires c κs = search needs
-
-add-wide-2 : tie.Need-add-wide-2
-add-wide-2 c = search needs
-
-mul-wide-2 : tie.Need-mul-wide-2
-mul-wide-2 c = search needs
-
-shared-slice-read-wide-2 : tie.Need-shared-slice-read-wide-2
-shared-slice-read-wide-2 c = search needs
-
-wide-requires-2 : tie.Need-wide-requires-2
-wide-requires-2 c κs = search needs
-
-add-wide-3 : tie.Need-add-wide-3
-add-wide-3 c = search needs
-
-mul-wide-3 : tie.Need-mul-wide-3
-mul-wide-3 c = search needs
-
-shared-slice-read-wide-3 : tie.Need-shared-slice-read-wide-3
-shared-slice-read-wide-3 c = search needs
-
-wide-requires-3 : tie.Need-wide-requires-3
-wide-requires-3 c κs = search needs
-
 add-other : tie.Need-add-other
 add-other c =
     let at-shared-slice-known4 = c .before in
@@ -53,13 +17,11 @@ add-other c =
 
 returns : tie.Need-returns
 returns c =
-    let at-wide = c .before .before .before .before .before in
+    let at-wide2 = c .before .before .before in
+    let at-wide = at-wide2 .before .before in
     let start = at-wide .before .before .before in
-    let same = stores-as 256 (start .args .s) (start .args .t) (start .args .words .now) (start .args .at) _ _ _ _ (at-wide .wide .ensures) (c .before .before .before .wide2 .ensures) (c .before .wide3 .ensures) refl in
+    let same = stores-as 256 (start .args .s) (start .args .t) (start .args .words .now) (start .args .at) _ _ _ _ (at-wide .wide .ensures) (at-wide2 .wide2 .ensures) (c .before .wide3 .ensures) refl in
     stores-short _ _ _ _ _ _ (c .if1 .taken) ∙ same
-
-start-requires : tie.Need-start-requires
-start-requires c κs = search needs
 
 add-end : tie.Need-add-end
 add-end c =
@@ -70,59 +32,45 @@ add-end c =
 
 returns-2 : tie.Need-returns-2
 returns-2 c =
-    let at-wide2 = c .before .before .before .before .before .before in
+    let at-if1 = c .before .before .before in
+    let at-wide2 = at-if1 .before .before .before in
     let at-wide = at-wide2 .before .before in
     let start = at-wide .before .before .before in
-    let same = stores-as 256 (start .args .s) (start .args .t) (start .args .words .now) (start .args .at) _ _ _ _ (at-wide .wide .ensures) (at-wide2 .wide2 .ensures) (c .before .before .before .before .wide3 .ensures) (c .before .before .start .ensures) in
-    stores-none _ _ _ _ _ _ (c .before .before .before .if1 .left) (c .before .if2 .taken) (c .if3 .taken) ∙ same
+    let same = stores-as 256 (start .args .s) (start .args .t) (start .args .words .now) (start .args .at) _ _ _ _ (at-wide .wide .ensures) (at-wide2 .wide2 .ensures) (at-if1 .before .wide3 .ensures) (c .before .before .start .ensures) in
+    stores-none _ _ _ _ _ _ (at-if1 .if1 .left) (c .before .if2 .taken) (c .if3 .taken) ∙ same
 
 returns-3 : tie.Need-returns-3
 returns-3 c =
-    let at-wide3 = c .before .before .before .before .before in
+    let at-start = c .before .before .before in
+    let at-wide3 = at-start .before .before in
     let at-wide2 = at-wide3 .before .before in
     let at-wide = at-wide2 .before .before in
     let start = at-wide .before .before .before in
-    let same = stores-as 256 (start .args .s) (start .args .t) (start .args .words .now) (start .args .at) _ _ _ _ (at-wide .wide .ensures) (at-wide2 .wide2 .ensures) (at-wide3 .wide3 .ensures) (c .before .before .before .start .ensures) in
-    stores-new _ _ _ _ _ _ (c .before .before .before .before .if1 .left) (c .before .before .if2 .taken) (c .before .if3 .left) (c .if4 .taken) ∙ same
+    let same = stores-as 256 (start .args .s) (start .args .t) (start .args .words .now) (start .args .at) _ _ _ _ (at-wide .wide .ensures) (at-wide2 .wide2 .ensures) (at-wide3 .wide3 .ensures) (at-start .start .ensures) in
+    stores-new _ _ _ _ _ _ (at-start .before .if1 .left) (c .before .before .if2 .taken) (c .before .if3 .left) (c .if4 .taken) ∙ same
 
 returns-4 : tie.Need-returns-4
 returns-4 c =
-    let at-wide3 = c .before .before .before .before .before in
+    let at-start = c .before .before .before in
+    let at-wide3 = at-start .before .before in
     let at-wide2 = at-wide3 .before .before in
     let at-wide = at-wide2 .before .before in
     let start = at-wide .before .before .before in
-    let same = stores-as 256 (start .args .s) (start .args .t) (start .args .words .now) (start .args .at) _ _ _ _ (at-wide .wide .ensures) (at-wide2 .wide2 .ensures) (at-wide3 .wide3 .ensures) (c .before .before .before .start .ensures) in
-    stores-old _ _ _ _ _ _ (c .before .before .before .before .if1 .left) (c .before .before .if2 .taken) (c .before .if3 .left) (c .if4 .left) ∙ same
+    let same = stores-as 256 (start .args .s) (start .args .t) (start .args .words .now) (start .args .at) _ _ _ _ (at-wide .wide .ensures) (at-wide2 .wide2 .ensures) (at-wide3 .wide3 .ensures) (at-start .start .ensures) in
+    stores-old _ _ _ _ _ _ (at-start .before .if1 .left) (c .before .before .if2 .taken) (c .before .if3 .left) (c .if4 .left) ∙ same
 
 returns-5 : tie.Need-returns-5
 returns-5 c =
-    let at-wide2 = c .before .before .before .before .before in
+    let at-wide3 = c .before .before .before in
+    let at-wide2 = at-wide3 .before .before in
     let at-wide = at-wide2 .before .before in
     let start = at-wide .before .before .before in
-    let same = stores-as 256 (start .args .s) (start .args .t) (start .args .words .now) (start .args .at) _ _ _ _ (at-wide .wide .ensures) (at-wide2 .wide2 .ensures) (c .before .before .before .wide3 .ensures) (c .before .start .ensures) in
+    let same = stores-as 256 (start .args .s) (start .args .t) (start .args .words .now) (start .args .at) _ _ _ _ (at-wide .wide .ensures) (at-wide2 .wide2 .ensures) (at-wide3 .wide3 .ensures) (c .before .start .ensures) in
     stores-many _ _ _ _ _ _ (c .before .before .if1 .left) (c .if2 .left) ∙ same
 
 pub stores-form-spec : {M : Type 1} → statement M
 stores-form-spec =
     tie.close
-    (tie.spec
-    add-wide
-    mul-wide
-    shared-slice-read-wide
-    wide-requires
-    add-wide-2
-    mul-wide-2
-    shared-slice-read-wide-2
-    wide-requires-2
-    add-wide-3
-    mul-wide-3
-    shared-slice-read-wide-3
-    wide-requires-3
-    add-other
-    returns
-    start-requires
-    add-end
-    returns-2
-    returns-3
-    returns-4
-    returns-5)
+    (tie.spec (λ c. search needs) (λ c. search needs) (λ c. search needs) (λ c κs. search needs) (λ c. search needs) (λ c. search needs)
+    (λ c. search needs) (λ c κs. search needs) (λ c. search needs) (λ c. search needs) (λ c. search needs) (λ c κs. search needs) add-other
+    returns (λ c κs. search needs) add-end returns-2 returns-3 returns-4 returns-5)

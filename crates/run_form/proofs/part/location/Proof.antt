@@ -7,18 +7,6 @@ use Rattle.run_form.proofs.HalfLaws.{half-low, half-high}
 use Rattle.run_form.proofs.part.location.Statement.{statement}
 use Rattle.run_form.proofs.part.location.Tie as tie
 
-add-x : tie.Need-add-x
-add-x c = search needs
-
-add-x-2 : tie.Need-add-x-2
-add-x-2 c = search needs
-
-mul-x : tie.Need-mul-x
-mul-x c = search needs
-
-shared-slice-read-x : tie.Need-shared-slice-read-x
-shared-slice-read-x c = search needs
-
 returns : tie.Need-returns
 unfolding locationIn
 returns c = half-low _ _ (c .if1 .taken)
@@ -28,4 +16,5 @@ unfolding locationIn
 returns-2 c = half-high _ _ (omega arith)
 
 pub location-spec : {M : Type 1} → statement M
-location-spec = tie.close (tie.spec add-x add-x-2 mul-x shared-slice-read-x returns returns-2)
+location-spec = tie.close
+    (tie.spec (λ c. search needs) (λ c. search needs) (λ c. search needs) (λ c. search needs) returns returns-2)

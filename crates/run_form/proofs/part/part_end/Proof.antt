@@ -7,20 +7,11 @@ use borrow.Author.Needs.{needs}
 use Rattle.run_form.proofs.part.part_end.Statement.{statement}
 use Rattle.run_form.proofs.part.part_end.Tie as tie
 
-add-result : tie.Need-add-result
-add-result c = search needs
-
-rounds-requires : tie.Need-rounds-requires
-rounds-requires c κs = search needs
-
 mul-result : tie.Need-mul-result
 mul-result c = omega (arith, c .before .shared-slice-known .given (c .before .before .args .at + 6))
 
 add-result-2 : tie.Need-add-result-2
 add-result-2 c = omega (arith, c .before .shared-slice-known .given (c .before .before .args .at + 6))
-
-stages-requires : tie.Need-stages-requires
-stages-requires c κs = search needs
 
 mul-result-2 : tie.Need-mul-result-2
 mul-result-2 c = omega (arith, c .before .before .shared-slice-known .given (c .before .before .before .args .at), c .before .before .shared-slice-known .given (c .before .before .before .args .at + 6))
@@ -38,13 +29,5 @@ returns c = omega arith
 pub part-end-spec : {M : Type 1} → statement M
 part-end-spec =
     tie.close
-    (tie.spec
-    add-result
-    rounds-requires
-    mul-result
-    add-result-2
-    stages-requires
-    mul-result-2
-    add-result-3
-    add-result-4
-    returns)
+    (tie.spec (λ c. search needs) (λ c κs. search needs) mul-result add-result-2 (λ c κs. search needs) mul-result-2 add-result-3
+    add-result-4 returns)

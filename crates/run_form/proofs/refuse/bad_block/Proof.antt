@@ -23,29 +23,8 @@ abbrev μ-loop : tie.MeasureT-loop
 returns : tie.Need-returns Inv-loop μ-loop
 returns c = few-starts 256 _ _ _ _ (c .if1 .taken)
 
-sub-blocks : tie.Need-sub-blocks Inv-loop μ-loop
-sub-blocks c = search needs
-
 loop-holds : tie.Need-loop-holds Inv-loop μ-loop
 loop-holds c = (omega arith, refl, c .if1 .left, first-block 256 _ _ _ _ _ (c .if1 .left) refl)
-
-mul-block-form : tie.Need-mul-block-form Inv-loop μ-loop
-mul-block-form c = search needs
-
-shared-slice-read-block-form : tie.Need-shared-slice-read-block-form Inv-loop μ-loop
-shared-slice-read-block-form c = search needs
-
-add-block-form : tie.Need-add-block-form Inv-loop μ-loop
-add-block-form c = search needs
-
-mul-block-form-2 : tie.Need-mul-block-form-2 Inv-loop μ-loop
-mul-block-form-2 c = search needs
-
-shared-slice-read-block-form-2 : tie.Need-shared-slice-read-block-form-2 Inv-loop μ-loop
-shared-slice-read-block-form-2 c = search needs
-
-block-form-requires : tie.Need-block-form-requires Inv-loop μ-loop
-block-form-requires c κs = search needs
 
 returns-2 : tie.Need-returns-2 Inv-loop μ-loop
 returns-2 c =
@@ -53,12 +32,6 @@ returns-2 c =
     let args = l .before .before .before .before .args in
     let good = blockGood 256 (args .words .now) (args .starts .now) (args .s) (args .t) in
     look-fault good (length (args .starts .now) - 1) (l .loop .i) _ (l .loop .inv .3) (omega arith) (sym (c .before .block-form .ensures) ∙ not-true _ (c .if2 .taken))
-
-add-i : tie.Need-add-i Inv-loop μ-loop
-add-i c = search needs
-
-loop-less : tie.Need-loop-less Inv-loop μ-loop
-loop-less c = search needs
 
 loop-again : tie.Need-loop-again Inv-loop μ-loop
 loop-again c =
@@ -74,20 +47,5 @@ returns-3 c = look-end _ _ (c .before .loop .i) _ (c .before .loop .inv .3) (ome
 pub bad-block-spec : {M : Type 1} → statement M
 bad-block-spec =
     tie.close
-    (tie.spec
-    Inv-loop
-    μ-loop
-    returns
-    sub-blocks
-    loop-holds
-    mul-block-form
-    shared-slice-read-block-form
-    add-block-form
-    mul-block-form-2
-    shared-slice-read-block-form-2
-    block-form-requires
-    returns-2
-    add-i
-    loop-less
-    loop-again
-    returns-3)
+    (tie.spec Inv-loop μ-loop returns (λ c. search needs) loop-holds (λ c. search needs) (λ c. search needs) (λ c. search needs)
+    (λ c. search needs) (λ c. search needs) (λ c κs. search needs) returns-2 (λ c. search needs) (λ c. search needs) loop-again returns-3)

@@ -20,17 +20,8 @@ Inv-loop starts turns blocks i₀ i =
 abbrev μ-loop : tie.MeasureT-loop
 μ-loop starts turns blocks i₀ i = length turns - i
 
-blocks-of-requires : tie.Need-blocks-of-requires Inv-loop μ-loop
-blocks-of-requires c κs = search needs
-
 loop-holds : tie.Need-loop-holds Inv-loop μ-loop
 loop-holds c = (omega arith, c .blocks-of .ensures, first-turn _ _)
-
-mul-if1 : tie.Need-mul-if1 Inv-loop μ-loop
-mul-if1 c = search needs
-
-shared-slice-read-if1 : tie.Need-shared-slice-read-if1 Inv-loop μ-loop
-shared-slice-read-if1 c = search needs
 
 cast-if1 : tie.Need-cast-if1 Inv-loop μ-loop
 cast-if1 c = omega (arith, c .shared-slice-known3 .given (c .before .before .loop .i))
@@ -43,12 +34,6 @@ returns c =
     let turns = start .args .turns .now in
     let l = at-loop .loop in
     look-fault (turnGood starts turns) (length turns) (l .i) _ (l .inv .2) (omega arith) (le-ltb (getD turns (l .i) 0) (length starts - 1) (omega arith))
-
-add-i : tie.Need-add-i Inv-loop μ-loop
-add-i c = search needs
-
-loop-less : tie.Need-loop-less Inv-loop μ-loop
-loop-less c = search needs
 
 loop-again : tie.Need-loop-again Inv-loop μ-loop
 loop-again c =
@@ -65,16 +50,5 @@ returns-2 c = look-end _ _ (c .before .loop .i) _ (c .before .loop .inv .2) (ome
 pub bad-turn-spec : {M : Type 1} → statement M
 bad-turn-spec =
     tie.close
-    (tie.spec
-    Inv-loop
-    μ-loop
-    blocks-of-requires
-    loop-holds
-    mul-if1
-    shared-slice-read-if1
-    cast-if1
-    returns
-    add-i
-    loop-less
-    loop-again
-    returns-2)
+    (tie.spec Inv-loop μ-loop (λ c κs. search needs) loop-holds (λ c. search needs) (λ c. search needs) cast-if1 returns (λ c. search needs)
+    (λ c. search needs) loop-again returns-2)

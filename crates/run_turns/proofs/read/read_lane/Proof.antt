@@ -18,27 +18,9 @@ Inv-loop words at old new i acc₀ r₀ r-end acc r =
 abbrev μ-loop : tie.MeasureT-loop
 μ-loop words at old new i acc₀ r₀ r-end acc r = r-end - r
 
-rounds-requires : tie.Need-rounds-requires Inv-loop μ-loop
-rounds-requires c κs = search needs
-
 loop-holds : tie.Need-loop-holds Inv-loop μ-loop
 unfolding laneWord
 loop-holds c = (omega arith, c .rounds .ensures, refl)
-
-add-read-round : tie.Need-add-read-round Inv-loop μ-loop
-add-read-round c = search needs
-
-mul-read-round : tie.Need-mul-read-round Inv-loop μ-loop
-mul-read-round c = search needs
-
-add-read-round-2 : tie.Need-add-read-round-2 Inv-loop μ-loop
-add-read-round-2 c = search needs
-
-mul-read-round-2 : tie.Need-mul-read-round-2 Inv-loop μ-loop
-mul-read-round-2 c = search needs
-
-add-read-round-3 : tie.Need-add-read-round-3 Inv-loop μ-loop
-add-read-round-3 c = search needs
 
 read-round-requires : tie.Need-read-round-requires Inv-loop μ-loop
 unfolding readWordAt readMaskAt
@@ -52,12 +34,6 @@ read-round-requires c κs =
     let within : l .r < roundsAt (start .args .words .now) (start .args .at) = omega arith in
     let room = lane-room W M (l .r) (roundsAt (start .args .words .now) (start .args .at)) within (form .lanes i (start .pre .2)) in
     (omega arith, form .words (l .r) i within (start .pre .2), rw (l .inv .2) room)
-
-add-r : tie.Need-add-r Inv-loop μ-loop
-add-r c = search needs
-
-loop-less : tie.Need-loop-less Inv-loop μ-loop
-loop-less c = search needs
 
 loop-again : tie.Need-loop-again Inv-loop μ-loop
 unfolding readWordAt readMaskAt
@@ -75,18 +51,5 @@ returns c =
 pub read-lane-spec : {M : Type 1} → statement M
 read-lane-spec =
     tie.close
-    (tie.spec
-    Inv-loop
-    μ-loop
-    rounds-requires
-    loop-holds
-    add-read-round
-    mul-read-round
-    add-read-round-2
-    mul-read-round-2
-    add-read-round-3
-    read-round-requires
-    add-r
-    loop-less
-    loop-again
-    returns)
+    (tie.spec Inv-loop μ-loop (λ c κs. search needs) loop-holds (λ c. search needs) (λ c. search needs) (λ c. search needs)
+    (λ c. search needs) (λ c. search needs) read-round-requires (λ c. search needs) (λ c. search needs) loop-again returns)

@@ -12,29 +12,8 @@ use Rattle.run_turns.proofs.AppendLaws.{window-word}
 use Rattle.run_turns.proofs.read.read_round.Statement.{statement}
 use Rattle.run_turns.proofs.read.read_round.Tie as tie
 
-add-mask : tie.Need-add-mask
-add-mask c = search needs
-
-mul-mask : tie.Need-mul-mask
-mul-mask c = search needs
-
-shared-slice-read-mask : tie.Need-shared-slice-read-mask
-shared-slice-read-mask c = search needs
-
-mul-window : tie.Need-mul-window
-mul-window c = search needs
-
-shared-slice-read-window : tie.Need-shared-slice-read-window
-shared-slice-read-window c = search needs
-
 window-requires : tie.Need-window-requires
 window-requires c κs = c .before .before .before .before .before .before .pre .1 (c .before .if1 .taken)
-
-shared-slice-read-append : tie.Need-shared-slice-read-append
-shared-slice-read-append c = search needs
-
-append-requires : tie.Need-append-requires
-append-requires c κs = search needs
 
 returns : tie.Need-returns
 returns c =
@@ -53,14 +32,5 @@ returns-2 c =
 pub read-round-spec : {M : Type 1} → statement M
 read-round-spec =
     tie.close
-    (tie.spec
-    add-mask
-    mul-mask
-    shared-slice-read-mask
-    mul-window
-    shared-slice-read-window
-    window-requires
-    shared-slice-read-append
-    append-requires
-    returns
-    returns-2)
+    (tie.spec (λ c. search needs) (λ c. search needs) (λ c. search needs) (λ c. search needs) (λ c. search needs) window-requires
+    (λ c. search needs) (λ c κs. search needs) returns returns-2)

@@ -8,8 +8,8 @@ use Rattle.reads.specs.ReadTurn.{laneWord}
 use Rattle.words.proofs.SectionLaws.{listOf-is}
 use Rattle.run_machine.specs.Part.{roundsAt, readWordAt, readMaskAt}
 use Rattle.run_machine.specs.Turn.{stateWord, readRow}
-use Rattle.run_stage.specs.Fill.{Filled}
-use Rattle.run_stage.proofs.FillLaws.{filled-none, filled-more}
+use Rattle.run_stage.specs.StoreLoop.{Filled}
+use Rattle.run_stage.proofs.StoreLoopLaws.{filled-none, filled-more}
 use Rattle.run_turns.proofs.read.read_turn.Statement.{statement}
 use Rattle.run_turns.proofs.read.read_turn.Tie as tie
 
@@ -23,30 +23,12 @@ abbrev μ-loop : tie.MeasureT-loop
 loop-holds : tie.Need-loop-holds Inv-loop μ-loop
 loop-holds c = (omega arith, filled-none _ _ _)
 
-read-lane-requires : tie.Need-read-lane-requires Inv-loop μ-loop
-read-lane-requires c κs = search needs
-
-mul-row : tie.Need-mul-row Inv-loop μ-loop
-mul-row c = search needs
-
-slice-write-row : tie.Need-slice-write-row Inv-loop μ-loop
-slice-write-row c = search needs
-
-add-i : tie.Need-add-i Inv-loop μ-loop
-add-i c = search needs
-
-loop-less : tie.Need-loop-less Inv-loop μ-loop
-loop-less c = search needs
-
 loop-again : tie.Need-loop-again Inv-loop μ-loop
 loop-again c =
     let at-loop = c .before .before in
     let start = at-loop .before .before .before .before .before in
     let l = at-loop .loop in
     (omega arith, filled-more _ 0 _ (start .args .row .now) _ _ (l .inv .1) (omega arith) (omega arith) (c .read-lane .ensures))
-
-same-length : tie.Need-same-length Inv-loop μ-loop
-same-length c = search needs
 
 returns : tie.Need-returns Inv-loop μ-loop
 unfolding readRow
@@ -57,15 +39,5 @@ returns c =
 pub read-turn-spec : {M : Type 1} → statement M
 read-turn-spec =
     tie.close
-    (tie.spec
-    Inv-loop
-    μ-loop
-    loop-holds
-    read-lane-requires
-    mul-row
-    slice-write-row
-    add-i
-    loop-less
-    loop-again
-    same-length
-    returns)
+    (tie.spec Inv-loop μ-loop loop-holds (λ c κs. search needs) (λ c. search needs) (λ c. search needs) (λ c. search needs)
+    (λ c. search needs) loop-again (λ c. search needs) returns)

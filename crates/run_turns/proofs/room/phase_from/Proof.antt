@@ -2,7 +2,7 @@
 -- Assumes nothing.
 use mathlib.Core.Path.{sym, ap}
 use Rattle.run_machine.specs.Room.{phaseFrom}
-use Rattle.run_machine.proofs.RoomLaws.{phase-other}
+use Rattle.run_machine.proofs.BlockRoomLaws.{phase-other}
 use Rattle.run_turns.proofs.room.phase_from.Statement.{statement}
 use Rattle.run_turns.proofs.room.phase_from.Tie as tie
 
@@ -22,4 +22,5 @@ returns-4 : tie.Need-returns-4
 returns-4 c = phase-other _ (c .before .before .if1 .left) (c .before .if2 .left) (c .if3 .left)
 
 pub phase-from-spec : {M : Type 1} → statement M
-phase-from-spec = tie.close (tie.spec returns returns-2 returns-3 returns-4)
+phase-from-spec = tie.close
+    (tie.spec returns returns-2 returns-3 returns-4)

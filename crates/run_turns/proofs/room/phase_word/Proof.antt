@@ -5,18 +5,6 @@ use borrow.Author.Needs.{needs}
 use Rattle.run_turns.proofs.room.phase_word.Statement.{statement}
 use Rattle.run_turns.proofs.room.phase_word.Tie as tie
 
-enum-told : tie.Need-enum-told
-enum-told c = search needs
-
-enum-told-2 : tie.Need-enum-told-2
-enum-told-2 c = search needs
-
-enum-told-3 : tie.Need-enum-told-3
-enum-told-3 c = search needs
-
-enum-told-4 : tie.Need-enum-told-4
-enum-told-4 c = search needs
-
 returns : tie.Need-returns
 unfolding phaseCode
 returns c = search needs
@@ -36,4 +24,4 @@ returns-4 c = search needs
 pub phase-word-spec : {M : Type 1} → statement M
 phase-word-spec =
     tie.close
-    (tie.spec enum-told enum-told-2 enum-told-3 enum-told-4 returns returns-2 returns-3 returns-4)
+    (tie.spec (λ c. search needs) (λ c. search needs) (λ c. search needs) (λ c. search needs) returns returns-2 returns-3 returns-4)

@@ -21,30 +21,9 @@ Inv-loop words at k room₀ l₀ l-end room l =
 abbrev μ-loop : tie.MeasureT-loop
 μ-loop words at k room₀ l₀ l-end room l = l-end - l
 
-normal-requires : tie.Need-normal-requires Inv-loop μ-loop
-normal-requires c κs = search needs
-
 loop-holds : tie.Need-loop-holds Inv-loop μ-loop
 unfolding listOf
 loop-holds c = (omega arith, c .normal .ensures, search needs, refl)
-
-capture-word-requires : tie.Need-capture-word-requires Inv-loop μ-loop
-capture-word-requires c κs = search needs
-
-add-room : tie.Need-add-room Inv-loop μ-loop
-add-room c = search needs
-
-mul-room : tie.Need-mul-room Inv-loop μ-loop
-mul-room c = search needs
-
-slice-write-room : tie.Need-slice-write-room Inv-loop μ-loop
-slice-write-room c = search needs
-
-add-l : tie.Need-add-l Inv-loop μ-loop
-add-l c = search needs
-
-loop-less : tie.Need-loop-less Inv-loop μ-loop
-loop-less c = search needs
 
 loop-again : tie.Need-loop-again Inv-loop μ-loop
 loop-again c =
@@ -52,9 +31,6 @@ loop-again c =
     let start = at-loop .before .before .before .before in
     let l = at-loop .loop in
     (omega arith, l .inv .1, simp length-set (l .inv .2), capture-more 256 _ _ _ (start .args .room .now) _ _ _ (l .inv .3) (omega arith) (c .capture-word .ensures))
-
-same-length : tie.Need-same-length Inv-loop μ-loop
-same-length c = search needs
 
 returns : tie.Need-returns Inv-loop μ-loop
 returns c =
@@ -66,17 +42,5 @@ returns c =
 pub capture-spec : {M : Type 1} → statement M
 capture-spec =
     tie.close
-    (tie.spec
-    Inv-loop
-    μ-loop
-    normal-requires
-    loop-holds
-    capture-word-requires
-    add-room
-    mul-room
-    slice-write-room
-    add-l
-    loop-less
-    loop-again
-    same-length
-    returns)
+    (tie.spec Inv-loop μ-loop (λ c κs. search needs) loop-holds (λ c κs. search needs) (λ c. search needs) (λ c. search needs)
+    (λ c. search needs) (λ c. search needs) (λ c. search needs) loop-again (λ c. search needs) returns)

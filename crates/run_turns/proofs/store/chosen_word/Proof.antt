@@ -10,4 +10,5 @@ unfolding chosenWord
 returns c = search needs
 
 pub chosen-word-spec : {M : Type 1} → statement M
-chosen-word-spec = tie.close (tie.spec returns)
+chosen-word-spec = tie.close
+    (tie.spec returns)

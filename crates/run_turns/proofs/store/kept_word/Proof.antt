@@ -3,7 +3,7 @@
 use mathlib.Core.Path.{ap}
 use Prim.Native.Nat.{ℕ, _-_, min}
 use Rattle.words.specs.Bit.{bit}
-use Rattle.run_turns.proofs.StoreLaws.{cleared-all}
+use Rattle.run_turns.proofs.StoredWordLaws.{cleared-all}
 use borrow.Author.Needs.{needs}
 use Rattle.run_turns.proofs.store.kept_word.Statement.{statement}
 use Rattle.run_turns.proofs.store.kept_word.Tie as tie
@@ -11,11 +11,9 @@ use Rattle.run_turns.proofs.store.kept_word.Tie as tie
 returns : tie.Need-returns
 returns c b h = rw (c .if1 .taken) (cleared-all b _ h)
 
-section-word-requires : tie.Need-section-word-requires
-section-word-requires c κs = search needs
-
 returns-2 : tie.Need-returns-2
 returns-2 c b h = ap (λ (x : ℕ). min x (1 - bit (c .before .before .before .before .args .set0) b)) (c .section-word .ensures b h)
 
 pub kept-word-spec : {M : Type 1} → statement M
-kept-word-spec = tie.close (tie.spec returns section-word-requires returns-2)
+kept-word-spec = tie.close
+    (tie.spec returns (λ c κs. search needs) returns-2)

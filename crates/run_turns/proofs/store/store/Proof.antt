@@ -9,38 +9,24 @@ use lib.ListN.{getD, replicate}
 use lib.Seq.{sets}
 use Rattle.words.specs.Section.{listOf}
 use Rattle.run_machine.specs.Part.{startAt, normalAt}
-use Rattle.run_turns.proofs.StoreLaws.{padded-length, stored-padded}
+use Rattle.run_turns.proofs.StoredWordLaws.{padded-length, stored-padded}
 use Rattle.run_turns.proofs.store.store.Statement.{statement}
 use Rattle.run_turns.proofs.store.store.Tie as tie
 
-slice-aggregate-copy-front : tie.Need-slice-aggregate-copy-front
-slice-aggregate-copy-front c = search needs
-
-normal-requires : tie.Need-normal-requires
-normal-requires c κs = search needs
-
-copy-front-requires : tie.Need-copy-front-requires
-copy-front-requires c κs = search needs
-
-slice-aggregate-store-words : tie.Need-slice-aggregate-store-words
-slice-aggregate-store-words c = search needs
-
 store-words-requires : tie.Need-store-words-requires
 store-words-requires c κs =
-    let at-normal = c .before .before .before .before in
+    let at-copy-front = c .before .before .before in
+    let at-normal = at-copy-front .before in
     let start = at-normal .before .before .before .before .before .before in (
       record {
         part = start .pre .0;
         captures = start .pre .1;
         entries = start .pre .2;
-        room = padded-length _ (listOf (λ i. getD (start .args .caps .now) i 0) (at-normal .normal .result)) (c .before .before .before .copy-front .ensures);
+        room = padded-length _ (listOf (λ i. getD (start .args .caps .now) i 0) (at-normal .normal .result)) (at-copy-front .copy-front .ensures);
         held = λ any. start .pre .4 any .0;
       },
       λ any. start .pre .4 any .1,
     )
-
-same-length : tie.Need-same-length
-same-length c = search needs
 
 returns : tie.Need-returns
 returns c =
@@ -58,11 +44,5 @@ returns c =
 pub store-spec : {M : Type 1} → statement M
 store-spec =
     tie.close
-    (tie.spec
-    slice-aggregate-copy-front
-    normal-requires
-    copy-front-requires
-    slice-aggregate-store-words
-    store-words-requires
-    same-length
+    (tie.spec (λ c. search needs) (λ c κs. search needs) (λ c κs. search needs) (λ c. search needs) store-words-requires (λ c. search needs)
     returns)

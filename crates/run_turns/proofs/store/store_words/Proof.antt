@@ -21,12 +21,6 @@ Inv-loop words at caps old new₀ start l₀ l-end new l =
 abbrev μ-loop : tie.MeasureT-loop
 μ-loop words at caps old new₀ start l₀ l-end new l = l-end - l
 
-start-requires : tie.Need-start-requires Inv-loop μ-loop
-start-requires c κs = search needs
-
-normal-requires : tie.Need-normal-requires Inv-loop μ-loop
-normal-requires c κs = search needs
-
 loop-holds : tie.Need-loop-holds Inv-loop μ-loop
 unfolding listOf
 loop-holds c =
@@ -65,12 +59,6 @@ slice-write-new c =
     let inside = c .before .before .loop .inv .5 (omega arith) in
     omega (arith, inside .1)
 
-add-l : tie.Need-add-l Inv-loop μ-loop
-add-l c = search needs
-
-loop-less : tie.Need-loop-less Inv-loop μ-loop
-loop-less c = search needs
-
 loop-again : tie.Need-loop-again Inv-loop μ-loop
 loop-again c =
     let l = c .before .before .loop in (
@@ -97,18 +85,5 @@ returns c =
 pub store-words-spec : {M : Type 1} → statement M
 store-words-spec =
     tie.close
-    (tie.spec
-    Inv-loop
-    μ-loop
-    start-requires
-    normal-requires
-    loop-holds
-    store-word-requires
-    add-new
-    mul-new
-    slice-write-new
-    add-l
-    loop-less
-    loop-again
-    same-length
-    returns)
+    (tie.spec Inv-loop μ-loop (λ c κs. search needs) (λ c κs. search needs) loop-holds store-word-requires add-new mul-new slice-write-new
+    (λ c. search needs) (λ c. search needs) loop-again same-length returns)

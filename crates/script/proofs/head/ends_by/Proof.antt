@@ -12,4 +12,5 @@ returns-2 : tie.Need-returns-2
 returns-2 c = (ends-no _ _ (c .if1 .left), omega arith)
 
 pub ends-by-spec : {M : Type 1} → statement M
-ends-by-spec = tie.close (tie.spec returns returns-2)
+ends-by-spec = tie.close
+    (tie.spec returns returns-2)

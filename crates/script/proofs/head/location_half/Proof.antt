@@ -9,15 +9,6 @@ use borrow.Author.Needs.{needs}
 use Rattle.script.proofs.head.location_half.Statement.{statement}
 use Rattle.script.proofs.head.location_half.Tie as tie
 
-location-stage-requires : tie.Need-location-stage-requires
-location-stage-requires c κs = search needs
-
-mul-result : tie.Need-mul-result
-mul-result c = search needs
-
-location-requires : tie.Need-location-requires
-location-requires c κs = search needs
-
 add-result : tie.Need-add-result
 add-result c =
     let o = c .before .before .before .before .before in
@@ -38,4 +29,4 @@ returns-2 c =
 pub location-half-spec : {M : Type 1} → statement M
 location-half-spec =
     tie.close
-    (tie.spec location-stage-requires mul-result location-requires add-result returns returns-2)
+    (tie.spec (λ c κs. search needs) (λ c. search needs) (λ c κs. search needs) add-result returns returns-2)

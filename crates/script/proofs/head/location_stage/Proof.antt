@@ -22,27 +22,6 @@ loop-holds : tie.Need-loop-holds Inv-loop μ-loop
 unfolding sumTo
 loop-holds c = (omega arith, refl, omega arith, refl, omega arith)
 
-stage-locations-requires : tie.Need-stage-locations-requires Inv-loop μ-loop
-stage-locations-requires c κs = search needs
-
-cast-end : tie.Need-cast-end Inv-loop μ-loop
-cast-end c = search needs
-
-add-end : tie.Need-add-end Inv-loop μ-loop
-add-end c = search needs
-
-ends-by-requires : tie.Need-ends-by-requires Inv-loop μ-loop
-ends-by-requires c κs = search needs
-
-add-ended : tie.Need-add-ended Inv-loop μ-loop
-add-ended c = search needs
-
-add-s : tie.Need-add-s Inv-loop μ-loop
-add-s c = search needs
-
-loop-less : tie.Need-loop-less Inv-loop μ-loop
-loop-less c = search needs
-
 loop-again : tie.Need-loop-again Inv-loop μ-loop
 loop-again c =
     let t = c .before in
@@ -56,9 +35,6 @@ loop-again c =
       omega arith,
     )
 
-cast-result : tie.Need-cast-result Inv-loop μ-loop
-cast-result c = search needs
-
 returns : tie.Need-returns Inv-loop μ-loop
 returns c =
     let a = c .before in
@@ -69,17 +45,5 @@ returns c =
 pub location-stage-spec : {M : Type 1} → statement M
 location-stage-spec =
     tie.close
-    (tie.spec
-    Inv-loop
-    μ-loop
-    loop-holds
-    stage-locations-requires
-    cast-end
-    add-end
-    ends-by-requires
-    add-ended
-    add-s
-    loop-less
-    loop-again
-    cast-result
-    returns)
+    (tie.spec Inv-loop μ-loop loop-holds (λ c κs. search needs) (λ c. search needs) (λ c. search needs) (λ c κs. search needs)
+    (λ c. search needs) (λ c. search needs) (λ c. search needs) loop-again (λ c. search needs) returns)

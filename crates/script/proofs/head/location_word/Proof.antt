@@ -7,21 +7,6 @@ use borrow.Author.Needs.{needs}
 use Rattle.script.proofs.head.location_word.Statement.{statement}
 use Rattle.script.proofs.head.location_word.Tie as tie
 
-mul-location-half : tie.Need-mul-location-half
-mul-location-half c = search needs
-
-location-half-requires : tie.Need-location-half-requires
-location-half-requires c κs = search needs
-
-mul-location-half-2 : tie.Need-mul-location-half-2
-mul-location-half-2 c = search needs
-
-add-location-half : tie.Need-add-location-half
-add-location-half c = search needs
-
-location-half-requires-2 : tie.Need-location-half-requires-2
-location-half-requires-2 c κs = search needs
-
 returns : tie.Need-returns
 returns c =
     let low = c .before .location-half in
@@ -32,10 +17,4 @@ returns c =
 pub location-word-spec : {M : Type 1} → statement M
 location-word-spec =
     tie.close
-    (tie.spec
-    mul-location-half
-    location-half-requires
-    mul-location-half-2
-    add-location-half
-    location-half-requires-2
-    returns)
+    (tie.spec (λ c. search needs) (λ c κs. search needs) (λ c. search needs) (λ c. search needs) (λ c κs. search needs) returns)

@@ -24,44 +24,13 @@ loop-holds : tie.Need-loop-holds Inv-loop μ-loop
 unfolding wordOf
 loop-holds c = (omega arith, refl, refl, refl)
 
-mul-masks-at : tie.Need-mul-masks-at Inv-loop μ-loop
-mul-masks-at c = search needs
-
-add-masks-at : tie.Need-add-masks-at Inv-loop μ-loop
-add-masks-at c = search needs
-
-masks-at-requires : tie.Need-masks-at-requires Inv-loop μ-loop
-masks-at-requires c κs = search needs
-
-cast-xora : tie.Need-cast-xora Inv-loop μ-loop
-cast-xora c = search needs
-
-shl-xora : tie.Need-shl-xora Inv-loop μ-loop
-shl-xora c = search needs
-
-cast-xorb : tie.Need-cast-xorb Inv-loop μ-loop
-cast-xorb c = search needs
-
-shl-xorb : tie.Need-shl-xorb Inv-loop μ-loop
-shl-xorb c = search needs
-
-cast-orb : tie.Need-cast-orb Inv-loop μ-loop
-cast-orb c = search needs
-
-shl-orb : tie.Need-shl-orb Inv-loop μ-loop
-shl-orb c = search needs
-
-add-k : tie.Need-add-k Inv-loop μ-loop
-add-k c = search needs
-
-loop-less : tie.Need-loop-less Inv-loop μ-loop
-loop-less c = search needs
-
 loop-again : tie.Need-loop-again Inv-loop μ-loop
 loop-again c =
-    let m = c .before .before .before .masks-at in
-    let l = c .before .before .before .before .before .loop in
-    let o = c .before .before .before .before .before .before .before .args in
+    let at-masks-at = c .before .before .before in
+    let start = at-masks-at .before .before .before .before in
+    let m = at-masks-at .masks-at in
+    let l = at-masks-at .before .before .loop in
+    let o = start .args in
     let d = o .d .now in (
       omega arith,
       word-more (λ i. xoraBit d (o .p) (o .s) (32 * o .w + i)) (l .k) (l .xora) (m .result .xora) (λ i. xora-lt d (o .p) (o .s) (32 * o .w + i)) (omega arith) (l .inv .1) (m .ensures .xora),
@@ -78,20 +47,6 @@ returns c =
 pub lane-masks-spec : {M : Type 1} → statement M
 lane-masks-spec =
     tie.close
-    (tie.spec
-    Inv-loop
-    μ-loop
-    loop-holds
-    mul-masks-at
-    add-masks-at
-    masks-at-requires
-    cast-xora
-    shl-xora
-    cast-xorb
-    shl-xorb
-    cast-orb
-    shl-orb
-    add-k
-    loop-less
-    loop-again
-    returns)
+    (tie.spec Inv-loop μ-loop loop-holds (λ c. search needs) (λ c. search needs) (λ c κs. search needs) (λ c. search needs)
+    (λ c. search needs) (λ c. search needs) (λ c. search needs) (λ c. search needs) (λ c. search needs) (λ c. search needs)
+    (λ c. search needs) loop-again returns)

@@ -8,23 +8,11 @@ use Rattle.script.proofs.masks.masks_at.Tie as tie
 returns : tie.Need-returns
 returns c = let o = c .before .before .args in bits-first (o .d .now) (o .p) (o .s) (o .q) (c .if1 .taken)
 
-slot-requires : tie.Need-slot-requires
-slot-requires c κs = search needs
-
 returns-2 : tie.Need-returns-2
 returns-2 c =
     let a = c .before in
     let o = a .before .before .before .args in
     bits-empty (o .d .now) (o .p) (o .s) (o .q) _ (a .slot .ensures) (a .before .if1 .left) (c .if2 .taken)
-
-top-power-requires : tie.Need-top-power-requires
-top-power-requires c κs = search needs
-
-add-slot : tie.Need-add-slot
-add-slot c = search needs
-
-slot-requires-2 : tie.Need-slot-requires-2
-slot-requires-2 c κs = search needs
 
 returns-3 : tie.Need-returns-3
 returns-3 c =
@@ -33,27 +21,6 @@ returns-3 c =
     let a = t .before .before in
     let o = a .before .before .before .args in
     bits-carried (o .d .now) (o .p) (o .s) (o .q) _ (a .slot .ensures) (a .before .if1 .left) (t .before .if2 .left) _ _ (t .top-power .ensures .0) (b .slot2 .ensures) (c .if3 .taken)
-
-find-gate-requires : tie.Need-find-gate-requires
-find-gate-requires c κs = search needs
-
-enum-known-g : tie.Need-enum-known-g
-enum-known-g c = search needs
-
-gate-first-requires : tie.Need-gate-first-requires
-gate-first-requires c κs = search needs
-
-inversion-requires : tie.Need-inversion-requires
-inversion-requires c κs = search needs
-
-gate-second-requires : tie.Need-gate-second-requires
-gate-second-requires c κs = search needs
-
-inversion-requires-2 : tie.Need-inversion-requires-2
-inversion-requires-2 c κs = search needs
-
-enum-told : tie.Need-enum-told
-enum-told c = search needs
 
 returns-4 : tie.Need-returns-4
 returns-4 c =
@@ -64,7 +31,8 @@ returns-4 c =
     let b = f .before .before in
     let t = b .before in
     let a = t .before .before in
-    let o = a .before .before .before .args in
+    let start = a .before .before .before in
+    let o = start .args in
     bits-gate (o .d .now) (o .p) (o .s) (o .q) _ (a .slot .ensures) (a .before .if1 .left) (t .before .if2 .left) _ _ (t .top-power .ensures .0) (b .slot2 .ensures) (f .before .if3 .left) _ (f .find-gate .ensures) _ _ _ _ _
     (g .g .given .1)
     (first .gate-first .ensures)
@@ -78,26 +46,13 @@ returns-5 c =
     let b = f .before .before in
     let t = b .before in
     let a = t .before .before in
-    let o = a .before .before .before .args in
+    let start = a .before .before .before in
+    let o = start .args in
     bits-missing (o .d .now) (o .p) (o .s) (o .q) _ (a .slot .ensures) (a .before .if1 .left) (t .before .if2 .left) _ _ (t .top-power .ensures .0) (b .slot2 .ensures) (f .before .if3 .left) _ (f .find-gate .ensures) (c .enum-told .given .1)
 
 pub masks-at-spec : {M : Type 1} → statement M
 masks-at-spec =
     tie.close
-    (tie.spec
-    returns
-    slot-requires
-    returns-2
-    top-power-requires
-    add-slot
-    slot-requires-2
-    returns-3
-    find-gate-requires
-    enum-known-g
-    gate-first-requires
-    inversion-requires
-    gate-second-requires
-    inversion-requires-2
-    enum-told
-    returns-4
-    returns-5)
+    (tie.spec returns (λ c κs. search needs) returns-2 (λ c κs. search needs) (λ c. search needs) (λ c κs. search needs) returns-3
+    (λ c κs. search needs) (λ c. search needs) (λ c κs. search needs) (λ c κs. search needs) (λ c κs. search needs) (λ c κs. search needs)
+    (λ c. search needs) returns-4 returns-5)

@@ -18,4 +18,5 @@ body-at-requires c κs = let a = c .before .before .before .before .pre in body-
 pub body-of-spec : {M : Type 1} → statement M
 body-of-spec =
     tie.close
-    (tie.spec cell-at-requires (λ c. search needs) cell-at-requires-2 (λ c. search needs) (λ c. search needs) (λ c. search needs) body-at-requires (λ c. search needs))
+    (tie.spec cell-at-requires (λ c. search needs) cell-at-requires-2 (λ c. search needs) (λ c. search needs) (λ c. search needs)
+    body-at-requires (λ c. search needs))

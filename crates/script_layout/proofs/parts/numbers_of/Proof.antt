@@ -43,4 +43,5 @@ returns c =
 pub numbers-of-spec : {M : Type 1} → statement M
 numbers-of-spec =
     tie.close
-    (tie.spec (λ c. search needs) cell-at-requires cell-at-requires-2 cell-at-requires-3 cell-at-requires-4 cell-at-requires-5 cell-at-requires-6 returns)
+    (tie.spec (λ c. search needs) cell-at-requires cell-at-requires-2 cell-at-requires-3 cell-at-requires-4 cell-at-requires-5
+    cell-at-requires-6 returns)

@@ -6,7 +6,7 @@ use native.Mathlib.Omega.{arith}
 use Rattle.plan_record.specs.Record.{partsOf}
 use Rattle.plan_rows.specs.Columns as col
 use Rattle.plan_rows.specs.Rows.{cellAt}
-use Rattle.script_assembly.specs.Steps.{firstRank, rankedAt}
+use Rattle.script_assembly.specs.WrittenSoFar.{firstRank, rankedAt}
 use Rattle.script_layout.proofs.RowLaws.{plan-formed, cell-in}
 use Rattle.script_layout.proofs.PlacedLaws.{end-in, parts-are, to-in, rank-in, block-on, block-off}
 use borrow.Author.Needs.{needs}
@@ -76,5 +76,5 @@ returns-2 c =
 pub block-end-spec : {M : Type 1} → statement M
 block-end-spec =
     tie.close
-    (tie.spec Inv-loop μ-loop add-parts-before parts-before-requires loop-holds cell-at-requires (λ c. search needs) cell-at-requires-2 (λ c. search needs)
-    returns (λ c. search needs) (λ c. search needs) loop-again returns-2)
+    (tie.spec Inv-loop μ-loop add-parts-before parts-before-requires loop-holds cell-at-requires (λ c. search needs) cell-at-requires-2
+    (λ c. search needs) returns (λ c. search needs) (λ c. search needs) loop-again returns-2)

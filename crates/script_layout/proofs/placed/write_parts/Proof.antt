@@ -5,9 +5,9 @@ use Prim.Native.Nat.{ℕ, _+_, _-_, _≤_, _<_}
 use native.Mathlib.Omega.{arith}
 use lib.ListN.{length}
 use lib.Seq.{sets}
-use Rattle.script_assembly.specs.Steps.{lastMark, partsWords, partsIn, firstRank}
+use Rattle.script_assembly.specs.WrittenSoFar.{lastMark, partsWords, partsIn, firstRank}
 use Rattle.script_layout.proofs.RowLaws.{cell-in}
-use Rattle.script_layout.proofs.StoreLaws.{stored-length}
+use Rattle.script_layout.proofs.ListStoreLaws.{stores-length}
 use Rattle.script_layout.proofs.PlacedLaws.{end-in, to-in, turn-room, turn-next, turn-stored, none-stored, none-long, all-words}
 use mathlib.Core.List.{List}
 use Rattle.plan_record.specs.Record.{partsOf}
@@ -46,23 +46,14 @@ loop-holds c = let a = c .before .before .before in (omega arith, omega arith, r
 cell-at-requires : tie.Need-cell-at-requires Inv-loop μ-loop
 cell-at-requires c κs = rank-few (c .before)
 
-last-mark-requires : tie.Need-last-mark-requires Inv-loop μ-loop
-last-mark-requires c κs = search needs
-
 write-part-requires : tie.Need-write-part-requires Inv-loop μ-loop
 write-part-requires c κs =
     let read = c .before .before .before in
     let turn = read .before .before in
-    let l = turn .before .loop in
     let a = turn .before .before .before .before .before in
+    let l = turn .before .loop in
     turn-room (a .args .d .now) (a .args .room .now) _ _ _ (a .pre .0 .place) (l .k) (l .inv .0) (before-to turn) (a .args .at) (l .next) (l .inv .3)
     (l .room) (l .inv .2) _ (read .cell-at .ensures) (a .args .words .now) (l .words) (l .inv .4) (a .pre .0 .fits)
-
-add-k : tie.Need-add-k Inv-loop μ-loop
-add-k c = search needs
-
-loop-less : tie.Need-loop-less Inv-loop μ-loop
-loop-less c = search needs
 
 loop-again : tie.Need-loop-again Inv-loop μ-loop
 loop-again c =
@@ -70,27 +61,27 @@ loop-again c =
     let marked = w .before .before in
     let read = marked .before .before in
     let turn = read .before .before in
-    let l = turn .before .loop in
     let a = turn .before .before .before .before .before in
+    let d = a .args .d .now in
+    let room = a .args .room .now in
+    let words = a .args .words .now in
+    let l = turn .before .loop in
     let k = before-to turn in (
       omega arith,
       omega arith,
       w .write-part .ensures .1 .0 ∙ l .inv .2,
-      turn-next (a .args .d .now) (a .args .room .now) _ _ _ (a .pre .0 .place) (l .k) (l .inv .0) k (a .args .at) (l .next) (l .inv .3)
-          (l .room) (l .inv .2) _ (read .cell-at .ensures) (a .args .words .now) (l .words) (l .inv .4) _ (w .write-part .ensures .0),
-      turn-stored (a .args .d .now) (a .args .room .now) _ _ _ (a .pre .0 .place) (l .k) (l .inv .0) k (a .args .at) (l .next) (l .inv .3)
-          (l .room) (l .inv .2) _ (read .cell-at .ensures) (a .args .words .now) (l .words) (l .inv .4) _ _
+      turn-next d room _ _ _ (a .pre .0 .place) (l .k) (l .inv .0) k (a .args .at) (l .next) (l .inv .3)
+          (l .room) (l .inv .2) _ (read .cell-at .ensures) words (l .words) (l .inv .4) _ (w .write-part .ensures .0),
+      turn-stored d room _ _ _ (a .pre .0 .place) (l .k) (l .inv .0) k (a .args .at) (l .next) (l .inv .3)
+          (l .room) (l .inv .2) _ (read .cell-at .ensures) words (l .words) (l .inv .4) _ _
           (marked .last-mark .ensures ∙ ap (λ (x : ℕ). lastMark x (l .k)) (a .pre .2)) (w .write-part .ensures .1 .1),
     )
-
-same-length : tie.Need-same-length Inv-loop μ-loop
-same-length c = search needs
 
 same-length-2 : tie.Need-same-length-2 Inv-loop μ-loop
 same-length-2 c =
     let a = c .before .before .before .before .before .args in
     let l = c .before .loop in
-    stored-length (a .words .now) (l .words) (a .at) (partsWords 256 (a .d .now) (a .s) (partsIn (a .d .now) (a .s) (a .b)) (l .k - a .from)) (l .inv .4)
+    stores-length (a .words .now) (l .words) (a .at) (partsWords 256 (a .d .now) (a .s) (partsIn (a .d .now) (a .s) (a .b)) (l .k - a .from)) (l .inv .4)
 
 returns : tie.Need-returns Inv-loop μ-loop
 returns c =
@@ -102,17 +93,5 @@ returns c =
 pub write-parts-spec : {M : Type 1} → statement M
 write-parts-spec =
     tie.close
-    (tie.spec
-    Inv-loop
-    μ-loop
-    loop-holds
-    cell-at-requires
-    (λ c. search needs)
-    last-mark-requires
-    write-part-requires
-    add-k
-    loop-less
-    loop-again
-    same-length
-    same-length-2
-    returns)
+    (tie.spec Inv-loop μ-loop loop-holds cell-at-requires (λ c. search needs) (λ c κs. search needs) write-part-requires (λ c. search needs)
+    (λ c. search needs) loop-again (λ c. search needs) same-length-2 returns)

@@ -7,7 +7,7 @@ use native.Mathlib.Omega.{arith}
 use lib.ListN.{length}
 use lib.Seq.{length-take-le}
 use Rattle.script.proofs.HeadLaws.{numbers-wide}
-use Rattle.script.proofs.PartLaws.{two-parts}
+use Rattle.script.proofs.PutMidLaws.{two-parts}
 use borrow.Author.Needs.{needs}
 use Rattle.script_sections.proofs.parts.write_head.Statement.{statement}
 use Rattle.script_sections.proofs.parts.write_head.Tie as tie

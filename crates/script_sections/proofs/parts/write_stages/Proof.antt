@@ -5,8 +5,8 @@ use Prim.Native.Nat.{ℕ, _+_, _*_, _-_, _≤_}
 use native.Mathlib.Omega.{arith}
 use lib.ListN.{length, take, replicate}
 use Rattle.script.specs.Script.{stageSections}
-use Rattle.script.proofs.LengthLaws.{stage-length}
-use Rattle.script.proofs.PartLaws.{put-length}
+use Rattle.script.proofs.PartLengthLaws.{stage-length}
+use Rattle.script.proofs.PutMidLaws.{put-mid-length}
 use Rattle.script_sections.proofs.ScriptLaws.{stages-first, stages-more, stages-end}
 use borrow.Author.Needs.{needs}
 use Rattle.script_sections.proofs.parts.write_stages.Statement.{statement}
@@ -39,7 +39,7 @@ loop-again c =
     let fits : length added ≡ from + 5120 - from = omega (arith, ap length (w .ensures .1) ∙ stage-length 256 d p (l .s + 1)) in (
       omega arith,
       w .kept .1 .1 .1 .1 .0 ∙ l .inv .1,
-      put-length from (from + 5120) (l .out) added (omega arith) room fits ∙ l .inv .2,
+      put-mid-length from (from + 5120) (l .out) added (omega arith) room fits ∙ l .inv .2,
       stages-more d p (l .out) added (l .s + 1) from (from + 5120) refl refl room (w .ensures .1) (l .inv .3),
     )
 

@@ -6,8 +6,8 @@ use Prim.Native.Nat.{_≤_}
 use native.Mathlib.Omega.{arith}
 use lib.ListN.{length}
 use lib.Seq.{length-take-le}
-use Rattle.script.proofs.LengthLaws.{sram-length}
-use Rattle.script.proofs.PartLaws.{two-parts}
+use Rattle.script.proofs.PartLengthLaws.{sram-length}
+use Rattle.script.proofs.PutMidLaws.{two-parts}
 use borrow.Author.Needs.{needs}
 use Rattle.script_sections.proofs.parts.write_tables.Statement.{statement}
 use Rattle.script_sections.proofs.parts.write_tables.Tie as tie

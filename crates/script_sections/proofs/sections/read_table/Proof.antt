@@ -6,7 +6,7 @@ use native.Mathlib.Omega.{arith}
 use lib.ListN.{length, take, length-set}
 use Rattle.words.specs.Section.{listOf}
 use Rattle.plan_record.specs.Record.{tableAt}
-use Rattle.script.proofs.FillLaws.{fill-none, fill-more, fill-end}
+use Rattle.script.proofs.FilledSliceLaws.{fill-none, fill-more, fill-end}
 use borrow.Author.Needs.{needs}
 use Rattle.script_sections.proofs.sections.read_table.Statement.{statement}
 use Rattle.script_sections.proofs.sections.read_table.Tie as tie

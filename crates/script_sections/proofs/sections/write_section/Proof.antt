@@ -9,7 +9,7 @@ use lib.Seq.{length-take-le}
 use Rattle.words.proofs.SectionLaws.{section-length}
 use Rattle.script.specs.Script.{laneList}
 use Rattle.script.specs.Writers.{wordsIn}
-use Rattle.script.proofs.PartLaws.{two-parts}
+use Rattle.script.proofs.PutMidLaws.{two-parts}
 use borrow.Author.Needs.{needs}
 use Rattle.script_sections.proofs.sections.write_section.Statement.{statement}
 use Rattle.script_sections.proofs.sections.write_section.Tie as tie

@@ -6,7 +6,7 @@ use native.Mathlib.Omega.{arith}
 use lib.ListN.{length, take, length-set}
 use Rattle.words.specs.Section.{listOf}
 use Rattle.script.specs.Script.{stageEntry}
-use Rattle.script.proofs.FillLaws.{fill-none, fill-more, fill-end}
+use Rattle.script.proofs.FilledSliceLaws.{fill-none, fill-more, fill-end}
 use borrow.Author.Needs.{needs}
 use Rattle.script_sections.proofs.stages.later_entries.Statement.{statement}
 use Rattle.script_sections.proofs.stages.later_entries.Tie as tie

@@ -1,6 +1,6 @@
 -- One law for each way out.
 -- Assumes nothing.
-use Rattle.script.proofs.EntryLaws.{entry-empty, entry-found, entry-missing}
+use Rattle.script.proofs.LaterEntryLaws.{entry-empty, entry-found, entry-missing}
 use borrow.Author.Needs.{needs}
 use Rattle.script_sections.proofs.stages.later_entry.Statement.{statement}
 use Rattle.script_sections.proofs.stages.later_entry.Tie as tie

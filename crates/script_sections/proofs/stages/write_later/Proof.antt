@@ -2,7 +2,7 @@
 -- Assumes nothing.
 use mathlib.Core.Path.{refl}
 use Rattle.plan_slots.proofs.PutLaws.{filled-with}
-use Rattle.script.proofs.EntryLaws.{entry-small}
+use Rattle.script.proofs.LaterEntryLaws.{entry-small}
 use borrow.Author.Needs.{needs}
 use Rattle.script_sections.proofs.stages.write_later.Statement.{statement}
 use Rattle.script_sections.proofs.stages.write_later.Tie as tie

@@ -3,7 +3,7 @@
 use mathlib.Core.Path.{ap, _∙_}
 use lib.ListN.{length}
 use Rattle.words.proofs.SectionLaws.{length-listOf}
-use Rattle.script.specs.Script.{stageEntry, xoraBit, xorbBit, orbBit, laneWord, stageSection}
+use Rattle.script.specs.Script.{stageEntry, xoraBit, xorbBit, orbBit, maskWord, stageSection}
 use Rattle.script.proofs.SectionsLaws.{section-are, entries-small}
 use borrow.Author.Needs.{needs}
 use Rattle.script_sections.proofs.stages.write_stage.Statement.{statement}
@@ -38,7 +38,7 @@ returns c =
     let masks = at-fill-masks .fill-masks .ensures in
     let d = a .d .now in
     c .before .before .write-section .ensures
-    ∙ section-are 256 (stageEntry 256 d (a .p) (a .s)) (laneWord (xoraBit d (a .p) (a .s))) (laneWord (xorbBit d (a .p) (a .s))) (laneWord (orbBit d (a .p) (a .s))) _ _ _ _
+    ∙ section-are 256 (stageEntry 256 d (a .p) (a .s)) (maskWord (xoraBit d (a .p) (a .s))) (maskWord (xorbBit d (a .p) (a .s))) (maskWord (orbBit d (a .p) (a .s))) _ _ _ _
     (o .pre .2 .is)
     (masks .xora)
     (masks .xorb)

@@ -5,7 +5,7 @@ use Prim.Native.Nat.{_-_, _≤_}
 use native.Mathlib.Omega.{arith}
 use lib.ListN.{length}
 use denote.Ref.{now}
-use Rattle.stored_lists.proofs.ListLaws.{Put, put-none, put-more, put-all}
+use Rattle.stored_lists.proofs.StoredListLaws.{Put, put-none, put-more, put-all}
 use borrow.Author.Needs.{needs}
 use Rattle.stored_lists.proofs.list.expand.Statement.{statement}
 use Rattle.stored_lists.proofs.list.expand.Tie as tie

@@ -6,7 +6,7 @@ use Prim.Native.Nat.{ℕ, _+_, _-_, _≤_}
 use native.Mathlib.Omega.{arith}
 use lib.ListN.{length, take, replicate}
 use denote.Ref.{now}
-use Rattle.stored_lists.proofs.ListLaws.{fill-none, fill-more}
+use Rattle.stored_lists.proofs.StoredListLaws.{fill-none, run-fill-more}
 use borrow.Author.Needs.{needs}
 use Rattle.stored_lists.proofs.list.fill.Statement.{statement}
 use Rattle.stored_lists.proofs.list.fill.Tie as tie
@@ -24,7 +24,7 @@ loop-again : tie.Need-loop-again Inv-loop μ-loop
 loop-again c =
     let at-loop = c .before in
     let at-start = at-loop .before in
-    (search needs, search needs, fill-more (now (at-start .args .words)) (at-loop .loop .words) (at-start .args .from) (at-loop .loop .k) (at-start .args .word) (search needs) (at-loop .loop .inv .2))
+    (search needs, search needs, run-fill-more (now (at-start .args .words)) (at-loop .loop .words) (at-start .args .from) (at-loop .loop .k) (at-start .args .word) (search needs) (at-loop .loop .inv .2))
 
 returns : tie.Need-returns Inv-loop μ-loop
 returns c =

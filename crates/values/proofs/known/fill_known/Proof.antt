@@ -1,7 +1,7 @@
 -- `values::known::fill_known` meets its contract: one law for a part of the plan, one for a part past it.
 -- Assumes nothing.
 use native.Mathlib.Omega.{arith}
-use Rattle.plan_record.proofs.FormLaws.{formed}
+use Rattle.plan_record.proofs.PlanFormLaws.{formed}
 use Rattle.values.proofs.KnownLaws.{fill-read, fill-past}
 use borrow.Author.Needs.{needs}
 use Rattle.values.proofs.known.fill_known.Statement.{statement}

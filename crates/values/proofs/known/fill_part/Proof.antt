@@ -7,13 +7,13 @@ use Prim.Native.Nat.{ℕ, _-_, _≤_}
 use native.Mathlib.Omega.{arith}
 use lib.ListN.{length, take}
 use Rattle.plan_slots.specs.Puts.{filled}
-use Rattle.values.specs.Known.{bitPuts, Numbered}
+use Rattle.values.specs.Known.{bitPuts, WinnersTabled}
 use borrow.Author.Needs.{needs}
 use Rattle.values.proofs.known.fill_part.Statement.{statement}
 use Rattle.values.proofs.known.fill_part.Tie as tie
 
 abbrev Inv-loop : tie.InvT-loop
-Inv-loop d p body old new room₀ j₀ room j = (j ≤ 8192) × (length room ≡ length room₀) × Numbered d p body room × (take 32768 room ≡ filled 32768 (bitPuts d p old new j))
+Inv-loop d p body old new room₀ j₀ room j = (j ≤ 8192) × (length room ≡ length room₀) × WinnersTabled d p body room × (take 32768 room ≡ filled 32768 (bitPuts d p old new j))
 
 abbrev μ-loop : tie.MeasureT-loop
 μ-loop d p body old new room₀ j₀ room j = 8192 - j

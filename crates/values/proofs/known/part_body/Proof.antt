@@ -4,7 +4,7 @@ use mathlib.Core.Path.{_≡_, ap, _∙_}
 use Prim.Native.Nat.{_-_, _≤_}
 use native.Mathlib.Omega.{arith}
 use Rattle.plan_record.specs.Record.{bodyAt}
-use Rattle.plan_record.proofs.FormLaws.{formed, body-ready}
+use Rattle.plan_record.proofs.PlanFormLaws.{formed, body-ready}
 use borrow.Author.Needs.{needs}
 use Rattle.values.proofs.known.part_body.Statement.{statement}
 use Rattle.values.proofs.known.part_body.Tie as tie

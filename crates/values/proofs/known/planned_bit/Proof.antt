@@ -1,7 +1,7 @@
 -- The position that the entry gives, in the old state or in the new.
 -- Assumes nothing.
 use mathlib.Core.Path.{refl}
-use Rattle.values.proofs.BitLaws.{unstaged-bit, staged-bit}
+use Rattle.values.proofs.PlannedBitLaws.{unstaged-bit, staged-bit}
 use borrow.Author.Needs.{needs}
 use Rattle.values.proofs.known.planned_bit.Statement.{statement}
 use Rattle.values.proofs.known.planned_bit.Tie as tie
@@ -20,4 +20,5 @@ returns-2 c =
 
 pub planned-bit-spec : {M : Type 1} → statement M
 planned-bit-spec =
-    tie.close (tie.spec (λ c κs. search needs) (λ c. search needs) (λ c κs. search needs) returns (λ c κs. search needs) returns-2)
+    tie.close
+    (tie.spec (λ c κs. search needs) (λ c. search needs) (λ c κs. search needs) returns (λ c κs. search needs) returns-2)

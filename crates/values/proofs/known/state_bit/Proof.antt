@@ -1,7 +1,7 @@
 -- `values::known::state_bit` meets its contract. Beyond the end of the state the definition reads 0.
 -- Assumes nothing.
 use native.Mathlib.Omega.{arith}
-use Rattle.values.proofs.BitLaws.{beyond}
+use Rattle.values.proofs.PlannedBitLaws.{beyond}
 use borrow.Author.Needs.{needs}
 use Rattle.values.proofs.known.state_bit.Statement.{statement}
 use Rattle.values.proofs.known.state_bit.Tie as tie

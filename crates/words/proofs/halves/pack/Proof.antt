@@ -4,12 +4,12 @@ use Prim.Native.Nat.{_*_, _-_, _≤_}
 use borrow.Author.Needs.{needs}
 use native.Mathlib.Omega.{arith}
 use lib.ListN.{getD}
-use Rattle.words.proofs.SectionLaws.{Filled, lane-more, section-is}
+use Rattle.words.proofs.SectionLaws.{HalvesFilled, lane-more, section-is}
 use Rattle.words.proofs.halves.pack.Statement.{statement}
 use Rattle.words.proofs.halves.pack.Tie as tie
 
 abbrev Inv-loop : tie.InvT-loop
-Inv-loop s₀ entries n t₀ s t = (t ≤ n) × Filled n (λ i. getD entries i 0) s (16 * t)
+Inv-loop s₀ entries n t₀ s t = (t ≤ n) × HalvesFilled n (λ i. getD entries i 0) s (16 * t)
 
 abbrev μ-loop : tie.MeasureT-loop
 μ-loop s₀ entries n t₀ s t = n - t

@@ -6,12 +6,9 @@ use borrow.Author.Needs.{needs}
 use native.Mathlib.Omega.{arith}
 use Rattle.run_machine.specs.Turn.{begins}
 use Rattle.run_turns.specs.Phases.{phaseIs}
-use Rattle.run_turns.proofs.BlockLaws.{read-going, stage-going, store-going, read-done, stage-done-last, stage-done-more, store-done-last, store-done-next, idle-done}
+use Rattle.run_turns.proofs.BlockTurnLaws.{read-going, stage-going, store-going, read-done, stage-done-last, stage-done-more, store-done-last, store-done-next, idle-done}
 use Rattle.run_turns.proofs.block.BlockState.turn.Statement.{statement}
 use Rattle.run_turns.proofs.block.BlockState.turn.Tie as tie
-
-enum-told : tie.Need-enum-told
-enum-told c = search needs
 
 read-room-requires : tie.Need-read-room-requires
 read-room-requires c κs =
@@ -19,9 +16,6 @@ read-room-requires c κs =
     let start = told .before .before .before .before .before .before in
     let well = start .pre .0 .well (read-going _ (ap phaseIs (told .enum-told .given .1))) in
     (well .part, well .reads, search needs)
-
-enum-told-2 : tie.Need-enum-told-2
-enum-told-2 c = search needs
 
 stage-room-requires : tie.Need-stage-room-requires
 stage-room-requires c κs =
@@ -46,12 +40,6 @@ stages-requires c κs =
     let part = start .pre .0 .well (stage-going _ (ap phaseIs (told .enum-told2 .given .1))) .part in
     omega arith
 
-add-t23 : tie.Need-add-t23
-add-t23 c = search needs
-
-same-length : tie.Need-same-length
-same-length c = search needs
-
 returns : tie.Need-returns
 returns c =
     let stage = c .before .before .before .before in
@@ -69,9 +57,6 @@ add-self c =
     let within = start .pre .0 .within (ap phaseIs (told .enum-told2 .given .1)) in
     omega (arith, words .shared-slice-known .given (start .args .self .part))
 
-enum-told-3 : tie.Need-enum-told-3
-enum-told-3 c = search needs
-
 store-room-requires : tie.Need-store-room-requires
 store-room-requires c κs =
     let told = c .before .before in
@@ -84,12 +69,6 @@ last-requires c κs =
     let told = c .before .before .before .before .before in
     let start = told .before .before .before .before .before .before in
     start .pre .0 .well (store-going _ (ap phaseIs (told .enum-told3 .given .1))) .part
-
-same-length-2 : tie.Need-same-length-2
-same-length-2 c = search needs
-
-same-length-3 : tie.Need-same-length-3
-same-length-3 c = search needs
 
 returns-2 : tie.Need-returns-2
 returns-2 c =
@@ -117,15 +96,6 @@ begins-requires c κs =
     let next = well .next (λ q. c .before .if2 .left (c .before .before .last .ensures ∙ q)) in
     omega (arith, c .part-end .ensures)
 
-enum-told-4 : tie.Need-enum-told-4
-enum-told-4 c = search needs
-
-same-length-4 : tie.Need-same-length-4
-same-length-4 c = search needs
-
-same-length-5 : tie.Need-same-length-5
-same-length-5 c = search needs
-
 returns-3 : tie.Need-returns-3
 returns-3 c =
     let told = c .before .before .before .before .before in
@@ -133,9 +103,6 @@ returns-3 c =
     let phase = ap phaseIs (told .enum-told .given .1) in
     let well = start .pre .0 .well (read-going _ phase) in
     read-done _ _ _ _ _ _ _ (start .pre .1) (well .captures .few) _ phase (c .before .before .read-room .ensures)
-
-same-length-6 : tie.Need-same-length-6
-same-length-6 c = search needs
 
 returns-4 : tie.Need-returns-4
 returns-4 c =
@@ -146,21 +113,16 @@ returns-4 c =
     let well = start .pre .0 .well (stage-going _ phase) in
     stage-done-more _ _ _ _ _ _ _ (start .pre .1) (well .captures .few) _ phase (stage .stage-room .ensures) (λ q. c .if1 .left (q ∙ sym (c .before .stages .ensures)))
 
-same-length-7 : tie.Need-same-length-7
-same-length-7 c = search needs
-
-same-length-8 : tie.Need-same-length-8
-same-length-8 c = search needs
-
 returns-5 : tie.Need-returns-5
 returns-5 c =
-    let store = c .before .before .before .before .before .before in
+    let at-last = c .before .before .before in
+    let store = at-last .before .before .before in
     let told = store .before .before .before in
     let start = told .before .before .before .before .before .before in
     let phase = ap phaseIs (told .enum-told3 .given .1) in
     let well = start .pre .0 .well (store-going _ phase) in
     let next = c .begins .ensures in
-    store-done-next _ _ _ _ _ _ _ (start .pre .1) (well .captures .few) _ _ _ _ phase (store .store-room .ensures) (λ q. c .before .before .if2 .left (c .before .before .before .last .ensures ∙ q)) (next .0 ∙ c .before .part-end .ensures)
+    store-done-next _ _ _ _ _ _ _ (start .pre .1) (well .captures .few) _ _ _ _ phase (store .store-room .ensures) (λ q. c .before .before .if2 .left (at-last .last .ensures ∙ q)) (next .0 ∙ c .before .part-end .ensures)
     (next .1 ∙ ap (λ (o : ℕ). begins (start .args .words .now) o .phase) (sym (next .0))) (next .2)
 
 returns-6 : tie.Need-returns-6
@@ -169,32 +131,7 @@ returns-6 c = idle-done _ _ _ _ _ _ _ (ap phaseIs (c .enum-told4 .given .1))
 pub turn-spec : {M : Type 1} → statement M
 turn-spec =
     tie.close
-    (tie.spec
-    enum-told
-    read-room-requires
-    enum-told-2
-    stage-room-requires
-    add-if1
-    stages-requires
-    add-t23
-    same-length
-    returns
-    add-self
-    enum-told-3
-    store-room-requires
-    last-requires
-    same-length-2
-    same-length-3
-    returns-2
-    part-end-requires
-    begins-requires
-    enum-told-4
-    same-length-4
-    same-length-5
-    returns-3
-    same-length-6
-    returns-4
-    same-length-7
-    same-length-8
-    returns-5
-    returns-6)
+    (tie.spec (λ c. search needs) read-room-requires (λ c. search needs) stage-room-requires add-if1 stages-requires (λ c. search needs)
+    (λ c. search needs) returns add-self (λ c. search needs) store-room-requires last-requires (λ c. search needs) (λ c. search needs)
+    returns-2 part-end-requires begins-requires (λ c. search needs) (λ c. search needs) (λ c. search needs) returns-3 (λ c. search needs)
+    returns-4 (λ c. search needs) (λ c. search needs) returns-5 returns-6)

@@ -1,0 +1,149 @@
+-- From the verdict of the checks to the answer of a build, and what the lent slices then hold.
+-- Assumes nothing.
+use mathlib.Core.Path.{_≡_, refl, sym, ap, _∙_}
+use mathlib.Core.Bool.{Bool, true, false, _&&_}
+use mathlib.Core.Option.{Option, none, some}
+use mathlib.Core.List.{List}
+use Prim.Native.Nat.{ℕ, _+_, _*_, _≤_, _<_}
+use native.Mathlib.Omega.{arith}
+use borrow.Author.Tests.{leb-true, le-leb, lt-leb}
+use lib.Dec.{leb}
+use lib.ListN.{length, replicate}
+use lib.Seq.{sets}
+use Rattle.words.specs.Answer.{Answer, good, refused, nowhere}
+use Rattle.words.specs.declared.refusals.Refusal.{Refusal}
+use Rattle.plan_record.specs.Record.{blocksOf, majorsOf}
+use Rattle.plan_record.specs.Form.{planRoomWords}
+use Rattle.words.proofs.TestLaws.{and-true}
+use Rattle.plan_checks.specs.Refusals.{planRefusal, planVerdict}
+use Rattle.plan_checks.specs.CheckedRoom.{PlanReady, readyRoom, roomLeft}
+use Rattle.plan_checks.specs.Verdicts.{verdictOf}
+use Rattle.words.proofs.TestLaws.{some-not-none}
+use Rattle.plan_checks.specs.declared.Verdict.the-variants as verdict
+use Rattle.script_assembly.specs.Assembly.{scriptWords}
+use Rattle.script_assembly.proofs.ScriptStartLaws.{starts-length}
+use Rattle.script_layout.specs.Layout.{AcceptedTabled, PlanRoom}
+use Rattle.flatten.specs.declared.sizes.Sizes.{Sizes}
+use Rattle.flatten.specs.declared.Flattened.the-variants as flattened
+use Rattle.flatten.specs.Flatten as flat
+use Rattle.flatten.specs.Flatten.{sizesOf, sizing, fits, ifFits, building, laid, buildRoomAfter}
+use Rattle.flatten.specs.FlattenedAnswer.{sizesIn, flattenedOf}
+
+no-verdict : {A : Type 0} (x : Refusal) → verdict.Accepted ≡ verdict.Refused x → A
+no-verdict x e = let z : _≡_ {A = ℕ} 0 1 = cc in absurd (omega arith)
+
+-- ---- a refusal
+
+refused-is : (o : Option Refusal) (x : Refusal) → verdict.Refused x ≡ verdictOf o → o ≡ some x
+refused-is none x e = no-verdict x (sym e)
+refused-is (some q) x e = cc
+
+pub accepted-is : (o : Option Refusal) → verdict.Accepted ≡ verdictOf o → o ≡ none
+accepted-is none e = refl
+accepted-is (some q) e = no-verdict _ e
+
+module _ (d room : List ℕ) where
+  -- what the room of a refused plan holds
+  room-refused : (b : Bool) (o : Option Refusal) (z : List ℕ) (q : Refusal)
+      → _≡_ {A = Option Refusal} (elim b [ true ↦ o | false ↦ some (nowhere 32) ]) (some q)
+      → _≡_ {A = List ℕ} (elim b [ false ↦ room | true ↦ elim o [ some x ↦ replicate (length room) 0 | none ↦ z ] ])
+      (elim b [ false ↦ room | true ↦ replicate (length room) 0 ])
+  room-refused false o z q e = refl
+  room-refused true (some x) z q e = refl
+  room-refused true none z q e = absurd (some-not-none (sym e))
+
+  module _ (q : Refusal) (e : planVerdict 256 d (length room) ≡ some q) where
+    refused-room : (after : List ℕ) → after ≡ roomLeft d room → after ≡ buildRoomAfter d room
+    unfolding planVerdict roomLeft buildRoomAfter
+    refused-room after is = is ∙ room-refused (leb (planRoomWords d) (length room)) (planRefusal 256 d) (readyRoom d (length room)) q e
+
+    refused-sizing : refused q ≡ sizing 256 d (length room)
+    unfolding sizing
+    refused-sizing = rw (e, sizing)
+
+    module _ (s w : ℕ) where
+      refused-building : refused q ≡ building 256 d (length room) s w
+      unfolding building
+      refused-building = rw (e, building)
+
+  -- ---- an accepted plan
+
+  none-both : (b : Bool) (o : Option Refusal) → _≡_ {A = Option Refusal} (elim b [ true ↦ o | false ↦ some (nowhere 32) ]) none → (b ≡ true) × (o ≡ none)
+  none-both true o e = (refl, e)
+  none-both false o e = absurd (some-not-none e)
+
+  module _ (e : planVerdict 256 d (length room) ≡ none) where
+    accepted : (leb (planRoomWords d) (length room) ≡ true) × (planRefusal 256 d ≡ none)
+    unfolding planVerdict
+    accepted = none-both (leb (planRoomWords d) (length room)) (planRefusal 256 d) e
+
+    pub sound : (after : List ℕ) → PlanReady d after → AcceptedTabled d after
+    sound after r = record { accepted = accepted .1; ready = r }
+
+    pub cleared-room : (after : List ℕ) (m : ℕ) → m ≡ length room → after ≡ replicate m 0 → after ≡ buildRoomAfter d room
+    unfolding buildRoomAfter
+    cleared-room after m k z = z ∙ ap (λ (n : ℕ). replicate n 0) k ∙ (rw (accepted .0, buildRoomAfter))
+
+    pub accepted-sizing : good (sizesOf 256 d) ≡ sizing 256 d (length room)
+    unfolding sizing
+    accepted-sizing = rw (e, sizing)
+
+    pub accepted-building : (s w : ℕ) → ifFits (fits (sizesOf 256 d) s w) (sizesOf 256 d) ≡ building 256 d (length room) s w
+    unfolding building
+    accepted-building s w = rw (e, building)
+
+-- ---- refusal 14
+
+module _ (d : List ℕ) (s w : ℕ) (x : Sizes) (are : x ≡ sizesIn (sizesOf 256 d)) (t : Bool) (test : t ≡ (leb (x .starts) s && leb (x .words) w)) where
+  fits-is : fits (sizesOf 256 d) s w ≡ t
+  unfolding fits
+  fits-is = sym (test ∙ ap (λ (y : Sizes). leb (y .starts) s && leb (y .words) w) are)
+
+  pub long-enough : t ≡ true → ifFits (fits (sizesOf 256 d) s w) (sizesOf 256 d) ≡ good (sizesOf 256 d)
+  long-enough e = ap (λ (b : Bool). ifFits b (sizesOf 256 d)) (fits-is ∙ e)
+
+  pub too-short : t ≡ false → ifFits (fits (sizesOf 256 d) s w) (sizesOf 256 d) ≡ refused (nowhere 14)
+  too-short e = ap (λ (b : Bool). ifFits b (sizesOf 256 d)) (fits-is ∙ e)
+
+  pub plan-room : (room : List ℕ) → AcceptedTabled d room → t ≡ true → PlanRoom d room s w
+  unfolding fits sizesOf
+  plan-room room h e =
+      let r = and-true (leb (sizesOf 256 d .starts) s) (leb (sizesOf 256 d .words) w) (fits-is ∙ e) in
+      record {
+        sound = h;
+        starts = omega (arith, leb-true (blocksOf d * majorsOf d + 1) s (r .0), starts-length 256 d);
+        words = leb-true (length (scriptWords 256 d)) w (r .1);
+      }
+
+-- what a result slice then holds
+pub laid-built : (o : Answer flat.Sizes) (x : flat.Sizes) → o ≡ good x → (l before after : List ℕ) → after ≡ sets before 0 l → after ≡ laid o l before
+unfolding laid
+laid-built o x e l before after a = a ∙ rw (e, laid)
+
+pub laid-refused : (o : Answer flat.Sizes) (q : Refusal) → o ≡ refused q → (l before : List ℕ) → before ≡ laid o l before
+unfolding laid
+laid-refused o q e l before = rw (e, laid)
+
+-- ---- a refused plan's answer, and its slices
+
+module _ (d room : List ℕ) (x : Refusal) (v : verdict.Refused x ≡ verdictOf (planVerdict 256 d (length room))) (after : List ℕ) (is : after ≡ roomLeft d room) where
+  pub refused-sized : (flattened.Refused x ≡ flattenedOf (sizing 256 d (length room))) × (after ≡ buildRoomAfter d room)
+  refused-sized =
+      let e = refused-is (planVerdict 256 d (length room)) x v in
+      (ap flattenedOf (refused-sizing d room x e), refused-room d room x e after is)
+
+  module _ (starts words : List ℕ) where
+    pub refused-built : flattened.Refused x ≡ flattenedOf (building 256 d (length room) (length starts) (length words))
+    refused-built = ap flattenedOf (refused-building d room x (refused-is (planVerdict 256 d (length room)) x v) (length starts) (length words))
+
+    pub refused-kept : (l before : List ℕ) → before ≡ laid (building 256 d (length room) (length starts) (length words)) l before
+    refused-kept l before =
+        let e = refused-is (planVerdict 256 d (length room)) x v in
+        laid-refused (building 256 d (length room) (length starts) (length words)) x (sym (refused-building d room x e (length starts) (length words))) l before
+
+-- one test, then the other
+pub test-on : (a b : ℕ) (c : Bool) → a ≤ b → c ≡ (leb a b && c)
+test-on a b c h = rw (le-leb a b h)
+
+pub test-off : (a b : ℕ) (c : Bool) → b < a → leb a b ≡ (leb a b && c)
+test-off a b c h = rw (lt-leb a b h)

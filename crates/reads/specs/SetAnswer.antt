@@ -1,0 +1,40 @@
+-- What a read set gets: rounds or a numbered refusal, and what the lent words then hold. Document 01, "Numbered refusals": "A read set: 1, 2,
+-- 3, 4, 14", 32 before all others, 14 told at (0, 0). Refusals of a read set have part 0.
+-- Assumes nothing.
+use mathlib.Core.Bool.{true, false}
+use mathlib.Core.Option.{none, some}
+use mathlib.Core.List.{List}
+use Prim.Native.Nat.{ℕ, _*_}
+use lib.Dec.{leb, ltb}
+use lib.ListN.{length, replicate}
+use lib.Seq.{sets}
+use Rattle.words.specs.Answer.{Answer, good, refused, atItem, nowhere}
+use Rattle.reads.specs.ReadSet.{Pair, pairsOf, broken}
+use Rattle.reads.specs.Search.{Lane, lanesOf, longest}
+use Rattle.reads.specs.ReadSection.{readSection}
+
+-- what the search over a set's pairs gives: 3, 4 or the lanes of the winning try
+unfoldable pub packed : ℕ → List Pair → Answer (List Lane)
+packed n ps = elim (ltb 0 (length ps)) [ false ↦ refused (nowhere 3) | true ↦ elim (lanesOf n ps) [ none ↦ refused (nowhere 4) | some lanes ↦ good lanes ] ]
+
+-- 1 and 2 come before that
+unfoldable pub readSet : ℕ → List Pair → Answer (List Lane)
+readSet n ps = elim (leb (length ps) 8192) [ false ↦ refused (nowhere 1) | true ↦ elim (broken ps) [ some i ↦ refused (atItem 2 i) | none ↦ packed n ps ] ]
+
+-- 14 after it: the lent result has o words
+unfoldable pub setFitted : ℕ → ℕ → Answer (List Lane) → Answer (List Lane)
+setFitted n o (refused q) = refused q
+setFitted n o (good lanes) = elim (leb (2 * n * longest lanes) o) [ false ↦ refused (nowhere 14) | true ↦ good lanes ]
+
+-- and 32 before all: the lent room has r words
+unfoldable pub setAnswer : ℕ → List ℕ → ℕ → ℕ → Answer (List Lane)
+setAnswer n ws o r = elim (leb 16384 r) [ false ↦ refused (nowhere 32) | true ↦ setFitted n o (readSet n (pairsOf ws)) ]
+
+-- the lent result then holds the read section from its start, or what it held
+unfoldable pub resultAfter : Answer (List Lane) → List ℕ → List ℕ
+resultAfter (good lanes) out = sets out 0 (readSection lanes)
+resultAfter (refused q) out = out
+
+-- the lent room then holds zeros; one that is too short holds what it held
+unfoldable pub setRoomAfter : List ℕ → List ℕ
+setRoomAfter room = elim (leb 16384 (length room)) [ false ↦ room | true ↦ replicate (length room) 0 ]

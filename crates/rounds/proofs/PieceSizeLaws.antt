@@ -1,0 +1,129 @@
+-- A try at a piece size in the code's terms, and one size more of the search.
+-- Assumes nothing.
+use mathlib.Core.Path.{_≡_, refl, sym, ap, subst, _∙_}
+use mathlib.Core.Bool.{Bool, true, false}
+use mathlib.Core.Option.{none, some}
+use mathlib.Core.List.{List, [], _++_, append-nil}
+use Prim.Native.Nat.{ℕ, _*_, _/_, _%_, _≤_, _<_}
+use native.Mathlib.Nat.{le-refl, lt-of-le-of-lt}
+use native.Mathlib.Omega.{arith}
+use lib.Dec.{lit<}
+use lib.ListN.{length, drop, replicate, length-append, length-replicate, drop-of-length-le}
+use lib.Seq.{take-all}
+use Rattle.reads.specs.ReadSet.{Pair, pairsOf}
+use Rattle.reads.specs.Search.{Tried, all, stuck, tryFrom, try, firstWin, lanesOf}
+use Rattle.reads.proofs.SearchLaws.{win-none, win-all, win-stuck, win-fuel}
+use Rattle.reads_try.specs.LaneTable.{tableOf}
+use Rattle.reads_try.specs.Tries.{isAll, triedLanes, triedOf, TryReady}
+use Rattle.reads_try.proofs.SetPairLaws.{pairs-length}
+use Rattle.reads_pieces.specs.Keys.{keysOf, pieceCount, Orderable}
+use Rattle.reads_pieces.proofs.PieceKeyLaws.{piece-count-le}
+use Rattle.reads_pieces.proofs.PieceOrderLaws.{run-is}
+use Rattle.rounds.specs.Rounds.{isWon, tableAfter, SetSearchable}
+
+pub zeros-length : {t : List ℕ} {n : ℕ} → t ≡ replicate n 0 → length t ≡ n
+zeros-length {t} {n} e = ap length e ∙ length-replicate n 0
+
+pub table-cleared : (t : List ℕ) (n : ℕ) {s : List ℕ} → s ≡ replicate (length t) 0 → length t ≡ n → s ≡ replicate n 0
+table-cleared t n e l = e ∙ ap (λ (m : ℕ). replicate m 0) l
+
+-- ---- a try at size k
+
+module _ {ws : List ℕ} {t K S n k : ℕ} (s : SetSearchable ws t K S n) (h : 0 < k) where
+  pub count-few : pieceCount (length ws / 2) k ≤ K
+  count-few = omega (arith, piece-count-le (length ws / 2) k h, s .keys-room)
+
+  pub orderable : (keys scratch : List ℕ) → length keys ≡ pieceCount (length ws / 2) k → length scratch ≡ S → Orderable ws keys scratch k
+  orderable keys scratch e f = record {
+    fillable = record { even = s .whole; few = omega (arith, s .few); size = h; full = e };
+    room = omega (arith, piece-count-le (length ws / 2) k h, s .scratch-room);
+  }
+
+  pub ready : (table : List ℕ) → table ≡ replicate (32 * n) 0 → k ≤ length ws / 2 → TryReady ws table n k
+  ready table e l =
+      let long : length table ≡ 32 * n = zeros-length e in
+      record {
+        whole = s .whole;
+        pairs = s .few;
+        masks = s .masks;
+        in-room = omega arith;
+        empty = take-all (32 * n) table (omega arith) ∙ e;
+        some-lanes = s .some-lanes;
+        size = omega (arith, s .few);
+      }
+
+  -- the keys in order name the pairs that the definition's try places
+  pub tried-is : (keys : List ℕ) → keys ≡ keysOf k (pairsOf ws) → triedOf n k ws keys ≡ try n (pairsOf ws) k
+  tried-is keys e =
+      ap (λ (run : List Pair). tryFrom n run (replicate n []) 0) (rw e (run-is k (pairsOf ws) (omega (arith, pairs-length 0 ws, s .few)) h))
+
+  pub tried-table : (keys table table′ : List ℕ) → keys ≡ keysOf k (pairsOf ws) → length table ≡ 32 * n
+      → table′ ≡ tableOf (triedLanes (triedOf n k ws keys)) ++ drop (32 * n) table → table′ ≡ tableOf (triedLanes (try n (pairsOf ws) k))
+  tried-table keys table table′ e long f =
+      let q : length table ≤ 32 * n = omega arith in
+      f ∙ rw (drop-of-length-le table q, append-nil, tried-is keys e)
+
+-- the keys in front of others
+pub front-room : (keys rest : List ℕ) (m : ℕ) → length keys ≡ m → m ≤ length (keys ++ rest)
+front-room keys rest m e = omega (arith, length-append keys rest)
+
+-- ---- one size more
+
+-- from size k on the search ends as it does from the first
+abbrev pub Left : ℕ → List Pair → ℕ → Type 0
+Left n ps k = (k ≤ length ps) × (firstWin n ps 14 k ≡ lanesOf n ps)
+
+pub left-start : (n : ℕ) (ps : List Pair) → Left n ps (length ps)
+left-start n ps = (le-refl (length ps), refl)
+
+pub pairs-whole : (ws : List ℕ) → length ws % 2 ≡ 0 → length (pairsOf ws) ≡ length ws / 2
+pairs-whole ws h = omega (arith, pairs-length 0 ws)
+
+module _ {ws : List ℕ} {t K S n : ℕ} (s : SetSearchable ws t K S n) where
+  pub search-few : length (pairsOf ws) ≤ 8192
+  search-few = omega (arith, pairs-length 0 ws, s .few)
+
+  pub search-still : (t′ K′ S′ : ℕ) → t′ ≡ 32 * n → K′ ≡ K → S′ ≡ S → SetSearchable ws t′ K′ S′ n
+  search-still t′ K′ S′ et eK eS = record {
+    whole = s .whole;
+    few = s .few;
+    masks = s .masks;
+    room = et;
+    some-lanes = s .some-lanes;
+    few-lanes = s .few-lanes;
+    keys-room = rw eK (s .keys-room);
+    scratch-room = rw eS (s .scratch-room);
+  }
+
+  pub search-start : Left n (pairsOf ws) (length ws / 2)
+  search-start = subst (λ (k : ℕ). Left n (pairsOf ws) k) (pairs-whole ws (s .whole)) (left-start n (pairsOf ws))
+
+module _ (n : ℕ) (ps : List Pair) (few : length ps ≤ 8192) where
+  pub left-end : (k : ℕ) → k ≤ 0 → Left n ps k → lanesOf n ps ≡ none
+  left-end k h l = let z : k ≡ 0 = omega arith in sym (l .1) ∙ rw z (win-none n ps 14)
+
+  pub left-on : (k : ℕ) → 0 < k → Left n ps k → (r : Bool) → r ≡ isAll (try n ps k) → r ≡ false → Left n ps (k / 2)
+  left-on k h l r e f = go (try n ps k) refl
+    where
+      go : (T : Tried) → try n ps k ≡ T → Left n ps (k / 2)
+      go (all lanes) t =
+          let q : true ≡ false = sym (rw t at e) ∙ f in
+          let z : _≡_ {A = ℕ} 0 1 = cc in
+          absurd (omega arith)
+      go (stuck lanes) t =
+          let few-left : k / 2 ≤ 4096 = omega arith in
+          let same = win-fuel n ps 13 14 (k / 2) (lt-of-le-of-lt few-left (lit< tt)) (lt-of-le-of-lt few-left (lit< tt)) in
+          (omega arith, sym (win-stuck n ps 13 k lanes h t ∙ same) ∙ l .1)
+
+  pub left-won : (k : ℕ) → 0 < k → Left n ps k → (r : Bool) → r ≡ isAll (try n ps k) → r ≡ true → (table : List ℕ) → table ≡ tableOf (triedLanes (try n ps k))
+      → (true ≡ isWon (lanesOf n ps)) × (table ≡ tableAfter n (lanesOf n ps))
+  left-won k h l r e f table et = go (try n ps k) refl
+    where
+      go : (T : Tried) → try n ps k ≡ T → (true ≡ isWon (lanesOf n ps)) × (table ≡ tableAfter n (lanesOf n ps))
+      go (stuck lanes) t =
+          let q : false ≡ true = sym (rw t at e) ∙ f in
+          let z : _≡_ {A = ℕ} 0 1 = cc in
+          absurd (omega arith)
+      go (all lanes) t =
+          let won : lanesOf n ps ≡ some lanes = sym (l .1) ∙ win-all n ps 13 k lanes h t in
+          rw won (refl, rw t at et)

@@ -1,0 +1,177 @@
+-- Which outcome each way through the code has, and what the table holds when a size has won.
+-- Assumes nothing.
+use mathlib.Core.Path.{_≡_, refl, sym, ap, subst, _∙_}
+use mathlib.Core.Bool.{Bool, true, false}
+use mathlib.Core.Option.{Option, none, some}
+use mathlib.Core.List.{List, [], _++_, append-nil}
+use Prim.Native.Nat.{ℕ, _*_, _/_, _^_, _≤_, _<_}
+use native.Mathlib.Nat.{le-trans, mul-le-mul-left}
+use native.Mathlib.Omega.{arith}
+use borrow.Author.Tests.{le-leb, lt-leb, lt-ltb, le-ltb}
+use lib.Dec.{leb, ltb}
+use lib.ListN.{length, getD, take, drop, replicate, length-append, length-drop}
+use lib.Seq.{sets, length-take-le}
+use Rattle.reads.specs.ReadSet.{pairsOf, broken}
+use Rattle.reads.specs.Search.{Lane, Tried, all, lanesOf, longest}
+use Rattle.reads.specs.ReadSection.{roundsFrom}
+use Rattle.words.specs.Answer.{Answer, good, refused, atItem, nowhere}
+use Rattle.reads.specs.SetAnswer.{packed, readSet, setFitted, setAnswer, resultAfter, setRoomAfter}
+use Rattle.reads.proofs.SearchLaws.{win-first}
+use Rattle.reads_try.specs.LaneTable.{tableOf}
+use Rattle.reads_try.specs.Tries.{triedLanes, triedOf}
+use Rattle.reads_try.specs.TableLanes.{lanesAt, SoundLanes}
+use Rattle.reads_try.proofs.SetPairLaws.{pairs-length}
+use Rattle.reads_try.proofs.LaneTableLaws.{filled-of, filled-lanes}
+use Rattle.reads_try.proofs.TryLaws.{tried-kept}
+use Rattle.reads_pieces.specs.Keys.{keysOf}
+use Rattle.reads_section.specs.Readout.{TableReadable}
+use Rattle.reads_section.proofs.PairFormLaws.{form-whole, form-masks}
+use Rattle.rounds.specs.declared.Rounds.{Rounds}
+use Rattle.rounds.specs.declared.Rounds.the-variants.{Placed}
+use Rattle.rounds.specs.Rounds.{roundsOf, isWon, tableAfter, SetSearchable, Solvable}
+use Rattle.rounds.proofs.PieceSizeLaws.{tried-is}
+
+-- ---- which outcome: 1, 2, 3, 4, 14, each after those before it
+
+module _ (n : ℕ) (ws : List ℕ) (o : ℕ) where
+  abbrev pub end : Answer (List Lane)
+  end = setFitted n o (readSet n (pairsOf ws))
+
+  pub is-many : 16384 < length ws → end ≡ refused (nowhere 1)
+  unfolding readSet setFitted
+  is-many h = rw (lt-leb (length (pairsOf ws)) 8192 (omega (arith, pairs-length 0 ws)), readSet)
+
+  module _ (few : length ws ≤ 16384) where
+    pairs-few : leb (length (pairsOf ws)) 8192 ≡ true
+    pairs-few = le-leb (length (pairsOf ws)) 8192 (omega (arith, pairs-length 0 ws))
+
+    pub is-bad : (i : ℕ) → broken (pairsOf ws) ≡ some i → end ≡ refused (atItem 2 i)
+    unfolding readSet setFitted
+    is-bad i e = rw (pairs-few, e, readSet)
+
+    module _ (form : broken (pairsOf ws) ≡ none) where
+      pub is-none : length ws ≡ 0 → end ≡ refused (nowhere 3)
+      unfolding readSet packed setFitted
+      is-none z = rw (pairs-few, form, le-ltb 0 (length (pairsOf ws)) (omega (arith, pairs-length 0 ws)), readSet, packed)
+
+      module _ (some-words : length ws ≡ 0 → ⊥) where
+        some-pairs : ltb 0 (length (pairsOf ws)) ≡ true
+        some-pairs = lt-ltb 0 (length (pairsOf ws)) (omega (arith, pairs-length 0 ws))
+
+        pub is-stuck : lanesOf n (pairsOf ws) ≡ none → end ≡ refused (nowhere 4)
+        unfolding readSet packed setFitted
+        is-stuck e = rw (pairs-few, form, some-pairs, e, readSet, packed)
+
+        module _ (lanes : List Lane) (e : lanesOf n (pairsOf ws) ≡ some lanes) where
+          pub is-packed : readSet n (pairsOf ws) ≡ good lanes
+          unfolding readSet packed
+          is-packed = rw (pairs-few, form, some-pairs, e, readSet, packed)
+
+          pub is-short : o < 2 * n * longest lanes → end ≡ refused (nowhere 14)
+          unfolding setFitted
+          is-short l = rw (is-packed, lt-leb (2 * n * longest lanes) o l, setFitted)
+
+          pub is-placed : 2 * n * longest lanes ≤ o → end ≡ good lanes
+          unfolding setFitted
+          is-placed l = rw (is-packed, le-leb (2 * n * longest lanes) o l, setFitted)
+
+-- ---- the answer and the result, by the outcome
+
+module _ (D : Answer (List Lane)) (r : Rounds) (out : List ℕ) where
+  pub refused-post : (n i : ℕ) → D ≡ refused (atItem n i) → r ≡ roundsOf (refused (atItem n i)) → (r ≡ roundsOf D) × (out ≡ resultAfter D out)
+  unfolding resultAfter
+  refused-post n i e er = rw e (er, refl)
+
+pub placed-post : (D : Answer (List Lane)) (lanes ls : List Lane) (n : ℕ) (out out′ : List ℕ) → D ≡ good lanes → ls ≡ lanes → n ≡ longest ls
+    → out′ ≡ sets out 0 (roundsFrom ls n 0) → (Placed n ≡ roundsOf D) × (out′ ≡ resultAfter D out)
+unfolding resultAfter
+placed-post D lanes ls n out out′ e el en eo =
+    let q : n ≡ longest lanes = en ∙ ap longest el in
+    rw e (ap Placed q, rw (← q) (rw el at eo))
+
+-- ---- a set that has the form is searched
+
+pub searchable : {ws : List ℕ} {t K S n : ℕ} → Solvable t K S n → length ws ≤ 16384 → broken (pairsOf ws) ≡ none → ((x : ℕ) → getD ws x 0 < 2 ^ 32)
+    → SetSearchable ws t K S n
+searchable {ws} s few form small = record {
+  whole = form-whole ws form;
+  few = few;
+  masks = form-masks ws form small;
+  room = s .room;
+  some-lanes = s .some-lanes;
+  few-lanes = s .few-lanes;
+  keys-room = omega (arith, s .keys-room);
+  scratch-room = omega (arith, s .scratch-room);
+}
+
+-- ---- a size has won
+
+pub lost : (o : Option (List Lane)) (r : Bool) → r ≡ isWon o → r ≡ false → o ≡ none
+lost none r e f = refl
+lost (some lanes) r e f =
+    let q : true ≡ false = sym e ∙ f in
+    let z : _≡_ {A = ℕ} 0 1 = cc in
+    absurd (omega arith)
+
+-- the lanes that won, as the table says them
+pub record Win (ws table : List ℕ) (n : ℕ) : Type 0 where
+  pub lanes : List Lane
+  pub found : lanesOf n (pairsOf ws) ≡ some lanes
+  pub readable : TableReadable ws table n
+  pub same : lanesAt ws table n ≡ lanes
+
+module _ {ws : List ℕ} {t K S n : ℕ} (s : SetSearchable ws t K S n) where
+  won-kept : (lanes : List Lane) → lanesOf n (pairsOf ws) ≡ some lanes → SoundLanes ws n lanes
+  won-kept lanes e =
+      let w = win-first n (pairsOf ws) 14 (length (pairsOf ws)) lanes e in
+      let k = length (pairsOf ws) / 2 ^ w .i in
+      let tried : triedOf n k ws (keysOf k (pairsOf ws)) ≡ all lanes = tried-is s (w .size) (keysOf k (pairsOf ws)) refl ∙ w .wins in
+      subst (λ (T : Tried). SoundLanes ws n (triedLanes T)) tried (tried-kept ws (s .whole) (s .masks) n k (keysOf k (pairsOf ws)) (s .some-lanes))
+
+  pub won : (r : Bool) (table : List ℕ) → r ≡ isWon (lanesOf n (pairsOf ws)) → r ≡ true → table ≡ tableAfter n (lanesOf n (pairsOf ws)) → length table ≡ 32 * n
+      → Win ws table n
+  won r table e f et long = go (lanesOf n (pairsOf ws)) refl
+    where
+      go : (o : Option (List Lane)) → lanesOf n (pairsOf ws) ≡ o → Win ws table n
+      go none q =
+          let x : false ≡ true = sym (rw q at e) ∙ f in
+          let z : _≡_ {A = ℕ} 0 1 = cc in
+          absurd (omega arith)
+      go (some lanes) q =
+          let kept = won-kept lanes q in
+          let filled : table ≡ tableOf lanes ++ [] = (rw q at et) ∙ sym (append-nil (tableOf lanes)) in
+          record {
+            lanes = lanes;
+            found = q;
+            readable = record { few = s .few-lanes; in-room = omega arith; filled = filled-of kept [] filled };
+            same = filled-lanes kept [] filled;
+          }
+
+-- the words of 32 rounds of 256 lanes
+pub size-fits : (n r : ℕ) → n ≤ 256 → r ≤ 32 → 2 * n * r ≤ 16384
+size-fits n r h l = le-trans (mul-le-mul-left (2 * n) l) (omega arith)
+
+-- ---- 32 before all others
+
+-- what is promised of an answer, a result and a room
+abbrev pub Promised : (n : ℕ) (ws out room : List ℕ) → Rounds → (out′ room′ : List ℕ) → Type 0
+Promised n ws out room r out′ room′ =
+    (r ≡ roundsOf (setAnswer n ws (length out) (length room))) × ((out′ ≡ resultAfter (setAnswer n ws (length out) (length room)) out) × (room′ ≡ setRoomAfter room))
+
+pub short-post : (n : ℕ) (ws out room : List ℕ) (r : Rounds) → length room < 16384 → r ≡ roundsOf (refused (nowhere 32)) → Promised n ws out room r out room
+unfolding setAnswer resultAfter setRoomAfter
+short-post n ws out room r h e =
+    let t : leb 16384 (length room) ≡ false = lt-leb 16384 (length room) h in
+    (rw (t, setAnswer) e, (rw (t, setAnswer, resultAfter), rw (t, setRoomAfter)))
+
+pub long-post : (n : ℕ) (ws out room : List ℕ) (r : Rounds) (out′ room′ used : List ℕ) → 16384 ≤ length room → r ≡ roundsOf (end n ws (length out))
+    → out′ ≡ resultAfter (end n ws (length out)) out → room′ ≡ replicate (length used) 0 → length used ≡ length room → Promised n ws out room r out′ room′
+unfolding setAnswer setRoomAfter
+long-post n ws out room r out′ room′ used h er eo em long =
+    let t : leb 16384 (length room) ≡ true = le-leb 16384 (length room) h in
+    let o : setAnswer n ws (length out) (length room) ≡ end n ws (length out) = rw (t, setAnswer) in
+    (rw o er, (rw o eo, em ∙ rw (t, setRoomAfter, long)))
+
+-- a part comes back as long as it was lent
+pub part-length : (n : ℕ) (l part : List ℕ) → n ≤ length l → length part ≡ length (take n l) → length (part ++ drop n l) ≡ length l
+part-length n l part h e = omega (arith, length-append part (drop n l), length-take-le n l h, length-drop n l)

@@ -1,0 +1,59 @@
+-- The entries of a stage after the first in the code's terms: one law for each way out.
+-- Assumes nothing.
+use mathlib.Core.Path.{_≡_, refl, sym, ap, _∙_}
+use mathlib.Core.List.{List}
+use mathlib.Core.Option.{none, some}
+use Prim.Native.Nat.{ℕ, zero, suc, _+_, _≤_}
+use native.Mathlib.Decide.{ℕ-discrete}
+use native.Mathlib.Numerals.{add-one}
+use native.Mathlib.Omega.{arith}
+use borrow.Author.Tests.{eq-eqb, ne-eqb}
+use Rattle.pinmap.specs.PinMap.{look, lookAnswer}
+use Rattle.pinmap.specs.declared.Found.{Found}
+use Rattle.pinmap.specs.declared.Found.the-variants as known-as
+use Rattle.plan_record.specs.Record.{slotAt}
+use Rattle.words.specs.Pins.{empty}
+use Rattle.plan_gates.proofs.ValueCodeLaws.{known-some, known-none}
+use Rattle.plan_slots.specs.Slots.{highest}
+use Rattle.plan_slots.specs.Puts.{positionPuts, FilledWith, foundAt}
+use Rattle.plan_slots.proofs.PutLaws.{positions-found, highest-is}
+use Rattle.script.specs.Script.{stageEntry, pinEntry}
+
+found-at : (h v : ℕ) → foundAt h ≡ some v → v ≡ h
+found-at zero v e = let z : _≡_ {A = ℕ} 0 1 = cc in absurd (omega arith)
+found-at (suc h) v e = cc
+
+found-not : (h : ℕ) → foundAt h ≡ none → 0 ≡ h
+found-not zero e = refl
+found-not (suc h) e = let z : _≡_ {A = ℕ} 0 1 = cc in absurd (omega arith)
+
+module _ (d : List ℕ) (p s i x : ℕ) (pin : x ≡ slotAt d p (s + 1) (8192 + i)) where
+  pub entry-empty : x ≡ empty → 0 ≡ stageEntry 256 d p (s + 1) i
+  unfolding stageEntry
+  entry-empty h = rw (eq-eqb (slotAt d p (s + 1) (8192 + i)) empty (sym pin ∙ h), stageEntry)
+
+  module _ (there : x ≡ empty → ⊥) where
+    at-next : slotAt d p (suc s) (8192 + i) ≡ x
+    at-next = ap (λ (t : ℕ). slotAt d p t (8192 + i)) (sym (add-one s)) ∙ sym pin
+
+    entry-next : stageEntry 256 d p (suc s) i ≡ highest d p s (slotAt d p (suc s) (8192 + i))
+    unfolding stageEntry pinEntry
+    entry-next = rw (ne-eqb (slotAt d p (suc s) (8192 + i)) empty (λ e. there (sym at-next ∙ e)), stageEntry)
+
+    pub entry-is : stageEntry 256 d p (s + 1) i ≡ highest d p s x
+    entry-is = ap (λ (t : ℕ). stageEntry 256 d p t i) (add-one s) ∙ (entry-next ∙ ap (highest d p s) at-next)
+
+    module _ (t : List ℕ) (held : FilledWith (positionPuts d p s) t) (r : Found) (found : r ≡ lookAnswer (look t x)) where
+      pub entry-found : (v : ℕ) → r ≡ known-as.Value v → v ≡ stageEntry 256 d p (s + 1) i
+      entry-found v e = found-at (highest d p s x) v (sym (positions-found d t p s x held there) ∙ known-some (look t x) r v found e) ∙ sym entry-is
+
+      pub entry-missing : r ≡ known-as.Missing → 0 ≡ stageEntry 256 d p (s + 1) i
+      entry-missing e = found-not (highest d p s x) (sym (positions-found d t p s x held there) ∙ known-none (look t x) r found e) ∙ sym entry-is
+
+-- an entry is a position
+pub entry-small : (d : List ℕ) (p s i : ℕ) → stageEntry 256 d p (s + 1) i ≤ 8191
+entry-small d p s i = by (ℕ-discrete (slotAt d p (s + 1) (8192 + i)) empty)
+  where
+    by : Dec (slotAt d p (s + 1) (8192 + i) ≡ empty) → stageEntry 256 d p (s + 1) i ≤ 8191
+    by (yes e) = omega (arith, entry-empty d p s i _ refl e)
+    by (no n) = omega (arith, entry-is d p s i _ refl n, highest-is d p s (slotAt d p (s + 1) (8192 + i)) .below)
