@@ -57,12 +57,13 @@ loop-again c =
     let d = a .args .d .now in
     let room = a .args .room .now in
     let l = at-loop .loop in
+    let more = at-write-stage .before .before .before .before .loop-test .taken in
     let w = at-write-stage .write-stage in (
-      omega arith,
+      omega (arith, more),
       w .ensures .1 .0 ∙ l .inv .1,
       w .ensures .0,
-      stage-starts-stored d room _ _ (a .pre) (l .s) _ (omega (arith, at-loop .before .majors-of .ensures)) (at-blocks-of .blocks-of .ensures) (a .args .starts .now) (l .starts) _ (l .inv .3) (w .ensures .1 .1 .0),
-      stage-words d room _ _ (a .pre) (l .s) _ (omega (arith, at-loop .before .majors-of .ensures)) (at-blocks-of .blocks-of .ensures) (l .next) (l .inv .2) (a .args .words .now) (l .words) _ (l .inv .4) (w .ensures .1 .1 .1),
+      stage-starts-stored d room _ _ (a .pre) (l .s) _ (omega (arith, more, at-loop .before .majors-of .ensures)) (at-blocks-of .blocks-of .ensures) (a .args .starts .now) (l .starts) _ (l .inv .3) (w .ensures .1 .1 .0),
+      stage-words d room _ _ (a .pre) (l .s) _ (omega (arith, more, at-loop .before .majors-of .ensures)) (at-blocks-of .blocks-of .ensures) (l .next) (l .inv .2) (a .args .words .now) (l .words) _ (l .inv .4) (w .ensures .1 .1 .1),
     )
 
 same-length-2 : tie.Need-same-length-2 Inv-loop μ-loop
