@@ -1,4 +1,4 @@
-// Replays stored answers of GEM's Rust: each read set of the file is searched anew, and held to the stored rounds and places, or to the stored
+// Stored answers of GEM's Rust: each read set of the file is searched anew, and held to the stored rounds and places, or to the stored
 // refusal. The file comes on standard input; host/README.md says its form, and `make_answers` of host/ makes it.
 ghost use Prim.Native.Nat.{_^_, _≤_, _<_};
 ghost use lib.ListN.{length};
