@@ -1,4 +1,4 @@
-// The numbers of the refusals: document 01, "Numbered refusals", and those that 1/13 and 7/13 of document 02 add.
+// The numbers of the refusals: document 01, "Numbered refusals", and those that 1/13, 4/13 and 7/13 of document 02 add.
 pub const MANY_PAIRS: u32 = 1;
 
 pub const PAIR_FORM: u32 = 2;
@@ -38,6 +38,10 @@ pub const BEFORE_GATES: u32 = 18;
 pub const DIFFERENCE: u32 = 19;
 
 pub const CUT_GATES: u32 = 20;
+
+pub const MANY_BITS: u32 = 21;
+
+pub const MANY_WIDE: u32 = 22;
 
 pub const NOT_EMPTY: u32 = 24;
 

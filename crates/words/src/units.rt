@@ -1,4 +1,4 @@
-// The four units of document 01 ("Numbers"), each a number of its own kind, converted only here.
+// The four units of document 01 ("Numbers") and the bit that a read set asks for, each a number of its own kind, converted only here.
 ghost use mathlib.Core.Path.{_≡_};
 ghost use Prim.Native.Nat.{_+_, _*_, _/_, _%_, _^_, _<_};
 
@@ -13,6 +13,9 @@ pub struct StatePosition(pub u32);
 
 // A bit of a part's own lanes: bit p % 32 of lane p / 32.
 pub struct LocalPosition(pub u32);
+
+// A bit that a read set asks for: 32 times its word there, plus its place in the word. Bit 31 of the word means staged.
+pub struct AskedBit(pub u64);
 
 // No pin, in slots and in the input layout.
 pub const EMPTY_PIN: u32 = 0xFFFF_FFFF;
@@ -54,12 +57,27 @@ impl StatePosition {
         self.0 % 32
     }
 
-    // The word of a read set that asks for this position: bit 31 means staged.
-    pub fn read_word(self, staged: u32) -> u32
+    // The bit that a read set asks for to have this position, of the old state (0) or staged (1).
+    pub fn asked(self, staged: u32) -> AskedBit
         requires { ⌜ staged < 2 ⌝ }
-        ensures { λ r. ⌜ r ≡ 2 ^ 31 * staged + self .0 / 32 ⌝ }
+        ensures { λ r. ⌜ r .0 ≡ 2 ^ 36 * staged + self .0 ⌝ }
     {
-        0x8000_0000 * staged + self.0 / 32
+        AskedBit(0x10_0000_0000 * staged as u64 + self.0 as u64)
+    }
+}
+
+impl AskedBit {
+    pub fn word(self) -> u32
+        requires { ⌜ self .0 < 2 ^ 37 ⌝ }
+        ensures { λ r. ⌜ r ≡ self .0 / 32 ⌝ }
+    {
+        (self.0 / 32) as u32
+    }
+
+    pub fn bit(self) -> u32
+        ensures { λ r. ⌜ (r ≡ self .0 % 32) × (r < 32) ⌝ }
+    {
+        (self.0 % 32) as u32
     }
 }
 
