@@ -1,4 +1,2 @@
-pub mod StoredWordLaws
-pub mod AppendLaws
 pub mod CaptureLaws
 pub mod BlockTurnLaws

@@ -1,5 +1,3 @@
 pub mod Phases
-pub mod Window
 pub mod Capture
-pub mod Store
 pub mod Block

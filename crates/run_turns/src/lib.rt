@@ -1,5 +1,4 @@
 // The run of a major stage: document 01, "The run". A part is read from the script's words where they stand.
 pub mod block;
-pub mod read;
+mod capture;
 pub mod room;
-pub mod store;

@@ -1,9 +1,10 @@
 // A block's room: which of its words are for what, and what of it a turn is lent. No other file has these numbers.
 use crate::block::BlockState;
 use crate::block::Phase;
-use crate::read;
-use crate::store;
+use crate::capture::capture;
+use run_read::read_turn;
 use run_stage::stage_turn;
+use run_store::store;
 ghost use mathlib.Core.Path.{_≡_};
 ghost use Prim.Native.Nat.{_+_, _<_, _≤_};
 ghost use lib.ListN.{length, take, drop};
@@ -90,7 +91,7 @@ pub fn read_room<'a>(words: &[u32], at: usize, old: &'a [u32], new: &'a [u32], r
     requires { ⌜ PartIn 256 (now words) at × Reads 256 (now words) at (length (now old)) (length (now new)) × (length (now room) ≡ blockRoom) ⌝ }
     ensures { λ _. ⌜ now (room .exit) ≡ roomRead 256 (now (words .entry)) at (now (old .entry)) (now (new .entry)) (now (room .entry)) ⌝ }
 {
-    read::read_turn(words, at, old, new, &mut room[0..GATHERED]);
+    read_turn(words, at, old, new, &mut room[0..GATHERED]);
     clear(&mut room[CAPTURED..PART_LOW]);
 }
 
@@ -100,7 +101,7 @@ pub fn stage_room(words: &[u32], at: usize, k: usize, room: &mut [u32])
     ensures { λ _. ⌜ now (room .exit) ≡ roomStaged 256 13 (now (words .entry)) at k (now (room .entry)) ⌝ }
 {
     stage_turn(words, at, k, &mut room[0..CAPTURED]);
-    store::capture(words, at, k, room);
+    capture(words, at, k, room);
 }
 
 // The store turn: it is lent the captured words.
@@ -108,5 +109,5 @@ pub fn store_room(words: &[u32], at: usize, room: &[u32], old: &[u32], new: &mut
     requires { ⌜ PartIn 256 (now words) at × Captures 256 (now words) at × EntriesIn 256 (now words) at × (length (now room) ≡ blockRoom) × (0 < normalAt (now words) at → (startAt (now words) at + normalAt (now words) at ≤ length (now old)) × (startAt (now words) at + normalAt (now words) at ≤ length (now new))) ⌝ }
     ensures { λ _. ⌜ now (new .exit) ≡ sets (now (new .entry)) (startAt (now (words .entry)) at) (listOf (storedWord 256 (now (words .entry)) at (now (old .entry)) (take (normalAt (now (words .entry)) at) (drop capturedFrom (now (room .entry))))) (normalAt (now (words .entry)) at)) ⌝ }
 {
-    store::store(words, at, &room[CAPTURED..PART_LOW], old, new);
+    store(words, at, &room[CAPTURED..PART_LOW], old, new);
 }
