@@ -1,6 +1,7 @@
 // The form of a part: document 01, "Form for 15".
 use crate::part;
 use words::bits;
+use words::edition::Edition;
 ghost use mathlib.Core.Path.{_≡_};
 ghost use mathlib.Core.Bool.{true, false, _&&_};
 ghost use Prim.Native.Nat.{_+_, _%_, _/_, _^_, _<_, _≤_};
@@ -14,11 +15,14 @@ ghost use Rattle.run_machine.specs.Run.{entriesForm, locationsForm, lanesForm, 
 ghost use Rattle.run_form.specs.Well.{PartIn, NormalRange};
 ghost use Rattle.run_form.specs.PartForm.{readForm, partNumbersForm, bodyForm};
 
+// The positions of a stage, as a word is compared with them.
+const SLOTS: u32 = Edition::SLOTS as u32;
+
 // Both halves of a word of a permutation are positions.
 fn halves_form(x: u32) -> bool
     ensures { λ r. ⌜ r ≡ (ltb (x % 2 ^ 16) 8192 && ltb (x / 2 ^ 16) 8192) ⌝ }
 {
-    x % 0x1_0000 < 8192 && x / 0x1_0000 < 8192
+    x % 0x1_0000 < SLOTS && x / 0x1_0000 < SLOTS
 }
 
 // Every entry of section k is a position.
@@ -28,7 +32,7 @@ fn section_form(words: &[u32], at: usize, k: usize) -> bool
 {
     let from = part::section(words, at, k);
     let mut w = 0;
-    while w < 4096 {
+    while w < part::ENTRY_WORDS {
         if !halves_form(words[from + w]) {
             return false;
         }
@@ -59,7 +63,7 @@ fn location_form(words: &[u32], at: usize, l: usize) -> bool
     ensures { λ r. ⌜ r ≡ (ltb (locationIn 256 (now (words .entry)) at l / 256) (stagesAt (now (words .entry)) at) && ltb (locationIn 256 (now (words .entry)) at l % 256) 256) ⌝ }
 {
     let place = part::location(words, at, l) as usize;
-    place / 256 < part::stages(words, at) && place % 256 < 256
+    place / 256 < part::stages(words, at) && place % 256 < Edition::LANES
 }
 
 // Every normal location.
@@ -85,7 +89,9 @@ fn lane_bits(words: &[u32], at: usize, i: usize) -> usize
 {
     let mut sum: usize = 0;
     for r in 0..part::rounds(words, at) {
-        sum += part::wide(bits::count(words[at + 256 + 512 * r + 2 * i + 1]));
+        sum += part::wide(bits::count(
+            words[at + part::HEAD_WORDS + part::ROUND_WORDS * r + 2 * i + 1],
+        ));
     }
     sum
 }
@@ -96,7 +102,7 @@ pub fn lanes_form(words: &[u32], at: usize) -> bool
     ensures { λ r. ⌜ r ≡ lanesForm 256 (now (words .entry)) at ⌝ }
 {
     let mut i = 0;
-    while i < 256 {
+    while i < Edition::LANES {
         if 32 < lane_bits(words, at, i) {
             return false;
         }
@@ -120,8 +126,13 @@ fn round_form(words: &[u32], at: usize, r: usize, s: usize, t: usize) -> bool
     ensures { λ x. ⌜ x ≡ allBelow (λ i. readForm (readWordAt 256 (now (words .entry)) at r i) (readMaskAt 256 (now (words .entry)) at r i) s t) 256 ⌝ }
 {
     let mut i = 0;
-    while i < 256 {
-        if !pair_form(words, at + 256 + 512 * r + 2 * i, s, t) {
+    while i < Edition::LANES {
+        if !pair_form(
+            words,
+            at + part::HEAD_WORDS + part::ROUND_WORDS * r + 2 * i,
+            s,
+            t,
+        ) {
             return false;
         }
         i += 1;
@@ -157,7 +168,7 @@ pub fn stores_form(words: &[u32], at: usize, s: usize, t: usize) -> bool
     }
     let normal = all - other;
     let end = part::start(words, at) + normal;
-    normal <= 256 && (normal == 0 || (end <= s && end <= t))
+    normal <= Edition::LANES && (normal == 0 || (end <= s && end <= t))
 }
 
 // Word 1 of a part that ends at word `end` of a block that ends at word e.
@@ -172,7 +183,7 @@ fn head_form(words: &[u32], at: usize, e: usize) -> bool
     requires { ⌜ (at ≤ e) × (e ≤ length (now words)) ⌝ }
     ensures { λ r. ⌜ r ≡ partNumbersForm 256 (now (words .entry)) e at ⌝ }
 {
-    if e - at < 256 {
+    if e - at < part::HEAD_WORDS {
         return false;
     }
     let stages = part::stages(words, at);
@@ -237,11 +248,11 @@ fn empty_form(words: &[u32], at: usize, e: usize) -> bool
     requires { ⌜ (at ≤ e) × (e ≤ length (now words)) ⌝ }
     ensures { λ r. ⌜ r ≡ emptyBlock 256 (now (words .entry)) at e ⌝ }
 {
-    if e - at != 256 {
+    if e - at != part::HEAD_WORDS {
         return false;
     }
     let mut i = 0;
-    while i < 256 {
+    while i < part::HEAD_WORDS {
         if words[at + i] != last_mark(i, 1) {
             return false;
         }

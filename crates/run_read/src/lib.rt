@@ -1,5 +1,6 @@
 // The read turn: document 01, "In the read turn the one-word window comes from the old state or the new, by bit 31. Unused lane bits are 0."
 use run_form::part;
+use words::edition::Edition;
 ghost use mathlib.Core.Path.{_≡_};
 ghost use Prim.Native.Nat.{_+_, _*_, _^_, _<_, _≤_};
 ghost use lib.ListN.{length, getD};
@@ -68,7 +69,13 @@ pub fn read_lane<'a>(words: &[u32], at: usize, old: &'a [u32], new: &'a [u32], i
 {
     let mut acc = 0;
     for r in 0..part::rounds(words, at) {
-        acc = read_round(acc, words, at + 256 + 512 * r + 2 * i, old, new);
+        acc = read_round(
+            acc,
+            words,
+            at + part::HEAD_WORDS + part::ROUND_WORDS * r + 2 * i,
+            old,
+            new,
+        );
     }
     acc
 }
@@ -78,7 +85,7 @@ pub fn read_turn<'a>(words: &[u32], at: usize, old: &'a [u32], new: &'a [u32], r
     requires { ⌜ PartIn 256 (now words) at × Reads 256 (now words) at (length (now old)) (length (now new)) × (length (now row) ≡ 256) ⌝ }
     ensures { λ _. ⌜ now (row .exit) ≡ readRow 256 (now (words .entry)) at (now (old .entry)) (now (new .entry)) ⌝ }
 {
-    for i in 0..256 {
+    for i in 0..Edition::LANES {
         row[i] = read_lane(words, at, old, new, i);
     }
 }

@@ -2,6 +2,7 @@
 // The bits of n lanes stand in 2n words: words 0 .. n - 1 hold the positions before and after, words n .. 2n - 1 take the gathered bits.
 use run_form::part;
 use words::bits;
+use words::edition::Edition;
 ghost use mathlib.Core.Path.{_≡_};
 ghost use mathlib.Core.List.{_++_};
 ghost use Prim.Native.Nat.{ℕ, _+_, _*_, _-_, _/_, _%_, _^_, _<_, _≤_};
@@ -50,8 +51,8 @@ pub fn section_word(words: &[u32], at: usize, k: usize, l: &[u32], w: usize) -> 
     ensures { λ r. ⌜ ((b : ℕ) → b < 32 → bit r b ≡ bitAt (now (l .entry)) (entryAt 256 (now (words .entry)) at k (32 * w + b))) ⌝ }
 {
     let from = part::section(words, at, k);
-    let to = from + 4096;
-    gather_word(l, &words[from..to], 256, w)
+    let to = from + part::ENTRY_WORDS;
+    gather_word(l, &words[from..to], Edition::LANES, w)
 }
 
 // Gathers n words.
@@ -134,8 +135,8 @@ pub fn stage_turn(words: &[u32], at: usize, k: usize, l: &mut [u32])
     ensures { λ _. ⌜ now (l .exit) ≡ stageRow 256 13 (now (words .entry)) at k (take 256 (now (l .entry))) ++ gatheredRow 256 (now (words .entry)) at k (take 256 (now (l .entry))) ⌝ }
 {
     let from = part::section(words, at, k);
-    let lanes = from + 4096;
-    let to = from + 5120;
-    gather(l, &words[from..lanes], 256);
-    levels(l, &words[lanes..to], 256);
+    let lanes = from + part::ENTRY_WORDS;
+    let to = from + part::SECTION_WORDS;
+    gather(l, &words[from..lanes], Edition::LANES);
+    levels(l, &words[lanes..to], Edition::LANES);
 }

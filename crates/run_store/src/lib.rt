@@ -1,6 +1,7 @@
 // The store turn: document 01, "The store turn puts normal captured words .. at state start onward", by 5/13 where they are enabled.
 use run_form::part;
 use run_stage::section_word;
+use words::edition::Edition;
 ghost use mathlib.Core.Path.{_≡_};
 ghost use Prim.Native.Nat.{ℕ, _+_, _*_, _-_, _<_, _≤_, min};
 ghost use lib.ListN.{length, getD, take};
@@ -37,7 +38,7 @@ fn store_word(words: &[u32], at: usize, caps: &[u32], old: &[u32], l: usize) -> 
     ensures { λ r. ⌜ r ≡ storedWord 256 (now (words .entry)) at (now (old .entry)) (now (caps .entry)) l ⌝ }
 {
     let k = part::stages(words, at) + 1;
-    let lane = part::section(words, at, k) + 4096 + 4 * l;
+    let lane = part::section(words, at, k) + part::ENTRY_WORDS + 4 * l;
     let start = part::start(words, at);
     let set0 = words[lane + 1];
     let gathered = kept_word(words, at, k, caps, l, set0);
@@ -77,7 +78,7 @@ pub fn store(words: &[u32], at: usize, caps: &[u32], old: &[u32], new: &mut [u32
     requires { ⌜ PartIn 256 (now words) at × Captures 256 (now words) at × EntriesIn 256 (now words) at × (length (now caps) ≡ 256) × (0 < normalAt (now words) at → (startAt (now words) at + normalAt (now words) at ≤ length (now old)) × (startAt (now words) at + normalAt (now words) at ≤ length (now new))) ⌝ }
     ensures { λ _. ⌜ now (new .exit) ≡ sets (now (new .entry)) (startAt (now (words .entry)) at) (listOf (storedWord 256 (now (words .entry)) at (now (old .entry)) (take (normalAt (now (words .entry)) at) (now (caps .entry)))) (normalAt (now (words .entry)) at)) ⌝ }
 {
-    let mut front = [0u32; 256];
+    let mut front = [0u32; Edition::LANES];
     copy_front(&mut front, caps, part::normal(words, at));
     store_words(words, at, &front, old, new);
 }
