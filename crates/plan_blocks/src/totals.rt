@@ -7,6 +7,9 @@ use plan_record::numbers::layout_of;
 use plan_rows::Column;
 use plan_rows::column_sum;
 
+// The words of one SRAM.
+pub const SRAM_WORDS: u32 = 8192;
+
 // How many words the state has: those of the input layout, and the write-out words of all parts.
 pub fn state_words(d: &[u8], room: &[u32]) -> u64
     requires { ⌜ Tallied (now d) (now room) ⌝ }
@@ -20,5 +23,5 @@ pub fn sram_words(d: &[u8], room: &[u32]) -> u64
     requires { ⌜ Tallied (now d) (now room) ⌝ }
     ensures { λ r. ⌜ r ≡ sramWords (now (d .entry)) ⌝ }
 {
-    8192 * column_sum(room, parts_of(d), Column::SRAMS)
+    SRAM_WORDS as u64 * column_sum(room, parts_of(d), Column::SRAMS)
 }

@@ -10,6 +10,7 @@ use crate::starts::rank_parts;
 use crate::starts::take_starts;
 use plan_blocks::costs::give_blocks;
 use plan_blocks::firsts::Firsts;
+use plan_blocks::totals::SRAM_WORDS;
 use plan_rows::Column;
 
 // The blocks and the ranks of these parts, with the blocks' part counts in lent words.
@@ -110,7 +111,7 @@ pub fn allot_stage(
         at.parts,
         count,
         Column::SRAMS,
-        8192,
+        SRAM_WORDS,
         Column::SRAM_START,
         at.sram,
     );

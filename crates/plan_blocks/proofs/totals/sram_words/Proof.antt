@@ -17,4 +17,4 @@ returns c = sram-sum _ _ (c .before .before .before .before .pre) _ (c .before .
 
 pub sram-words-spec : {M : Type 1} → statement M
 sram-words-spec = tie.close
-    (tie.spec parts-of-requires column-sum-requires (λ c. search needs) returns)
+    (tie.spec (λ c. search needs) parts-of-requires column-sum-requires (λ c. search needs) returns)
