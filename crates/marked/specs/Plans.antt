@@ -3,12 +3,17 @@
 use mathlib.Core.List.{List, [], _∷_, _++_}
 use Prim.Native.Nat.{ℕ, zero, suc, _+_, _/_}
 use Rattle.words.specs.Section.{listOf}
+use Rattle.plan_record.specs.declared.bodies.Endpoint.the-variants.{Output, Staged, Register}
 use Rattle.plan_counts.specs.Counts.{activationsOf, duplicatesIn}
 use Rattle.plan_blocks.specs.Blocks.{blockIn, takenBefore}
 
 -- M7: output 10, staged 5, a register with d = 10 and en = 1, output 11
 unfoldable pub duplicateWords : List ℕ
-duplicateWords = duplicatesIn (activationsOf 0 10 0 ++ (activationsOf 1 5 0 ++ (activationsOf 2 10 1 ++ activationsOf 0 11 0))) ∷ []
+duplicateWords =
+    duplicatesIn
+    (activationsOf (Output (record { 0 = 10 })) ++ (activationsOf (Staged (record { 0 = 5 }))
+    ++ (activationsOf (Register (record { 0 = 10 }) (record { 0 = 1 })) ++ activationsOf (Output (record { 0 = 11 })))))
+    ∷ []
 
 -- M8: the stages of parts 0 to 3
 unfoldable pub stagesIn : ℕ → ℕ

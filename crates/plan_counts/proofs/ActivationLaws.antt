@@ -14,28 +14,29 @@ use Rattle.sort.specs.Sorted.{sortOf}
 use Rattle.sort.specs.SortAnswer.{keysAfter}
 use Rattle.sort.proofs.SortLaws.{sort-length}
 use Rattle.sort.proofs.SortEndLaws.{keys-done}
-use Rattle.plan_counts.specs.Counts.{activationsOf, duplicatesIn}
+use Rattle.words.specs.declared.units.Pin.{Pin}
+use Rattle.words.specs.declared.units.PinIv.{PinIv}
+use Rattle.plan_record.specs.declared.bodies.Endpoint.{Endpoint}
+use Rattle.plan_record.specs.declared.bodies.Endpoint.the-variants.{Output, Staged, Register, Sram}
+use Rattle.plan_counts.specs.Counts.{activation, activationsOf, duplicatesIn}
 use Rattle.plan_counts.specs.Neighbours.{extra, extras}
 use Rattle.plan_counts.proofs.DifferentLaws.{extra-same, extra-yes, extra-no, duplicates-sorted}
 
-pub output-key : (k x y : ℕ) → k ≡ 0 → activationsOf k x y ≡ (2 ^ 32 * x + 1) ∷ []
+pub output-key : (e : Endpoint) (x : PinIv) → e ≡ Output x → activationsOf e ≡ activation (x .0) 1 ∷ []
 unfolding activationsOf
-output-key k x y h = rw h
+output-key e x h = ap activationsOf h
 
-pub staged-key : (k x y : ℕ) → k ≡ 1 → activationsOf k x y ≡ (2 ^ 32 * (2 * x) + 1) ∷ []
+pub staged-key : (e : Endpoint) (x : Pin) → e ≡ Staged x → activationsOf e ≡ activation (2 * x .0) 1 ∷ []
 unfolding activationsOf
-staged-key k x y h = rw h
+staged-key e x h = ap activationsOf h
 
-pub register-key : (k x y : ℕ) → k ≡ 2 → activationsOf k x y ≡ (2 ^ 32 * x + y) ∷ []
+pub register-key : (e : Endpoint) (x en : PinIv) → e ≡ Register x en → activationsOf e ≡ activation (x .0) (en .0) ∷ []
 unfolding activationsOf
-register-key k x y h = rw h
+register-key e x en h = ap activationsOf h
 
-pub no-key : (k x y : ℕ) → 3 ≤ k → activationsOf k x y ≡ []
+pub no-key : (e : Endpoint) → e ≡ Sram → activationsOf e ≡ []
 unfolding activationsOf
-no-key zero x y h = absurd (omega arith)
-no-key (suc zero) x y h = absurd (omega arith)
-no-key (suc (suc zero)) x y h = absurd (omega arith)
-no-key (suc (suc (suc k))) x y h = refl
+no-key e h = ap activationsOf h
 
 -- ---- extras from index i on
 

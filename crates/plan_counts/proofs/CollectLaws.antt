@@ -7,10 +7,12 @@ use native.Mathlib.Numerals.{add-one}
 use native.Mathlib.Omega.{arith}
 use lib.ListN.{length, take, drop, set, length-append, length-drop}
 use lib.Seq.{sets, sets-eq, take-at, drop-append-add, drop-drop}
-use Rattle.plan_record.specs.Record.{endpointsOf, endpointKind, endpointX, endpointY}
+use Rattle.plan_record.specs.Record.{endpointsOf}
+use Rattle.plan_record.specs.declared.bodies.Endpoint.{Endpoint}
+use Rattle.plan_record.specs.declared.bodies.Endpoint.the-variants.{Output, Staged, Register, Sram}
+use Rattle.plan_record.specs.Endpoint.{endpointAt}
 use Rattle.plan_counts.specs.Counts.{activationsOf, activationsTo, activations}
 use Rattle.plan_counts.specs.Parts.{activationsAt}
-use Rattle.plan_counts.proofs.ActivationLaws.{no-key}
 
 -- ---- one endpoint
 
@@ -20,26 +22,26 @@ put-one keys acts n v h = rw h (refl, refl)
 put-none : (keys acts : List ℕ) (n : ℕ) → acts ≡ [] → (n ≡ n + length acts) × (keys ≡ sets keys n acts)
 put-none keys acts n h = rw h (omega arith, refl)
 
-module _ (d : List ℕ) (p i : ℕ) (keys : List ℕ) (n k : ℕ) (kind : k ≡ endpointKind d p i) where
-  pub put-key : (x y v : ℕ) → x ≡ endpointX d p i → y ≡ endpointY d p i → activationsOf k x y ≡ v ∷ []
+module _ (d : List ℕ) (p i : ℕ) (keys : List ℕ) (n : ℕ) (e : Endpoint) (read : e ≡ endpointAt d p i) where
+  pub put-key : (v w : ℕ) → v ≡ w → activationsOf e ≡ w ∷ []
       → (n + 1 ≡ n + length (activationsAt d p i)) × (set keys n v ≡ sets keys n (activationsAt d p i))
-  put-key x y v ex ey h = put-one keys (activationsAt d p i) n v (cc)
+  put-key v w u h = put-one keys (activationsAt d p i) n v (ap activationsOf (sym read) ∙ (h ∙ ap (λ (k : ℕ). k ∷ []) (sym u)))
 
-  pub put-nothing : 3 ≤ k → (n ≡ n + length (activationsAt d p i)) × (keys ≡ sets keys n (activationsAt d p i))
-  put-nothing h = put-none keys (activationsAt d p i) n (no-key (endpointKind d p i) (endpointX d p i) (endpointY d p i) (omega arith))
+  pub put-nothing : activationsOf e ≡ [] → (n ≡ n + length (activationsAt d p i)) × (keys ≡ sets keys n (activationsAt d p i))
+  put-nothing h = put-none keys (activationsAt d p i) n (ap activationsOf (sym read) ∙ h)
 
-activations-few : (k x y : ℕ) → length (activationsOf k x y) ≤ 1
+activations-few : (e : Endpoint) → length (activationsOf e) ≤ 1
 unfolding activationsOf
-activations-few zero x y = omega arith
-activations-few (suc zero) x y = omega arith
-activations-few (suc (suc zero)) x y = omega arith
-activations-few (suc (suc (suc k))) x y = omega arith
+activations-few (Output x) = omega arith
+activations-few (Staged x) = omega arith
+activations-few (Register x y) = omega arith
+activations-few Sram = omega arith
 
 pub activations-length : (d : List ℕ) (p n : ℕ) → length (activationsTo d p n) ≤ n
 unfolding activationsTo
 activations-length d p zero = omega arith
 activations-length d p (suc n) =
-    let one : length (activationsAt d p n) ≤ 1 = activations-few (endpointKind d p n) (endpointX d p n) (endpointY d p n) in
+    let one : length (activationsAt d p n) ≤ 1 = activations-few (endpointAt d p n) in
     omega (arith, activations-length d p n, length-append (activationsTo d p n) (activationsAt d p n))
 
 -- ---- the endpoints below i
@@ -67,7 +69,7 @@ module _ (d : List ℕ) (p i : ℕ) (first keys : List ℕ) (n : ℕ) (g : Colle
   unfolding activationsTo
   collect-more after m e f =
       let acts = activationsAt d p i in
-      let one : length acts ≤ 1 = activations-few (endpointKind d p i) (endpointX d p i) (endpointY d p i) in
+      let one : length acts ≤ 1 = activations-few (endpointAt d p i) in
       let rest : drop (length acts) (drop n first) ≡ drop m first = drop-drop (length acts) n first ∙ ap (λ (k : ℕ). drop k first) (sym f) in
       let put : sets keys n acts ≡ activationsTo d p i ++ acts ++ drop m first =
       ap (λ (l : List ℕ). sets l n acts) (g .keys-are) ∙ sets-seam (activationsTo d p i) (drop n first) acts n (g .count) (omega (arith, length-drop n first, g .few))

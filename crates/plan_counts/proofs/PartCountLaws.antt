@@ -7,10 +7,11 @@ use mathlib.Core.List.{List}
 use Prim.Native.Nat.{ℕ, _+_, _≤_, _<_}
 use native.Mathlib.Omega.{arith}
 use lib.Dec.{leb}
-use borrow.Author.Tests.{leb-true, le-leb, lt-leb, eq-eqb, ne-eqb}
+use borrow.Author.Tests.{leb-true, le-leb, lt-leb}
 use Rattle.words.specs.Sum.{sumTo}
 use Rattle.words.proofs.SumLaws.{sum-more}
-use Rattle.plan_record.specs.Record.{partsOf, endpointKind, endpointsOf, locationsOf, locationAt}
+use Rattle.plan_record.specs.Record.{partsOf, endpointsOf, locationsOf, locationAt}
+use Rattle.plan_record.specs.Endpoint.{endpointAt}
 use Rattle.plan_record.specs.declared.bodies.Body.{Body}
 use Rattle.plan_record.specs.Form.{planForm}
 use Rattle.plan_record.specs.Body.{BodyOf}
@@ -29,20 +30,12 @@ use Rattle.plan_counts.proofs.DifferentLaws.{duplicates-sorted}
 use Rattle.plan_counts.proofs.ActivationLaws.{extras-le}
 use Rattle.plan_counts.proofs.CollectLaws.{activations-length}
 
-pub sram-yes : (k : ℕ) → k ≡ 3 → isSram k ≡ 1
-unfolding isSram
-sram-yes k h = rw (eq-eqb k 3 h, isSram)
-
-pub sram-no : (k : ℕ) → (k ≡ 3 → ⊥) → isSram k ≡ 0
-unfolding isSram
-sram-no k h = rw (ne-eqb k 3 h, isSram)
-
 -- the SRAMs among the endpoints below i
 abbrev pub sramsTo : List ℕ → ℕ → ℕ → ℕ
-sramsTo d p i = sumTo (λ j. isSram (endpointKind d p j)) i
+sramsTo d p i = sumTo (λ j. isSram (endpointAt d p j)) i
 
-pub srams-more : (d : List ℕ) (p i : ℕ) → sramsTo d p (i + 1) ≡ sramsTo d p i + isSram (endpointKind d p i)
-srams-more d p i = sum-more (λ j. isSram (endpointKind d p j)) i
+pub srams-more : (d : List ℕ) (p i : ℕ) → sramsTo d p (i + 1) ≡ sramsTo d p i + isSram (endpointAt d p i)
+srams-more d p i = sum-more (λ j. isSram (endpointAt d p j)) i
 
 -- ---- the ends of refusal 7 in a part
 
@@ -64,7 +57,7 @@ module _ (d : List ℕ) (p : ℕ) (r : Item) (looked : r ≡ itemOf (badLocation
 
 -- a part of a plan in form may be counted
 pub countable : (d : List ℕ) (p : ℕ) (b : Body) → planForm d ≡ true → p < partsOf d → BodyOf d p b → Countable d p b
-countable d p b f l h = record { body = h; staged = λ i k e. formed d f .endpoint p i l (omega (arith, h .endpoints)) .staged e }
+countable d p b f l h = record { body = h; staged = λ i k. formed d f .endpoint p i l (omega (arith, h .endpoints)) .staged }
 
 pub duplicates-few : (d : List ℕ) (p : ℕ) → endpointsOf d p ≤ 8192 → duplicates d p ≤ 256
 duplicates-few d p h =

@@ -6,7 +6,10 @@ use mathlib.Core.List.{List, [], _∷_, _++_, map}
 use Prim.Native.Nat.{ℕ, zero, suc, _+_, _*_, _-_, _/_, _^_}
 use lib.Dec.{leb, eqb}
 use Rattle.words.specs.Sum.{sumTo}
-use Rattle.plan_record.specs.Record.{partsOf, endpointsOf, endpointKind, endpointX, endpointY, locationsOf, locationAt}
+use Rattle.plan_record.specs.Record.{partsOf, endpointsOf, locationsOf, locationAt}
+use Rattle.plan_record.specs.declared.bodies.Endpoint.{Endpoint}
+use Rattle.plan_record.specs.declared.bodies.Endpoint.the-variants.{Output, Staged, Register, Sram}
+use Rattle.plan_record.specs.Endpoint.{endpointAt}
 use Rattle.words.specs.Tests.{firstNot, lowest, Place}
 
 -- An activation is a pair (d, en), as one number d·2^32 + en; its pin is d / 2, its key 2·en + d % 2.
@@ -14,16 +17,16 @@ abbrev pub activation : ℕ → ℕ → ℕ
 activation d en = 2 ^ 32 * d + en
 
 -- "primary output i is pin i>>1 with key 2|(i&1); staged pin p has key 2; a DFF is pin d>>1 with key 2·en+(d&1)"; an SRAM has none
-unfoldable pub activationsOf : ℕ → ℕ → ℕ → List ℕ
-activationsOf zero x y = activation x 1 ∷ []
-activationsOf (suc zero) x y = activation (2 * x) 1 ∷ []
-activationsOf (suc (suc zero)) x y = activation x y ∷ []
-activationsOf (suc (suc (suc k))) x y = []
+unfoldable pub activationsOf : Endpoint → List ℕ
+activationsOf (Output i) = activation (i .0) 1 ∷ []
+activationsOf (Staged p) = activation (2 * p .0) 1 ∷ []
+activationsOf (Register d en) = activation (d .0) (en .0) ∷ []
+activationsOf Sram = []
 
 -- those of the first n endpoints of part p
 unfoldable pub activationsTo : List ℕ → ℕ → ℕ → List ℕ
 activationsTo d p zero = []
-activationsTo d p (suc n) = activationsTo d p n ++ activationsOf (endpointKind d p n) (endpointX d p n) (endpointY d p n)
+activationsTo d p (suc n) = activationsTo d p n ++ activationsOf (endpointAt d p n)
 
 abbrev pub activations : List ℕ → ℕ → List ℕ
 activations d p = activationsTo d p (endpointsOf d p)
@@ -44,11 +47,14 @@ duplicatesIn acts = (different acts - different (map (λ a. a / 2 ^ 33) acts) + 
 abbrev pub duplicates : List ℕ → ℕ → ℕ
 duplicates d p = duplicatesIn (activations d p)
 
-unfoldable pub isSram : ℕ → ℕ
-isSram k = elim (eqb k 3) [ true ↦ 1 | false ↦ 0 ]
+unfoldable pub isSram : Endpoint → ℕ
+isSram (Output i) = 0
+isSram (Staged p) = 0
+isSram (Register d en) = 0
+isSram Sram = 1
 
 abbrev pub srams : List ℕ → ℕ → ℕ
-srams d p = sumTo (λ i. isSram (endpointKind d p i)) (endpointsOf d p)
+srams d p = sumTo (λ i. isSram (endpointAt d p i)) (endpointsOf d p)
 
 -- "Write-out words = normal + SRAM endpoints + duplicates"
 unfoldable pub writeOuts : List ℕ → ℕ → ℕ

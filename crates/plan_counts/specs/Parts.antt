@@ -7,7 +7,10 @@ use mathlib.Core.List.{List}
 use Prim.Native.Nat.{ℕ, _^_, _≤_, _<_}
 use lib.Dec.{leb}
 use Rattle.plan_record.specs.declared.bodies.Body.{Body}
-use Rattle.plan_record.specs.Record.{endpointKind, endpointX, endpointY, locationsOf, locationAt}
+use Rattle.words.specs.declared.units.Pin.{Pin}
+use Rattle.plan_record.specs.declared.bodies.Endpoint.the-variants.{Staged}
+use Rattle.plan_record.specs.Record.{locationsOf, locationAt}
+use Rattle.plan_record.specs.Endpoint.{endpointAt}
 use Rattle.words.specs.Tests.{firstNot}
 use Rattle.plan_record.specs.Body.{BodyOf}
 use Rattle.plan_counts.specs.declared.Counts.{Counts}
@@ -16,11 +19,11 @@ use Rattle.plan_counts.specs.Counts.{activationsOf, duplicates, srams, w
 -- b is the body of part p, and the pins of its staged endpoints are in range
 pub record Countable (d : List ℕ) (p : ℕ) (b : Body) : Type 0 where
   pub body : BodyOf d p b
-  pub staged : (i : ℕ) → i < b .endpoints → endpointKind d p i ≡ 1 → endpointX d p i ≤ 2 ^ 30
+  pub staged : (i : ℕ) → i < b .endpoints → (x : Pin) → endpointAt d p i ≡ Staged x → x .0 ≤ 2 ^ 30
 
 -- the activation of endpoint i of part p, if it has one
 abbrev pub activationsAt : List ℕ → ℕ → ℕ → List ℕ
-activationsAt d p i = activationsOf (endpointKind d p i) (endpointX d p i) (endpointY d p i)
+activationsAt d p i = activationsOf (endpointAt d p i)
 
 -- c holds the counts of part p
 pub record CountsOf (d : List ℕ) (p : ℕ) (c : Counts) : Type 0 where

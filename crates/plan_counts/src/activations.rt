@@ -1,31 +1,23 @@
 // The activations of a part's endpoints, and the duplicate words that they ask for.
 ghost use mathlib.Core.Path.{_≡_};
-ghost use mathlib.Core.List.{[], _∷_, _++_};
-ghost use Prim.Native.Nat.{_+_, _^_, _≤_, _<_};
+ghost use mathlib.Core.List.{_++_};
+ghost use Prim.Native.Nat.{_+_, _≤_, _<_};
 ghost use lib.ListN.{length, drop};
 ghost use lib.Seq.{sets};
 ghost use Rattle.sort.specs.SortAnswer.{keysAfter, scratchAfter};
-ghost use Rattle.plan_counts.specs.Counts.{activationsOf, activations, duplicatesIn, duplicates};
+ghost use Rattle.plan_counts.specs.Counts.{activation, activations, duplicatesIn, duplicates};
 ghost use Rattle.plan_counts.specs.Parts.{Countable, activationsAt};
 ghost use Rattle.plan_counts.specs.Neighbours.{extra, extras};
 use plan_record::bodies::Body;
-use plan_record::bodies::endpoint_kind;
-use plan_record::bodies::endpoint_x;
-use plan_record::bodies::endpoint_y;
+use plan_record::bodies::Endpoint;
+use plan_record::bodies::endpoint_at;
+use words::units::PinIv;
 
-// The activation of an endpoint that is no SRAM, as one number: the inverted pin number d times 2^32, and the enable. A staged pin is
-// doubled to be an inverted pin number.
-fn key_of(kind: u32, x: u32, y: u32) -> u64
-    requires { ⌜ (kind < 3) × (kind ≡ 1 → x ≤ 2 ^ 30) ⌝ }
-    ensures { λ r. ⌜ activationsOf kind x y ≡ r ∷ [] ⌝ }
+// An activation as one number: the inverted pin number d times 2^32, and the enable.
+fn key_of(x: PinIv, en: PinIv) -> u64
+    ensures { λ r. ⌜ r ≡ activation (x .0) (en .0) ⌝ }
 {
-    if kind == 0 {
-        return 4294967296 * (x as u64) + 1;
-    }
-    if kind == 1 {
-        return 4294967296 * (2 * (x as u64)) + 1;
-    }
-    4294967296 * (x as u64) + y as u64
+    4294967296 * (x.0 as u64) + en.0 as u64
 }
 
 // 1 where two activations of one pin differ, else 0. The pin of an activation is the number over 2^33.
@@ -65,18 +57,27 @@ fn duplicate_words(keys: &mut [u64], scratch: &mut [u64]) -> u32
     ((extras_in(keys) + 31) / 32) as u32
 }
 
-// Puts the activation of endpoint i, if it has one, at index n: the next free index.
+// Puts the activation of endpoint i, if it has one, at index n: the next free index. Where nothing enables, the enable is the constant 1.
 fn put_key(d: &[u8], p: usize, body: Body, i: usize, keys: &mut [u64], n: usize) -> usize
     requires { ⌜ Countable (now d) p body × (i < body .endpoints) × (n < length (now keys)) ⌝ }
     ensures { λ r. ⌜ r ≡ n + length (activationsAt (now (d .entry)) p i) ⌝ }
     ensures { λ _. ⌜ now (keys .exit) ≡ sets (now (keys .entry)) n (activationsAt (now (d .entry)) p i) ⌝ }
 {
-    let kind = endpoint_kind(d, p, body, i);
-    if kind < 3 {
-        keys[n] = key_of(kind, endpoint_x(d, p, body, i), endpoint_y(d, p, body, i));
-        return n + 1;
+    match endpoint_at(d, p, body, i) {
+        Endpoint::Output(x) => {
+            keys[n] = key_of(x, PinIv(1));
+            n + 1
+        }
+        Endpoint::Staged(x) => {
+            keys[n] = key_of(x.inverted(0), PinIv(1));
+            n + 1
+        }
+        Endpoint::Register(x, en) => {
+            keys[n] = key_of(x, en);
+            n + 1
+        }
+        Endpoint::Sram => n,
     }
-    n
 }
 
 // Puts the activations of a part at the front of `keys`: how many there are.

@@ -10,11 +10,13 @@ ghost use Rattle.plan_counts.specs.Counts.{isSram, srams, badCounts, ref
 ghost use Rattle.plan_counts.specs.Parts.{Countable, CountsOf, badLocation};
 ghost use Rattle.words.specs.Found.{itemOf, lowestOf};
 use plan_record::bodies::Body;
+use plan_record::bodies::Endpoint;
 use plan_record::bodies::body_at;
-use plan_record::bodies::endpoint_kind;
+use plan_record::bodies::endpoint_at;
 use plan_record::bodies::first_body;
 use plan_record::bodies::location;
 use plan_record::bodies::parts_of;
+use words::edition::Edition;
 use words::found::Item;
 use words::found::Lowest;
 
@@ -26,13 +28,15 @@ pub struct Counts {
 }
 
 // 1 for an SRAM, else 0.
-fn sram_of(kind: u32) -> u32
-    ensures { λ r. ⌜ (r ≡ isSram kind) × (r ≤ 1) ⌝ }
+fn sram_of(e: Endpoint) -> u32
+    ensures { λ r. ⌜ (r ≡ isSram e) × (r ≤ 1) ⌝ }
 {
-    if kind == 3 {
-        return 1;
+    match e {
+        Endpoint::Output(_) => 0,
+        Endpoint::Staged(_) => 0,
+        Endpoint::Register(_, _) => 0,
+        Endpoint::Sram => 1,
     }
-    0
 }
 
 // The SRAMs among a part's endpoints.
@@ -44,7 +48,7 @@ pub fn srams_of(d: &[u8], p: usize, body: Body) -> u32
     let mut found = 0;
     let mut i = 0;
     while i < endpoints {
-        found += sram_of(endpoint_kind(d, p, body, i));
+        found += sram_of(endpoint_at(d, p, body, i));
         i += 1;
     }
     found
@@ -72,7 +76,7 @@ fn first_bad_location(d: &[u8], p: usize, body: Body) -> Item
     let locations = body.locations;
     let mut l = 0;
     while l < locations {
-        if location(d, p, body, l) > 255 {
+        if Edition::LANES <= location(d, p, body, l) as usize {
             return Item::At(l);
         }
         l += 1;
@@ -89,7 +93,7 @@ pub fn bad_counts(d: &[u8], p: usize, body: Body) -> Item
         return Item::At(l);
     }
     let counts = counts_of(d, p, body);
-    if counts.words <= 256 {
+    if counts.words <= Edition::LANES {
         return Item::Fine;
     }
     Item::At(body.locations)

@@ -35,16 +35,16 @@ fn gate_right(d: &[u8], before: Pin, g: u32) -> bool
     requires { ⌜ before .0 ≡ pinBefore (now d) g ⌝ }
     ensures { λ r. ⌜ r ≡ gateRight (now (d .entry)) g ⌝ }
 {
-    let pin = gate_pin(d, g).0;
-    let first = gate_first(d, g).pin().0;
-    let second = gate_second(d, g).pin().0;
-    if pin <= before.0 {
+    let pin = gate_pin(d, g);
+    let first = gate_first(d, g).pin();
+    let second = gate_second(d, g).pin();
+    if pin.0 <= before.0 {
         return false;
     }
-    if pin <= first {
+    if pin.0 <= first.0 {
         return false;
     }
-    second < pin
+    second.0 < pin.0
 }
 
 // Refusal 6 over the whole list: the lowest gate that is not right.

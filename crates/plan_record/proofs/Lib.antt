@@ -1,3 +1,4 @@
 pub mod RecordLaws
 pub mod BodyLaws
+pub mod EndpointLaws
 pub mod PlanFormLaws

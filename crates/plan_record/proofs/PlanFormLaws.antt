@@ -1,22 +1,28 @@
 -- What a record in form gives: every range as an order of numbers, every body inside the record. Each `&&` is taken apart once, here.
 -- Assumes nothing.
 use mathlib.Core.Path.{_≡_, refl, sym, ap, _∙_}
-use mathlib.Core.Bool.{Bool, true, false, _&&_, _||_, and-false}
+use mathlib.Core.Bool.{Bool, true, false, _&&_, _||_}
 use mathlib.Core.List.{List}
 use mathlib.Core.Logic.{_⊎_, inl, inr}
 use Prim.Native.Nat.{ℕ, zero, suc, _+_, _*_, _/_, _%_, _^_, _≤_, _<_}
 use native.Mathlib.Omega.{arith}
-use borrow.Author.Tests.{leb-true, eqb-true, ne-eqb}
+use borrow.Author.Tests.{leb-true, eqb-true}
 use lib.Dec.{leb, eqb}
 use lib.ListN.{length}
 use Rattle.words.specs.Sum.{sumTo}
 use Rattle.words.proofs.SumLaws.{sum-le}
 use Rattle.words.specs.Tests.{allBelow}
-use Rattle.plan_record.specs.Record.{blocksOf, majorsOf, gatesOf, layoutOf, positionsOf, countAt, partsBefore, partsOf, gatePin, gateFirst, gateSecond, layoutPin, positionPin, positionStaged, headBase, stagesOf, endpointsOf, bodyAt, endpointKind, endpointX, endpointY}
-use Rattle.words.specs.Pins.{empty}
-use Rattle.plan_record.specs.Form.{headForm, countsForm, partHeadForm, lengthForm, gateForm, layoutForm, positionForm, endpointNumbers, endpointForm, listsForm, planForm}
+use Rattle.plan_record.specs.Record.{blocksOf, majorsOf, gatesOf, layoutOf, positionsOf, countAt, partsBefore, partsOf, gatePin, gateFirst, gateSecond, layoutPin, positionPin, positionStaged, headBase, stagesOf, endpointsOf, bodyAt, endpointWord}
+use Rattle.words.specs.declared.units.Pin.{Pin}
+use Rattle.words.specs.declared.units.PinIv.{PinIv}
+use Rattle.plan_record.specs.declared.bodies.Endpoint.{Endpoint}
+use Rattle.plan_record.specs.declared.bodies.Endpoint.the-variants.{Output, Staged, Register}
+use Rattle.plan_record.specs.Endpoint.{endpointAt}
+use Rattle.words.specs.Pins.{isPinIv, empty}
+use Rattle.plan_record.specs.Form.{headForm, countsForm, partHeadForm, lengthForm, gateForm, layoutForm, positionForm, numbersForm, endpointForm, listsForm, planForm}
 use Rattle.plan_record.specs.Body.{Headed, Measured, BodyReady}
-use Rattle.words.proofs.TestLaws.{and-true, all-at, not-both}
+use Rattle.words.proofs.TestLaws.{and-true, all-at}
+use Rattle.plan_record.proofs.EndpointLaws.{numbers-output, numbers-staged, numbers-register}
 use Rattle.plan_record.proofs.RecordLaws.{body-first, body-mono}
 
 -- ---- the head
@@ -85,13 +91,6 @@ length-exact d h =
     let (a, b) = and-true (eqb (length d % 4) 0) _ h in
     (eqb-true _ _ a, eqb-true _ _ b)
 
--- a body that begins past the record's words
-pub length-past : (d : List ℕ) (p : ℕ) → p ≤ partsOf d → length d / 4 < bodyAt d p → lengthForm d ≡ false
-unfolding lengthForm
-length-past d p l h =
-    let n : eqb (bodyAt d (partsOf d)) (length d / 4) ≡ false = ne-eqb (bodyAt d (partsOf d)) (length d / 4) (λ e. omega (arith, body-mono d p (partsOf d) l)) in
-    ap (λ (b : Bool). eqb (length d % 4) 0 && b) n ∙ and-false (eqb (length d % 4) 0)
-
 pub part-in : (d : List ℕ) → Headed d → (p : ℕ) → p < partsOf d → PartRanges d p
 part-in d headed p l = part-ranges d p (all-at (partHeadForm d) (partsOf d) p (headed .heads) l)
 
@@ -146,43 +145,22 @@ position-ranges d i h =
     let (a, b) = and-true (leb (positionPin d i) (2 ^ 30)) _ h in
     record { pin = leb-true _ _ a; staged = leb-true _ _ b }
 
--- an endpoint's kind, and the numbers that its kind uses
-pub record EndpointRanges (k x y : ℕ) : Type 0 where
+-- an endpoint's kind, and the numbers that it holds
+pub record EndpointRanges (k : ℕ) (e : Endpoint) : Type 0 where
   pub kind : k ≤ 3
-  pub output : k ≡ 0 → x ≤ 2 ^ 31 + 1
-  pub staged : k ≡ 1 → x ≤ 2 ^ 30
-  pub register : k ≡ 2 → (x ≤ 2 ^ 31 + 1) × (y ≤ 2 ^ 31 + 1)
+  pub output : (x : PinIv) → e ≡ Output x → x .0 ≤ 2 ^ 31 + 1
+  pub staged : (x : Pin) → e ≡ Staged x → x .0 ≤ 2 ^ 30
+  pub register : (x y : PinIv) → e ≡ Register x y → (x .0 ≤ 2 ^ 31 + 1) × (y .0 ≤ 2 ^ 31 + 1)
 
-pub endpoint-ranges : (k x y : ℕ) → endpointNumbers k x y ≡ true → EndpointRanges k x y
-unfolding endpointNumbers
-endpoint-ranges zero x y h =
-    record { kind = omega arith; output = λ e. leb-true _ _ h; staged = λ e. absurd (omega arith); register = λ e. absurd (omega arith) }
-endpoint-ranges (suc zero) x y h =
-    record { kind = omega arith; output = λ e. absurd (omega arith); staged = λ e. leb-true _ _ h; register = λ e. absurd (omega arith) }
-endpoint-ranges (suc (suc zero)) x y h =
-    let (a, b) = and-true (leb x (2 ^ 31 + 1)) _ h in
+endpoint-ranges : (k : ℕ) (e : Endpoint) → (leb k 3 && numbersForm e) ≡ true → EndpointRanges k e
+endpoint-ranges k e h =
+    let (a, b) = and-true (leb k 3) (numbersForm e) h in
     record {
-      kind = omega arith;
-      output = λ e. absurd (omega arith);
-      staged = λ e. absurd (omega arith);
-      register = λ e. (leb-true _ _ a, leb-true _ _ b);
+      kind = leb-true _ _ a;
+      output = λ x u. leb-true _ _ (numbers-output e x u ∙ b);
+      staged = λ x u. leb-true _ _ (numbers-staged e x u ∙ b);
+      register = λ x y u. let (v, w) = and-true (isPinIv (x .0)) (isPinIv (y .0)) (numbers-register e x y _ _ u refl refl ∙ b) in (leb-true _ _ v, leb-true _ _ w);
     }
-endpoint-ranges (suc (suc (suc zero))) x y h =
-    record {
-      kind = omega arith;
-      output = λ e. absurd (omega arith);
-      staged = λ e. absurd (omega arith);
-      register = λ e. absurd (omega arith);
-    }
-endpoint-ranges (suc (suc (suc (suc k)))) x y h = absurd (not-both false h refl)
-
-pub other-kind : (k x y : ℕ) → (k ≡ 0 → ⊥) → (k ≡ 1 → ⊥) → (k ≡ 2 → ⊥) → eqb k 3 ≡ endpointNumbers k x y
-unfolding endpointNumbers
-other-kind zero x y a b c = absurd (a refl)
-other-kind (suc zero) x y a b c = absurd (b refl)
-other-kind (suc (suc zero)) x y a b c = absurd (c refl)
-other-kind (suc (suc (suc zero))) x y a b c = refl
-other-kind (suc (suc (suc (suc k)))) x y a b c = ne-eqb (suc (suc (suc (suc k)))) 3 (λ e. omega arith)
 
 -- ---- the whole
 
@@ -196,7 +174,7 @@ pub record Formed (d : List ℕ) : Type 0 where
   pub layout : (i : ℕ) → i < layoutOf d → (layoutPin d i ≤ 2 ^ 30) ⊎ (layoutPin d i ≡ empty)
   pub position : (i : ℕ) → i < positionsOf d → PositionRanges d i
   pub part : (p : ℕ) → p < partsOf d → PartRanges d p
-  pub endpoint : (p i : ℕ) → p < partsOf d → i < endpointsOf d p → EndpointRanges (endpointKind d p i) (endpointX d p i) (endpointY d p i)
+  pub endpoint : (p i : ℕ) → p < partsOf d → i < endpointsOf d p → EndpointRanges (endpointWord d p i 0) (endpointAt d p i)
 
 pub formed : (d : List ℕ) → planForm d ≡ true → Formed d
 unfolding planForm listsForm endpointForm
@@ -220,17 +198,5 @@ formed d h =
       layout = λ i k. layout-ranges d i (all-at (layoutForm d) (layoutOf d) i layout k);
       position = λ i k. position-ranges d i (all-at (positionForm d) (positionsOf d) i positions k);
       part = part-in d (sizes .headed);
-      endpoint = λ p i k n. endpoint-ranges _ _ _ (all-at (endpointForm d p) (endpointsOf d p) i (all-at (λ q. allBelow (endpointForm d q) (endpointsOf d q)) (partsOf d) p ends k) n);
+      endpoint = λ p i k n. endpoint-ranges _ _ (all-at (endpointForm d p) (endpointsOf d p) i (all-at (λ q. allBelow (endpointForm d q) (endpointsOf d q)) (partsOf d) p ends k) n);
     }
-
--- ---- the tests, one after the other
-
-pub lists-are : (d : List ℕ) (g l p e : Bool) → allBelow (gateForm d) (gatesOf d) ≡ g → allBelow (layoutForm d) (layoutOf d) ≡ l → allBelow (positionForm d) (positionsOf d) ≡ p
-    → allBelow (λ q. allBelow (endpointForm d q) (endpointsOf d q)) (partsOf d) ≡ e → listsForm d ≡ (g && l && p && e)
-unfolding listsForm
-lists-are d g l p e a b c f = cc
-
-pub plan-is : (d : List ℕ) (h c : Bool) → headForm d ≡ h → countsForm d ≡ c
-    → planForm d ≡ (h && c && allBelow (partHeadForm d) (partsOf d) && lengthForm d && listsForm d)
-unfolding planForm
-plan-is d h c a b = cc

@@ -1,14 +1,17 @@
 -- Refusals 32 and 5 of a plan: document 01, "Plan ranges" and the table. Refusal 5: "a number outside 'Plan ranges', slots excepted; unknown
 -- kind; a list not as long as its count".
 -- Assumes nothing.
-use mathlib.Core.Bool.{Bool, true, false, _&&_, _||_}
+use mathlib.Core.Bool.{Bool, true, _&&_, _||_}
 use mathlib.Core.List.{List}
-use Prim.Native.Nat.{ℕ, zero, suc, _+_, _*_, _/_, _%_, _^_, min}
+use Prim.Native.Nat.{ℕ, _+_, _*_, _/_, _%_, _^_, min}
 use lib.Dec.{leb, eqb}
 use lib.ListN.{length}
 use Rattle.words.specs.Pins.{isPin, isPinIv, empty}
 use Rattle.words.specs.Tests.{allBelow}
-use Rattle.plan_record.specs.Record.{blocksOf, majorsOf, gatesOf, layoutOf, positionsOf, countAt, partsBefore, partsOf, gatePin, gateFirst, gateSecond, layoutPin, positionPin, positionStaged, stagesOf, endpointsOf, bodyAt, endpointKind, endpointX, endpointY}
+use Rattle.plan_record.specs.Record.{blocksOf, majorsOf, gatesOf, layoutOf, positionsOf, countAt, partsBefore, partsOf, gatePin, gateFirst, gateSecond, layoutPin, positionPin, positionStaged, stagesOf, endpointsOf, bodyAt, endpointWord}
+use Rattle.plan_record.specs.declared.bodies.Endpoint.{Endpoint}
+use Rattle.plan_record.specs.declared.bodies.Endpoint.the-variants.{Output, Staged, Register, Sram}
+use Rattle.plan_record.specs.Endpoint.{endpointAt}
 
 -- "65536 plus 16 a part (as its counts say) for a plan": the counts of 64 major stages at most are looked at
 unfoldable pub planRoomWords : List ℕ → ℕ
@@ -41,16 +44,16 @@ layoutForm d i = isPin (layoutPin d i) || eqb (layoutPin d i) empty
 unfoldable pub positionForm : List ℕ → ℕ → Bool
 positionForm d i = isPin (positionPin d i) && leb (positionStaged d i) 1
 
--- kinds 0 output, 1 staged, 2 register, 3 SRAM; words that a kind has no use for are not looked at
-unfoldable pub endpointNumbers : ℕ → ℕ → ℕ → Bool
-endpointNumbers zero x y = isPinIv x
-endpointNumbers (suc zero) x y = isPin x
-endpointNumbers (suc (suc zero)) x y = isPinIv x && isPinIv y
-endpointNumbers (suc (suc (suc zero))) x y = true
-endpointNumbers (suc (suc (suc (suc k)))) x y = false
+-- the numbers that an endpoint holds: words that its kind has no use for are not looked at
+unfoldable pub numbersForm : Endpoint → Bool
+numbersForm (Output x) = isPinIv (x .0)
+numbersForm (Staged x) = isPin (x .0)
+numbersForm (Register d en) = isPinIv (d .0) && isPinIv (en .0)
+numbersForm Sram = true
 
+-- "unknown kind"
 unfoldable pub endpointForm : List ℕ → ℕ → ℕ → Bool
-endpointForm d p i = endpointNumbers (endpointKind d p i) (endpointX d p i) (endpointY d p i)
+endpointForm d p i = leb (endpointWord d p i 0) 3 && numbersForm (endpointAt d p i)
 
 -- what a list may hold
 unfoldable pub listsForm : List ℕ → Bool

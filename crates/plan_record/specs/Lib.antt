@@ -1,3 +1,4 @@
 pub mod Record
+pub mod Endpoint
 pub mod Form
 pub mod Body

@@ -115,15 +115,9 @@ unfoldable pub bodyAt : List ℕ → ℕ → ℕ
 bodyAt d zero = headBase d + 2 * partsOf d
 bodyAt d (suc p) = bodyAt d p + bodyWords d (bodyAt d p) (stagesOf d p) (endpointsOf d p)
 
--- endpoint i of part p: 0 output (x inverted pin number), 1 staged (x pin), 2 register (x = d, y = en, inverted pin numbers), 3 SRAM
-abbrev pub endpointKind : List ℕ → ℕ → ℕ → ℕ
-endpointKind d p i = wordAt d (bodyAt d p + 3 * i)
-
-abbrev pub endpointX : List ℕ → ℕ → ℕ → ℕ
-endpointX d p i = wordAt d (bodyAt d p + 3 * i + 1)
-
-abbrev pub endpointY : List ℕ → ℕ → ℕ → ℕ
-endpointY d p i = wordAt d (bodyAt d p + 3 * i + 2)
+-- word k of endpoint i of part p: the kind, x and y; Endpoint.antt says what they stand for
+abbrev pub endpointWord : List ℕ → ℕ → ℕ → ℕ → ℕ
+endpointWord d p i k = wordAt d (bodyAt d p + 3 * i + k)
 
 -- the locations of stage s of part p, and of all its stages
 unfoldable pub countBase : List ℕ → ℕ → ℕ
@@ -141,6 +135,10 @@ slotBase d p = countBase d p + stagesOf d p
 
 abbrev pub slotAt : List ℕ → ℕ → ℕ → ℕ → ℕ
 slotAt d p s q = wordAt d (slotBase d p + 16383 * s + (q - 1))
+
+-- the pin of slot j of level 0
+abbrev pub levelAt : List ℕ → ℕ → ℕ → ℕ → ℕ
+levelAt d p s j = slotAt d p s (8192 + j)
 
 -- location l of part p, counted over its stages
 unfoldable pub locationBase : List ℕ → ℕ → ℕ

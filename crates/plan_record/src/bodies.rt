@@ -2,13 +2,27 @@
 // and goes on at the body's end.
 ghost use mathlib.Core.Path.{_≡_};
 ghost use Prim.Native.Nat.{_^_, _≤_, _<_};
-ghost use Rattle.plan_record.specs.Record.{majorsOf, partsOf, bodyAt, endpointKind, endpointX, endpointY, stageLocations, slotAt, locationAt, tableAt};
+ghost use Rattle.plan_record.specs.Record.{majorsOf, partsOf, bodyAt, endpointWord, stageLocations, slotAt, levelAt, locationAt, tableAt};
 ghost use Rattle.plan_record.specs.Body.{BodyReady, BodyOf};
+ghost use Rattle.plan_record.specs.Endpoint.{endpointAt};
+use crate::places::STAGE_WORDS;
+use crate::places::TABLE_WORDS;
 use crate::places::head_base;
 use crate::places::locations_in;
 use crate::places::parts_before;
 use crate::places::word_at;
 use crate::places::word_in;
+use words::edition::Edition;
+use words::units::Pin;
+use words::units::PinIv;
+
+// An endpoint: a primary output, a staged pin, a register with its data and its enable, or an SRAM.
+pub enum Endpoint {
+    Output(PinIv),
+    Staged(Pin),
+    Register(PinIv, PinIv),
+    Sram,
+}
 
 // One part's numbers, and the words where its lists begin: endpoints, locations of each stage, slots, locations, tables, and the next body.
 pub struct Body {
@@ -50,7 +64,7 @@ pub fn body_at(d: &[u8], p: usize, at: usize) -> Body
     let locations = locations_in(d, at, stages, endpoints);
     let counts = at + 3 * endpoints;
     let slots = counts + stages;
-    let places = slots + 16383 * stages;
+    let places = slots + STAGE_WORDS * stages;
     let tables = places + locations;
     Body {
         stages,
@@ -61,32 +75,35 @@ pub fn body_at(d: &[u8], p: usize, at: usize) -> Body
         slots,
         places,
         tables,
-        end: tables + 17664,
+        end: tables + TABLE_WORDS,
     }
 }
 
-// Whether endpoint i is an output, a staged pin, a register or an SRAM.
-pub fn endpoint_kind(d: &[u8], p: usize, body: Body, i: usize) -> u32
-    requires { ⌜ BodyOf (now d) p body × (i < body .endpoints) ⌝ }
-    ensures { λ r. ⌜ r ≡ endpointKind (now (d .entry)) p i ⌝ }
+// Word k of endpoint i: its kind, or a number of it. What it holds is asked of `endpoint_at`.
+pub fn endpoint_word(d: &[u8], p: usize, body: Body, i: usize, k: usize) -> u32
+    requires { ⌜ BodyOf (now d) p body × (i < body .endpoints) × (k < 3) ⌝ }
+    ensures { λ r. ⌜ r ≡ endpointWord (now (d .entry)) p i k ⌝ }
 {
-    word_in(d, body.at + 3 * i)
+    word_in(d, body.at + 3 * i + k)
 }
 
-// The first number of endpoint i.
-pub fn endpoint_x(d: &[u8], p: usize, body: Body, i: usize) -> u32
+// Endpoint i.
+pub fn endpoint_at(d: &[u8], p: usize, body: Body, i: usize) -> Endpoint
     requires { ⌜ BodyOf (now d) p body × (i < body .endpoints) ⌝ }
-    ensures { λ r. ⌜ r ≡ endpointX (now (d .entry)) p i ⌝ }
+    ensures { λ r. ⌜ r ≡ endpointAt (now (d .entry)) p i ⌝ }
 {
-    word_in(d, body.at + 3 * i + 1)
-}
-
-// The second number of endpoint i.
-pub fn endpoint_y(d: &[u8], p: usize, body: Body, i: usize) -> u32
-    requires { ⌜ BodyOf (now d) p body × (i < body .endpoints) ⌝ }
-    ensures { λ r. ⌜ r ≡ endpointY (now (d .entry)) p i ⌝ }
-{
-    word_in(d, body.at + 3 * i + 2)
+    let kind = endpoint_word(d, p, body, i, 0);
+    let x = endpoint_word(d, p, body, i, 1);
+    if kind == 0 {
+        return Endpoint::Output(PinIv(x));
+    }
+    if kind == 1 {
+        return Endpoint::Staged(Pin(x));
+    }
+    if kind == 2 {
+        return Endpoint::Register(PinIv(x), PinIv(endpoint_word(d, p, body, i, 2)));
+    }
+    Endpoint::Sram
 }
 
 // How many locations stage s has.
@@ -98,11 +115,19 @@ pub fn stage_locations(d: &[u8], p: usize, body: Body, s: usize) -> u32
 }
 
 // The pin at index q of stage s.
-pub fn slot(d: &[u8], p: usize, body: Body, s: usize, q: usize) -> u32
+pub fn slot(d: &[u8], p: usize, body: Body, s: usize, q: usize) -> Pin
     requires { ⌜ BodyOf (now d) p body × (s < body .stages) × (1 ≤ q) × (q ≤ 16383) ⌝ }
-    ensures { λ r. ⌜ r ≡ slotAt (now (d .entry)) p s q ⌝ }
+    ensures { λ r. ⌜ r .0 ≡ slotAt (now (d .entry)) p s q ⌝ }
 {
-    word_in(d, body.slots + 16383 * s + (q - 1))
+    Pin(word_in(d, body.slots + STAGE_WORDS * s + (q - 1)))
+}
+
+// The pin of slot j of level 0 of stage s.
+pub fn level_slot(d: &[u8], p: usize, body: Body, s: usize, j: usize) -> Pin
+    requires { ⌜ BodyOf (now d) p body × (s < body .stages) × (j < 8192) ⌝ }
+    ensures { λ r. ⌜ r .0 ≡ levelAt (now (d .entry)) p s j ⌝ }
+{
+    slot(d, p, body, s, Edition::SLOTS + j)
 }
 
 // Location l, counted over the stages.

@@ -4,6 +4,12 @@ ghost use Prim.Native.Nat.{_+_, _*_, _/_, _^_, _≤_, _<_};
 ghost use lib.ListN.{length};
 ghost use Rattle.plan_record.specs.Record.{wordAt, partsBefore, gateBase, layoutBase, positionBase, headBase, locationsIn, bodyWords};
 ghost use Rattle.plan_record.specs.Form.{planRoomWords};
+use words::edition::Edition;
+
+// The slots of a stage, index 1 and up: its positions and level 0. And the two tables: an entry a slot, and five lists of a word a lane.
+pub const STAGE_WORDS: usize = 2 * Edition::SLOTS - 1;
+
+pub const TABLE_WORDS: usize = 2 * Edition::SLOTS + 5 * Edition::LANES;
 
 // Four bytes as one number, the lowest first.
 fn word_of(a: u8, b: u8, c: u8, e: u8) -> u32
@@ -96,5 +102,5 @@ pub fn body_words(d: &[u8], b: usize, n: usize, e: usize) -> usize
     requires { ⌜ (b < 2 ^ 62) × (n ≤ 255) × (e ≤ 8192) ⌝ }
     ensures { λ r. ⌜ (r ≡ bodyWords (now (d .entry)) b n e) × (r < 2 ^ 42) ⌝ }
 {
-    3 * e + n + 16383 * n + locations_in(d, b, n, e) + 17664
+    3 * e + n + STAGE_WORDS * n + locations_in(d, b, n, e) + TABLE_WORDS
 }

@@ -6,18 +6,30 @@ use mathlib.Core.Bool.{Bool, true, false, _&&_, _||_}
 use mathlib.Core.List.{List}
 use mathlib.Core.Logic.{⊎-elim}
 use mathlib.Core.Option.{Option, none, some}
-use Prim.Native.Nat.{ℕ, _+_, _/_, _^_, _≤_, _<_}
+use Prim.Native.Nat.{ℕ, _+_, _*_, _/_, _%_, _^_, _≤_, _<_}
 use native.Mathlib.Numerals.{add-one}
 use native.Mathlib.Omega.{arith}
 use borrow.Author.Tests.{leb-true, ne-eqb, eqb-true, eqb-false, ltb-true, not-true}
 use lib.Dec.{eqb}
-use Rattle.plan_record.specs.Record.{partsOf, stagesOf, slotAt, gateFirst, gateSecond}
+use Rattle.plan_record.specs.Record.{partsOf, stagesOf, slotAt, levelAt, gateFirst, gateSecond}
 use Rattle.words.specs.Pins.{isPin, empty}
-use Rattle.words.proofs.TestLaws.{not-both, and-true, or-cases}
+use Rattle.words.specs.Tests.{firstNot, lowest}
+use Rattle.words.proofs.TestLaws.{not-both, and-true, or-cases, not-none, lowest-none}
 use Rattle.plan_gates.specs.Gates.{gateOf}
-use Rattle.plan_slots.specs.Slots.{slotA, slotB, feeds, pinRight, slotRight, nineRight, refusal9, standsIn, tenRight, refusal10, readsPin, elevenRight, refusal11, highest}
-use Rattle.plan_slots.proofs.ItemLaws.{item-right}
+use Rattle.plan_slots.specs.Slots.{slotA, slotB, feeds, pinRight, slotRight, nineRight, overItems, badItem, refusal9, standsIn, tenRight, refusal10, readsPin, elevenRight, refusal11, highest}
 use Rattle.plan_slots.proofs.PutLaws.{HighestAt, stands-highest, highest-is}
+
+-- ---- what a test that refuses nothing says
+
+item-right : (d : List ℕ) (right : ℕ → ℕ → ℕ → Bool) → lowest (λ p. badItem d (right p) p) (partsOf d) ≡ none
+    → (p s x : ℕ) → p < partsOf d → s < stagesOf d p → x < 8192 → right p s x ≡ true
+unfolding badItem
+item-right d right h p s x lp ls lx =
+    let a : firstNot (overItems (right p)) (8192 * stagesOf d p) ≡ none = lowest-none (λ q. badItem d (right q) q) (partsOf d) h p lp in
+    let b : overItems (right p) (8192 * s + x) ≡ true = not-none (overItems (right p)) (8192 * stagesOf d p) a (8192 * s + x) (omega arith) in
+    let q : (8192 * s + x) / 8192 ≡ s = omega arith in
+    let r : (8192 * s + x) % 8192 ≡ x = omega arith in
+    rw (q, r) at b
 
 -- ---- 9
 
@@ -62,7 +74,7 @@ module _ (d : List ℕ) (clear : refusal9 d ≡ none) (p s : ℕ) (part : p < pa
   position-right : (q : ℕ) → 0 < q → q < 8192 → slotRight d p s q ≡ true
   unfolding nineRight
   position-right q h l =
-      let (a, b) = and-true (pinRight (slotAt d p s (8192 + q))) (eqb q 0 || slotRight d p s q) (nine q l) in
+      let (a, b) = and-true (pinRight (levelAt d p s q)) (eqb q 0 || slotRight d p s q) (nine q l) in
       ⊎-elim (λ e. absurd (omega (arith, eqb-true q 0 e))) (λ e. e) (or-cases (eqb q 0) (slotRight d p s q) b)
 
   -- a position
@@ -77,25 +89,25 @@ unfolding tenRight
 ten-first d p j = refl
 
 pub ten-later : (d : List ℕ) (p s j : ℕ)
-    → tenRight d p (s + 1) j ≡ (eqb (slotAt d p (s + 1) (8192 + j)) empty || standsIn d p s (slotAt d p (s + 1) (8192 + j)))
+    → tenRight d p (s + 1) j ≡ (eqb (levelAt d p (s + 1) j) empty || standsIn d p s (levelAt d p (s + 1) j))
 unfolding tenRight
 ten-later d p s j = rw add-one
 
 module _ (d : List ℕ) (clear : refusal10 d ≡ none) (p s j : ℕ) (part : p < partsOf d) (stage : s + 1 < stagesOf d p) (slot : j < 8192) where
   -- a later pin stands in the stage before
-  pub later-stands : (slotAt d p (s + 1) (8192 + j) ≡ empty → ⊥) → standsIn d p s (slotAt d p (s + 1) (8192 + j)) ≡ true
+  pub later-stands : (levelAt d p (s + 1) j ≡ empty → ⊥) → standsIn d p s (levelAt d p (s + 1) j) ≡ true
   unfolding refusal10
   later-stands k =
       ⊎-elim (λ e. absurd (k (eqb-true _ _ e))) (λ e. e)
-      (or-cases (eqb (slotAt d p (s + 1) (8192 + j)) empty) _ (sym (ten-later d p s j) ∙ item-right d (tenRight d) clear p (s + 1) j part stage slot))
+      (or-cases (eqb (levelAt d p (s + 1) j) empty) _ (sym (ten-later d p s j) ∙ item-right d (tenRight d) clear p (s + 1) j part stage slot))
 
   -- and its highest position there is one, and has it
-  pub later-highest : (slotAt d p (s + 1) (8192 + j) ≡ empty → ⊥)
-      → (0 < highest d p s (slotAt d p (s + 1) (8192 + j)))
-      × (highest d p s (slotAt d p (s + 1) (8192 + j)) < 8192)
-      × (slotAt d p s (highest d p s (slotAt d p (s + 1) (8192 + j))) ≡ slotAt d p (s + 1) (8192 + j))
+  pub later-highest : (levelAt d p (s + 1) j ≡ empty → ⊥)
+      → (0 < highest d p s (levelAt d p (s + 1) j))
+      × (highest d p s (levelAt d p (s + 1) j) < 8192)
+      × (slotAt d p s (highest d p s (levelAt d p (s + 1) j)) ≡ levelAt d p (s + 1) j)
   later-highest k =
-      let x : ℕ = slotAt d p (s + 1) (8192 + j) in
+      let x : ℕ = levelAt d p (s + 1) j in
       let h : 0 < highest d p s x = ltb-true _ _ (sym (stands-highest d p s x) ∙ later-stands k) in
       let r : HighestAt d p s x 8191 (highest d p s x) = highest-is d p s x in
       (h, omega (arith, r .below), r .there h)

@@ -9,7 +9,7 @@ use Prim.Native.Nat.{ℕ, zero, suc, _+_, _-_, _^_, _≤_, _<_}
 use lib.Dec.{eqb}
 use lib.ListN.{length, getD, replicate}
 use Rattle.pinmap.specs.PinMap.{Entry, entry, afterPuts}
-use Rattle.plan_record.specs.Record.{slotAt}
+use Rattle.plan_record.specs.Record.{slotAt, levelAt}
 use Rattle.words.specs.Pins.{empty}
 use Rattle.words.specs.Tests.{someBelow}
 
@@ -28,7 +28,7 @@ positionPuts d p s = heldBelow (λ i. slotAt d p s (i + 1)) (λ i. i + 1) 8191
 
 -- the slots of level 0 of stage 0
 unfoldable pub readPuts : List ℕ → ℕ → List Entry
-readPuts d p = heldBelow (λ j. slotAt d p 0 (8192 + j)) (λ j. 0) 8192
+readPuts d p = heldBelow (λ j. levelAt d p 0 j) (λ j. 0) 8192
 
 -- pin n, where it is not empty and none of those before it; and the pins of n slots, each once, in the order in which they first come
 unfoldable pub newPin : (ℕ → ℕ) → ℕ → List ℕ
@@ -41,7 +41,7 @@ firstPins pin (suc n) = firstPins pin n ++ newPin pin n
 
 -- those of the slots of level 0 of stage 0
 abbrev pub readPin : List ℕ → ℕ → ℕ → ℕ
-readPin d p j = slotAt d p 0 (8192 + j)
+readPin d p j = levelAt d p 0 j
 
 unfoldable pub readPins : List ℕ → ℕ → List ℕ
 readPins d p = firstPins (readPin d p) 8192

@@ -7,7 +7,7 @@ use mathlib.Core.Option.{Option, none, some}
 use mathlib.Core.List.{List}
 use Prim.Native.Nat.{ℕ, zero, suc, _+_, _*_, _/_, _%_, _^_}
 use lib.Dec.{leb, ltb, eqb}
-use Rattle.plan_record.specs.Record.{partsOf, stagesOf, slotAt, gateFirst, gateSecond}
+use Rattle.plan_record.specs.Record.{partsOf, stagesOf, slotAt, levelAt, gateFirst, gateSecond}
 use Rattle.words.specs.Pins.{isPin, empty}
 use Rattle.words.specs.Tests.{firstNot, someBelow, lowest, Place}
 use Rattle.plan_gates.specs.Gates.{gateOf}
@@ -43,11 +43,14 @@ slotRight d p s q =
 
 -- item x of a stage is slot x of level 0 and, but for 0, position x
 unfoldable pub nineRight : List ℕ → ℕ → ℕ → ℕ → Bool
-nineRight d p s x = pinRight (slotAt d p s (8192 + x)) && (eqb x 0 || slotRight d p s x)
+nineRight d p s x = pinRight (levelAt d p s x) && (eqb x 0 || slotRight d p s x)
 
--- "stage·8192 + position": the lowest item of part p that a test over stage and item refuses
+-- "stage·8192 + position": a test over stage and item as a test over the items of a part, and the lowest item of part p that it refuses
+abbrev pub overItems : (ℕ → ℕ → Bool) → ℕ → Bool
+overItems right i = right (i / 8192) (i % 8192)
+
 unfoldable pub badItem : List ℕ → (ℕ → ℕ → Bool) → ℕ → Option ℕ
-badItem d right p = firstNot (λ i. right (i / 8192) (i % 8192)) (8192 * stagesOf d p)
+badItem d right p = firstNot (overItems right) (8192 * stagesOf d p)
 
 unfoldable pub refusal9 : List ℕ → Option Place
 refusal9 d = lowest (λ p. badItem d (nineRight d p) p) (partsOf d)
@@ -58,14 +61,14 @@ standsIn d p s x = someBelow (λ q. eqb (slotAt d p s (q + 1)) x) 8191
 
 unfoldable pub tenRight : List ℕ → ℕ → ℕ → ℕ → Bool
 tenRight d p zero j = true
-tenRight d p (suc s) j = eqb (slotAt d p (suc s) (8192 + j)) empty || standsIn d p s (slotAt d p (suc s) (8192 + j))
+tenRight d p (suc s) j = eqb (levelAt d p (suc s) j) empty || standsIn d p s (levelAt d p (suc s) j)
 
 unfoldable pub refusal10 : List ℕ → Option Place
 refusal10 d = lowest (λ p. badItem d (tenRight d p) p) (partsOf d)
 
 -- 11: "a part computes by gate a pin it reads in stage 0"
 unfoldable pub readsPin : List ℕ → ℕ → ℕ → Bool
-readsPin d p x = someBelow (λ j. eqb (slotAt d p 0 (8192 + j)) x) 8192
+readsPin d p x = someBelow (λ j. eqb (levelAt d p 0 j) x) 8192
 
 unfoldable pub elevenRight : List ℕ → ℕ → ℕ → ℕ → Bool
 elevenRight d p s q =

@@ -1,6 +1,2 @@
-// The slots of a part: the tables of its pins, and refusals 9, 10 and 11.
-pub mod computed;
-pub mod later;
-pub mod runs;
-pub mod standing;
+// The slots of a part: what may stand in one, and the tables of a part's pins.
 pub mod tables;

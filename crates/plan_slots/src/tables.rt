@@ -10,10 +10,14 @@ ghost use Rattle.plan_slots.specs.Slots.{top};
 ghost use Rattle.plan_slots.specs.Puts.{heldAt, heldBelow, positionPuts, readPuts, newPin, readPin, readPins, AllPins, filled, FilledWith};
 use pinmap::Found;
 use plan_record::bodies::Body;
+use plan_record::bodies::level_slot;
 use plan_record::bodies::slot;
 use words::clear::clear;
+use words::edition::Edition;
 use words::units::EMPTY_PIN;
-use words::units::Pin;
+
+// Positions 1 to 8191.
+const POSITIONS: usize = Edition::SLOTS - 1;
 
 // The largest power of two not above a position: slot a stands that far above it, slot b twice as far.
 pub fn top_power(q: usize) -> usize
@@ -29,10 +33,10 @@ fn put_slot(d: &[u8], p: usize, body: Body, s: usize, q: usize, v: u32, table: &
     ensures { λ _. ⌜ now (table .exit) ≡ afterPuts (now (table .entry)) (heldAt (slotAt (now (d .entry)) p s q) v) ⌝ }
 {
     let pin = slot(d, p, body, s, q);
-    if pin == EMPTY_PIN {
+    if pin.0 == EMPTY_PIN {
         return;
     }
-    pinmap::put(table, Pin(pin), v);
+    pinmap::put(table, pin, v);
 }
 
 // The positions of stage s: each pin with the highest that has it.
@@ -42,7 +46,7 @@ pub fn fill_positions(d: &[u8], p: usize, body: Body, s: usize, table: &mut [u32
 {
     clear(table);
     let mut i = 0;
-    while i < 8191 {
+    while i < POSITIONS {
         put_slot(d, p, body, s, i + 1, (i + 1) as u32, table);
         i += 1;
     }
@@ -55,8 +59,8 @@ pub fn fill_reads(d: &[u8], p: usize, body: Body, table: &mut [u32])
 {
     clear(table);
     let mut j = 0;
-    while j < 8192 {
-        put_slot(d, p, body, 0, 8192 + j, 0, table);
+    while j < Edition::SLOTS {
+        put_slot(d, p, body, 0, Edition::SLOTS + j, 0, table);
         j += 1;
     }
 }
@@ -78,15 +82,15 @@ fn list_slot(
     ensures { λ _. ⌜ now (list .exit) ≡ sets (now (list .entry)) n (newPin (readPin (now (d .entry)) p) j) ⌝ }
     ensures { λ _. ⌜ AllPins (newPin (readPin (now (d .entry)) p) j) ⌝ }
 {
-    let pin = slot(d, p, body, 0, 8192 + j);
-    if pin == EMPTY_PIN {
+    let pin = level_slot(d, p, body, 0, j);
+    if pin.0 == EMPTY_PIN {
         return n;
     }
-    match pinmap::look_up(table, Pin(pin)) {
+    match pinmap::look_up(table, pin) {
         Found::Value(_) => n,
         Found::Missing => {
-            pinmap::put(table, Pin(pin), 0);
-            list[n] = pin as u64;
+            pinmap::put(table, pin, 0);
+            list[n] = pin.0 as u64;
             n + 1
         }
     }
@@ -103,7 +107,7 @@ pub fn list_reads(d: &[u8], p: usize, body: Body, table: &mut [u32], list: &mut 
     clear(table);
     let mut n = 0;
     let mut j = 0;
-    while j < 8192 {
+    while j < Edition::SLOTS {
         n = list_slot(d, p, body, j, table, list, n);
         j += 1;
     }

@@ -28,7 +28,7 @@ loop-again : tie.Need-loop-again Inv-loop μ-loop
 loop-again c =
     let a = c .before .before .before in (
       omega arith,
-      ap₂ _+_ (a .loop .inv .1) (c .sram-of .ensures .0 ∙ ap isSram (c .before .endpoint-kind .ensures)) ∙ sym (srams-more (a .before .before .args .d .now) (a .before .before .args .p) (a .loop .i)),
+      ap₂ _+_ (a .loop .inv .1) (c .sram-of .ensures .0 ∙ ap isSram (c .before .endpoint-at .ensures)) ∙ sym (srams-more (a .before .before .args .d .now) (a .before .before .args .p) (a .loop .i)),
       omega (arith, c .sram-of .ensures .1),
     )
 

@@ -13,23 +13,25 @@ use Rattle.plan_gates.proofs.gate_right.Tie as tie
 
 returns : tie.Need-returns
 returns c =
-    let way = c .before .before .before .before in
-    let start = way .before .before .before .before in
+    let second = c .before .before .before in
+    let start = second .before .before .before .before .before .before in
     let s = start .args in
     let h : gatePin (s .d .now) (s .g) ≤ pinBefore (s .d .now) (s .g) = omega arith in
     sym (right-not-above (s .d .now) (s .g) h)
 
 returns-2 : tie.Need-returns-2
 returns-2 c =
-    let way = c .before .before .before .before .before in
-    let start = way .before .before .before .before in
+    let test = c .before .before .before in
+    let second = test .before .before .before in
+    let start = second .before .before .before .before .before .before in
     let s = start .args in
     let h : gatePin (s .d .now) (s .g) ≤ gateFirst (s .d .now) (s .g) / 2 = omega arith in
     sym (right-not-first (s .d .now) (s .g) h)
 
 returns-3 : tie.Need-returns-3
 returns-3 c =
-    let p = c .before .before .before in
+    let test = c .before .before in
+    let p = test .before .before .before .before .before .before in
     let at-gate-pin = p .before .before .before .before in
     let s = at-gate-pin .before .before .args in
     let h : pinBefore (s .d .now) (s .g) < gatePin (s .d .now) (s .g) = omega arith in

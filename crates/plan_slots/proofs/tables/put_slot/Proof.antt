@@ -10,14 +10,14 @@ use Rattle.plan_slots.proofs.tables.put_slot.Tie as tie
 
 returns : tie.Need-returns
 returns c =
-    let a = c .before in
+    let a = c .before .before in
     let o = a .before .before .before .args in
     held-none (o .table .now) _ (o .v) (sym (a .slot .ensures) ∙ c .if1 .taken)
 
 returns-2 : tie.Need-returns-2
 returns-2 c =
     let t = c .before .before .before .before in
-    let a = t .before in
+    let a = t .before .before in
     let o = a .before .before .before .args in
     c .before .before .put .ensures .1
     ∙ (ap (λ (x : ℕ). putIn (o .table .now) x (o .v)) (a .slot .ensures) ∙ held-one (o .table .now) _ (o .v) (λ e. t .if1 .left (a .slot .ensures ∙ e)))
