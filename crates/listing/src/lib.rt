@@ -14,6 +14,7 @@ ghost use Rattle.listing.specs.ListingAnswer.{answerTo, sectionAfter, an
 ghost use Rattle.listing.specs.Listing.{listing, listed, listedOf, textAfter};
 use answer::Said;
 use answer::put_answer;
+use records::POSITIONS;
 use records::Read;
 use records::SET_WORDS;
 use records::read_set_of;
@@ -23,6 +24,12 @@ use words::edition::Edition;
 use words::refusals::RESULT_SHORT;
 use words::refusals::ROOM_SHORT;
 use words::refusals::Refusal;
+
+// The first bytes of records, which alone matter: the positions, the end, and one byte more.
+pub const RECORD_BYTES: usize = 5 * POSITIONS + 2;
+
+// No text is longer.
+pub const TEXT_BYTES: usize = 237578;
 
 // The words of a read section of 32 rounds, the most that there are.
 const SECTION_WORDS: usize = 2 * Edition::LANES * 32;

@@ -9,7 +9,7 @@ use words::units::AskedBit;
 use words::units::StatePosition;
 
 // The most positions that records may have.
-const POSITIONS: usize = 8192;
+pub const POSITIONS: usize = 8192;
 
 // The words of their read set, a pair to each position at most.
 pub const SET_WORDS: usize = 2 * POSITIONS;
