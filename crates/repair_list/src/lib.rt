@@ -103,11 +103,11 @@ pub fn write_left(counts: &[u32], map: &[u32], after: &mut [u32])
 }
 
 // Puts a node at an index.
-fn put_slot(slots: &mut [u32], q: u32, node: u32)
+fn put_slot(slots: &mut [u32], q: u32, node: Pin)
     requires { ⌜ (0 < q) × (q ≤ length (now slots)) ⌝ }
-    ensures { λ _. ⌜ now (slots .exit) ≡ set (now (slots .entry)) (q - 1) node ⌝ }
+    ensures { λ _. ⌜ now (slots .exit) ≡ set (now (slots .entry)) (q - 1) (node .0) ⌝ }
 {
-    slots[q as usize - 1] = node;
+    slots[q as usize - 1] = node.0;
 }
 
 // Puts the spots of a list.
@@ -118,7 +118,7 @@ pub fn store_spots(spots: &[u32], slots: &mut [u32])
     let count = spots.len() / 2;
     let mut k = 0;
     while k < count {
-        put_slot(slots, spots[2 * k], spots[2 * k + 1]);
+        put_slot(slots, spots[2 * k], Pin(spots[2 * k + 1]));
         k += 1;
     }
 }
@@ -131,7 +131,7 @@ pub fn clear_spots(spots: &[u32], slots: &mut [u32])
     let count = spots.len() / 2;
     let mut k = 0;
     while k < count {
-        put_slot(slots, spots[2 * k], EMPTY_PIN);
+        put_slot(slots, spots[2 * k], Pin(EMPTY_PIN));
         k += 1;
     }
 }

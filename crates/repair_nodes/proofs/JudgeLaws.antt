@@ -16,7 +16,7 @@ use Rattle.words.specs.Pins.{empty}
 use Rattle.words.proofs.TestLaws.{not-both, and-true}
 use Rattle.gatelist.specs.ListWords.{gateIn}
 use Rattle.repair_nodes.specs.Stage.{Spot, spot, slotIn}
-use Rattle.repair_nodes.specs.Placing.{levelAt, firstPin, secondPin, placing, levelRight, badLevel, noGate, Judged}
+use Rattle.repair_nodes.specs.Placing.{nodeLevel, firstPin, secondPin, placing, levelRight, badLevel, noGate, Judged}
 use Rattle.repair_nodes.specs.Clearing.{clearing}
 
 pub or-parts : (a b : Bool) → (a || b) ≡ false → (a ≡ false) × (b ≡ false)
@@ -26,21 +26,21 @@ or-parts true b e = absurd (not-both true refl e)
 -- ---- a node's level
 
 module _ (levels : List ℕ) (h x : ℕ) where
-  pub level-right : x < length levels → levelAt levels x ≤ h → levelRight levels h x ≡ true
+  pub level-right : x < length levels → nodeLevel levels x ≤ h → levelRight levels h x ≡ true
   unfolding levelRight
-  level-right l k = rw (lt-ltb x (length levels) l, le-leb (levelAt levels x) h k)
+  level-right l k = rw (lt-ltb x (length levels) l, le-leb (nodeLevel levels x) h k)
 
   pub level-none : length levels ≤ x → levelRight levels h x ≡ false
   unfolding levelRight
   level-none l = rw (le-ltb x (length levels) l)
 
-  pub level-above : x < length levels → h < levelAt levels x → levelRight levels h x ≡ false
+  pub level-above : x < length levels → h < nodeLevel levels x → levelRight levels h x ≡ false
   unfolding levelRight
-  level-above l k = rw (lt-ltb x (length levels) l, lt-leb (levelAt levels x) h k)
+  level-above l k = rw (lt-ltb x (length levels) l, lt-leb (nodeLevel levels x) h k)
 
-  pub level-parts : levelRight levels h x ≡ true → (x < length levels) × (levelAt levels x ≤ h)
+  pub level-parts : levelRight levels h x ≡ true → (x < length levels) × (nodeLevel levels x ≤ h)
   unfolding levelRight
-  level-parts e = let (a, b) = and-true (ltb x (length levels)) (leb (levelAt levels x) h) e in (ltb-true _ _ a, leb-true _ _ b)
+  level-parts e = let (a, b) = and-true (ltb x (length levels)) (leb (nodeLevel levels x) h) e in (ltb-true _ _ a, leb-true _ _ b)
 
 -- a root over two halves or one has at most one slot for each of the subtree's
 power-on : (h : ℕ) → 2 ^ (suc h + 1) ≡ 2 ^ (h + 1) * 2
@@ -62,7 +62,7 @@ module _ (gates levels : List ℕ) where
   bad-level zero x e = ap not e
   bad-level (suc h) x e = rw e
 
-  pub bad-known : (h x : ℕ) → badLevel gates levels h x ≡ false → (x < length levels) × (levelAt levels x ≤ h)
+  pub bad-known : (h x : ℕ) → badLevel gates levels h x ≡ false → (x < length levels) × (nodeLevel levels x ≤ h)
   unfolding badLevel
   bad-known zero x e = level-parts levels 0 x (not-false _ e)
   bad-known (suc h) x e = level-parts levels (suc h) x (not-false _ (or-parts (not (levelRight levels (suc h) x)) _ e .0))
@@ -71,21 +71,21 @@ module _ (gates levels : List ℕ) where
   unfolding badLevel
   bad-last x e = ap not e
 
-  pub bad-down : (h x : ℕ) → 0 < h → levelRight levels h x ≡ true → levelAt levels x < h → badLevel gates levels h x ≡ badLevel gates levels (h - 1) x
+  pub bad-down : (h x : ℕ) → 0 < h → levelRight levels h x ≡ true → nodeLevel levels x < h → badLevel gates levels h x ≡ badLevel gates levels (h - 1) x
   unfolding badLevel
   bad-down zero x p r l = absurd (not-suc-le-zero p)
-  bad-down (suc h) x p r l = rw (r, ne-eqb (levelAt levels x) (suc h) (λ (e : levelAt levels x ≡ suc h). omega arith), sub-one)
+  bad-down (suc h) x p r l = rw (r, ne-eqb (nodeLevel levels x) (suc h) (λ (e : nodeLevel levels x ≡ suc h). omega arith), sub-one)
 
-  pub bad-split : (h x g : ℕ) → 0 < h → levelRight levels h x ≡ true → levelAt levels x ≡ h → gateIn gates x ≡ some g
+  pub bad-split : (h x g : ℕ) → 0 < h → levelRight levels h x ≡ true → nodeLevel levels x ≡ h → gateIn gates x ≡ some g
       → badLevel gates levels h x ≡ (badLevel gates levels (h - 1) (firstPin gates x) || badLevel gates levels (h - 1) (secondPin gates x))
   unfolding badLevel
   bad-split zero x g p r l e = absurd (not-suc-le-zero p)
-  bad-split (suc h) x g p r l e = rw (r, eq-eqb (levelAt levels x) (suc h) l, e, sub-one)
+  bad-split (suc h) x g p r l e = rw (r, eq-eqb (nodeLevel levels x) (suc h) l, e, sub-one)
 
-  pub bad-gateless : (h x : ℕ) → 0 < h → levelRight levels h x ≡ true → levelAt levels x ≡ h → gateIn gates x ≡ none → badLevel gates levels h x ≡ false
+  pub bad-gateless : (h x : ℕ) → 0 < h → levelRight levels h x ≡ true → nodeLevel levels x ≡ h → gateIn gates x ≡ none → badLevel gates levels h x ≡ false
   unfolding badLevel
   bad-gateless zero x p r l e = absurd (not-suc-le-zero p)
-  bad-gateless (suc h) x p r l e = rw (r, eq-eqb (levelAt levels x) (suc h) l, e)
+  bad-gateless (suc h) x p r l e = rw (r, eq-eqb (nodeLevel levels x) (suc h) l, e)
 
   -- ---- 26
 
@@ -93,21 +93,21 @@ module _ (gates levels : List ℕ) where
   unfolding noGate
   gate-last x = refl
 
-  pub gate-down : (h x : ℕ) → 0 < h → levelAt levels x < h → noGate gates levels h x ≡ noGate gates levels (h - 1) x
+  pub gate-down : (h x : ℕ) → 0 < h → nodeLevel levels x < h → noGate gates levels h x ≡ noGate gates levels (h - 1) x
   unfolding noGate
   gate-down zero x p l = absurd (not-suc-le-zero p)
-  gate-down (suc h) x p l = rw (ne-eqb (levelAt levels x) (suc h) (λ (e : levelAt levels x ≡ suc h). omega arith), noGate, sub-one)
+  gate-down (suc h) x p l = rw (ne-eqb (nodeLevel levels x) (suc h) (λ (e : nodeLevel levels x ≡ suc h). omega arith), noGate, sub-one)
 
-  pub gate-split : (h x g : ℕ) → 0 < h → levelAt levels x ≡ h → gateIn gates x ≡ some g
+  pub gate-split : (h x g : ℕ) → 0 < h → nodeLevel levels x ≡ h → gateIn gates x ≡ some g
       → noGate gates levels h x ≡ (noGate gates levels (h - 1) (firstPin gates x) || noGate gates levels (h - 1) (secondPin gates x))
   unfolding noGate
   gate-split zero x g p l e = absurd (not-suc-le-zero p)
-  gate-split (suc h) x g p l e = rw (eq-eqb (levelAt levels x) (suc h) l, e, noGate, sub-one)
+  gate-split (suc h) x g p l e = rw (eq-eqb (nodeLevel levels x) (suc h) l, e, noGate, sub-one)
 
-  pub gate-none : (h x : ℕ) → 0 < h → levelAt levels x ≡ h → gateIn gates x ≡ none → noGate gates levels h x ≡ true
+  pub gate-none : (h x : ℕ) → 0 < h → nodeLevel levels x ≡ h → gateIn gates x ≡ none → noGate gates levels h x ≡ true
   unfolding noGate
   gate-none zero x p l e = absurd (not-suc-le-zero p)
-  gate-none (suc h) x p l e = rw (eq-eqb (levelAt levels x) (suc h) l, e, noGate)
+  gate-none (suc h) x p l e = rw (eq-eqb (nodeLevel levels x) (suc h) l, e, noGate)
 
   -- ---- the placing
 
@@ -116,17 +116,17 @@ module _ (gates levels : List ℕ) where
   place-last zero m q x e = refl
   place-last (suc h) m q x e = absurd (omega arith)
 
-  pub place-carry : (h m q x : ℕ) → 0 < h → levelAt levels x < h → placing gates levels h m q x ≡ spot q x ∷ placing gates levels (h - 1) (2 * m) (q + m) x
+  pub place-carry : (h m q x : ℕ) → 0 < h → nodeLevel levels x < h → placing gates levels h m q x ≡ spot q x ∷ placing gates levels (h - 1) (2 * m) (q + m) x
   unfolding placing
   place-carry zero m q x p l = absurd (not-suc-le-zero p)
-  place-carry (suc h) m q x p l = rw (ne-eqb (levelAt levels x) (suc h) (λ (e : levelAt levels x ≡ suc h). omega arith), sub-one)
+  place-carry (suc h) m q x p l = rw (ne-eqb (nodeLevel levels x) (suc h) (λ (e : nodeLevel levels x ≡ suc h). omega arith), sub-one)
 
-  pub place-split : (h m q x : ℕ) → 0 < h → levelAt levels x ≡ h
+  pub place-split : (h m q x : ℕ) → 0 < h → nodeLevel levels x ≡ h
       → placing gates levels h m q x
       ≡ spot q x ∷ (placing gates levels (h - 1) (2 * m) (q + m) (firstPin gates x) ++ placing gates levels (h - 1) (2 * m) (q + 2 * m) (secondPin gates x))
   unfolding placing
   place-split zero m q x p l = absurd (not-suc-le-zero p)
-  place-split (suc h) m q x p l = rw (eq-eqb (levelAt levels x) (suc h) l, sub-one)
+  place-split (suc h) m q x p l = rw (eq-eqb (nodeLevel levels x) (suc h) l, sub-one)
 
   pub placing-some : (h m q x : ℕ) → 0 < length (placing gates levels h m q x)
   unfolding placing
@@ -141,19 +141,19 @@ module _ (gates levels : List ℕ) where
       let A = placing gates levels h (2 * m) (q + m) (firstPin gates x) in
       let B = placing gates levels h (2 * m) (q + 2 * m) (secondPin gates x) in
       let C = placing gates levels h (2 * m) (q + m) x in
-      size-of (spot q x) A B C h (eqb (levelAt levels x) (suc h))
+      size-of (spot q x) A B C h (eqb (nodeLevel levels x) (suc h))
       (placing-size h (2 * m) (q + m) (firstPin gates x)) (placing-size h (2 * m) (q + 2 * m) (secondPin gates x)) (placing-size h (2 * m) (q + m) x)
 
   -- ---- what is judged of a node is judged of what is below it
 
-  pub judged-known : (h x : ℕ) → Judged gates levels h x → (x < length levels) × (levelAt levels x ≤ h)
+  pub judged-known : (h x : ℕ) → Judged gates levels h x → (x < length levels) × (nodeLevel levels x ≤ h)
   judged-known h x j = bad-known h x (j .levels-right)
 
   module _ (h x : ℕ) (j : Judged gates levels h x) (p : 0 < h) where
     right : levelRight levels h x ≡ true
     right = let (l, k) = judged-known h x j in level-right levels h x l k
 
-    pub judged-carry : levelAt levels x < h → Judged gates levels (h - 1) x
+    pub judged-carry : nodeLevel levels x < h → Judged gates levels (h - 1) x
     judged-carry l =
         record {
           gates-right = j .gates-right;
@@ -161,10 +161,10 @@ module _ (gates levels : List ℕ) where
           all-gates = sym (gate-down h x p l) ∙ j .all-gates;
         }
 
-    pub judged-gate : levelAt levels x ≡ h → gateIn gates x ≡ none → ⊥
+    pub judged-gate : nodeLevel levels x ≡ h → gateIn gates x ≡ none → ⊥
     judged-gate l e = not-both (noGate gates levels h x) (gate-none h x p l e) (j .all-gates)
 
-    module _ (g : ℕ) (l : levelAt levels x ≡ h) (e : gateIn gates x ≡ some g) where
+    module _ (g : ℕ) (l : nodeLevel levels x ≡ h) (e : gateIn gates x ≡ some g) where
       bad-parts : (badLevel gates levels (h - 1) (firstPin gates x) ≡ false) × (badLevel gates levels (h - 1) (secondPin gates x) ≡ false)
       bad-parts =
           or-parts (badLevel gates levels (h - 1) (firstPin gates x)) (badLevel gates levels (h - 1) (secondPin gates x))

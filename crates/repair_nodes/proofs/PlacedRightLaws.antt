@@ -12,7 +12,7 @@ use Rattle.words.specs.Pins.{isPin, empty}
 use Rattle.words.proofs.TestLaws.{not-both, true-and}
 use Rattle.gatelist.specs.ListWords.{listFirst, listSecond, badList, gateIn}
 use Rattle.repair_nodes.specs.Stage.{Spot, spot, Rooted, slotIn, spotsStored, emptyBelow, listFeeds, standsRight, stageSlotRight, rightBelow}
-use Rattle.repair_nodes.specs.Placing.{levelAt, firstPin, secondPin, placing, noGate}
+use Rattle.repair_nodes.specs.Placing.{nodeLevel, firstPin, secondPin, placing, noGate}
 use Rattle.repair_nodes.proofs.StageFrameLaws.{Along, along-none, agree-a, agree-b, at-start, slot-put}
 use Rattle.repair_nodes.proofs.PlacingLaws.{rooted-inside, rooted-positive, placing-along, first-is, second-is, first-pin, second-pin, empty-root, empty-a, empty-b}
 use Rattle.repair_nodes.proofs.JudgeLaws.{or-parts}
@@ -95,7 +95,7 @@ module _ (gates levels : List ℕ) where
   pub root-holds : (s : List ℕ) (h m q x : ℕ) → Rooted (length s) h m q → slotIn (spotsStored s (placing gates levels h m q x)) q ≡ x
   unfolding placing
   root-holds s zero m q x r = rw (stored-one s q x) (slot-put s q x (rooted-positive (length s) 0 m q r) (rooted-inside (length s) 0 m q r))
-  root-holds s (suc h) m q x r = go (eqb (levelAt levels x) (suc h))
+  root-holds s (suc h) m q x r = go (eqb (nodeLevel levels x) (suc h))
     where
       P : ℕ → ℕ → List Spot
       P i y = placing gates levels h (2 * m) i y
@@ -134,7 +134,7 @@ module _ (gates levels : List ℕ) where
         rw (stored-one s q x)
         (right-last gates (set s (q - 1) x) m q (rw k (ap (λ (t : Bool). eqb x empty || t) (pin-test gates x l) ∙ or-true (eqb x empty))))
     placed-right s (suc h) m q x l r e n =
-        go (eqb (levelAt levels x) (suc h)) (gateIn gates x) refl n
+        go (eqb (nodeLevel levels x) (suc h)) (gateIn gates x) refl n
         (λ t y k f g z. placed-right t h (2 * m) (q + m) y k f g z)
         (λ t y k f g z. placed-right t h (2 * m) (q + 2 * m) y k f g z)
       where

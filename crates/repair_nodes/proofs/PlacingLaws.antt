@@ -16,7 +16,7 @@ use Rattle.words.proofs.TestLaws.{and-true}
 use Rattle.gatelist.specs.ListWords.{listFirst, listSecond, badList, gateIn}
 use Rattle.gatelist.proofs.ListWordLaws.{first-under, second-under}
 use Rattle.repair_nodes.specs.Stage.{Spot, Rooted, width, indexOf, slotIn, spotsStored, emptyBelow}
-use Rattle.repair_nodes.specs.Placing.{levelAt, firstPin, secondPin, placing}
+use Rattle.repair_nodes.specs.Placing.{nodeLevel, firstPin, secondPin, placing}
 use Rattle.repair_nodes.proofs.StageFrameLaws.{Off, Along, along-none, along-more, along-append, along-a, along-b, stored-off}
 
 -- ---- a place, with the slots below it inside a stage of L
@@ -65,7 +65,7 @@ module _ (gates levels : List ℕ) where
   placing-along zero m q x = along-more 0 (first-step m q) along-none
   placing-along (suc h) m q x =
       along-more 0 (first-step m q)
-      (go (eqb (levelAt levels x) (suc h))
+      (go (eqb (nodeLevel levels x) (suc h))
       (placing-along h (2 * m) (q + m) (firstPin gates x))
       (placing-along h (2 * m) (q + 2 * m) (secondPin gates x))
       (placing-along h (2 * m) (q + m) x))

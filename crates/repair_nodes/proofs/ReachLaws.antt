@@ -16,7 +16,7 @@ use lib.Seq.{ext-getD}
 use Rattle.words.specs.Pins.{empty}
 use Rattle.gatelist.specs.ListWords.{badList}
 use Rattle.repair_nodes.specs.Stage.{Spot, spot, Rooted, slotIn, spotsStored, emptied, emptyBelow}
-use Rattle.repair_nodes.specs.Placing.{levelAt, firstPin, secondPin, placing}
+use Rattle.repair_nodes.specs.Placing.{nodeLevel, firstPin, secondPin, placing}
 use Rattle.repair_nodes.specs.Clearing.{clearing}
 use Rattle.repair_nodes.proofs.StageFrameLaws.{Along, along-none, a-off-b, b-off-a, a-off-root, b-off-root, spots-length, stored-append, slot-put, slot-kept, stored-off, clearing-agree, empty-agree}
 use Rattle.repair_nodes.proofs.PlacingLaws.{rooted-a, rooted-b, rooted-inside, rooted-positive, placing-along, first-pin, second-pin, empty-root, empty-a, empty-b}
@@ -139,7 +139,7 @@ module _ (gates levels : List ℕ) (good : badList gates ≡ none) where
       let k : slotIn (set s (q - 1) x) q ≡ x = slot-put s q x (rooted-positive (length s) 0 m q r) (rooted-inside (length s) 0 m q r) in
       rw t (clearing-last (set s (q - 1) x) m q x k (not-empty x l))
   reached s (suc h) m q x l r e =
-      go (eqb (levelAt levels x) (suc h))
+      go (eqb (nodeLevel levels x) (suc h))
       (λ t y k f g. reached t h (2 * m) (q + m) y k f g)
       (λ t y k f g. reached t h (2 * m) (q + 2 * m) y k f g)
     where
@@ -187,7 +187,7 @@ module _ (gates levels : List ℕ) where
   placing-vacant s zero m q x r e = vacant-more (rooted-positive (length s) 0 m q r) (rooted-inside (length s) 0 m q r) (empty-root s 0 m q e) vacant-none
   placing-vacant s (suc h) m q x r e =
       vacant-more (rooted-positive (length s) (suc h) m q r) (rooted-inside (length s) (suc h) m q r) (empty-root s (suc h) m q e)
-      (go (eqb (levelAt levels x) (suc h))
+      (go (eqb (nodeLevel levels x) (suc h))
       (placing-vacant s h (2 * m) (q + m) (firstPin gates x) (rooted-a (length s) h m q r) (empty-a s h m q e))
       (placing-vacant s h (2 * m) (q + 2 * m) (secondPin gates x) (rooted-b (length s) h m q r) (empty-b s h m q e))
       (placing-vacant s h (2 * m) (q + m) x (rooted-a (length s) h m q r) (empty-a s h m q e)))

@@ -12,8 +12,8 @@ use lib.ListN.{length, getD}
 use Rattle.gatelist.specs.ListWords.{listFirst, listSecond, badList, gateIn}
 use Rattle.repair_nodes.specs.Stage.{Spot, spot}
 
-abbrev pub levelAt : List ℕ → ℕ → ℕ
-levelAt levels x = getD levels x 0
+abbrev pub nodeLevel : List ℕ → ℕ → ℕ
+nodeLevel levels x = getD levels x 0
 
 -- the fan-in pins of pin x's gate, 0 where it has none
 unfoldable pub firstPin : List ℕ → ℕ → ℕ
@@ -27,20 +27,20 @@ unfoldable pub placing : List ℕ → List ℕ → ℕ → ℕ → ℕ → ℕ �
 placing gates levels zero m q x = spot q x ∷ []
 placing gates levels (suc h) m q x =
     spot q x
-    ∷ elim (eqb (levelAt levels x) (suc h)) [
+    ∷ elim (eqb (nodeLevel levels x) (suc h)) [
       | true ↦ placing gates levels h (2 * m) (q + m) (firstPin gates x) ++ placing gates levels h (2 * m) (q + 2 * m) (secondPin gates x)
       | false ↦ placing gates levels h (2 * m) (q + m) x
     ]
 
 -- 25: "no level, level above the place or fan-in level not below its gate's": a node that is reached at level h has a level, and none above h
 unfoldable pub levelRight : List ℕ → ℕ → ℕ → Bool
-levelRight levels h x = ltb x (length levels) && leb (levelAt levels x) h
+levelRight levels h x = ltb x (length levels) && leb (nodeLevel levels x) h
 
 unfoldable pub badLevel : List ℕ → List ℕ → ℕ → ℕ → Bool
 badLevel gates levels zero x = not (levelRight levels 0 x)
 badLevel gates levels (suc h) x =
     not (levelRight levels (suc h) x)
-    || elim (eqb (levelAt levels x) (suc h)) [
+    || elim (eqb (nodeLevel levels x) (suc h)) [
       | true ↦ elim (gateIn gates x) [ none ↦ false | some g ↦ badLevel gates levels h (firstPin gates x) || badLevel gates levels h (secondPin gates x) ]
       | false ↦ badLevel gates levels h x
     ]
@@ -49,7 +49,7 @@ badLevel gates levels (suc h) x =
 unfoldable pub noGate : List ℕ → List ℕ → ℕ → ℕ → Bool
 noGate gates levels zero x = false
 noGate gates levels (suc h) x =
-    elim (eqb (levelAt levels x) (suc h)) [
+    elim (eqb (nodeLevel levels x) (suc h)) [
       | true ↦ elim (gateIn gates x) [ none ↦ true | some g ↦ noGate gates levels h (firstPin gates x) || noGate gates levels h (secondPin gates x) ]
       | false ↦ noGate gates levels h x
     ]

@@ -15,7 +15,7 @@ use Rattle.words.proofs.TestLaws.{or-cases, not-both}
 use Rattle.gatelist.specs.ListWords.{badList}
 use Rattle.repair_nodes.specs.Pairs.{itemsOfTwo, pairWords}
 use Rattle.repair_nodes.specs.Stage.{Spot, spot, spotWords, spotsOf, Rooted, slotIn}
-use Rattle.repair_nodes.specs.Placing.{levelAt, firstPin, secondPin, placing}
+use Rattle.repair_nodes.specs.Placing.{nodeLevel, firstPin, secondPin, placing}
 use Rattle.repair_nodes.specs.Clearing.{clearing}
 use Rattle.repair_nodes.specs.CountList.{counted, countsOf, among, entriesRight, countIn, countedNodes, fresh}
 use Rattle.repair_nodes.proofs.TwoWordLaws.{pairs-words, words-length, sets-front}
@@ -40,7 +40,7 @@ module _ (gates levels : List ℕ) (good : badList gates ≡ none) (L : ℕ) whe
   placing-sound zero m q x l r = sound-more {e = spot q x} (rooted-positive L 0 m q r) (rooted-inside L 0 m q r) (omega arith) sound-none
   placing-sound (suc h) m q x l r =
       sound-more {e = spot q x} (rooted-positive L (suc h) m q r) (rooted-inside L (suc h) m q r) (omega arith)
-      (go (eqb (levelAt levels x) (suc h))
+      (go (eqb (nodeLevel levels x) (suc h))
       (placing-sound h (2 * m) (q + m) (firstPin gates x) (first-pin gates good x l) (rooted-a L h m q r))
       (placing-sound h (2 * m) (q + 2 * m) (secondPin gates x) (second-pin gates good x l) (rooted-b L h m q r))
       (placing-sound h (2 * m) (q + m) x l (rooted-a L h m q r)))

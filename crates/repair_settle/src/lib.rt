@@ -13,7 +13,13 @@ use repair_list::write_old;
 use repair_tally::Tallied;
 use repair_tally::tally_down;
 use repair_tally::tally_up;
+use words::edition::Edition;
 use words::refusals;
+
+// The slots of a stage, from index 1 on; and room for as many nodes.
+const STAGE_SLOTS: usize = 2 * Edition::SLOTS - 1;
+
+const NODES: usize = 2 * Edition::SLOTS;
 
 // The entries of the new count list, or the refusal.
 pub enum Repaired {
@@ -43,11 +49,11 @@ pub fn place_spots(
     requires { ⌜ Entered (now counts) (now map) × Spotted (now spots) (now slots) ⌝ }
     ensures { λ r. ⌜ Ended (placedSpots (now (counts .entry)) (now (slots .entry)) (length (now (after .entry))) (spotsOf (now (spots .entry)))) r (now (slots .entry)) (now (slots .exit)) (now (after .entry)) (now (after .exit)) ⌝ }
 {
-    let mut fresh = [0u32; 16384];
+    let mut fresh = [0u32; NODES];
     match tally_up(spots, map, &mut fresh) {
         Tallied::New(n) => {
             let old = counts.len() / 2;
-            if slots.len() < 16383 {
+            if slots.len() < STAGE_SLOTS {
                 return refused(refusals::RESULT_SHORT, 0);
             }
             if after.len() / 2 < old + n {
@@ -75,7 +81,7 @@ pub fn purge_spots(
 {
     if tally_down(spots, map) {
         let left = left_count(counts, map);
-        if slots.len() < 16383 {
+        if slots.len() < STAGE_SLOTS {
             return refused(refusals::RESULT_SHORT, 0);
         }
         if after.len() / 2 < left {

@@ -8,7 +8,7 @@ use Prim.Native.Nat.{ℕ, _-_, _/_, _≤_, _<_}
 use native.Mathlib.Omega.{arith}
 use lib.ListN.{length}
 use Rattle.gatelist.specs.ListWords.{listFirst, listSecond, gateIn}
-use Rattle.repair_nodes.specs.Placing.{levelAt, firstPin, secondPin, levelRight, badLevel, noGate}
+use Rattle.repair_nodes.specs.Placing.{nodeLevel, firstPin, secondPin, levelRight, badLevel, noGate}
 use Rattle.repair_nodes.proofs.PlacingLaws.{first-is, second-is}
 use Rattle.repair_nodes.proofs.JudgeLaws.{level-right, level-none, level-above, bad-level, bad-last, bad-down, bad-split, bad-gateless, gate-last, gate-down, gate-split, gate-none}
 use Rattle.repair_subtree.specs.Subtree.{judgementOf, worseOf}
@@ -27,26 +27,26 @@ module _ (gates levels : List ℕ) (h x : ℕ) where
   judge-none l = wrong (level-none levels h x l)
 
   module _ (inside : x < length levels) where
-    pub judge-above : h < levelAt levels x → WrongLevel ≡ judged gates levels h x
+    pub judge-above : h < nodeLevel levels x → WrongLevel ≡ judged gates levels h x
     judge-above k = wrong (level-above levels h x inside k)
 
-    pub judge-last : levelAt levels x ≤ h → h ≡ 0 → Fine ≡ judged gates levels h x
+    pub judge-last : nodeLevel levels x ≤ h → h ≡ 0 → Fine ≡ judged gates levels h x
     judge-last k z =
         let e : badLevel gates levels h x ≡ false = rw z (bad-last gates levels x (level-right levels 0 x inside (omega arith))) in
         let f : noGate gates levels h x ≡ false = rw z (gate-last gates levels x) in
         sym (ap₂ judgementOf e f)
 
-    module _ (p : 0 < h) (k : levelAt levels x ≤ h) where
+    module _ (p : 0 < h) (k : nodeLevel levels x ≤ h) where
       right : levelRight levels h x ≡ true
       right = level-right levels h x inside k
 
-      pub judge-down : (r : Judgement) → levelAt levels x < h → r ≡ judged gates levels (h - 1) x → r ≡ judged gates levels h x
+      pub judge-down : (r : Judgement) → nodeLevel levels x < h → r ≡ judged gates levels (h - 1) x → r ≡ judged gates levels h x
       judge-down r l e = e ∙ sym (ap₂ judgementOf (bad-down gates levels h x p right l) (gate-down gates levels h x p l))
 
-      pub judge-missing : levelAt levels x ≡ h → gateIn gates x ≡ none → Gateless ≡ judged gates levels h x
+      pub judge-missing : nodeLevel levels x ≡ h → gateIn gates x ≡ none → Gateless ≡ judged gates levels h x
       judge-missing l e = sym (ap₂ judgementOf (bad-gateless gates levels h x p right l e) (gate-none gates levels h x p l e))
 
-      pub judge-split : (g a b : ℕ) (ra rb r : Judgement) → levelAt levels x ≡ h → gateIn gates x ≡ some g
+      pub judge-split : (g a b : ℕ) (ra rb r : Judgement) → nodeLevel levels x ≡ h → gateIn gates x ≡ some g
           → a ≡ listFirst gates g / 2 → b ≡ listSecond gates g / 2
           → ra ≡ judged gates levels (h - 1) a → rb ≡ judged gates levels (h - 1) b → r ≡ worseOf ra rb → r ≡ judged gates levels h x
       judge-split g a b ra rb r l e u v ea eb er =

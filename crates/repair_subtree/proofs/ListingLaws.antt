@@ -9,7 +9,7 @@ use lib.ListN.{length, length-append}
 use Rattle.words.specs.Pins.{empty}
 use Rattle.gatelist.specs.ListWords.{listFirst, listSecond, gateIn}
 use Rattle.repair_nodes.specs.Stage.{Spot, spot, slotIn}
-use Rattle.repair_nodes.specs.Placing.{levelAt, firstPin, secondPin, placing, Judged}
+use Rattle.repair_nodes.specs.Placing.{nodeLevel, firstPin, secondPin, placing, Judged}
 use Rattle.repair_nodes.specs.Clearing.{clearing}
 use Rattle.repair_nodes.proofs.PlacingLaws.{first-is, second-is}
 use Rattle.repair_nodes.proofs.JudgeLaws.{place-last, place-carry, place-split, placing-some, judged-known, judged-carry, judged-gate, judged-first, judged-second}
@@ -71,10 +71,10 @@ module _ (gates levels list : List ℕ) (n h m q x : ℕ) where
       second-judged : Judged gates levels (h - 1) v
       second-judged = rw (ev ∙ sym (second-is gates x g e)) (judged-second gates levels h x (c .listable .judged) pos g (c .level) e)
 
-      pub first-known : (u < length levels) × (levelAt levels u ≤ h - 1)
+      pub first-known : (u < length levels) × (nodeLevel levels u ≤ h - 1)
       first-known = judged-known gates levels (h - 1) u first-judged
 
-      pub second-known : (v < length levels) × (levelAt levels v ≤ h - 1)
+      pub second-known : (v < length levels) × (nodeLevel levels v ≤ h - 1)
       second-known = judged-known gates levels (h - 1) v second-judged
 
       module _ (list₁ : List ℕ) (k : ℕ) (a : Added list n (spot q x ∷ []) list₁ k) (p r : Place) (b : FirstBelow h m q p) (d : SecondBelow h m q r) where

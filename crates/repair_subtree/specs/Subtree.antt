@@ -7,7 +7,7 @@ use Prim.Native.Nat.{ℕ, _+_, _*_, _-_, _≤_, _<_}
 use lib.ListN.{length}
 use lib.Seq.{sets}
 use Rattle.repair_nodes.specs.Stage.{Spot, spotWords, Rooted}
-use Rattle.repair_nodes.specs.Placing.{levelAt, placing, Judged}
+use Rattle.repair_nodes.specs.Placing.{nodeLevel, placing, Judged}
 use Rattle.repair_nodes.specs.Clearing.{clearing}
 use Rattle.repair_subtree.specs.declared.Place.{Place}
 use Rattle.repair_subtree.specs.declared.Judgement.{Judgement}
@@ -60,11 +60,11 @@ pub record Listable (gates levels list : List ℕ) (n h m q x : ℕ) : Type 0 wh
 -- the node is below its place, or at its level
 pub record Carried (gates levels list : List ℕ) (n h m q x : ℕ) : Type 0 where
   pub listable : Listable gates levels list n h m q x
-  pub under : levelAt levels x < h
+  pub under : nodeLevel levels x < h
 
 pub record Split (gates levels list : List ℕ) (n h m q x : ℕ) : Type 0 where
   pub listable : Listable gates levels list n h m q x
-  pub level : levelAt levels x ≡ h
+  pub level : nodeLevel levels x ≡ h
 
 -- what listing the slots that clearing reaches asks
 pub record Reachable (slots list : List ℕ) (n h m q : ℕ) : Type 0 where

@@ -7,7 +7,7 @@ ghost use Prim.Native.Nat.{_<_};
 ghost use lib.ListN.{length};
 ghost use Rattle.gatelist.specs.ListWords.{badList};
 ghost use Rattle.repair_nodes.specs.Stage.{Rooted, spot, slotIn, emptyBelow};
-ghost use Rattle.repair_nodes.specs.Placing.{levelAt, placing, badLevel, noGate};
+ghost use Rattle.repair_nodes.specs.Placing.{nodeLevel, placing, badLevel, noGate};
 ghost use Rattle.repair_nodes.specs.Clearing.{clearing};
 ghost use Rattle.repair_subtree.specs.Subtree.{judgementOf, worseOf, FirstBelow, SecondBelow, Added, SpotPuttable, Carried, Split, Reachable};
 use gatelist::Listed;
@@ -57,14 +57,14 @@ pub enum Judgement {
 }
 
 // What stands at an index; a slot that is not there is empty.
-fn slot_at(slots: &[u32], q: usize) -> u32
+fn slot_at(slots: &[u32], q: usize) -> Pin
     requires { ⌜ 0 < q ⌝ }
-    ensures { λ r. ⌜ r ≡ slotIn (now (slots .entry)) q ⌝ }
+    ensures { λ r. ⌜ r .0 ≡ slotIn (now (slots .entry)) q ⌝ }
 {
     if slots.len() < q {
-        return EMPTY_PIN;
+        return Pin(EMPTY_PIN);
     }
-    slots[q - 1]
+    Pin(slots[q - 1])
 }
 
 // Whether a slot and all below it are empty.
@@ -72,7 +72,7 @@ pub fn subtree_empty(slots: &[u32], at: Place) -> bool
     requires { ⌜ Rooted 16383 (at .level) (at .width) (at .index) ⌝ }
     ensures { λ r. ⌜ r ≡ emptyBelow (now (slots .entry)) (at .level) (at .width) (at .index) ⌝ }
 {
-    if slot_at(slots, at.index) != EMPTY_PIN {
+    if slot_at(slots, at.index).0 != EMPTY_PIN {
         return false;
     }
     if at.level == 0 {
@@ -101,7 +101,7 @@ fn worse(a: Judgement, b: Judgement) -> Judgement
 // The level of a pin that has one.
 pub fn level_of(levels: &[u32], node: Pin) -> u32
     requires { ⌜ node .0 < length (now levels) ⌝ }
-    ensures { λ r. ⌜ r ≡ levelAt (now (levels .entry)) (node .0) ⌝ }
+    ensures { λ r. ⌜ r ≡ nodeLevel (now (levels .entry)) (node .0) ⌝ }
 {
     levels[node.0 as usize]
 }
@@ -207,10 +207,10 @@ pub fn list_reached(slots: &[u32], list: &mut [u32], n: usize, at: Place) -> usi
     ensures { λ r. ⌜ Added (now (list .entry)) n (clearing (now (slots .entry)) (at .level) (at .width) (at .index)) (now (list .exit)) r ⌝ }
 {
     let node = slot_at(slots, at.index);
-    if node == EMPTY_PIN {
+    if node.0 == EMPTY_PIN {
         return n;
     }
-    let k = put_spot(list, n, at.index, Pin(node));
+    let k = put_spot(list, n, at.index, node);
     if at.level == 0 {
         return k;
     }

@@ -11,7 +11,7 @@ use borrow.Author.Tests.{eq-eqb, ne-eqb}
 use Rattle.pinmap.specs.PinMap.{look, lookAnswer}
 use Rattle.pinmap.specs.declared.Found.{Found}
 use Rattle.pinmap.specs.declared.Found.the-variants as known-as
-use Rattle.plan_record.specs.Record.{slotAt}
+use Rattle.plan_record.specs.Record.{levelAt}
 use Rattle.words.specs.Pins.{empty}
 use Rattle.plan_gates.proofs.ValueCodeLaws.{known-some, known-none}
 use Rattle.plan_slots.specs.Slots.{highest}
@@ -27,18 +27,18 @@ found-not : (h : ℕ) → foundAt h ≡ none → 0 ≡ h
 found-not zero e = refl
 found-not (suc h) e = let z : _≡_ {A = ℕ} 0 1 = cc in absurd (omega arith)
 
-module _ (d : List ℕ) (p s i x : ℕ) (pin : x ≡ slotAt d p (s + 1) (8192 + i)) where
+module _ (d : List ℕ) (p s i x : ℕ) (pin : x ≡ levelAt d p (s + 1) i) where
   pub entry-empty : x ≡ empty → 0 ≡ stageEntry 256 d p (s + 1) i
   unfolding stageEntry
-  entry-empty h = rw (eq-eqb (slotAt d p (s + 1) (8192 + i)) empty (sym pin ∙ h), stageEntry)
+  entry-empty h = rw (eq-eqb (levelAt d p (s + 1) i) empty (sym pin ∙ h), stageEntry)
 
   module _ (there : x ≡ empty → ⊥) where
-    at-next : slotAt d p (suc s) (8192 + i) ≡ x
-    at-next = ap (λ (t : ℕ). slotAt d p t (8192 + i)) (sym (add-one s)) ∙ sym pin
+    at-next : levelAt d p (suc s) i ≡ x
+    at-next = ap (λ (t : ℕ). levelAt d p t i) (sym (add-one s)) ∙ sym pin
 
-    entry-next : stageEntry 256 d p (suc s) i ≡ highest d p s (slotAt d p (suc s) (8192 + i))
+    entry-next : stageEntry 256 d p (suc s) i ≡ highest d p s (levelAt d p (suc s) i)
     unfolding stageEntry pinEntry
-    entry-next = rw (ne-eqb (slotAt d p (suc s) (8192 + i)) empty (λ e. there (sym at-next ∙ e)), stageEntry)
+    entry-next = rw (ne-eqb (levelAt d p (suc s) i) empty (λ e. there (sym at-next ∙ e)), stageEntry)
 
     pub entry-is : stageEntry 256 d p (s + 1) i ≡ highest d p s x
     entry-is = ap (λ (t : ℕ). stageEntry 256 d p t i) (add-one s) ∙ (entry-next ∙ ap (highest d p s) at-next)
@@ -52,8 +52,8 @@ module _ (d : List ℕ) (p s i x : ℕ) (pin : x ≡ slotAt d p (s + 1) (8192 + 
 
 -- an entry is a position
 pub entry-small : (d : List ℕ) (p s i : ℕ) → stageEntry 256 d p (s + 1) i ≤ 8191
-entry-small d p s i = by (ℕ-discrete (slotAt d p (s + 1) (8192 + i)) empty)
+entry-small d p s i = by (ℕ-discrete (levelAt d p (s + 1) i) empty)
   where
-    by : Dec (slotAt d p (s + 1) (8192 + i) ≡ empty) → stageEntry 256 d p (s + 1) i ≤ 8191
+    by : Dec (levelAt d p (s + 1) i ≡ empty) → stageEntry 256 d p (s + 1) i ≤ 8191
     by (yes e) = omega (arith, entry-empty d p s i _ refl e)
-    by (no n) = omega (arith, entry-is d p s i _ refl n, highest-is d p s (slotAt d p (s + 1) (8192 + i)) .below)
+    by (no n) = omega (arith, entry-is d p s i _ refl n, highest-is d p s (levelAt d p (s + 1) i) .below)

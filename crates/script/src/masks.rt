@@ -8,8 +8,8 @@ use plan_record::bodies::slot;
 use plan_record::numbers::gate_first;
 use plan_record::numbers::gate_second;
 use plan_slots::tables::top_power;
+use words::edition::Edition;
 use words::units::EMPTY_PIN;
-use words::units::Pin;
 
 // Mask bits of a position, or mask words of a lane.
 pub struct Masks {
@@ -31,21 +31,21 @@ fn masks_at(d: &[u8], p: usize, body: Body, s: usize, q: usize) -> Masks
         };
     }
     let pin = slot(d, p, body, s, q);
-    if pin == EMPTY_PIN {
+    if pin.0 == EMPTY_PIN {
         return Masks {
             xora: 0,
             xorb: 0,
             orb: 0,
         };
     }
-    if pin == slot(d, p, body, s, q + top_power(q)) {
+    if pin.0 == slot(d, p, body, s, q + top_power(q)).0 {
         return Masks {
             xora: 0,
             xorb: 0,
             orb: 1,
         };
     }
-    match find_gate(d, Pin(pin)) {
+    match find_gate(d, pin) {
         GateFound::Gate(g) => {
             let xora = gate_first(d, g).inversion();
             let xorb = gate_second(d, g).inversion();
@@ -92,7 +92,7 @@ pub fn fill_masks(
     ensures { λ _. ⌜ MaskLists (now (d .entry)) p s (now (xora .exit)) (now (xorb .exit)) (now (orb .exit)) ⌝ }
 {
     let mut w = 0;
-    while w < 256 {
+    while w < Edition::LANES {
         let lane = lane_masks(d, p, body, s, w);
         xora[w] = lane.xora;
         xorb[w] = lane.xorb;

@@ -12,6 +12,26 @@ use plan_record::bodies::table_word;
 use words::edition::Edition;
 use words::halves::pack;
 
+// A section's entries, two to a word, and the whole of it, with four words a lane.
+const ENTRY_WORDS: usize = Edition::SLOTS / 2;
+
+pub const SECTION_WORDS: usize = ENTRY_WORDS + 4 * Edition::LANES;
+
+// Where the lists of the two tables begin: a word a slot, then words a lane.
+const SRAM_ENTRIES: usize = 0;
+
+const SRAM_INV: usize = Edition::SLOTS;
+
+const SRAM_SET0: usize = SRAM_INV + Edition::LANES;
+
+const ENABLE_ENTRIES: usize = SRAM_SET0 + Edition::LANES;
+
+const ENABLE_INV: usize = ENABLE_ENTRIES + Edition::SLOTS;
+
+const ENABLE_SET0: usize = ENABLE_INV + Edition::LANES;
+
+const ENABLE_DATA_INV: usize = ENABLE_SET0 + Edition::LANES;
+
 // Reads words of the tables, from this one on.
 fn read_table(d: &[u8], p: usize, body: Body, from: usize, out: &mut [u32])
     requires { ⌜ AcceptedPart (now d) p body × (from + length (now out) ≤ 17664) ⌝ }
@@ -44,8 +64,8 @@ pub fn write_section(entries: &[u32], a: &[u32], b: &[u32], c: &[u32], out: &mut
     requires { ⌜ SectionRoom (now entries) (now a) (now b) (now c) (now out) ⌝ }
     ensures { λ _. ⌜ now (out .exit) ≡ sectionOf 256 (wordsIn (now (entries .entry))) ++ laneList (wordsIn (now (a .entry))) (wordsIn (now (b .entry))) (wordsIn (now (c .entry))) 256 ⌝ }
 {
-    pack(&mut out[..4096], entries, Edition::LANES);
-    write_lanes(a, b, c, &mut out[4096..]);
+    pack(&mut out[..ENTRY_WORDS], entries, Edition::LANES);
+    write_lanes(a, b, c, &mut out[ENTRY_WORDS..]);
 }
 
 // Writes the section of SRAMs and duplicates.
@@ -53,13 +73,13 @@ pub fn write_sram(d: &[u8], p: usize, body: Body, out: &mut [u32])
     requires { ⌜ AcceptedPart (now d) p body × (length (now out) ≡ 5120) ⌝ }
     ensures { λ _. ⌜ now (out .exit) ≡ sramSection 256 (now (d .entry)) p ⌝ }
 {
-    let mut entries = [0u32; 8192];
-    let mut inv = [0u32; 256];
-    let mut set0 = [0u32; 256];
-    let zeros = [0u32; 256];
-    read_table(d, p, body, 0, &mut entries);
-    read_table(d, p, body, 8192, &mut inv);
-    read_table(d, p, body, 8448, &mut set0);
+    let mut entries = [0u32; Edition::SLOTS];
+    let mut inv = [0u32; Edition::LANES];
+    let mut set0 = [0u32; Edition::LANES];
+    let zeros = [0u32; Edition::LANES];
+    read_table(d, p, body, SRAM_ENTRIES, &mut entries);
+    read_table(d, p, body, SRAM_INV, &mut inv);
+    read_table(d, p, body, SRAM_SET0, &mut set0);
     write_section(&entries, &inv, &set0, &zeros, out);
 }
 
@@ -68,13 +88,13 @@ pub fn write_enables(d: &[u8], p: usize, body: Body, out: &mut [u32])
     requires { ⌜ AcceptedPart (now d) p body × (length (now out) ≡ 5120) ⌝ }
     ensures { λ _. ⌜ now (out .exit) ≡ enableSection 256 (now (d .entry)) p ⌝ }
 {
-    let mut entries = [0u32; 8192];
-    let mut inv = [0u32; 256];
-    let mut set0 = [0u32; 256];
-    let mut data_inv = [0u32; 256];
-    read_table(d, p, body, 8704, &mut entries);
-    read_table(d, p, body, 16896, &mut inv);
-    read_table(d, p, body, 17152, &mut set0);
-    read_table(d, p, body, 17408, &mut data_inv);
+    let mut entries = [0u32; Edition::SLOTS];
+    let mut inv = [0u32; Edition::LANES];
+    let mut set0 = [0u32; Edition::LANES];
+    let mut data_inv = [0u32; Edition::LANES];
+    read_table(d, p, body, ENABLE_ENTRIES, &mut entries);
+    read_table(d, p, body, ENABLE_INV, &mut inv);
+    read_table(d, p, body, ENABLE_SET0, &mut set0);
+    read_table(d, p, body, ENABLE_DATA_INV, &mut data_inv);
     write_section(&entries, &inv, &set0, &data_inv, out);
 }

@@ -9,22 +9,22 @@ ghost use Rattle.script.specs.Writers.{AcceptedPart, EntriesOf};
 use crate::sections::write_section;
 use pinmap::Found;
 use plan_record::bodies::Body;
-use plan_record::bodies::slot;
+use plan_record::bodies::level_slot;
 use plan_slots::tables::fill_positions;
 use script::masks::fill_masks;
+use words::edition::Edition;
 use words::units::EMPTY_PIN;
-use words::units::Pin;
 
 // Entry i of stage s + 1: its pin's highest position in stage s, whose positions the table holds.
 fn later_entry(d: &[u8], p: usize, body: Body, s: usize, table: &[u32], i: usize) -> u32
     requires { ⌜ AcceptedPart (now d) p body × (s + 1 < body .stages) × FilledWith (positionPuts (now d) p s) (now table) × (i < 8192) ⌝ }
     ensures { λ r. ⌜ r ≡ stageEntry 256 (now (d .entry)) p (s + 1) i ⌝ }
 {
-    let pin = slot(d, p, body, s + 1, 8192 + i);
-    if pin == EMPTY_PIN {
+    let pin = level_slot(d, p, body, s + 1, i);
+    if pin.0 == EMPTY_PIN {
         return 0;
     }
-    match pinmap::look_up(table, Pin(pin)) {
+    match pinmap::look_up(table, pin) {
         Found::Value(q) => q,
         Found::Missing => 0,
     }
@@ -47,9 +47,9 @@ pub fn write_stage(d: &[u8], p: usize, body: Body, s: usize, entries: &[u32], ou
     requires { ⌜ AcceptedPart (now d) p body × (s < body .stages) × EntriesOf (now d) p s (now entries) × (length (now out) ≡ 5120) ⌝ }
     ensures { λ _. ⌜ now (out .exit) ≡ stageSection 256 (now (d .entry)) p s ⌝ }
 {
-    let mut xora = [0u32; 256];
-    let mut xorb = [0u32; 256];
-    let mut orb = [0u32; 256];
+    let mut xora = [0u32; Edition::LANES];
+    let mut xorb = [0u32; Edition::LANES];
+    let mut orb = [0u32; Edition::LANES];
     fill_masks(d, p, body, s, &mut xora, &mut xorb, &mut orb);
     write_section(entries, &xora, &xorb, &orb, out);
 }
@@ -61,7 +61,7 @@ pub fn write_later(d: &[u8], p: usize, body: Body, s: usize, table: &mut [u32], 
     ensures { λ _. ⌜ now (out .exit) ≡ stageSection 256 (now (d .entry)) p (s + 1) ⌝ }
 {
     let next = s + 1;
-    let mut entries = [0u32; 8192];
+    let mut entries = [0u32; Edition::SLOTS];
     fill_positions(d, p, body, s, table);
     later_entries(d, p, body, s, table, &mut entries);
     write_stage(d, p, body, next, &entries, out);

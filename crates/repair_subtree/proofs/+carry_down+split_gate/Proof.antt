@@ -5,7 +5,7 @@ use mathlib.Core.Logic.{⊎-elim}
 use Prim.Native.Nat.{ℕ, _-_, _/_, _<_}
 use native.Mathlib.Omega.{arith}
 use Rattle.gatelist.specs.ListWords.{listFirst, listSecond}
-use Rattle.repair_nodes.specs.Placing.{levelAt}
+use Rattle.repair_nodes.specs.Placing.{nodeLevel}
 use Rattle.repair_subtree.specs.Subtree.{Added}
 use Rattle.repair_subtree.proofs.SubtreeLaws.{listed-gate, listed-none, gate-whole, added-is}
 use Rattle.repair_subtree.proofs.ListingLaws.{placingAt, listable-puttable, carry-known, carry-listable, carry-done, split-last, split-missing, first-known, second-known, first-listable, second-listable, split-done}
@@ -92,7 +92,7 @@ carry-down-split-gate-requires t c κs =
     let levels = s .args .levels .now in
     let node = s .args .node in
     let e : f .first .result .level ≡ s .args .at .level - 1 = f .first .ensures .level in
-    let u : levelAt levels (node .0) < s .args .at .level = s .pre .1 .under in (
+    let u : nodeLevel levels (node .0) < s .args .at .level = s .pre .1 .under in (
       omega arith,
       record {
         listable = carry-listable (s .args .gates .now) levels (s .args .list .now) (s .args .n) (s .args .at .level) (s .args .at .width)
@@ -120,7 +120,7 @@ carry-down-carry-down-requires t c κs =
     let levels = s .args .levels .now in
     let node = s .args .node in
     let e : f .first .result .level ≡ s .args .at .level - 1 = f .first .ensures .level in
-    let u : levelAt levels (node .0) < s .args .at .level = s .pre .1 .under in (
+    let u : nodeLevel levels (node .0) < s .args .at .level = s .pre .1 .under in (
       omega arith,
       record {
         listable = carry-listable (s .args .gates .now) levels (s .args .list .now) (s .args .n) (s .args .at .level) (s .args .at .width)

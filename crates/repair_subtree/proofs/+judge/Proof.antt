@@ -5,7 +5,7 @@ use Prim.Native.Nat.{ℕ, _/_, _<_}
 use native.Mathlib.Omega.{arith}
 use lib.ListN.{length}
 use Rattle.gatelist.specs.ListWords.{listFirst, listSecond}
-use Rattle.repair_nodes.specs.Placing.{levelAt}
+use Rattle.repair_nodes.specs.Placing.{nodeLevel}
 use Rattle.repair_subtree.proofs.SubtreeLaws.{listed-gate, listed-none, gate-whole}
 use Rattle.repair_subtree.proofs.JudgeCode.{judge-none, judge-above, judge-last, judge-down, judge-split, judge-missing}
 use borrow.Author.Needs.{needs}
@@ -114,7 +114,7 @@ judge-returns-5 t c =
     let gates = s .args .gates .now in
     let i : node .0 < length levels = omega (arith, x1 .if1 .left) in
     let w : 0 < h = omega (arith, x3 .if3 .left) in
-    let k : levelAt levels (node .0) ≡ h = omega (arith, lv .level-of .ensures, x2 .if2 .left, x4 .if4 .left) in
+    let k : nodeLevel levels (node .0) ≡ h = omega (arith, lv .level-of .ensures, x2 .if2 .left, x4 .if4 .left) in
     let o = listed-gate gates (node .0) _ (f .find-in .result) (f .find-in .ensures) (g .g .given .1) in
     let u : pa .pin .result .0 ≡ listFirst gates (g .g .given .0 .0) / 2 = omega (arith, pa .pin .ensures, fo .first-of .ensures) in
     let v : pb .pin2 .result .0 ≡ listSecond gates (g .g .given .0 .0) / 2 = omega (arith, pb .pin2 .ensures, so .second-of .ensures) in
@@ -131,7 +131,7 @@ judge-returns-6 t c =
     let h = s .args .h in
     let gates = s .args .gates .now in
     let i : node .0 < length levels = omega arith in
-    let k : levelAt levels (node .0) ≡ h = omega arith in
+    let k : nodeLevel levels (node .0) ≡ h = omega arith in
     let o = listed-none gates (node .0) (f .find-in .result) (f .find-in .ensures) (c .enum-told .given .1) in
     judge-missing gates levels h (node .0) i (omega arith) (omega arith) k o
 

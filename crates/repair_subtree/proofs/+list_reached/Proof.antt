@@ -57,36 +57,36 @@ list-reached-slot-at-requires t c κs =
 
 list-reached-returns : (t : ℕ) → list-reached-lts.Need-returns (calls t) (list-reached-at t) list-reached.Post
 list-reached-returns t c =
-    let v = c .before in
+    let v = c .before .before in
     let s = v .before .before .before in
-    let z : v .slot-at .result ≡ empty = omega arith in
-    let e = reach-none (s .args .slots .now) (s .args .list .now) (s .args .n) (s .args .at .level) (s .args .at .width) (s .args .at .index) (v .slot-at .result) (s .pre .1) (v .slot-at .ensures) z in
+    let z : v .slot-at .result .0 ≡ empty = omega arith in
+    let e = reach-none (s .args .slots .now) (s .args .list .now) (s .args .n) (s .args .at .level) (s .args .at .width) (s .args .at .index) (v .slot-at .result .0) (s .pre .1) (v .slot-at .ensures) z in
     rw e (added-none (s .args .list .now) (s .args .n))
 
 list-reached-put-spot-requires : (t : ℕ) → list-reached-lts.Need-put-spot-requires (calls t) (list-reached-at t) list-reached.Post
 list-reached-put-spot-requires t c κs =
-    let v = c .before .before in
+    let v = c .before .before .before in
     let s = v .before .before .before in
-    reach-puttable (s .args .slots .now) (s .args .list .now) (s .args .n) (s .args .at .level) (s .args .at .width) (s .args .at .index) (v .slot-at .result) (s .pre .1) (v .slot-at .ensures) (λ (e : v .slot-at .result ≡ empty). omega arith)
+    reach-puttable (s .args .slots .now) (s .args .list .now) (s .args .n) (s .args .at .level) (s .args .at .width) (s .args .at .index) (v .slot-at .result .0) (s .pre .1) (v .slot-at .ensures) (λ (e : v .slot-at .result .0 ≡ empty). omega arith)
 
 list-reached-returns-2 : (t : ℕ) → list-reached-lts.Need-returns-2 (calls t) (list-reached-at t) list-reached.Post
 list-reached-returns-2 t c =
     let p = c .before .before .before .before in
-    let v = p .before .before .before in
+    let v = p .before .before .before .before in
     let s = v .before .before .before in
-    reach-last (s .args .slots .now) (s .args .list .now) (s .args .n) (s .args .at .level) (s .args .at .width) (s .args .at .index) (v .slot-at .result) (s .pre .1)
-    (v .slot-at .ensures) (λ (e : v .slot-at .result ≡ empty). omega arith) (p .put-spot .last .0) (p .put-spot .result) (omega arith) (p .put-spot .ensures)
+    reach-last (s .args .slots .now) (s .args .list .now) (s .args .n) (s .args .at .level) (s .args .at .width) (s .args .at .index) (v .slot-at .result .0) (s .pre .1)
+    (v .slot-at .ensures) (λ (e : v .slot-at .result .0 ≡ empty). omega arith) (p .put-spot .last .0) (p .put-spot .result) (omega arith) (p .put-spot .ensures)
 
 list-reached-first-requires : (t : ℕ) → list-reached-lts.Need-first-requires (calls t) (list-reached-at t) list-reached.Post
 list-reached-first-requires t c κs =
     let b1 = c .before .before .before .before .before .before in
-    let s = b1 .before .before .before .before in
+    let s = b1 .before .before .before .before .before in
     (s .pre .1 .rooted, omega arith)
 
 list-reached-second-requires : (t : ℕ) → list-reached-lts.Need-second-requires (calls t) (list-reached-at t) list-reached.Post
 list-reached-second-requires t c κs =
     let b1 = c .before .before .before .before .before .before in
-    let s = b1 .before .before .before .before .before in
+    let s = b1 .before .before .before .before .before .before in
     (s .pre .1 .rooted, omega arith)
 
 list-reached-list-reached-requires : (t : ℕ) → list-reached-lts.Need-list-reached-requires (calls t) (list-reached-at t) list-reached.Post
@@ -94,11 +94,11 @@ list-reached-list-reached-requires t c κs =
     let n = c .before in
     let f = n .before in
     let p = f .before .before .before .before .before in
-    let v = p .before .before .before in
+    let v = p .before .before .before .before in
     let s = v .before .before .before in (
       omega (arith, f .first .ensures .level),
-      reach-first (s .args .slots .now) (s .args .list .now) (s .args .n) (s .args .at .level) (s .args .at .width) (s .args .at .index) (v .slot-at .result) (s .pre .1)
-          (v .slot-at .ensures) (λ (e : v .slot-at .result ≡ empty). omega arith) (omega arith) (p .put-spot .last .0) (p .put-spot .result) (p .put-spot .ensures)
+      reach-first (s .args .slots .now) (s .args .list .now) (s .args .n) (s .args .at .level) (s .args .at .width) (s .args .at .index) (v .slot-at .result .0) (s .pre .1)
+          (v .slot-at .ensures) (λ (e : v .slot-at .result .0 ≡ empty). omega arith) (omega arith) (p .put-spot .last .0) (p .put-spot .result) (p .put-spot .ensures)
           (f .first .result) (n .second .result) (f .first .ensures) (n .second .ensures),
     )
 
@@ -108,11 +108,11 @@ list-reached-list-reached-requires-2 t c κs =
     let n = l .before .before in
     let f = n .before in
     let p = f .before .before .before .before .before in
-    let v = p .before .before .before in
+    let v = p .before .before .before .before in
     let s = v .before .before .before in (
       omega (arith, n .second .ensures .level),
-      reach-second (s .args .slots .now) (s .args .list .now) (s .args .n) (s .args .at .level) (s .args .at .width) (s .args .at .index) (v .slot-at .result) (s .pre .1)
-          (v .slot-at .ensures) (λ (e : v .slot-at .result ≡ empty). omega arith) (omega arith) (p .put-spot .last .0) (p .put-spot .result) (p .put-spot .ensures)
+      reach-second (s .args .slots .now) (s .args .list .now) (s .args .n) (s .args .at .level) (s .args .at .width) (s .args .at .index) (v .slot-at .result .0) (s .pre .1)
+          (v .slot-at .ensures) (λ (e : v .slot-at .result .0 ≡ empty). omega arith) (omega arith) (p .put-spot .last .0) (p .put-spot .result) (p .put-spot .ensures)
           (f .first .result) (n .second .result) (f .first .ensures) (n .second .ensures)
           (l .list-reached .last .1 .0) (l .list-reached .result) (l .list-reached .ensures),
     )
@@ -124,10 +124,10 @@ list-reached-returns-3 t c =
     let n = l .before .before in
     let f = n .before in
     let p = f .before .before .before .before .before in
-    let v = p .before .before .before in
+    let v = p .before .before .before .before in
     let s = v .before .before .before in
-    reach-done (s .args .slots .now) (s .args .list .now) (s .args .n) (s .args .at .level) (s .args .at .width) (s .args .at .index) (v .slot-at .result) (s .pre .1)
-    (v .slot-at .ensures) (λ (e : v .slot-at .result ≡ empty). omega arith) (omega arith) (p .put-spot .last .0) (p .put-spot .result) (p .put-spot .ensures)
+    reach-done (s .args .slots .now) (s .args .list .now) (s .args .n) (s .args .at .level) (s .args .at .width) (s .args .at .index) (v .slot-at .result .0) (s .pre .1)
+    (v .slot-at .ensures) (λ (e : v .slot-at .result .0 ≡ empty). omega arith) (omega arith) (p .put-spot .last .0) (p .put-spot .result) (p .put-spot .ensures)
     (f .first .result) (n .second .result) (f .first .ensures) (n .second .ensures)
     (l .list-reached .last .1 .0) (l .list-reached .result) (l .list-reached .ensures)
     (m .list-reached2 .last .1 .0) (m .list-reached2 .result) (m .list-reached2 .ensures)

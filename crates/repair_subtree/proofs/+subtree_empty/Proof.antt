@@ -54,12 +54,13 @@ subtree-empty-slot-at-requires t c κs =
 
 subtree-empty-returns : (t : ℕ) → subtree-empty-lts.Need-returns (calls t) (subtree-empty-at t) subtree-empty.Post
 subtree-empty-returns t c =
-    let s = c .before .before .before in
+    let s = c .before .before .before .before in
     sym (empty-not (s .args .slots .now) (s .args .at .level) (s .args .at .width) (s .args .at .index) (λ (e : slotIn (s .args .slots .now) (s .args .at .index) ≡ empty). omega arith))
 
 subtree-empty-returns-2 : (t : ℕ) → subtree-empty-lts.Need-returns-2 (calls t) (subtree-empty-at t) subtree-empty.Post
 subtree-empty-returns-2 t c =
-    let s = c .before .before .before .before .before in
+    let last = c .before .before .before in
+    let s = last .before .before .before in
     let e : slotIn (s .args .slots .now) (s .args .at .index) ≡ empty = omega arith in
     sym (empty-last (s .args .slots .now) (s .args .at .level) (s .args .at .width) (s .args .at .index) (omega arith) e)
 
@@ -77,7 +78,8 @@ subtree-empty-returns-3 t c =
     let t1 = n .before in
     let a = t1 .before in
     let f = a .before in
-    let s = f .before .before .before .before .before .before in
+    let test = f .before .before .before .before in
+    let s = test .before .before .before in
     let e : slotIn (s .args .slots .now) (s .args .at .index) ≡ empty = omega arith in
     empty-on (s .args .slots .now) (s .args .at .level) (s .args .at .width) (s .args .at .index) (omega arith) e (f .first .result) (n .second .result) (f .first .ensures) (n .second .ensures)
     (a .subtree-empty .result) (c .subtree-empty2 .result) (a .subtree-empty .ensures) (t1 .if3 .taken) (c .subtree-empty2 .ensures)
@@ -86,7 +88,8 @@ subtree-empty-returns-4 : (t : ℕ) → subtree-empty-lts.Need-returns-4 (calls 
 subtree-empty-returns-4 t c =
     let a = c .before in
     let f = a .before in
-    let s = f .before .before .before .before .before .before in
+    let test = f .before .before .before .before in
+    let s = test .before .before .before in
     let e : slotIn (s .args .slots .now) (s .args .at .index) ≡ empty = omega arith in
     empty-off (s .args .slots .now) (s .args .at .level) (s .args .at .width) (s .args .at .index) (omega arith) e (f .first .result) (f .first .ensures) (a .subtree-empty .result) (a .subtree-empty .ensures) (c .if3 .left)
 

@@ -10,15 +10,15 @@ returns c = let o = c .before .before .args in bits-first (o .d .now) (o .p) (o 
 
 returns-2 : tie.Need-returns-2
 returns-2 c =
-    let a = c .before in
+    let a = c .before .before in
     let o = a .before .before .before .args in
     bits-empty (o .d .now) (o .p) (o .s) (o .q) _ (a .slot .ensures) (a .before .if1 .left) (c .if2 .taken)
 
 returns-3 : tie.Need-returns-3
 returns-3 c =
-    let b = c .before in
+    let b = c .before .before .before in
     let t = b .before in
-    let a = t .before .before in
+    let a = t .before .before .before in
     let o = a .before .before .before .args in
     bits-carried (o .d .now) (o .p) (o .s) (o .q) _ (a .slot .ensures) (a .before .if1 .left) (t .before .if2 .left) _ _ (t .top-power .ensures .0) (b .slot2 .ensures) (c .if3 .taken)
 
@@ -28,9 +28,9 @@ returns-4 c =
     let first = second .before .before in
     let g = first .before .before in
     let f = g .before .before in
-    let b = f .before .before in
+    let b = f .before .before .before .before in
     let t = b .before in
-    let a = t .before .before in
+    let a = t .before .before .before in
     let start = a .before .before .before in
     let o = start .args in
     bits-gate (o .d .now) (o .p) (o .s) (o .q) _ (a .slot .ensures) (a .before .if1 .left) (t .before .if2 .left) _ _ (t .top-power .ensures .0) (b .slot2 .ensures) (f .before .if3 .left) _ (f .find-gate .ensures) _ _ _ _ _
@@ -43,9 +43,9 @@ returns-4 c =
 returns-5 : tie.Need-returns-5
 returns-5 c =
     let f = c .before .before in
-    let b = f .before .before in
+    let b = f .before .before .before .before in
     let t = b .before in
-    let a = t .before .before in
+    let a = t .before .before .before in
     let start = a .before .before .before in
     let o = start .args in
     bits-missing (o .d .now) (o .p) (o .s) (o .q) _ (a .slot .ensures) (a .before .if1 .left) (t .before .if2 .left) _ _ (t .top-power .ensures .0) (b .slot2 .ensures) (f .before .if3 .left) _ (f .find-gate .ensures) (c .enum-told .given .1)
