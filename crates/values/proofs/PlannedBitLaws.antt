@@ -20,9 +20,9 @@ use Rattle.plan_positions.specs.Input.{plannedBit}
 -- ---- bits of a state
 
 -- the code reads bit k of word w, where these are the position's
-pub within : (l : List ℕ) (p w k : ℕ) → w ≡ p / 32 → k ≡ p % 32 → bitAnd (getD l w 0 / 2 ^ k) 1 ≡ bitAt l p
+pub state-bit-is : (l : List ℕ) (p w k : ℕ) → w ≡ p / 32 → k ≡ p % 32 → bitAnd (getD l w 0 / 2 ^ k) 1 ≡ bitAt l p
 unfolding bit bitAt
-within l p w k word place = rw (word, place) (and-mask _ 1)
+state-bit-is l p w k word place = rw (word, place) (and-mask _ 1)
 
 pub beyond : (l : List ℕ) (p : ℕ) → length l ≤ p / 32 → 0 ≡ bitAt l p
 unfolding bitAt

@@ -1,7 +1,7 @@
 -- `values::known::state_bit` meets its contract. Beyond the end of the state the definition reads 0.
 -- Assumes nothing.
 use native.Mathlib.Omega.{arith}
-use Rattle.values.proofs.PlannedBitLaws.{within, beyond}
+use Rattle.values.proofs.PlannedBitLaws.{state-bit-is, beyond}
 use borrow.Author.Needs.{needs}
 use Rattle.values.proofs.known.state_bit.Statement.{statement}
 use Rattle.values.proofs.known.state_bit.Tie as tie
@@ -10,7 +10,7 @@ returns : tie.Need-returns
 returns c =
     let at-word = c .before .before .before in
     let s = at-word .before .before in
-    within (s .args .state .now) (s .args .at .0) _ _ (at-word .word .ensures) (c .bit .ensures)
+    state-bit-is (s .args .state .now) (s .args .at .0) _ _ (at-word .word .ensures) (c .bit .ensures)
 
 returns-2 : tie.Need-returns-2
 returns-2 c =
