@@ -1,15 +1,16 @@
 // The listing program: records on standard input, the lanes of their read set on standard output. Document 01, "Listing program".
 use libc::STDIN_FILENO;
 use libc::STDOUT_FILENO;
+use listing::RECORD_BYTES;
+use listing::TEXT_BYTES;
 
-// Only the first 40962 bytes matter: 8192 positions, the end, and one byte more. A function's result is an array that the prover does not compute.
-fn input_place() -> [u8; 40962] {
-    [0u8; 40962]
+// A function's result is an array that the prover does not compute.
+fn input_place() -> [u8; RECORD_BYTES] {
+    [0u8; RECORD_BYTES]
 }
 
-// No text is longer.
-fn text_place() -> [u8; 237578] {
-    [0u8; 237578]
+fn text_place() -> [u8; TEXT_BYTES] {
+    [0u8; TEXT_BYTES]
 }
 
 fn main() {

@@ -11,6 +11,7 @@ use borrow.Author.Tests.{lt-ltb, le-ltb, le-leb, lt-leb}
 use lib.ListN.{length, getD, set, length-set}
 use lib.Seq.{sets}
 use Rattle.listing.specs.Records.{numberAt, positionAt, endRecordAt, kindAt, recordAt, Parsed, recordsFrom, stopped, keyBefore}
+use Rattle.words.specs.declared.units.AskedBit.{AskedBit}
 use Rattle.listing.specs.declared.records.Record.the-variants.{Position, End, Bad}
 use Rattle.listing.specs.RecordsRead.{readOf}
 use Rattle.listing.specs.declared.records.Read.the-variants.{Asked, Refused}
@@ -49,13 +50,19 @@ module _ (bs : List ℕ) (at : ℕ) where
         go (suc (suc zero)) e z g = (rw (lt-leb _ _ c, positionAt)) ∙ by-kind 2 e
         go (suc (suc (suc k))) e z g = absurd (omega (arith, g))
 
-    pub unstaged : getD bs at 0 ≡ 1 → at + 5 ≤ length bs → Position (numberAt bs (at + 1)) ≡ recordAt bs at
-    unfolding kindAt positionAt
-    unstaged e g = ap Position (sym (zero-add (numberAt bs (at + 1)))) ∙ (rw (le-leb _ _ g, positionAt)) ∙ by-kind 1 e
+    module _ (q : AskedBit) (g : at + 5 ≤ length bs) where
+      -- the position of a whole body, as the bit that it asks for
+      body-at : (staged : ℕ) → q .0 ≡ 2 ^ 36 * staged + numberAt bs (at + 1) → Position q ≡ positionAt bs at staged
+      unfolding positionAt
+      body-at staged a = ap (λ (x : ℕ). Position (record { 0 = x })) a ∙ (rw (le-leb _ _ g, positionAt))
 
-    pub staged : getD bs at 0 ≡ 2 → at + 5 ≤ length bs → Position (2 ^ 36 + numberAt bs (at + 1)) ≡ recordAt bs at
-    unfolding kindAt positionAt
-    staged e g = (rw (le-leb _ _ g, positionAt)) ∙ by-kind 2 e
+      pub unstaged : getD bs at 0 ≡ 1 → q .0 ≡ 2 ^ 36 * 0 + numberAt bs (at + 1) → Position q ≡ recordAt bs at
+      unfolding kindAt
+      unstaged e a = body-at 0 a ∙ by-kind 1 e
+
+      pub staged : getD bs at 0 ≡ 2 → q .0 ≡ 2 ^ 36 * 1 + numberAt bs (at + 1) → Position q ≡ recordAt bs at
+      unfolding kindAt
+      staged e a = body-at 1 a ∙ by-kind 2 e
 
 -- ---- all records
 
@@ -76,15 +83,15 @@ module _ (n : ℕ) (bs : List ℕ) (at : ℕ) where
       go zero = rw (e, recordsFrom)
       go (suc n) = rw (e, recordsFrom)
 
-  pub stop-full : (q : ℕ) → recordAt bs at ≡ Position q → n ≡ 0 → recordsFrom n bs at ≡ stopped (some at)
+  pub stop-full : (q : AskedBit) → recordAt bs at ≡ Position q → n ≡ 0 → recordsFrom n bs at ≡ stopped (some at)
   unfolding recordsFrom
   stop-full q e z = rw (z, e, recordsFrom)
 
-  pub one-more : (q : ℕ) → recordAt bs at ≡ Position q → 0 < n → recordsFrom n bs at ≡ keyBefore q (recordsFrom (n - 1) bs (at + 5))
+  pub one-more : (q : AskedBit) → recordAt bs at ≡ Position q → 0 < n → recordsFrom n bs at ≡ keyBefore (q .0) (recordsFrom (n - 1) bs (at + 5))
   unfolding recordsFrom
   one-more q e h = go n h
     where
-      go : (n : ℕ) → 0 < n → recordsFrom n bs at ≡ keyBefore q (recordsFrom (n - 1) bs (at + 5))
+      go : (n : ℕ) → 0 < n → recordsFrom n bs at ≡ keyBefore (q .0) (recordsFrom (n - 1) bs (at + 5))
       go zero h = absurd (not-suc-le-zero h)
       go (suc n) h = rw (sub-one, e, recordsFrom)
 
@@ -103,14 +110,14 @@ reading-start m bs keys =
     record { few = omega arith; place = refl; long = refl; held = rw sub-zero; counted = rw (sub-zero, zero-add); fault = rw sub-zero }
 
 module _ {m : ℕ} {bs keys₀ keys : List ℕ} {n at : ℕ} (R : Reading m bs keys₀ keys n at) where
-  pub reading-more : (q : ℕ) → recordAt bs at ≡ Position q → n < m → Reading m bs keys₀ (set keys n q) (n + 1) (at + 5)
+  pub reading-more : (q : AskedBit) → recordAt bs at ≡ Position q → n < m → Reading m bs keys₀ (set keys n (q .0)) (n + 1) (at + 5)
   reading-more q e h =
-      let s : recordsFrom (m - n) bs at ≡ keyBefore q (recordsFrom (m - n - 1) bs (at + 5)) = one-more (m - n) bs at q e (omega arith) in
+      let s : recordsFrom (m - n) bs at ≡ keyBefore (q .0) (recordsFrom (m - n - 1) bs (at + 5)) = one-more (m - n) bs at q e (omega arith) in
       let d : m - (n + 1) ≡ m - n - 1 = omega arith in
       record {
         few = omega arith;
         place = omega (arith, R .place);
-        long = length-set keys n q ∙ R .long;
+        long = length-set keys n (q .0) ∙ R .long;
         held = (rw (d, add-one n) (ap (λ (p : Parsed). sets keys n (p .keys)) (sym s))) ∙ R .held;
         counted = (rw d (omega (arith, ap (λ (p : Parsed). length (p .keys)) s))) ∙ R .counted;
         fault = (rw d (ap (λ (p : Parsed). p .fault) (sym s))) ∙ R .fault;

@@ -24,9 +24,13 @@ end-refused : (bs : List ℕ) (at : ℕ) → at + 1 < length bs → endRecordAt 
 unfolding endRecordAt
 end-refused bs at h = rw (lt-ltb _ _ h, endRecordAt)
 
-whole-body : (bs : List ℕ) (at flag : ℕ) → at + 5 ≤ length bs → positionAt bs at flag ≡ Position (flag + numberAt bs (at + 1))
+-- the position of a body, by its number
+abbrev numbered : ℕ → ℕ → Record
+numbered staged x = Position (record { 0 = 2 ^ 36 * staged + x })
+
+whole-body : (bs : List ℕ) (at staged : ℕ) → at + 5 ≤ length bs → positionAt bs at staged ≡ numbered staged (numberAt bs (at + 1))
 unfolding positionAt
-whole-body bs at flag h = rw (le-leb _ _ h, positionAt)
+whole-body bs at staged h = rw (le-leb _ _ h, positionAt)
 
 -- what is told where no position may come: of an end, the byte after it; else the record
 stopByte : ℕ → ℕ → ℕ
@@ -37,14 +41,14 @@ full-stop : (bs : List ℕ) (at : ℕ) → at + 1 < length bs → recordsFrom 0 
 unfolding recordsFrom kindAt positionAt stopByte
 full-stop bs at h = go (getD bs at 0) refl
   where
-    cut : (flag : ℕ) (b : Bool) → positionAt bs at flag ≡ recordAt bs at → leb (at + 5) (length bs) ≡ b → recordsFrom 0 bs at ≡ stopped (some at)
-    cut flag true e t = rw (← e, t, positionAt, recordsFrom)
-    cut flag false e t = rw (← e, t, positionAt, recordsFrom)
+    cut : (staged : ℕ) (b : Bool) → positionAt bs at staged ≡ recordAt bs at → leb (at + 5) (length bs) ≡ b → recordsFrom 0 bs at ≡ stopped (some at)
+    cut staged true e t = rw (← e, t, positionAt, recordsFrom)
+    cut staged false e t = rw (← e, t, positionAt, recordsFrom)
 
     go : (k : ℕ) → getD bs at 0 ≡ k → recordsFrom 0 bs at ≡ stopped (some (stopByte at k))
     go zero e = rw (← (by-kind bs at (omega arith) 0 e), end-refused bs at h, recordsFrom)
     go (suc zero) e = cut 0 (leb (at + 5) (length bs)) (by-kind bs at (omega arith) 1 e) refl
-    go (suc (suc zero)) e = cut (2 ^ 36) (leb (at + 5) (length bs)) (by-kind bs at (omega arith) 2 e) refl
+    go (suc (suc zero)) e = cut 1 (leb (at + 5) (length bs)) (by-kind bs at (omega arith) 2 e) refl
     go (suc (suc (suc k))) e = rw (← (by-kind bs at (omega arith) (suc (suc (suc k))) e), recordsFrom)
 
 module _ (N : ℕ) (bs : List ℕ) (long : N < length bs) where
@@ -55,16 +59,16 @@ module _ (N : ℕ) (bs : List ℕ) (long : N < length bs) where
   unfolding numberAt
   same-number i h = rw (getD-take N bs i 0 (omega arith), getD-take N bs (i + 1) 0 (omega arith), getD-take N bs (i + 2) 0 (omega arith), getD-take N bs (i + 3) 0 (omega arith))
 
-  same-position : (at flag : ℕ) → at + 5 ≤ N → positionAt (take N bs) at flag ≡ positionAt bs at flag
-  same-position at flag h =
-      whole-body (take N bs) at flag (omega (arith, len)) ∙ ap (λ (x : ℕ). Position (flag + x)) (same-number (at + 1) (omega arith))
-      ∙ sym (whole-body bs at flag (omega arith))
+  same-position : (at staged : ℕ) → at + 5 ≤ N → positionAt (take N bs) at staged ≡ positionAt bs at staged
+  same-position at staged h =
+      whole-body (take N bs) at staged (omega (arith, len)) ∙ ap (numbered staged) (same-number (at + 1) (omega arith))
+      ∙ sym (whole-body bs at staged (omega arith))
 
   same-kind : (at k : ℕ) → at + 5 ≤ N → kindAt (take N bs) at k ≡ kindAt bs at k
   unfolding kindAt
   same-kind at zero h = end-refused (take N bs) at (omega (arith, len)) ∙ sym (end-refused bs at (omega arith))
   same-kind at (suc zero) h = same-position at 0 h
-  same-kind at (suc (suc zero)) h = same-position at (2 ^ 36) h
+  same-kind at (suc (suc zero)) h = same-position at 1 h
   same-kind at (suc (suc (suc k))) h = refl
 
   same-record : (at : ℕ) → at + 5 ≤ N → recordAt (take N bs) at ≡ recordAt bs at
@@ -83,7 +87,7 @@ module _ (N : ℕ) (bs : List ℕ) (long : N < length bs) where
 
       go : (x : Record) → recordAt bs at ≡ x → recordsFrom n (take N bs) (at + 5) ≡ recordsFrom n bs (at + 5) → recordsFrom (suc n) (take N bs) at ≡ recordsFrom (suc n) bs at
       go (Position q) e r =
-          one-more (suc n) (take N bs) at q (here ∙ e) (omega arith) ∙ (rw sub-one (ap (keyBefore q) r)) ∙ sym (one-more (suc n) bs at q e (omega arith))
+          one-more (suc n) (take N bs) at q (here ∙ e) (omega arith) ∙ (rw sub-one (ap (keyBefore (q .0)) r)) ∙ sym (one-more (suc n) bs at q e (omega arith))
       go End e r = stop-end (suc n) (take N bs) at (here ∙ e) ∙ sym (stop-end (suc n) bs at e)
       go (Bad b) e r = stop-bad (suc n) (take N bs) at b (here ∙ e) ∙ sym (stop-bad (suc n) bs at b e)
 

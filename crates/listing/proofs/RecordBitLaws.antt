@@ -4,7 +4,7 @@ use mathlib.Core.Path.{_≡_, refl, sym, ap, _∙_}
 use mathlib.Core.Bool.{Bool, true, false}
 use mathlib.Core.Option.{Option, none, some}
 use mathlib.Core.List.{List}
-use Prim.Native.Nat.{ℕ, zero, suc, _+_, _/_, _%_, _^_, _≤_, _<_}
+use Prim.Native.Nat.{ℕ, zero, suc, _+_, _*_, _/_, _%_, _^_, _≤_, _<_}
 use native.Mathlib.Numerals.{sub-one}
 use native.Mathlib.Omega.{arith}
 use lib.Dec.{leb, ltb}
@@ -22,7 +22,7 @@ use Rattle.listing.proofs.ListingRecordLaws.{stop-end, stop-bad, stop-f
 
 -- what a record asks for, 0 where it asks for nothing
 abbrev keyOf : Record → ℕ
-keyOf (Position q) = q
+keyOf (Position q) = q .0
 keyOf End = 0
 keyOf (Bad b) = 0
 
@@ -35,11 +35,11 @@ module _ (bs : List ℕ) (bytes : (i : ℕ) → getD bs i 0 < 256) where
   unfolding numberAt
   number-small i = omega (arith, bytes i, bytes (i + 1), bytes (i + 2), bytes (i + 3))
 
-  position-asks : (at flag : ℕ) → ((x : ℕ) → x < 2 ^ 32 → BitAsking (flag + x)) → BitAsking (keyOf (positionAt bs at flag))
+  position-asks : (at staged : ℕ) → ((x : ℕ) → x < 2 ^ 32 → BitAsking (2 ^ 36 * staged + x)) → BitAsking (keyOf (positionAt bs at staged))
   unfolding positionAt
-  position-asks at flag f = go (leb (at + 5) (length bs)) refl
+  position-asks at staged f = go (leb (at + 5) (length bs)) refl
     where
-      go : (b : Bool) → leb (at + 5) (length bs) ≡ b → BitAsking (keyOf (positionAt bs at flag))
+      go : (b : Bool) → leb (at + 5) (length bs) ≡ b → BitAsking (keyOf (positionAt bs at staged))
       go true e = rw (e, positionAt) (f (numberAt bs (at + 1)) (number-small (at + 1)))
       go false e = rw (e, positionAt) (omega arith, omega arith)
 
@@ -51,7 +51,7 @@ module _ (bs : List ℕ) (bytes : (i : ℕ) → getD bs i 0 < 256) where
       go true e = rw (e, endRecordAt) (omega arith, omega arith)
       go false e = rw (e, endRecordAt) (omega arith, omega arith)
   kind-asks at (suc zero) = position-asks at 0 (λ x h. (omega arith, omega arith))
-  kind-asks at (suc (suc zero)) = position-asks at (2 ^ 36) (λ x h. (omega arith, omega arith))
+  kind-asks at (suc (suc zero)) = position-asks at 1 (λ x h. (omega arith, omega arith))
   kind-asks at (suc (suc (suc k))) = (omega arith, omega arith)
 
   record-asks : (at : ℕ) → BitAsking (keyOf (recordAt bs at))

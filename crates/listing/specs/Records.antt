@@ -13,10 +13,11 @@ use Rattle.listing.specs.declared.records.Record.the-variants.{Position,
 unfoldable pub numberAt : List ℕ → ℕ → ℕ
 numberAt bs i = getD bs i 0 + 256 * getD bs (i + 1) 0 + 65536 * getD bs (i + 2) 0 + 16777216 * getD bs (i + 3) 0
 
--- "1 and 2: a four-byte [..] position, unstaged and staged": the bit it asks for, as `Asked` of `reads` numbers bits, where `flag` is 2^36 for
--- a staged one (bit 31 of the word). A "cut body" is refused at the record.
+-- "1 and 2: a four-byte [..] position, unstaged and staged": the bit it asks for, as `Asked` of `reads` numbers bits, which has 2^36 (bit 31 of
+-- the word) where `staged` is 1. A "cut body" is refused at the record.
 unfoldable pub positionAt : List ℕ → ℕ → ℕ → Record
-positionAt bs at flag = elim (leb (at + 5) (length bs)) [ true ↦ Position (flag + numberAt bs (at + 1)) | false ↦ Bad at ]
+positionAt bs at staged =
+    elim (leb (at + 5) (length bs)) [ true ↦ Position (record { 0 = 2 ^ 36 * staged + numberAt bs (at + 1) }) | false ↦ Bad at ]
 
 -- "0: end, no body". "bytes after the end" are refused at "the first one's" byte.
 unfoldable pub endRecordAt : List ℕ → ℕ → Record
@@ -26,7 +27,7 @@ endRecordAt bs at = elim (ltb (at + 1) (length bs)) [ true ↦ Bad (at + 1) | fa
 unfoldable pub kindAt : List ℕ → ℕ → ℕ → Record
 kindAt bs at zero = endRecordAt bs at
 kindAt bs at (suc zero) = positionAt bs at 0
-kindAt bs at (suc (suc zero)) = positionAt bs at (2 ^ 36)
+kindAt bs at (suc (suc zero)) = positionAt bs at 1
 kindAt bs at (suc (suc (suc k))) = Bad at
 
 -- "one byte of kind, then its body". "no end" is refused at "the length".
@@ -48,7 +49,7 @@ keyBefore q p = record { keys = q ∷ p .keys; fault = p .fault }
 unfoldable pub recordsFrom : ℕ → List ℕ → ℕ → Parsed
 recordsFrom zero bs at = elim (recordAt bs at) [ Position q ↦ stopped (some at) | End ↦ stopped none | Bad b ↦ stopped (some b) ]
 recordsFrom (suc n) bs at =
-    elim (recordAt bs at) [ Position q ↦ keyBefore q (recordsFrom n bs (at + 5)) | End ↦ stopped none | Bad b ↦ stopped (some b) ]
+    elim (recordAt bs at) [ Position q ↦ keyBefore (q .0) (recordsFrom n bs (at + 5)) | End ↦ stopped none | Bad b ↦ stopped (some b) ]
 
 -- "over 8192 positions"
 abbrev pub records : List ℕ → Parsed

@@ -1,8 +1,8 @@
 // The listing program's work: records read, lanes printed. Document 01, "Listing program".
-pub mod answer;
-pub mod line;
-pub mod lines;
-pub mod records;
+mod answer;
+mod line;
+mod lines;
+mod records;
 
 ghost use mathlib.Core.Path.{_≡_};
 ghost use Prim.Native.Nat.{_≤_};
@@ -14,13 +14,28 @@ ghost use Rattle.listing.specs.ListingAnswer.{answerTo, sectionAfter, an
 ghost use Rattle.listing.specs.Listing.{listing, listed, listedOf, textAfter};
 use answer::Said;
 use answer::put_answer;
+use records::POSITIONS;
 use records::Read;
+use records::SET_WORDS;
 use records::read_set_of;
 use rounds::Rounds;
 use words::clear::clear;
+use words::edition::Edition;
 use words::refusals::RESULT_SHORT;
 use words::refusals::ROOM_SHORT;
 use words::refusals::Refusal;
+
+// The first bytes of records, which alone matter: the positions, the end, and one byte more.
+pub const RECORD_BYTES: usize = 5 * POSITIONS + 2;
+
+// No text is longer.
+pub const TEXT_BYTES: usize = 237578;
+
+// The words of a read section of 32 rounds, the most that there are.
+const SECTION_WORDS: usize = 2 * Edition::LANES * 32;
+
+// The words of working room that the rounds of a read set ask for.
+const ROOM_WORDS: usize = 16384;
 
 // The text's length, or the refusal.
 pub enum Listed {
@@ -35,7 +50,7 @@ fn answer_to(s: &[u8], room: &mut [u32], section: &mut [u32]) -> Said
     ensures { λ _. ⌜ now (room .exit) ≡ replicate (length (now (room .entry))) 0 ⌝ }
     ensures { λ _. ⌜ now (section .exit) ≡ sectionAfter (records (now (s .entry))) (now (section .entry)) ⌝ }
 {
-    let mut set = [0u32; 16384];
+    let mut set = [0u32; SET_WORDS];
     match read_set_of(s, &mut set) {
         Read::Refused(b) => {
             clear(room);
@@ -62,14 +77,14 @@ pub fn list(records: &[u8], room: &mut [u32], out: &mut [u8]) -> Listed
     ensures { λ _. ⌜ now (room .exit) ≡ setRoomAfter (now (room .entry)) ⌝ }
     ensures { λ _. ⌜ now (out .exit) ≡ textAfter (listed (now (records .entry)) (length (now (out .entry))) (length (now (room .entry)))) (now (out .entry)) ⌝ }
 {
-    if room.len() < 16384 {
+    if room.len() < ROOM_WORDS {
         return Listed::Refused(Refusal {
             number: ROOM_SHORT,
             part: 0,
             item: 0,
         });
     }
-    let mut section = [0u32; 16384];
+    let mut section = [0u32; SECTION_WORDS];
     let answer = answer_to(records, room, &mut section);
     let n = text_length(answer, &section);
     if out.len() < n {
@@ -90,7 +105,7 @@ pub fn text_of(records: &[u8], out: &mut [u8]) -> usize
     ensures { λ r. ⌜ r ≡ length (listing (now (records .entry))) ⌝ }
     ensures { λ _. ⌜ now (out .exit) ≡ sets (now (out .entry)) 0 (listing (now (records .entry))) ⌝ }
 {
-    let mut room = [0u32; 16384];
+    let mut room = [0u32; ROOM_WORDS];
     match list(records, &mut room, out) {
         Listed::Text(n) => n,
         Listed::Refused(_) => 0,

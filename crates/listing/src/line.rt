@@ -16,7 +16,7 @@ fn hex_digit(d: u32) -> u8
     87 + d as u8
 }
 
-pub fn put_hex(out: &mut [u8], at: usize, n: u32) -> usize
+fn put_hex(out: &mut [u8], at: usize, n: u32) -> usize
     requires { ⌜ at < 2 ^ 62 ⌝ }
     ensures { λ r. ⌜ Put 8 (hex n) (now (out .entry)) at (now (out .exit)) r ⌝ }
 {

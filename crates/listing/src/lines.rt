@@ -18,7 +18,7 @@ fn word_at(section: &[u32], i: usize) -> u32
 }
 
 // The line of a lane in a round; none where the mask is 0.
-pub fn put_place(out: &mut [u8], at: usize, section: &[u32], lane: usize, round: usize) -> usize
+fn put_place(out: &mut [u8], at: usize, section: &[u32], lane: usize, round: usize) -> usize
     requires { ⌜ (at < 2 ^ 60) × (lane < 2 ^ 32) × (round < 2 ^ 32) ⌝ }
     ensures { λ r. ⌜ Put 74 (pairLine 256 (now (section .entry)) lane round) (now (out .entry)) at (now (out .exit)) r ⌝ }
 {
@@ -31,7 +31,7 @@ pub fn put_place(out: &mut [u8], at: usize, section: &[u32], lane: usize, round:
 }
 
 // The lines of a lane.
-pub fn put_lane(out: &mut [u8], at: usize, section: &[u32], lane: usize, rounds: u32) -> usize
+fn put_lane(out: &mut [u8], at: usize, section: &[u32], lane: usize, rounds: u32) -> usize
     requires { ⌜ (at < 2 ^ 59) × (lane < 2 ^ 32) ⌝ }
     ensures { λ r. ⌜ Put (74 * 2 ^ 32) (laneRoundLines 256 (now (section .entry)) lane rounds 0) (now (out .entry)) at (now (out .exit)) r ⌝ }
 {

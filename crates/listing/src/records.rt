@@ -5,10 +5,18 @@ ghost use lib.ListN.{length};
 ghost use lib.Seq.{sets};
 ghost use Rattle.listing.specs.Records.{numberAt, recordAt, recordsFrom, records};
 ghost use Rattle.listing.specs.RecordsRead.{readOf, setOf, setAfter};
+use words::units::AskedBit;
+use words::units::StatePosition;
+
+// The most positions that records may have.
+pub const POSITIONS: usize = 8192;
+
+// The words of their read set, a pair to each position at most.
+pub const SET_WORDS: usize = 2 * POSITIONS;
 
 // What stands at a byte: a position, as the bit it asks for; the end; or a record that is refused, with the byte it is told at.
 pub enum Record {
-    Position(u64),
+    Position(AskedBit),
     End,
     Bad(usize),
 }
@@ -19,22 +27,22 @@ pub enum Read {
     Refused(usize),
 }
 
-fn wide(b: u8) -> u64
+fn wide(b: u8) -> u32
     ensures { λ r. ⌜ (r ≡ b) × (r < 256) ⌝ }
 {
-    b as u64
+    b as u32
 }
 
 // The four-byte little-endian number at byte i.
-pub fn number_at(s: &[u8], i: usize) -> u64
+fn number_at(s: &[u8], i: usize) -> u32
     requires { ⌜ i + 4 ≤ length (now s) ⌝ }
-    ensures { λ r. ⌜ (r ≡ numberAt (now (s .entry)) i) × (r < 2 ^ 32) ⌝ }
+    ensures { λ r. ⌜ r ≡ numberAt (now (s .entry)) i ⌝ }
 {
     wide(s[i]) + 256 * wide(s[i + 1]) + 65536 * wide(s[i + 2]) + 16777216 * wide(s[i + 3])
 }
 
 // The record at byte `at`.
-pub fn record_at(s: &[u8], at: usize) -> Record
+fn record_at(s: &[u8], at: usize) -> Record
     requires { ⌜ at < 2 ^ 62 ⌝ }
     ensures { λ r. ⌜ r ≡ recordAt (now (s .entry)) at ⌝ }
 {
@@ -54,15 +62,15 @@ pub fn record_at(s: &[u8], at: usize) -> Record
     if s.len() < at + 5 {
         return Record::Bad(at);
     }
-    let position = number_at(s, at + 1);
+    let position = StatePosition(number_at(s, at + 1));
     if kind == 1 {
-        return Record::Position(position);
+        return Record::Position(position.asked(0));
     }
-    Record::Position(0x10_0000_0000 + position)
+    Record::Position(position.asked(1))
 }
 
 // All records: the bits they ask for are put into `keys`, which has a place for each position that may come.
-pub fn read_records(s: &[u8], keys: &mut [u64]) -> Read
+fn read_records(s: &[u8], keys: &mut [u64]) -> Read
     requires { ⌜ length (now keys) < 2 ^ 32 ⌝ }
     ensures { λ r. ⌜ r ≡ readOf (recordsFrom (length (now (keys .entry))) (now (s .entry)) 0) ⌝ }
     ensures { λ _. ⌜ now (keys .exit) ≡ sets (now (keys .entry)) 0 (recordsFrom (length (now (keys .entry))) (now (s .entry)) 0 .keys) ⌝ }
@@ -71,11 +79,11 @@ pub fn read_records(s: &[u8], keys: &mut [u64]) -> Read
     let mut at = 0;
     loop {
         match record_at(s, at) {
-            Record::Position(key) => {
+            Record::Position(asked) => {
                 if n == keys.len() {
                     return Read::Refused(at);
                 }
-                keys[n] = key;
+                keys[n] = asked.0;
                 n += 1;
                 at += 5;
             }
@@ -91,11 +99,11 @@ pub fn read_set_of(s: &[u8], set: &mut [u32]) -> Read
     ensures { λ r. ⌜ r ≡ setOf (records (now (s .entry))) ⌝ }
     ensures { λ _. ⌜ now (set .exit) ≡ setAfter (records (now (s .entry))) (now (set .entry)) ⌝ }
 {
-    let mut keys = [0u64; 8192];
+    let mut keys = [0u64; POSITIONS];
     match read_records(s, &mut keys) {
         Read::Refused(b) => Read::Refused(b),
         Read::Asked(n) => {
-            let mut scratch = [0u64; 8192];
+            let mut scratch = [0u64; POSITIONS];
             Read::Asked(reads_asked::read_set(&mut keys[..n], &mut scratch, set))
         }
     }

@@ -19,7 +19,8 @@ use Rattle.words.specs.declared.found.Lowest.{Lowest}
 use Rattle.words.specs.Found.{itemOf, lowestOf}
 use Rattle.plan_counts.specs.Counts.{refusal7}
 use Rattle.plan_slots.specs.Slots.{refusal9, refusal10, refusal11}
-use Rattle.plan_positions.specs.Positions.{refusal12, refusal13}
+use Rattle.plan_positions.specs.Positions.{refusal12}
+use Rattle.plan_entries.specs.TableEntries.{refusal13}
 use Rattle.plan_reads.specs.declared.check.Checked.{Checked}
 use Rattle.plan_reads.specs.PartReads.{badReads, refusedReads}
 use Rattle.plan_reads.specs.PartReadAnswers.{checkedOf}

@@ -6,8 +6,8 @@ ghost use Rattle.plan_checks.specs.Verdicts.{verdictOf};
 use crate::Verdict;
 use crate::tell::is_refused;
 use crate::tell::of_lowest;
+use plan_entries::refusal13;
 use plan_positions::planned::refusal12;
-use plan_positions::tables::refusal13;
 use words::refusals::NO_POSITION;
 use words::refusals::TABLE_ENTRY;
 

@@ -1,6 +1,4 @@
-pub mod WinnerLaws
 pub mod MajorLaws
 pub mod StateOrderLaws
-pub mod TableEntryLaws
 pub mod PlannedLaws
 pub mod PositionLaws

@@ -31,11 +31,12 @@ use Rattle.plan_slots.specs.Slots.{readsPin}
 use Rattle.plan_slots.specs.Puts.{filled, readPuts, readPin, firstPins, readPins, AllPins}
 use Rattle.plan_slots.proofs.PutLaws.{reads-hold, reads-look, filled-length}
 use Rattle.plan_slots.proofs.ListedLaws.{Among, listed-among, FromSlot, listed-from}
-use Rattle.plan_positions.specs.declared.winners.Planned as code
-use Rattle.plan_positions.specs.Positions.{Planned, majorOf, normalWord, positionRight, twelveRight}
-use Rattle.plan_positions.specs.Winners.{winner, plannedBy, positionOf, winnerPuts}
+use Rattle.plan_winners.specs.declared.Planned as code
+use Rattle.plan_positions.specs.Positions.{majorOf, normalWord, positionRight, twelveRight}
+use Rattle.plan_winners.specs.Planned.{Planned}
+use Rattle.plan_winners.specs.Winners.{winner, plannedBy, positionOf, winnerPuts}
 use Rattle.plan_positions.specs.Places.{badSlot, holdsWord, Ranked, positionRightIn, plannedTable, WinnerHeld, ListHeld, listedPinRight, TableSearchable, SlotsReady, Judgeable, PartReady}
-use Rattle.plan_positions.proofs.WinnerLaws.{by-none, planned-winner, renewals-length, winners-look, listed}
+use Rattle.plan_winners.proofs.WinnerLaws.{by-none, planned-winner, renewals-length, winners-look, listed}
 use Rattle.plan_positions.proofs.MajorLaws.{MajorAt, major-at}
 use Rattle.plan_positions.proofs.StateOrderLaws.{ranked, normal-is}
 

@@ -10,17 +10,17 @@ use native.Mathlib.Omega.{arith}
 use borrow.Author.Tests.{eq-eqb, ne-eqb, eqb-true, leb-true, ltb-true, lt-ltb}
 use lib.Dec.{leb, ltb, eqb}
 use Rattle.words.specs.Bit.{bitAt}
-use Rattle.plan_record.specs.Record.{majorsOf, partsBefore, partsOf, positionState, locationsOf, slotAt, tableAt}
+use Rattle.plan_record.specs.Record.{majorsOf, partsBefore, partsOf, positionState, locationsOf, slotAt}
 use Rattle.words.specs.Pins.{empty}
 use Rattle.words.proofs.TestLaws.{and-true, not-both, some-found, not-none, lowest-none}
 use Rattle.plan_counts.specs.Counts.{writeOuts}
 use Rattle.plan_blocks.specs.Blocks.{stateOf, stateWords}
 use Rattle.plan_blocks.proofs.StateStartLaws.{part-split, state-in, state-mono}
 use Rattle.plan_slots.specs.Slots.{readsPin}
-use Rattle.plan_positions.specs.Positions.{Planned, inLayout, inPositions, planned, majorOf, partStateStart, normalWord, positionRight, twelveRight, refusal12, thirteenRight, refusal13}
+use Rattle.plan_positions.specs.Positions.{majorOf, partStateStart, normalWord, positionRight, twelveRight, refusal12}
+use Rattle.plan_winners.specs.Planned.{Planned, inLayout, inPositions, planned}
 use Rattle.plan_positions.specs.Input.{plannedBit, input}
 use Rattle.plan_positions.proofs.MajorLaws.{MajorAt, start-is, major-at}
-use Rattle.plan_positions.proofs.TableEntryLaws.{entry-low, entry-high}
 
 -- ---- a normal write-out word of one of the first n parts
 
@@ -142,17 +142,3 @@ bit-unstaged old new y h = rw (eq-eqb (y .staged) 0 h, plannedBit)
 pub bit-staged : (old new : List ℕ) (y : Planned) → y .staged ≡ 1 → plannedBit old new (some y) ≡ some (bitAt new (y .place))
 unfolding plannedBit
 bit-staged old new y h = rw (ne-eqb (y .staged) 0 (λ z. omega arith), plannedBit)
-
--- ---- slot table entries
-
-thirteen-at : (d : List ℕ) → refusal13 d ≡ none → (p i : ℕ) → p < partsOf d → i < 16384 → thirteenRight d p i ≡ true
-unfolding refusal13
-thirteen-at d h p i l u = not-none (thirteenRight d p) 16384 (lowest-none _ (partsOf d) h p l) i u
-
-pub sram-entry : (d : List ℕ) → refusal13 d ≡ none → (p i : ℕ) → p < partsOf d → i < 8192 → tableAt d p i ≤ 8191
-sram-entry d h p i l u = leb-true (tableAt d p i) 8191 (entry-low d p i u ∙ thirteen-at d h p i l (omega arith))
-
-pub enable-entry : (d : List ℕ) → refusal13 d ≡ none → (p i : ℕ) → p < partsOf d → i < 8192 → tableAt d p (8704 + i) ≤ 8191
-enable-entry d h p i l u =
-    let e : 8192 + i + 512 ≡ 8704 + i = omega arith in
-    leb-true (tableAt d p (8704 + i)) 8191 (ap (λ (k : ℕ). leb (tableAt d p k) 8191) (sym e) ∙ (entry-high d p (8192 + i) (omega arith) ∙ thirteen-at d h p (8192 + i) l (omega arith)))

@@ -8,7 +8,7 @@ use lib.Dec.{ltb, eqb}
 use Rattle.words.specs.Bit.{bitAt}
 use Rattle.plan_record.specs.Record.{partsOf}
 use Rattle.plan_slots.specs.Slots.{readsPin}
-use Rattle.plan_positions.specs.Positions.{Planned, planned}
+use Rattle.plan_winners.specs.Planned.{Planned, planned}
 
 -- the bit at a planned position: a staged one is in the new state
 unfoldable pub plannedBit : List ℕ → List ℕ → Option Planned → Option ℕ

@@ -1,4 +1,3 @@
 pub mod Positions
-pub mod Winners
 pub mod Places
 pub mod Input

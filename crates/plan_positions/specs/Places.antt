@@ -1,4 +1,4 @@
--- The places of refusals 12 and 13 in one part; the parts in the order of the state, as the part table names them; and what is known when a
+-- The places of refusal 12 in one part; the parts in the order of the state, as the part table names them; and what is known when a
 -- part is judged.
 -- Assumes nothing.
 use mathlib.Core.Path.{_≡_}
@@ -19,15 +19,13 @@ use Rattle.plan_rows.specs.Columns as col
 use Rattle.plan_rows.specs.Rows.{rowBase, cell, cellAt}
 use Rattle.plan_blocks.specs.PartTable.{Tabled}
 use Rattle.plan_slots.specs.Puts.{filled, readPuts}
-use Rattle.plan_positions.specs.Positions.{Planned, majorOf, normalWord, twelveRight, thirteenRight}
-use Rattle.plan_positions.specs.Winners.{winner, plannedBy, winnerPuts, ListsInRange}
+use Rattle.plan_positions.specs.Positions.{majorOf, normalWord, twelveRight}
+use Rattle.plan_winners.specs.Planned.{Planned}
+use Rattle.plan_winners.specs.Winners.{winner, plannedBy, winnerPuts, ListsInRange}
 
--- the lowest slot, and the lowest entry, of part p that is refused
+-- the lowest slot of part p that is refused
 abbrev pub badSlot : List ℕ → ℕ → Option ℕ
 badSlot d p = firstNot (twelveRight d p) 8192
-
-abbrev pub badEntry : List ℕ → ℕ → Option ℕ
-badEntry d p = firstNot (thirteenRight d p) 16384
 
 -- the part that is k-th in the order of the state, its start and its locations
 abbrev pub rankedPart : List ℕ → ℕ → ℕ

@@ -1,5 +1,3 @@
-// Planned positions and tables: refusals 12 and 13.
+// Planned positions of the pins that parts read: refusal 12.
 pub mod planned;
 pub mod ranks;
-pub mod tables;
-pub mod winners;

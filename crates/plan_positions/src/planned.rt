@@ -8,27 +8,31 @@ ghost use Rattle.plan_record.specs.Body.{BodyOf};
 ghost use Rattle.words.specs.Found.{itemOf, lowestOf};
 ghost use Rattle.plan_slots.specs.Puts.{readPins, AllPins};
 ghost use Rattle.plan_positions.specs.Positions.{twelveRight};
-ghost use Rattle.plan_positions.specs.Winners.{ListsInRange, winner, plannedBy};
+ghost use Rattle.plan_winners.specs.Winners.{ListsInRange, winner, plannedBy};
 ghost use Rattle.plan_positions.specs.Places.{badSlot, positionRightIn, plannedTable, WinnerHeld, ListHeld, listedPinRight, TableSearchable, SlotsReady, Judgeable, PartReady};
 use crate::ranks::is_normal;
 use crate::ranks::parts_earlier;
-use crate::winners::fill_winners;
-use crate::winners::planned_by;
 use pinmap::Found;
 use pinmap::look_up;
 use plan_blocks::totals::state_words;
 use plan_record::bodies::Body;
 use plan_record::bodies::body_at;
 use plan_record::bodies::first_body;
+use plan_record::bodies::level_slot;
 use plan_record::bodies::parts_of;
-use plan_record::bodies::slot;
 use plan_slots::tables::fill_reads;
 use plan_slots::tables::list_reads;
+use plan_winners::fill_winners;
+use plan_winners::planned_by;
 use words::clear::clear;
+use words::edition::Edition;
 use words::found::Item;
 use words::found::Lowest;
 use words::units::EMPTY_PIN;
 use words::units::Pin;
+
+// The first words of a room, which are the table of the pins that a part reads.
+pub const PIN_TABLE: usize = 4 * Edition::SLOTS;
 
 // Whether the position that entry w gives is right, where the earlier major stages have n parts.
 fn place_right(d: &[u8], room: &[u32], state: usize, n: usize, w: u32) -> bool
@@ -48,11 +52,11 @@ fn place_right(d: &[u8], room: &[u32], state: usize, n: usize, w: u32) -> bool
 }
 
 // Whether the position of a pin is right, whose entry the table in the first words of the room has.
-fn pin_right(d: &[u8], room: &[u32], state: usize, n: usize, pin: u32) -> bool
-    requires { ⌜ TableSearchable (now d) (now room) state n × (32768 ≤ length (now room)) × WinnerHeld (now d) (now room) pin ⌝ }
-    ensures { λ r. ⌜ r ≡ positionRightIn (now (d .entry)) n (plannedBy (now (d .entry)) (winner (now (d .entry)) pin)) ⌝ }
+fn pin_right(d: &[u8], room: &[u32], state: usize, n: usize, pin: Pin) -> bool
+    requires { ⌜ TableSearchable (now d) (now room) state n × (32768 ≤ length (now room)) × WinnerHeld (now d) (now room) (pin .0) ⌝ }
+    ensures { λ r. ⌜ r ≡ positionRightIn (now (d .entry)) n (plannedBy (now (d .entry)) (winner (now (d .entry)) (pin .0))) ⌝ }
 {
-    match look_up(&room[..32768], Pin(pin)) {
+    match look_up(&room[..PIN_TABLE], pin) {
         Found::Value(w) => place_right(d, room, state, n, w),
         Found::Missing => false,
     }
@@ -65,7 +69,8 @@ fn pins_right(d: &[u8], room: &[u32], state: usize, n: usize, list: &[u64]) -> b
 {
     let mut i = 0;
     while i < list.len() {
-        if !pin_right(d, room, state, n, list[i] as u32) {
+        let pin = list[i] as u32;
+        if !pin_right(d, room, state, n, Pin(pin)) {
             return false;
         }
         i += 1;
@@ -86,8 +91,8 @@ fn slot_right(
     requires { ⌜ SlotsReady (now d) p body (now room) state n × (j < 8192) ⌝ }
     ensures { λ r. ⌜ r ≡ twelveRight (now (d .entry)) p j ⌝ }
 {
-    let pin = slot(d, p, body, 0, 8192 + j);
-    if pin == EMPTY_PIN {
+    let pin = level_slot(d, p, body, 0, j);
+    if pin.0 == EMPTY_PIN {
         return true;
     }
     pin_right(d, room, state, n, pin)
@@ -99,7 +104,7 @@ fn bad_slot(d: &[u8], p: usize, body: Body, room: &[u32], state: usize, n: usize
     ensures { λ r. ⌜ r ≡ itemOf (badSlot (now (d .entry)) p) ⌝ }
 {
     let mut j = 0;
-    while j < 8192 {
+    while j < Edition::SLOTS {
         if !slot_right(d, p, body, room, state, n, j) {
             return Item::At(j);
         }
@@ -162,9 +167,9 @@ fn judge_listed(
     ensures { λ r. ⌜ r ≡ itemOf (badSlot (now (d .entry)) p) ⌝ }
     ensures { λ _. ⌜ now (room .exit) ≡ now (room .entry) ⌝ }
 {
-    let m = list_planned(d, p, body, &mut room[..32768], list);
+    let m = list_planned(d, p, body, &mut room[..PIN_TABLE], list);
     let found = bad_pin(d, p, body, room, state, parts_earlier(d, p), &list[..m]);
-    clear(&mut room[..32768]);
+    clear(&mut room[..PIN_TABLE]);
     found
 }
 
@@ -174,7 +179,7 @@ fn judge_part(d: &[u8], p: usize, body: Body, room: &mut [u32], state: usize) ->
     ensures { λ r. ⌜ r ≡ itemOf (badSlot (now (d .entry)) p) ⌝ }
     ensures { λ _. ⌜ now (room .exit) ≡ now (room .entry) ⌝ }
 {
-    let mut list = [0u64; 8192];
+    let mut list = [0u64; Edition::SLOTS];
     judge_listed(d, p, body, room, state, &mut list)
 }
 

@@ -4,7 +4,7 @@ use mathlib.Core.Path.{_≡_, refl, sym, ap, _∙_}
 use mathlib.Core.Bool.{Bool, true, false}
 use mathlib.Core.Option.{Option, none, some}
 use mathlib.Core.List.{List, [], _∷_, _++_}
-use Prim.Native.Nat.{ℕ, zero, suc, _+_, _^_, _≤_, _<_}
+use Prim.Native.Nat.{ℕ, zero, suc, _+_, _*_, _^_, _≤_, _<_}
 use native.Mathlib.Omega.{arith}
 use lib.Dec.{eqb}
 use lib.ListN.{length, length-append}
@@ -13,23 +13,23 @@ use Rattle.pinmap.specs.declared.Found.{Found}
 use Rattle.pinmap.specs.declared.Found.the-variants.{Value, Missing}
 use Rattle.plan_record.specs.Record.{slotAt}
 use Rattle.words.specs.Pins.{empty}
-use Rattle.plan_positions.specs.Positions.{Planned, inLayout, inPositions, planned}
-use Rattle.plan_positions.specs.declared.winners.Planned as code
-use Rattle.plan_positions.specs.Winners.{winner, plannedBy, positionOf}
-use Rattle.plan_positions.proofs.WinnerLaws.{planned-winner}
+use Rattle.plan_winners.specs.Planned.{Planned, inLayout, inPositions, planned}
+use Rattle.plan_winners.specs.declared.Planned as code
+use Rattle.plan_winners.specs.Winners.{winner, plannedBy, positionOf}
+use Rattle.plan_winners.proofs.WinnerLaws.{planned-winner}
 use Rattle.plan_reads.specs.PartReads.{orZero, askedBy, askedTo}
 use Rattle.plan_reads.specs.ReadsReady.{plannedNumber, Narrow, AllNarrow, EntryOf, Won}
 
 -- ---- the bit of an entry
 
--- entry w gives position x, whose place in the state is q
-module _ (d : List ℕ) (w : ℕ) (e : EntryOf d w) (x : code.Planned) (by : plannedBy d w ≡ some (positionOf x)) (q : ℕ) (is : q ≡ x .place .0) (small : q < 2 ^ 32) where
-  pub entry-unstaged : x .staged ≡ 0 → (q ≡ plannedNumber (plannedBy d w)) × Narrow q
-  entry-unstaged z = (omega (arith, ap plannedNumber by), record { small = omega arith; place = omega arith })
+-- entry w gives position x: it is staged or not, and q is the bit that it asks for
+module _ (d : List ℕ) (w : ℕ) (e : EntryOf d w) (x : code.Planned) (by : plannedBy d w ≡ some (positionOf x)) where
+  pub entry-mark : x .staged < 2
+  entry-mark = omega (arith, e .marked _ by)
 
-  pub entry-staged : (x .staged ≡ 0 → ⊥) → (2 ^ 36 + q ≡ plannedNumber (plannedBy d w)) × Narrow (2 ^ 36 + q)
-  entry-staged z =
-      let one : x .staged ≡ 1 = omega (arith, e .marked _ by, z) in
+  pub entry-bit : (q : ℕ) → q ≡ 2 ^ 36 * x .staged + x .place .0 → x .place .0 < 2 ^ 32 → (q ≡ plannedNumber (plannedBy d w)) × Narrow q
+  entry-bit q is small =
+      let mark = entry-mark in
       (omega (arith, ap plannedNumber by), record { small = omega arith; place = omega arith })
 
 -- ---- what a look into the table of pins tells

@@ -28,7 +28,8 @@ use Rattle.rounds.proofs.RoundsAnswerLaws.{Win, won}
 use Rattle.plan_record.specs.Record.{slotAt, partsOf}
 use Rattle.words.specs.Pins.{empty}
 use Rattle.words.proofs.TestLaws.{lowest-none, not-none}
-use Rattle.plan_positions.specs.Positions.{Planned, planned, positionRight, twelveRight, refusal12}
+use Rattle.plan_positions.specs.Positions.{positionRight, twelveRight, refusal12}
+use Rattle.plan_winners.specs.Planned.{Planned, planned}
 use Rattle.plan_reads.specs.PartReads.{bitNumber, orZero, askedBy, askedTo, readWords, partReads, lanesIn, partLanes, localPosition}
 use Rattle.plan_reads.specs.ReadsReady.{plannedNumber, AllNarrow, AllPlanned, SetInForm}
 use Rattle.plan_reads.specs.Bases.{storeLanes, localBy}

@@ -21,7 +21,7 @@ use Rattle.reads_asked.proofs.AskedFormLaws.{set-length-le}
 use Rattle.words.specs.Pins.{empty}
 use Rattle.plan_slots.specs.Puts.{readPin, firstPins, readPins, AllPins}
 use Rattle.plan_slots.proofs.ListedLaws.{Step, vacant, again, fresh, step, Among, listed-among, FromSlot, listed-from}
-use Rattle.plan_positions.specs.Positions.{Planned, planned}
+use Rattle.plan_winners.specs.Planned.{Planned, planned}
 use Rattle.plan_positions.proofs.PlannedLaws.{list-front}
 use Rattle.plan_reads.specs.PartReads.{askedBy, askedTo, readWords}
 use Rattle.plan_reads.specs.ReadsReady.{plannedNumber, bitsOf, partBits, Narrow, AllNarrow, Won, AllWon, ListWon, AllPlanned, SetRoom}

@@ -1,7 +1,7 @@
 -- What the stores leave at a pair of the lanes: 32·lane and the bits of later rounds, since no pair stands twice. So a requested bit is found at
 -- its local position.
 -- Assumes nothing.
-use mathlib.Core.Path.{_≡_, refl, sym, ap, _∙_}
+use mathlib.Core.Path.{_≡_, refl, sym, ap, ap₂, _∙_}
 use mathlib.Core.Bool.{Bool, true, false}
 use mathlib.Core.Option.{some}
 use mathlib.Core.List.{List, [], _∷_, _++_}
@@ -24,7 +24,7 @@ use Rattle.reads.proofs.SetLaws.{times-here, pair-once}
 use Rattle.reads.proofs.LocalLaws.{Requested, spotted, local-some}
 use Rattle.reads.proofs.SetAnswerLaws.{Sound}
 use Rattle.reads_asked.specs.Rising.{Rising}
-use Rattle.sort.specs.HalfSearch.{Monotone}
+use Rattle.sort.specs.HalfSearch.{Monotone, least}
 use Rattle.sort.proofs.HalfSearchLaws.{least-between, search-found}
 use Rattle.reads_try.specs.TableLanes as decoded
 use Rattle.reads_try.specs.TableLanes.{pairAt, Each, Drawn, SoundLanes}
@@ -223,3 +223,30 @@ module _ (n : ℕ) (ws : List ℕ) (lanes : List Lane) (few : n ≤ 256) (rising
         is = whole ∙ ap orZero (sym at);
         below = omega (arith, whole, here);
       }
+
+-- ---- the pair that a search by halves finds
+
+-- a bit whose word is not above a word of the set has 37 bits
+pub asked-small : (ws bases : List ℕ) (q : ℕ) → Locatable ws bases q → ((i : ℕ) → getD ws i 0 < 2 ^ 32) → q < 2 ^ 37
+asked-small ws bases q l fits =
+    let b = least-between (pairWordOf ws) (length ws / 2) (q / 32) (l .order) in
+    omega (arith, b .over (pairOf ws q) (omega arith) (l .there), fits (2 * pairOf ws q))
+
+-- w is the bit's word, e the pair that is found for it
+module _ (ws bases : List ℕ) (q w e : ℕ) (l : Locatable ws bases q) (word : w ≡ q / 32) (found : e ≡ least (pairWordOf ws) (length ws / 2) w) where
+  found-pair : e ≡ pairOf ws q
+  found-pair = found ∙ ap (least (pairWordOf ws) (length ws / 2)) word
+
+  pub found-in : (2 * e + 1 < length ws) × (e < length bases)
+  found-in = (omega (arith, found-pair, l .there), omega (arith, found-pair, l .there, l .room))
+
+  pub found-base : getD bases e 0 < 8192
+  found-base = rw found-pair (l .small)
+
+  -- m mask bits are above the bit's place k in its word
+  pub found-local : (k m : ℕ) → k ≡ q % 32 → m ≡ pop (getD ws (2 * e + 1) 0 / 2 ^ (k + 1)) → getD bases e 0 + m ≡ localBy ws bases q
+  unfolding localBy
+  found-local k m place above =
+      let base = ap (λ (x : ℕ). getD bases x 0) found-pair in
+      let more = above ∙ ap₂ (λ (x y : ℕ). pop (getD ws (2 * x + 1) 0 / 2 ^ (y + 1))) found-pair place in
+      ap₂ _+_ base more

@@ -25,10 +25,10 @@ use Rattle.words.proofs.TestLaws.{some-at}
 use Rattle.plan_slots.specs.Slots.{readsPin}
 use Rattle.plan_slots.specs.Puts.{readPuts, filled, foundIf}
 use Rattle.plan_slots.proofs.PutLaws.{reads-hold, reads-look, filled-length}
-use Rattle.plan_positions.specs.Positions.{planned}
-use Rattle.plan_positions.specs.Winners.{winner, plannedBy, winnerPuts}
+use Rattle.plan_winners.specs.Planned.{planned}
+use Rattle.plan_winners.specs.Winners.{winner, plannedBy, winnerPuts}
 use Rattle.plan_positions.specs.Places.{plannedTable}
-use Rattle.plan_positions.proofs.WinnerLaws.{winners-look, planned-winner, by-none, renewals-length}
+use Rattle.plan_winners.proofs.WinnerLaws.{winners-look, planned-winner, by-none, renewals-length}
 use Rattle.plan_reads.specs.declared.searched.Reads.the-variants.{Nothing, NoRoom, Rounds}
 use Rattle.plan_reads.specs.ReadsReady.{AllPlanned, AllWon, SetInForm}
 use Rattle.plan_reads.specs.PartReadAnswers.{readsOf}

@@ -7,7 +7,7 @@ use Prim.Native.Nat.{ℕ, _+_, _*_, _<_}
 use lib.Dec.{eqb}
 use Rattle.plan_record.specs.Record.{slotAt}
 use Rattle.words.specs.Pins.{empty}
-use Rattle.plan_positions.specs.Positions.{planned}
+use Rattle.plan_winners.specs.Planned.{planned}
 use Rattle.plan_reads.specs.PartReads.{partLanes, localPosition}
 use Rattle.plan_reads.specs.ReadsReady.{plannedNumber}
 use Rattle.plan_reads.specs.Bases.{localBy, Locatable}

@@ -15,7 +15,7 @@ use Rattle.reads.specs.SetAnswer.{packed}
 use Rattle.plan_record.specs.Record.{slotAt, partsOf}
 use Rattle.words.specs.Pins.{empty}
 use Rattle.words.specs.Tests.{lowest, Place}
-use Rattle.plan_positions.specs.Positions.{Planned, planned}
+use Rattle.plan_winners.specs.Planned.{Planned, planned}
 
 -- the bit of a planned position as one number: 32·word + its place, the word having bit 31 set where staged
 abbrev pub bitNumber : Planned → ℕ

@@ -12,8 +12,9 @@ use Rattle.plan_record.specs.Record.{partsOf, slotAt}
 use Rattle.words.specs.Pins.{empty}
 use Rattle.plan_record.specs.Form.{planForm}
 use Rattle.plan_rows.specs.Rows.{rowBase}
-use Rattle.plan_positions.specs.Positions.{Planned, planned, refusal12}
-use Rattle.plan_positions.specs.Winners.{winner, plannedBy}
+use Rattle.plan_positions.specs.Positions.{refusal12}
+use Rattle.plan_winners.specs.Planned.{Planned, planned}
+use Rattle.plan_winners.specs.Winners.{winner, plannedBy}
 use Rattle.plan_slots.specs.Puts.{readPins}
 use Rattle.plan_reads.specs.PartReads.{bitNumber}
 

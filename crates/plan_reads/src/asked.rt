@@ -5,46 +5,43 @@ ghost use lib.ListN.{length};
 ghost use lib.Seq.{sets};
 ghost use Rattle.pinmap.specs.PinMap.{look};
 ghost use Rattle.plan_record.specs.Body.{BodyOf};
-ghost use Rattle.plan_positions.specs.Positions.{planned};
-ghost use Rattle.plan_positions.specs.Winners.{ListsInRange, plannedBy};
+ghost use Rattle.plan_winners.specs.Planned.{planned};
+ghost use Rattle.plan_winners.specs.Winners.{ListsInRange, plannedBy};
 ghost use Rattle.plan_positions.specs.Places.{plannedTable};
 ghost use Rattle.plan_reads.specs.PartReads.{orZero, askedTo, readWords};
 ghost use Rattle.plan_reads.specs.ReadsReady.{plannedNumber, bitsOf, partBits, Narrow, AllNarrow, EntryOf, Won, ListWon, AllPlanned, SetRoom};
 use pinmap::Found;
 use plan_positions::planned::list_planned;
-use plan_positions::winners::planned_by;
 use plan_record::bodies::Body;
+use plan_winners::planned_by;
+use words::units::AskedBit;
 use words::units::Pin;
 
-// The bit of the position that entry w gives: a staged one's has bit 36, bit 31 of its word.
-pub fn bit_of_entry(d: &[u8], w: u32) -> u64
+// The bit of the position that entry w gives.
+fn bit_of_entry(d: &[u8], w: u32) -> AskedBit
     requires { ⌜ EntryOf (now d) w ⌝ }
-    ensures { λ r. ⌜ (r ≡ plannedNumber (plannedBy (now (d .entry)) w)) × Narrow r ⌝ }
+    ensures { λ r. ⌜ (r .0 ≡ plannedNumber (plannedBy (now (d .entry)) w)) × Narrow (r .0) ⌝ }
 {
     let x = planned_by(d, w);
     let place = x.place;
-    let bit = place.0 as u64;
-    if x.staged == 0 {
-        return bit;
-    }
-    0x10_0000_0000 + bit
+    place.asked(x.staged)
 }
 
 // The entry that wins for a pin, 0 where the table has none.
-fn entry_of(pins: &[u32], pin: u32) -> u32
-    requires { ⌜ pin < 2 ^ 32 - 1 ⌝ }
-    ensures { λ r. ⌜ r ≡ orZero (look (now (pins .entry)) pin) ⌝ }
+fn entry_of(pins: &[u32], pin: Pin) -> u32
+    requires { ⌜ pin .0 < 2 ^ 32 - 1 ⌝ }
+    ensures { λ r. ⌜ r ≡ orZero (look (now (pins .entry)) (pin .0)) ⌝ }
 {
-    match pinmap::look_up(pins, Pin(pin)) {
+    match pinmap::look_up(pins, pin) {
         Found::Value(w) => w,
         Found::Missing => 0,
     }
 }
 
 // The bit of a pin that has a winner.
-pub fn bit_of_pin(d: &[u8], pins: &[u32], pin: u32) -> u64
-    requires { ⌜ (pin < 2 ^ 32 - 1) × Won (now d) (now pins) pin ⌝ }
-    ensures { λ r. ⌜ (r ≡ plannedNumber (planned (now (d .entry)) pin)) × Narrow r ⌝ }
+pub fn bit_of_pin(d: &[u8], pins: &[u32], pin: Pin) -> AskedBit
+    requires { ⌜ (pin .0 < 2 ^ 32 - 1) × Won (now d) (now pins) (pin .0) ⌝ }
+    ensures { λ r. ⌜ (r .0 ≡ plannedNumber (planned (now (d .entry)) (pin .0))) × Narrow (r .0) ⌝ }
 {
     bit_of_entry(d, entry_of(pins, pin))
 }
@@ -57,7 +54,9 @@ fn ask_bits(d: &[u8], pins: &[u32], keys: &mut [u64])
 {
     let mut i = 0;
     while i < keys.len() {
-        keys[i] = bit_of_pin(d, pins, keys[i] as u32);
+        let pin = keys[i] as u32;
+        let bit = bit_of_pin(d, pins, Pin(pin));
+        keys[i] = bit.0;
         i += 1;
     }
 }

@@ -5,7 +5,7 @@ ghost use lib.ListN.{length, set};
 ghost use Rattle.plan_record.specs.Body.{BodyOf};
 ghost use Rattle.plan_rows.specs.Columns as col;
 ghost use Rattle.plan_rows.specs.Rows.{cell};
-ghost use Rattle.plan_positions.specs.Winners.{ListsInRange};
+ghost use Rattle.plan_winners.specs.Winners.{ListsInRange};
 ghost use Rattle.plan_reads.specs.PartReads.{partReads, refusedReads};
 ghost use Rattle.plan_reads.specs.ReadsReady.{AllPlanned, SetRoom, ClearRoom, ReadsSearchable};
 ghost use Rattle.plan_reads.specs.PartReadAnswers.{readsOf, isNothing, earlierOf, fullAfter, checkedOf, roundsKept, searchedRoom};

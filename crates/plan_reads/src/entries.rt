@@ -9,8 +9,10 @@ ghost use Rattle.plan_reads.specs.Entries.{firstEntry, AllNumbered};
 use crate::asked::bit_of_pin;
 use crate::local::local_position;
 use plan_record::bodies::Body;
-use plan_record::bodies::slot;
+use plan_record::bodies::level_slot;
+use words::edition::Edition;
 use words::units::EMPTY_PIN;
+use words::units::LocalPosition;
 
 // The entry of slot i: 0 where it is empty.
 fn first_entry(
@@ -21,13 +23,13 @@ fn first_entry(
     set: &[u32],
     bases: &[u32],
     i: usize,
-) -> u32
+) -> LocalPosition
     requires { ⌜ BodyOf (now d) p body × (0 < body .stages) × (i < 8192) × AllWon (now d) p (now pins) × AllNumbered 256 (now d) p (now set) (now bases) ⌝ }
-    ensures { λ r. ⌜ (r ≡ firstEntry 256 (now (d .entry)) p i) × (r < 8192) ⌝ }
+    ensures { λ r. ⌜ (r .0 ≡ firstEntry 256 (now (d .entry)) p i) × (r .0 < 8192) ⌝ }
 {
-    let pin = slot(d, p, body, 0, 8192 + i);
-    if pin == EMPTY_PIN {
-        return 0;
+    let pin = level_slot(d, p, body, 0, i);
+    if pin.0 == EMPTY_PIN {
+        return LocalPosition(0);
     }
     local_position(set, bases, bit_of_pin(d, pins, pin))
 }
@@ -47,8 +49,9 @@ pub fn first_entries(
     ensures { λ _. ⌜ ((i : ℕ) → i < 8192 → firstEntry 256 (now (d .entry)) p i < 8192) ⌝ }
 {
     let mut i = 0;
-    while i < 8192 {
-        entries[i] = first_entry(d, p, body, pins, set, bases, i);
+    while i < Edition::SLOTS {
+        let entry = first_entry(d, p, body, pins, set, bases, i);
+        entries[i] = entry.0;
         i += 1;
     }
 }

@@ -7,6 +7,8 @@ ghost use Rattle.reads_try.specs.TableLanes.{laneOf, rowAt, lanesAt};
 ghost use Rattle.reads_try.specs.Tries.{LaneRowIn};
 ghost use Rattle.reads_section.specs.Readout.{TableReadable};
 ghost use Rattle.plan_reads.specs.Bases.{storeLane, storeLanes, pairWordOf, localBy, Locatable};
+use words::units::AskedBit;
+use words::units::LocalPosition;
 
 // The pairs of lane j: each begins after the bits of later rounds, so the row is walked from its end.
 fn lane_bases(set: &[u32], table: &[u32], j: usize, bases: &mut [u32])
@@ -15,7 +17,8 @@ fn lane_bases(set: &[u32], table: &[u32], j: usize, bases: &mut [u32])
 {
     let held = reads_try::lane_load(set, table, j);
     let mut r = held.pairs;
-    let mut sum = 32 * (j as u32);
+    let first = LocalPosition::of(j as u32, 0);
+    let mut sum = first.0;
     while 0 < r {
         r -= 1;
         let e = table[32 * j + r] as usize;
@@ -37,7 +40,7 @@ pub fn fill_bases(set: &[u32], table: &[u32], lanes: usize, bases: &mut [u32])
 }
 
 // The first pair whose word is w or above.
-fn find_pair(set: &[u32], w: u64) -> usize
+fn find_pair(set: &[u32], w: u32) -> usize
     requires { ⌜ Monotone (pairWordOf (now set)) (length (now set) / 2) ⌝ }
     ensures { λ r. ⌜ (r ≡ least (pairWordOf (now (set .entry))) (length (now (set .entry)) / 2) w) × (r ≤ length (now (set .entry)) / 2) ⌝ }
 {
@@ -45,7 +48,7 @@ fn find_pair(set: &[u32], w: u64) -> usize
     let mut high = set.len() / 2;
     while low < high {
         let middle = low + (high - low) / 2;
-        if (set[2 * middle] as u64) < w {
+        if set[2 * middle] < w {
             low = middle + 1;
         } else {
             high = middle;
@@ -55,10 +58,12 @@ fn find_pair(set: &[u32], w: u64) -> usize
 }
 
 // The local position of bit q, which the set asks for.
-pub fn local_position(set: &[u32], bases: &[u32], q: u64) -> u32
-    requires { ⌜ Locatable (now set) (now bases) q ⌝ }
-    ensures { λ r. ⌜ r ≡ localBy (now (set .entry)) (now (bases .entry)) q ⌝ }
+pub fn local_position(set: &[u32], bases: &[u32], q: AskedBit) -> LocalPosition
+    requires { ⌜ Locatable (now set) (now bases) (q .0) ⌝ }
+    ensures { λ r. ⌜ r .0 ≡ localBy (now (set .entry)) (now (bases .entry)) (q .0) ⌝ }
 {
-    let e = find_pair(set, q / 32);
-    bases[e] + words::bits::count_above(set[2 * e + 1], (q % 32) as u32)
+    let e = find_pair(set, q.word());
+    let above = words::bits::count_above(set[2 * e + 1], q.bit());
+    let place = bases[e] + above;
+    LocalPosition(place)
 }

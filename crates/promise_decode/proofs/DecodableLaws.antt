@@ -23,8 +23,10 @@ use Rattle.plan_record.proofs.PlanFormLaws.{formed}
 use Rattle.plan_counts.specs.Counts.{refusal7}
 use Rattle.plan_counts.proofs.PartCountLaws.{counts-passed}
 use Rattle.plan_blocks.specs.Blocks.{totalsFit}
-use Rattle.plan_positions.specs.Positions.{planned, refusal12, refusal13}
-use Rattle.plan_positions.proofs.PositionLaws.{sram-entry, enable-entry}
+use Rattle.plan_positions.specs.Positions.{refusal12}
+use Rattle.plan_winners.specs.Planned.{planned}
+use Rattle.plan_entries.specs.TableEntries.{refusal13}
+use Rattle.plan_entries.proofs.TableEntryLaws.{sram-entry, enable-entry}
 use Rattle.plan_reads.specs.PartReads.{readWords, partReads, partLanes, localPosition}
 use Rattle.plan_reads.proofs.FirstEntryLaws.{part-found, part-numbered, all-planned}
 use Rattle.script.specs.Script.{pinEntry, stageEntry}

@@ -32,7 +32,8 @@ use Rattle.words.specs.Pins.{empty}
 use Rattle.plan_blocks.specs.Blocks.{stateOf, stateWords, totalsFit}
 use Rattle.plan_blocks.proofs.MajorStageLaws.{totals-fit}
 use Rattle.plan_blocks.proofs.StateStartLaws.{state-mono}
-use Rattle.plan_positions.specs.Positions.{Planned, planned, majorOf, refusal12}
+use Rattle.plan_positions.specs.Positions.{majorOf, refusal12}
+use Rattle.plan_winners.specs.Planned.{Planned, planned}
 use Rattle.plan_positions.proofs.MajorLaws.{MajorAt, major-at}
 use Rattle.plan_positions.proofs.PositionLaws.{RightlyPlanned, read-planned}
 use Rattle.plan_positions.proofs.PlannedLaws.{slot-read}

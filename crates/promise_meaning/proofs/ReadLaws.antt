@@ -31,7 +31,8 @@ use Rattle.plan_counts.proofs.PartCountLaws.{counts-passed}
 use Rattle.plan_blocks.specs.Blocks.{stateOf, stateWords}
 use Rattle.plan_blocks.proofs.TotalLaws.{sum-most}
 use Rattle.plan_blocks.proofs.StateStartLaws.{state-mono}
-use Rattle.plan_positions.specs.Positions.{Planned, planned, majorOf}
+use Rattle.plan_positions.specs.Positions.{majorOf}
+use Rattle.plan_winners.specs.Planned.{Planned, planned}
 use Rattle.plan_positions.specs.Input.{plannedBit, input}
 use Rattle.plan_positions.proofs.MajorLaws.{major-at}
 use Rattle.plan_positions.proofs.PositionLaws.{RightlyPlanned, read-planned, input-read, bit-unstaged, bit-staged}

@@ -65,36 +65,35 @@ module _ (set′ : List ℕ) (n q : ℕ) (a : AskableNext set′ n q) where
   last-is : 2 ≤ n → getD (take n set′) (length (take n set′) - 2) 0 ≡ getD set′ (n - 2) 0
   last-is h = rw whole (getD-take n set′ (n - 2) 0 (omega arith))
 
-  pub next-joins : (m : ℕ) → m ≡ 2 ^ (q % 32) → 2 ≤ n → getD set′ (n - 2) 0 ≡ q / 32
+  pub next-joins : (w m : ℕ) → w ≡ q / 32 → m ≡ 2 ^ (q % 32) → 2 ≤ n → getD set′ (n - 2) 0 ≡ w
       → (n ≡ length (ask q (take n set′))) × (set set′ (n - 1) (bitOr (getD set′ (n - 1) 0) m) ≡ sets set′ 0 (ask q (take n set′)))
   unfolding withBit
-  next-joins m em h e =
+  next-joins w m ew em h e =
       let s = take n set′ in
       let v = bitOr (getD set′ (n - 1) 0) m in
-      let asked : ask q s ≡ set s (n - 1) v = ask-last 0 q s (a .rising) (omega (arith, whole)) (last-is h ∙ e) ∙ rw (whole, getD-take n set′ (n - 1) 0 (omega arith), ← em) in (
+      let asked : ask q s ≡ set s (n - 1) v = ask-last 0 q s (a .rising) (omega (arith, whole)) (last-is h ∙ e ∙ ew) ∙ rw (whole, getD-take n set′ (n - 1) 0 (omega arith), ← em) in (
         sym (ap length asked ∙ length-set s (n - 1) v ∙ whole),
         sym (ap (sets set′ 0) asked ∙ front-set set′ n (n - 1) v (omega arith) (omega (arith, a .room))),
       )
 
-  pub next-new : (m : ℕ) → m ≡ 2 ^ (q % 32) → (getD set′ (n - 2) 0 ≡ q / 32 → ⊥) ⊎ (n < 2)
-      → (n + 2 ≡ length (ask q (take n set′))) × (set (set set′ n (q / 32)) (n + 1) m ≡ sets set′ 0 (ask q (take n set′)))
-  next-new m em h =
+  pub next-new : (w m : ℕ) → w ≡ q / 32 → m ≡ 2 ^ (q % 32) → (getD set′ (n - 2) 0 ≡ w → ⊥) ⊎ (n < 2)
+      → (n + 2 ≡ length (ask q (take n set′))) × (set (set set′ n w) (n + 1) m ≡ sets set′ 0 (ask q (take n set′)))
+  next-new w m ew em h =
       let s = take n set′ in
-      let w = q / 32 in
-      let asked : ask q s ≡ s ++ (w ∷ m ∷ []) = rw em (ask-end 0 q s (a .rising) (above h)) in (
+      let asked : ask q s ≡ s ++ (w ∷ m ∷ []) = rw (ew, em) (ask-end 0 q s (a .rising) (above h)) in (
         sym (ap length asked ∙ length-append s (w ∷ m ∷ []) ∙ ap (λ (k : ℕ). k + 2) whole),
         rw add-one (sym (ap (sets set′ 0) asked ∙ front-take set′ n (w ∷ m ∷ []) (omega (arith, a .room)))),
       )
     where
-      above : (getD set′ (n - 2) 0 ≡ q / 32 → ⊥) ⊎ (n < 2) → 2 ≤ length (take n set′) → getD (take n set′) (length (take n set′) - 2) 0 < q / 32
+      above : (getD set′ (n - 2) 0 ≡ w → ⊥) ⊎ (n < 2) → 2 ≤ length (take n set′) → getD (take n set′) (length (take n set′) - 2) 0 < q / 32
       above (inl d) l =
           let two : 2 ≤ n = omega (arith, whole) in
-          omega (arith, last-is two, a .last (omega arith), d)
+          omega (arith, last-is two, a .last (omega arith), d, ew)
       above (inr few) l = absurd (omega (arith, whole))
 
--- the mask as the machine shifts it
-pub bit-mask-is : (q : ℕ) → (1 * 2 ^ (q % 32)) % 2 ^ 32 ≡ 2 ^ (q % 32)
-bit-mask-is q = shl-exact {a = 1} 1 (q % 32) 32 (omega arith) (omega arith) ∙ one-mul (2 ^ (q % 32))
+-- the mask of a bit's place k in its word, as the machine shifts it
+pub bit-mask-is : (q k : ℕ) → k ≡ q % 32 → (1 * 2 ^ k) % 2 ^ 32 ≡ 2 ^ (q % 32)
+bit-mask-is q k e = rw e (shl-exact {a = 1} 1 (q % 32) 32 (omega arith) (omega arith) ∙ one-mul (2 ^ (q % 32)))
 
 -- ---- one bit after the other
 

@@ -1,4 +1,4 @@
-// The read set that asks for given bits. A bit is one number, 32·word + its place in the word; the word has bit 31 set for a staged position.
+// The read set that asks for given bits, each an `AskedBit` of `words`.
 ghost use mathlib.Core.Path.{_≡_};
 ghost use mathlib.Core.List.{_++_};
 ghost use lib.ListN.{length, take, drop, replicate};
@@ -6,15 +6,16 @@ ghost use lib.Seq.{sets};
 ghost use Rattle.reads.specs.Asked.{ask, readSetOf};
 ghost use Rattle.sort.specs.Sorted.{sortOf};
 ghost use Rattle.reads_asked.specs.Rising.{AskableNext, Gatherable, Settable};
+use words::units::AskedBit;
 
 // Asks for bit q too, in the set of the first n words, whose last word is not above q's. Returns how many words the set then has.
-fn ask_next(set: &mut [u32], n: usize, q: u64) -> usize
-    requires { ⌜ AskableNext (now set) n q ⌝ }
-    ensures { λ r. ⌜ r ≡ length (ask q (take n (now (set .entry)))) ⌝ }
-    ensures { λ _. ⌜ now (set .exit) ≡ sets (now (set .entry)) 0 (ask q (take n (now (set .entry)))) ⌝ }
+fn ask_next(set: &mut [u32], n: usize, q: AskedBit) -> usize
+    requires { ⌜ AskableNext (now set) n (q .0) ⌝ }
+    ensures { λ r. ⌜ r ≡ length (ask (q .0) (take n (now (set .entry)))) ⌝ }
+    ensures { λ _. ⌜ now (set .exit) ≡ sets (now (set .entry)) 0 (ask (q .0) (take n (now (set .entry)))) ⌝ }
 {
-    let word = (q / 32) as u32;
-    let mask = 1u32 << (q % 32);
+    let word = q.word();
+    let mask = 1u32 << q.bit();
     if 2 <= n {
         if set[n - 2] == word {
             set[n - 1] = set[n - 1] | mask;
@@ -35,7 +36,7 @@ fn gather(keys: &[u64], set: &mut [u32]) -> usize
     let mut n = 0;
     let mut i = 0;
     while i < keys.len() {
-        n = ask_next(set, n, keys[i]);
+        n = ask_next(set, n, AskedBit(keys[i]));
         i += 1;
     }
     n

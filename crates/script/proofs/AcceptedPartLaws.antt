@@ -16,7 +16,7 @@ use Rattle.words.proofs.TestLaws.{first-all, lowest-none}
 use Rattle.plan_gates.specs.Gates.{badGate}
 use Rattle.plan_counts.specs.Counts.{refusal7}
 use Rattle.plan_counts.proofs.PartCountLaws.{counts-passed}
-use Rattle.plan_positions.specs.Positions.{thirteenRight, refusal13}
+use Rattle.plan_entries.specs.TableEntries.{thirteenRight, refusal13}
 use Rattle.script.specs.Writers.{AcceptedPart}
 
 sram-item : (d : List ℕ) (p i : ℕ) → i < 8192 → thirteenRight d p i ≡ leb (tableAt d p i) 8191

@@ -17,7 +17,7 @@ use Rattle.words.specs.Pins.{empty}
 use Rattle.plan_gates.specs.Gates.{gateOf}
 use Rattle.plan_counts.specs.Counts.{srams, duplicates, writeOuts}
 use Rattle.plan_slots.specs.Slots.{slotA, highest}
-use Rattle.plan_positions.specs.Positions.{planned}
+use Rattle.plan_winners.specs.Planned.{planned}
 use Rattle.plan_reads.specs.PartReads.{partLanes, localPosition}
 
 -- ---- "Words 0..7: boomerang stages; 0, or 1 on the last part of a block; write-out words; state start; SRAMs; SRAM start; rounds; duplicate words."

@@ -20,9 +20,9 @@ use Rattle.rounds.specs.Rounds.{tableAfter, Solvable}
 use Rattle.rounds.proofs.RoundsAnswerLaws.{Win}
 use Rattle.plan_record.specs.declared.bodies.Body.{Body}
 use Rattle.plan_record.proofs.PlanFormLaws.{formed}
-use Rattle.plan_positions.specs.Winners.{ListsInRange}
+use Rattle.plan_winners.specs.Winners.{ListsInRange}
 use Rattle.plan_positions.specs.Places.{plannedTable}
-use Rattle.plan_positions.proofs.WinnerLaws.{listed}
+use Rattle.plan_winners.proofs.WinnerLaws.{listed}
 use Rattle.plan_reads.specs.PartReads.{askedTo, readWords, partLanes}
 use Rattle.plan_reads.specs.ReadsReady.{AllNarrow, AllPlanned, AllWon, SetRoom}
 use Rattle.plan_reads.specs.Bases.{storeLanes}

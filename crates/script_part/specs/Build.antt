@@ -18,7 +18,8 @@ use Rattle.plan_record.specs.Form.{planForm}
 use Rattle.plan_record.specs.Body.{BodyOf}
 use Rattle.plan_gates.specs.Gates.{badGate}
 use Rattle.plan_counts.specs.Counts.{refusal7}
-use Rattle.plan_positions.specs.Positions.{refusal12, refusal13}
+use Rattle.plan_positions.specs.Positions.{refusal12}
+use Rattle.plan_entries.specs.TableEntries.{refusal13}
 use Rattle.plan_positions.specs.Places.{plannedTable}
 use Rattle.plan_reads.specs.PartReads.{readWords, partReads, partLanes}
 use Rattle.plan_reads.specs.ReadsReady.{SetRoom}

@@ -15,6 +15,7 @@ ghost use Rattle.plan_reads.specs.Entries.{AllNumbered};
 ghost use Rattle.script.specs.Script.{stageSection, partScript};
 ghost use Rattle.script.specs.Writers.{NumbersOf};
 ghost use Rattle.script_part.specs.Build.{Buildable, FoundRoom, ReadsRoom, FrontRoom};
+use plan_positions::planned::PIN_TABLE;
 use plan_reads::asked::part_set;
 use plan_reads::entries::first_entries;
 use plan_reads::local::fill_bases;
@@ -26,6 +27,17 @@ use script_sections::parts::write_script;
 use script_sections::stages::write_stage;
 use words::clear::clear;
 use words::edition::Edition;
+
+// The words of a round of the read section, and of a stage's section.
+const ROUND_SECTION: usize = 2 * Edition::LANES;
+
+const STAGE_SECTION: usize = 20 * Edition::LANES;
+
+// The words of the room that a part is built in: the table of its pins, and the table of its lanes.
+const BUILD_ROOM: usize = PIN_TABLE + Edition::SLOTS;
+
+// The words of the room that are zero before a part is built and after.
+const CLEAR_ROOM: usize = 8 * Edition::SLOTS;
 
 // The part's read set, from the start of `set`, and how many words it has. The room then has the winners of the part's pins, and behind them its
 // lanes. What keys and scratch hold afterwards is left open.
@@ -44,8 +56,14 @@ fn find_reads(
     ensures { λ _. ⌜ now (set .exit) ≡ sets (now (set .entry)) 0 (readWords (now (d .entry)) p) ⌝ }
     ensures { λ _. ⌜ AllNarrow (askedTo (now (d .entry)) p 8192) ⌝ }
 {
-    let n = part_set(d, p, body, &mut room[..32768], keys, scratch, set);
-    search_set(&set[..n], &mut room[32768..], keys, scratch, Edition::LANES);
+    let n = part_set(d, p, body, &mut room[..PIN_TABLE], keys, scratch, set);
+    search_set(
+        &set[..n],
+        &mut room[PIN_TABLE..],
+        keys,
+        scratch,
+        Edition::LANES,
+    );
     n
 }
 
@@ -96,13 +114,19 @@ fn write_front(
     ensures { λ _. ⌜ rounds ≤ 32 ⌝ }
 {
     let n = find_reads(d, p, body, room, keys, scratch, set);
-    let reads = 512 * rounds;
-    write_reads(&set[..n], &room[32768..], rounds, bases, &mut out[..reads]);
+    let reads = ROUND_SECTION * rounds;
+    write_reads(
+        &set[..n],
+        &room[PIN_TABLE..],
+        rounds,
+        bases,
+        &mut out[..reads],
+    );
     write_first(
         d,
         p,
         body,
-        &room[..32768],
+        &room[..PIN_TABLE],
         &set[..n],
         bases,
         entries,
@@ -116,11 +140,11 @@ fn build_front(d: &[u8], p: usize, body: Body, rounds: usize, room: &mut [u32], 
     ensures { λ _. ⌜ now (out .exit) ≡ readSection (partLanes 256 (now (d .entry)) p) ++ stageSection 256 (now (d .entry)) p 0 ⌝ }
     ensures { λ _. ⌜ rounds ≤ 32 ⌝ }
 {
-    let mut keys = [0u64; 8192];
-    let mut scratch = [0u64; 8192];
-    let mut set = [0u32; 16384];
-    let mut bases = [0u32; 8192];
-    let mut entries = [0u32; 8192];
+    let mut keys = [0u64; Edition::SLOTS];
+    let mut scratch = [0u64; Edition::SLOTS];
+    let mut set = [0u32; 2 * Edition::SLOTS];
+    let mut bases = [0u32; Edition::SLOTS];
+    let mut entries = [0u32; Edition::SLOTS];
     write_front(
         d,
         p,
@@ -142,9 +166,9 @@ fn write_words(d: &[u8], p: usize, body: Body, x: Numbers, room: &mut [u32], out
     ensures { λ _. ⌜ now (out .exit) ≡ partScript 256 (now (d .entry)) p (x .last) (x .state) (x .sram) ⌝ }
 {
     let rounds = x.rounds as usize;
-    let to = 256 + 512 * rounds + 5120;
-    build_front(d, p, body, rounds, room, &mut out[256..to]);
-    write_script(d, p, body, x, &mut room[..32768], out);
+    let to = Edition::LANES + ROUND_SECTION * rounds + STAGE_SECTION;
+    build_front(d, p, body, rounds, room, &mut out[Edition::LANES..to]);
+    write_script(d, p, body, x, &mut room[..PIN_TABLE], out);
 }
 
 // Writes the script of part p. The first 65536 words of the room are zero afterwards, the others as they were.
@@ -153,6 +177,6 @@ pub fn build_script(d: &[u8], p: usize, body: Body, x: Numbers, room: &mut [u32]
     ensures { λ _. ⌜ now (out .exit) ≡ partScript 256 (now (d .entry)) p (x .last) (x .state) (x .sram) ⌝ }
     ensures { λ _. ⌜ now (room .exit) ≡ replicate 65536 0 ++ drop 65536 (now (room .entry)) ⌝ }
 {
-    write_words(d, p, body, x, &mut room[..40960], out);
-    clear(&mut room[..65536]);
+    write_words(d, p, body, x, &mut room[..BUILD_ROOM], out);
+    clear(&mut room[..CLEAR_ROOM]);
 }

@@ -25,11 +25,11 @@ use Rattle.words.specs.Tests.{someBelow}
 use Rattle.plan_slots.specs.Slots.{readsPin}
 use Rattle.plan_slots.specs.Puts.{filled}
 use Rattle.plan_slots.proofs.PutLaws.{puts-after, puts-length}
-use Rattle.plan_positions.specs.Positions.{planned}
-use Rattle.plan_positions.specs.Winners.{winner, plannedBy}
+use Rattle.plan_winners.specs.Planned.{planned}
+use Rattle.plan_winners.specs.Winners.{winner, plannedBy}
 use Rattle.plan_positions.specs.Places.{plannedTable}
 use Rattle.plan_positions.specs.Input.{plannedBit, input}
-use Rattle.plan_positions.proofs.WinnerLaws.{by-none, planned-winner}
+use Rattle.plan_winners.proofs.WinnerLaws.{by-none, planned-winner}
 use Rattle.plan_positions.proofs.PlannedLaws.{slot-read, planned-look, planned-length}
 use Rattle.values.specs.Known.{heldBit, foundPut, foundBelow, bitPuts, knownPuts, Clear, WinnersTabled}
 use Rattle.values.proofs.PlannedBitLaws.{bit-none, planned-lt}

@@ -4,19 +4,25 @@ use mathlib.Core.Path.{_≡_, refl, sym, ap, _∙_}
 use mathlib.Core.Bool.{Bool, true, false}
 use mathlib.Core.Option.{Option, none, some}
 use mathlib.Core.List.{List}
-use Prim.Native.Nat.{ℕ, _/_, _%_, _≤_, _<_}
+use Prim.Native.Nat.{ℕ, _/_, _%_, _^_, _≤_, _<_}
 use native.Mathlib.Omega.{arith}
 use borrow.Author.Tests.{eq-eqb, ne-eqb}
+use lib.Bits.{bitAnd, and-mask}
 use lib.Dec.{eqb}
-use lib.ListN.{length, List·getD-eq-default}
+use lib.ListN.{length, getD, List·getD-eq-default}
 use Rattle.words.specs.Bit.{bit, bitAt}
 use Rattle.words.proofs.BitLaws.{bit-zero, at-lt}
-use Rattle.plan_positions.specs.Positions.{Planned}
-use Rattle.plan_positions.specs.declared.winners.Planned as code
-use Rattle.plan_positions.specs.Winners.{plannedBy, positionOf}
+use Rattle.plan_winners.specs.Planned.{Planned}
+use Rattle.plan_winners.specs.declared.Planned as code
+use Rattle.plan_winners.specs.Winners.{plannedBy, positionOf}
 use Rattle.plan_positions.specs.Input.{plannedBit}
 
 -- ---- bits of a state
+
+-- the code reads bit k of word w, where these are the position's
+pub state-bit-is : (l : List ℕ) (p w k : ℕ) → w ≡ p / 32 → k ≡ p % 32 → bitAnd (getD l w 0 / 2 ^ k) 1 ≡ bitAt l p
+unfolding bit bitAt
+state-bit-is l p w k word place = rw (word, place) (and-mask _ 1)
 
 pub beyond : (l : List ℕ) (p : ℕ) → length l ≤ p / 32 → 0 ≡ bitAt l p
 unfolding bitAt
@@ -46,10 +52,10 @@ module _ (old new : List ℕ) where
       go true e = let k : bitAt old (y .place) ≡ v = cc in omega (arith, at-lt old (y .place), k)
       go false e = let k : bitAt new (y .place) ≡ v = cc in omega (arith, at-lt new (y .place), k)
 
--- entry w gives position x, which is a in the state
-module _ (d old new : List ℕ) (w : ℕ) (x : code.Planned) (by : plannedBy d w ≡ some (positionOf x)) (a : ℕ) (is : a ≡ x .place .0) (r : ℕ) where
-  pub unstaged-bit : x .staged ≡ 0 → r ≡ bitAt old a → some r ≡ plannedBit old new (plannedBy d w)
-  unstaged-bit h e = ap some (e ∙ ap (bitAt old) is) ∙ sym (ap (plannedBit old new) by ∙ bit-old old new (positionOf x) h)
+-- entry w gives position x
+module _ (d old new : List ℕ) (w : ℕ) (x : code.Planned) (by : plannedBy d w ≡ some (positionOf x)) (r : ℕ) where
+  pub unstaged-bit : x .staged ≡ 0 → r ≡ bitAt old (x .place .0) → some r ≡ plannedBit old new (plannedBy d w)
+  unstaged-bit h e = ap some e ∙ sym (ap (plannedBit old new) by ∙ bit-old old new (positionOf x) h)
 
-  pub staged-bit : (x .staged ≡ 0 → ⊥) → r ≡ bitAt new a → some r ≡ plannedBit old new (plannedBy d w)
-  staged-bit h e = ap some (e ∙ ap (bitAt new) is) ∙ sym (ap (plannedBit old new) by ∙ bit-new old new (positionOf x) h)
+  pub staged-bit : (x .staged ≡ 0 → ⊥) → r ≡ bitAt new (x .place .0) → some r ≡ plannedBit old new (plannedBy d w)
+  staged-bit h e = ap some e ∙ sym (ap (plannedBit old new) by ∙ bit-new old new (positionOf x) h)

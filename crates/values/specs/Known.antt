@@ -14,7 +14,7 @@ use Rattle.words.specs.Pins.{empty}
 use Rattle.plan_record.specs.Form.{planForm}
 use Rattle.plan_record.specs.Body.{BodyOf}
 use Rattle.plan_gates.specs.Gates.{badGate}
-use Rattle.plan_positions.specs.Positions.{planned}
+use Rattle.plan_winners.specs.Planned.{planned}
 use Rattle.plan_positions.specs.Places.{plannedTable}
 use Rattle.plan_positions.specs.Input.{plannedBit}
 

@@ -11,31 +11,33 @@ ghost use Rattle.plan_record.specs.Record.{partsOf, slotAt};
 ghost use Rattle.plan_record.specs.Form.{planForm};
 ghost use Rattle.plan_record.specs.Body.{BodyOf};
 ghost use Rattle.plan_slots.specs.Puts.{filled};
-ghost use Rattle.plan_positions.specs.Winners.{plannedBy};
+ghost use Rattle.plan_winners.specs.Winners.{plannedBy};
 ghost use Rattle.plan_positions.specs.Input.{plannedBit};
 ghost use Rattle.values.specs.Known.{heldBit, foundPut, bitPuts, knownPuts, Clear, WinnersTabled};
 use pinmap::Found;
 use pinmap::look_up;
+use plan_positions::planned::PIN_TABLE;
 use plan_positions::planned::fill_planned;
-use plan_positions::winners::planned_by;
 use plan_record::bodies::Body;
 use plan_record::bodies::body_at;
 use plan_record::bodies::first_body;
+use plan_record::bodies::level_slot;
 use plan_record::bodies::parts_of;
-use plan_record::bodies::slot;
-use words::bits::bit_at;
+use plan_winners::planned_by;
+use words::edition::Edition;
 use words::units::EMPTY_PIN;
 use words::units::Pin;
+use words::units::StatePosition;
 
 // The bit at a position of a state; 0 beyond its end.
-fn state_bit(state: &[u32], at: usize) -> u32
-    ensures { λ r. ⌜ r ≡ bitAt (now (state .entry)) at ⌝ }
+fn state_bit(state: &[u32], at: StatePosition) -> u32
+    ensures { λ r. ⌜ r ≡ bitAt (now (state .entry)) (at .0) ⌝ }
 {
-    if at / 32 < state.len() {
-        bit_at(state, at)
-    } else {
-        0
+    let word = at.word() as usize;
+    if word < state.len() {
+        return (state[word] >> at.bit()) & 1;
     }
+    0
 }
 
 // The bit that entry w gives: a staged one is in the new state.
@@ -44,8 +46,7 @@ fn planned_bit(d: &[u8], old: &[u32], new: &[u32], w: u32) -> u32
     ensures { λ r. ⌜ some r ≡ plannedBit (now (old .entry)) (now (new .entry)) (plannedBy (now (d .entry)) w) ⌝ }
 {
     let x = planned_by(d, w);
-    let place = x.place;
-    let at = place.0 as usize;
+    let at = x.place;
     if x.staged == 0 {
         return state_bit(old, at);
     }
@@ -76,12 +77,12 @@ fn put_slot_bit(
     requires { ⌜ WinnersTabled (now d) p body (now room) × (j < 8192) ⌝ }
     ensures { λ _. ⌜ now (room .exit) ≡ afterPuts (take 32768 (now (room .entry))) (foundPut (slotAt (now (d .entry)) p 0 (8192 + j)) (heldBit (now (d .entry)) (now (old .entry)) (now (new .entry)) (slotAt (now (d .entry)) p 0 (8192 + j)))) ++ drop 32768 (now (room .entry)) ⌝ }
 {
-    let pin = slot(d, p, body, 0, 8192 + j);
-    if pin == EMPTY_PIN {
+    let pin = level_slot(d, p, body, 0, j);
+    if pin.0 == EMPTY_PIN {
         return;
     }
-    match look_up(&room[32768..], Pin(pin)) {
-        Found::Value(w) => put_planned(d, old, new, &mut room[..32768], Pin(pin), w),
+    match look_up(&room[PIN_TABLE..], pin) {
+        Found::Value(w) => put_planned(d, old, new, &mut room[..PIN_TABLE], pin, w),
         Found::Missing => {}
     }
 }
@@ -91,9 +92,9 @@ fn fill_part(d: &[u8], p: usize, body: Body, old: &[u32], new: &[u32], room: &mu
     requires { ⌜ (planForm (now d) ≡ true) × BodyOf (now d) p body × (0 < body .stages) × Clear (now room) ⌝ }
     ensures { λ _. ⌜ take 32768 (now (room .exit)) ≡ filled 32768 (bitPuts (now (d .entry)) p (now (old .entry)) (now (new .entry)) 8192) ⌝ }
 {
-    fill_planned(d, p, body, &mut room[32768..]);
+    fill_planned(d, p, body, &mut room[PIN_TABLE..]);
     let mut j = 0;
-    while j < 8192 {
+    while j < Edition::SLOTS {
         put_slot_bit(d, p, body, old, new, room, j);
         j += 1;
     }

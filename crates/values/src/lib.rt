@@ -9,6 +9,7 @@ ghost use Rattle.values.specs.Values.{bitWords, pinValue, gateValues, le
 use known::fill_known;
 use plan_form::plan_form;
 use plan_gates::check_gates;
+use plan_positions::planned::PIN_TABLE;
 use plan_record::numbers::gates_of;
 use plan_record::places::room_words;
 use words::clear::clear;
@@ -50,10 +51,10 @@ fn fill_bits(
     ensures { λ _. ⌜ now (bits .exit) ≡ gateValues (now (plan .entry)) part (now (old .entry)) (now (new .entry)) ⌝ }
 {
     fill_known(plan, part, old, new, room);
-    plan_gates::all_values(plan, &room[..32768], bits);
+    plan_gates::all_values(plan, &room[..PIN_TABLE], bits);
     let mut bit = 0;
     if pin.0 != EMPTY_PIN {
-        bit = plan_gates::value(plan, &room[..32768], bits, gates_of(plan), pin);
+        bit = plan_gates::value(plan, &room[..PIN_TABLE], bits, gates_of(plan), pin);
     }
     clear(room);
     bit

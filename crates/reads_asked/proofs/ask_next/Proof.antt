@@ -10,16 +10,22 @@ use Rattle.reads_asked.proofs.ask_next.Tie as tie
 
 returns : tie.Need-returns
 returns c =
-    let start = c .before .before .before .before in
-    next-joins (start .args .set .now) (start .args .n) (start .args .q) (start .pre) _ (bit-mask-is (start .args .q)) (c .before .before .before .if1 .taken) (c .before .if2 .taken)
+    let bits = c .before .before .before .before in
+    let start = bits .before .before .before in
+    let word = bits .before .word .ensures in
+    let mask = bit-mask-is (start .args .q .0) _ (bits .bit .ensures .0) in
+    next-joins (start .args .set .now) (start .args .n) (start .args .q .0) (start .pre) _ _ word mask (c .before .before .before .if1 .taken) (c .before .if2 .taken)
 
 slice-write-set-3 : tie.Need-slice-write-set-3
 slice-write-set-3 c = simp length-set (omega arith)
 
 returns-2 : tie.Need-returns-2
 returns-2 c =
-    let start = c .before in
-    next-new (start .args .set .now) (start .args .n) (start .args .q) (start .pre) _ (bit-mask-is (start .args .q)) (⊎-elim (λ w. inl (w .2 .left)) (λ w. inr (w .left)) (c .if1 .came))
+    let bits = c .before in
+    let start = bits .before .before .before in
+    let word = bits .before .word .ensures in
+    let mask = bit-mask-is (start .args .q .0) _ (bits .bit .ensures .0) in
+    next-new (start .args .set .now) (start .args .n) (start .args .q .0) (start .pre) _ _ word mask (⊎-elim (λ w. inl (w .2 .left)) (λ w. inr (w .left)) (c .if1 .came))
 
 pub ask-next-spec : {M : Type 1} → statement M
 ask-next-spec =

@@ -24,12 +24,12 @@ same-length c = c .before .before .before .before .before .loop .inv .long
 returns : tie.Need-returns Inv-loop μ-loop
 returns c =
     let at-record-at = c .before .before .before .before in
-    reading-refused (at-record-at .before .loop .inv) _ (stop-full _ _ _ _ (sym (at-record-at .record-at .ensures) ∙ c .before .before .key .given .1) (omega arith))
+    reading-refused (at-record-at .before .loop .inv) _ (stop-full _ _ _ _ (sym (at-record-at .record-at .ensures) ∙ c .before .before .asked .given .1) (omega arith))
 
 loop-again : tie.Need-loop-again Inv-loop μ-loop
 loop-again c =
     let at-record-at = c .before .before .before .before in
-    reading-more (at-record-at .before .loop .inv) _ (sym (at-record-at .record-at .ensures) ∙ c .before .before .key .given .1) (omega arith)
+    reading-more (at-record-at .before .loop .inv) _ (sym (at-record-at .record-at .ensures) ∙ c .before .before .asked .given .1) (omega arith)
 
 same-length-2 : tie.Need-same-length-2 Inv-loop μ-loop
 same-length-2 c = c .before .before .before .loop .inv .long

@@ -1,6 +1,7 @@
 -- `plan_checks::places::check_places` meets its contract: 12 ends it, or is passed.
 -- Assumes nothing.
-use Rattle.plan_positions.specs.Positions.{refusal12, refusal13}
+use Rattle.plan_positions.specs.Positions.{refusal12}
+use Rattle.plan_entries.specs.TableEntries.{refusal13}
 use Rattle.plan_checks.proofs.VerdictLaws.{at-told, went-past}
 use Rattle.plan_checks.proofs.RefusalPlaceLaws.{lowest-told, few-same, few12, few13}
 use Rattle.plan_checks.proofs.RefusalGroupLaws.{place-twelve, place-thirteen}

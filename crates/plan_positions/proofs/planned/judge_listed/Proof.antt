@@ -6,7 +6,7 @@ use borrow.Author.Needs.{needs}
 use lib.ListN.{length}
 use lib.Seq.{length-take-le}
 use Rattle.plan_record.proofs.PlanFormLaws.{formed}
-use Rattle.plan_positions.proofs.WinnerLaws.{listed}
+use Rattle.plan_winners.proofs.WinnerLaws.{listed}
 use Rattle.plan_positions.proofs.PlannedLaws.{part-stages, part-wide, part-front, part-slots, part-cleared, list-front, list-size, list-small}
 use Rattle.plan_positions.proofs.planned.judge_listed.Statement.{statement}
 use Rattle.plan_positions.proofs.planned.judge_listed.Tie as tie

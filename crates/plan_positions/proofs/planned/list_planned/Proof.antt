@@ -5,7 +5,7 @@ use mathlib.Core.List.{List}
 use Prim.Native.Nat.{ℕ}
 use borrow.Author.Needs.{needs}
 use Rattle.pinmap.specs.PinMap.{afterRenewals}
-use Rattle.plan_positions.specs.Winners.{winnerPuts}
+use Rattle.plan_winners.specs.Winners.{winnerPuts}
 use Rattle.plan_positions.proofs.planned.list_planned.Statement.{statement}
 use Rattle.plan_positions.proofs.planned.list_planned.Tie as tie
 

@@ -18,14 +18,14 @@ returns c =
     let looked = c .before .before .before .before in
     let s = looked .before .before .before .before in
     let o = s .args in
-    pin-value (o .d .now) (o .room .now) (o .n) (o .pin) (s .pre .2) _ _ _ (looked .look-up .ensures) (c .before .before .w .given .1) (c .place-right .ensures)
+    pin-value (o .d .now) (o .room .now) (o .n) (o .pin .0) (s .pre .2) _ _ _ (looked .look-up .ensures) (c .before .before .w .given .1) (c .place-right .ensures)
 
 returns-2 : tie.Need-returns-2
 returns-2 c =
     let looked = c .before .before in
     let s = looked .before .before .before .before in
     let o = s .args in
-    absurd (pin-missing (o .d .now) (o .room .now) (o .n) (o .pin) (s .pre .2) _ (looked .look-up .ensures) (c .enum-told .given .1))
+    absurd (pin-missing (o .d .now) (o .room .now) (o .n) (o .pin .0) (s .pre .2) _ (looked .look-up .ensures) (c .enum-told .given .1))
 
 pub pin-right-spec : {M : Type 1} → statement M
 pin-right-spec =

@@ -23,8 +23,8 @@ loop-holds : tie.Need-loop-holds Inv-loop μ-loop
 unfolding allBelow
 loop-holds c = (omega arith, refl)
 
-cast-pin-right : tie.Need-cast-pin-right Inv-loop μ-loop
-cast-pin-right c =
+cast-pin : tie.Need-cast-pin Inv-loop μ-loop
+cast-pin c =
     let s = c .before .before .before .before .before .before in
     omega (arith, s .pre .2 (c .before .before .loop .i) (c .before .loop-test .taken) .small)
 
@@ -58,5 +58,5 @@ returns-2 c =
 pub pins-right-spec : {M : Type 1} → statement M
 pins-right-spec =
     tie.close
-    (tie.spec Inv-loop μ-loop loop-holds (λ c. search needs) (λ c. search needs) cast-pin-right pin-right-requires returns
+    (tie.spec Inv-loop μ-loop loop-holds (λ c. search needs) (λ c. search needs) cast-pin pin-right-requires returns
     (λ c. search needs) (λ c. search needs) loop-again returns-2)

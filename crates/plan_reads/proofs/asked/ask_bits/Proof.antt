@@ -18,8 +18,8 @@ abbrev μ-loop : tie.MeasureT-loop
 loop-holds : tie.Need-loop-holds Inv-loop μ-loop
 loop-holds c = asking-start _ _
 
-cast-bit-of-pin : tie.Need-cast-bit-of-pin Inv-loop μ-loop
-cast-bit-of-pin c =
+cast-pin : tie.Need-cast-pin Inv-loop μ-loop
+cast-pin c =
     let l = c .before .before in
     let s = l .before .before .before .before in
     omega (arith, asking-pin (s .args .d .now) (s .args .keys .now) (l .loop .keys) (l .loop .i) (l .loop .inv) (c .before .loop-test .taken) (s .args .pins .now) (s .pre) .0)
@@ -40,7 +40,7 @@ loop-again : tie.Need-loop-again Inv-loop μ-loop
 loop-again c =
     let l = c .before .before .before in
     let o = l .before .before .before .before .args in
-    asking-more (o .d .now) (o .keys .now) (l .loop .keys) (l .loop .i) (l .loop .inv) (c .before .before .loop-test .taken) (c .bit-of-pin .result) _ (c .bit-of-pin .ensures) refl
+    asking-more (o .d .now) (o .keys .now) (l .loop .keys) (l .loop .i) (l .loop .inv) (c .before .before .loop-test .taken) (c .bit-of-pin .result .0) _ (c .bit-of-pin .ensures) refl
 
 same-length : tie.Need-same-length Inv-loop μ-loop
 same-length c = asking-length _ _ _ _ (c .before .loop .inv)
@@ -51,5 +51,5 @@ returns c = asking-all _ _ _ _ (c .before .loop .inv) (omega arith)
 pub ask-bits-spec : {M : Type 1} → statement M
 ask-bits-spec =
     tie.close
-    (tie.spec Inv-loop μ-loop loop-holds (λ c. search needs) (λ c. search needs) cast-bit-of-pin bit-of-pin-requires (λ c. search needs)
+    (tie.spec Inv-loop μ-loop loop-holds (λ c. search needs) (λ c. search needs) cast-pin bit-of-pin-requires (λ c. search needs)
     (λ c. search needs) (λ c. search needs) loop-less loop-again same-length returns)

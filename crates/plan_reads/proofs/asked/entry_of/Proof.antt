@@ -9,12 +9,12 @@ use Rattle.plan_reads.proofs.asked.entry_of.Tie as tie
 returns : tie.Need-returns
 returns c =
     let s = c .before .before .before .before .before .args in
-    value-or-zero (look (s .pins .now) (s .pin)) _ _ (c .before .before .before .look-up .ensures) (c .before .w .given .1)
+    value-or-zero (look (s .pins .now) (s .pin .0)) _ _ (c .before .before .before .look-up .ensures) (c .before .w .given .1)
 
 returns-2 : tie.Need-returns-2
 returns-2 c =
     let s = c .before .before .before .before .args in
-    missing-zero (look (s .pins .now) (s .pin)) _ (c .before .before .look-up .ensures) (c .enum-told .given .1)
+    missing-zero (look (s .pins .now) (s .pin .0)) _ (c .before .before .look-up .ensures) (c .enum-told .given .1)
 
 pub entry-of-spec : {M : Type 1} → statement M
 entry-of-spec = tie.close

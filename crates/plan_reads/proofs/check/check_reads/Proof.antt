@@ -8,7 +8,7 @@ use borrow.Author.Needs.{needs}
 use lib.ListN.{length}
 use Rattle.plan_record.specs.Record.{partsOf}
 use Rattle.plan_record.proofs.PlanFormLaws.{formed, body-ready}
-use Rattle.plan_positions.proofs.WinnerLaws.{listed}
+use Rattle.plan_winners.proofs.WinnerLaws.{listed}
 use Rattle.plan_blocks.proofs.CellLaws.{put-none}
 use Rattle.plan_reads.specs.PartReadAnswers.{roundRows}
 use Rattle.plan_reads.proofs.FirstEntryLaws.{all-planned}

@@ -18,22 +18,25 @@ abbrev μ-loop : tie.MeasureT-loop
 
 -- the word of the table names a pair of the set
 entry-in : (c : tie.In-loop Inv-loop μ-loop) →
-    (0 < getD (c .before .before .before .before .before .before .args .table .now) (32 * c .before .before .before .before .before .before .args .j + (c .before .loop .r - 1)) 0)
-    × (getD (c .before .before .before .before .before .before .args .table .now) (32 * c .before .before .before .before .before .before .args .j + (c .before .loop .r - 1)) 0 ≤ length (c .before .before .before .before .before .before .args .set .now) / 2)
+    let l = c .before in
+    let a = l .before .before .before .before .before .before .args in
+    let e = getD (a .table .now) (32 * a .j + (l .loop .r - 1)) 0 in
+    (0 < e) × (e ≤ length (a .set .now) / 2)
 entry-in c =
-    let o = c .before .before .before .before .before .before in
-    let l = c .before .loop in
-    walked-entry (o .args .set .now) (o .args .table .now) (o .args .j) (o .pre .0) (o .args .bases .now) (l .bases) (l .r) (l .sum) _ (l .inv) (c .loop-test .taken) refl
+    let l = c .before in
+    let o = l .before .before .before .before .before .before in
+    walked-entry (o .args .set .now) (o .args .table .now) (o .args .j) (o .pre .0) (o .args .bases .now) (l .loop .bases) (l .loop .r) (l .loop .sum) _ (l .loop .inv) (c .loop-test .taken) refl
 
-size-in : (c : tie.At-loop Inv-loop μ-loop) → length (c .loop .bases) ≡ length (c .before .before .before .before .before .args .bases .now)
+size-in : (c : tie.At-loop Inv-loop μ-loop) → length (c .loop .bases) ≡ length (c .before .before .before .before .before .before .args .bases .now)
 size-in c =
-    let o = c .before .before .before .before .before in
+    let o = c .before .before .before .before .before .before in
     walked-length (o .args .set .now) (o .args .table .now) (o .args .j) (o .pre .0) (o .args .bases .now) _ _ _ (c .loop .inv)
 
 loop-holds : tie.Need-loop-holds Inv-loop μ-loop
 loop-holds c =
-    let o = c .before .before .before .before in
-    walked-start (o .args .set .now) (o .args .table .now) (o .args .j) (o .pre .0) (o .args .bases .now) _ (c .lane-load .ensures .1)
+    let o = c .before .before .before .before .before in
+    let first : c .of .result .0 ≡ 32 * o .args .j = omega (arith, c .of .ensures) in
+    rw first (walked-start (o .args .set .now) (o .args .table .now) (o .args .j) (o .pre .0) (o .args .bases .now) _ (c .before .lane-load .ensures .1))
 
 cast-e : tie.Need-cast-e Inv-loop μ-loop
 cast-e c = omega (arith, entry-in (c .before))
@@ -47,7 +50,7 @@ mul-bases c = omega (arith, entry-in (c .before))
 slice-write-bases : tie.Need-slice-write-bases Inv-loop μ-loop
 slice-write-bases c =
     let way = c .before .before .before .before in
-    let start = way .before .before .before in
+    let start = way .before .before .before .before in
     omega (arith, entry-in (c .before), size-in (c .before .before), start .pre .2)
 
 mul-count : tie.Need-mul-count Inv-loop μ-loop
@@ -65,15 +68,17 @@ shared-slice-read-count c = omega (arith, entry-in (c .before .before))
 add-sum : tie.Need-add-sum Inv-loop μ-loop
 add-sum c =
     let at-loop-test = c .before .before .before in
-    let o = at-loop-test .before .before .before .before .before .before in
-    let l = at-loop-test .before .loop in
+    let at-loop = at-loop-test .before in
+    let o = at-loop .before .before .before .before .before .before in
+    let l = at-loop .loop in
     omega (arith, walked-sum (o .args .set .now) (o .args .table .now) (o .args .j) (o .pre .0) (o .args .bases .now) (l .bases) (l .r) (l .sum) _ (l .inv) (at-loop-test .loop-test .taken) refl, mask-bits-le _ _ (c .count .ensures))
 
 loop-again : tie.Need-loop-again Inv-loop μ-loop
 loop-again c =
     let at-loop-test = c .before .before .before in
-    let o = at-loop-test .before .before .before .before .before .before in
-    let l = at-loop-test .before .loop in
+    let at-loop = at-loop-test .before in
+    let o = at-loop .before .before .before .before .before .before in
+    let l = at-loop .loop in
     walked-on (o .args .set .now) (o .args .table .now) (o .args .j) (o .pre .0) (o .args .bases .now) (l .bases) (l .r) (l .sum) _ (l .inv) (at-loop-test .loop-test .taken) refl _ _ refl (c .count .ensures)
 
 same-length : tie.Need-same-length Inv-loop μ-loop
@@ -81,13 +86,14 @@ same-length c = size-in (c .before)
 
 returns : tie.Need-returns Inv-loop μ-loop
 returns c =
-    let o = c .before .before .before .before .before .before in
-    let l = c .before .loop in
+    let at-loop = c .before in
+    let o = at-loop .before .before .before .before .before .before in
+    let l = at-loop .loop in
     walked-all (o .args .set .now) (o .args .table .now) (o .args .j) (o .pre .0) (o .args .bases .now) (l .bases) (l .r) (l .sum) (l .inv) (omega arith)
 
 pub lane-bases-spec : {M : Type 1} → statement M
 lane-bases-spec =
     tie.close
-    (tie.spec Inv-loop μ-loop (λ c κs. search needs) (λ c. search needs) (λ c. search needs) loop-holds (λ c. search needs)
+    (tie.spec Inv-loop μ-loop (λ c κs. search needs) (λ c. search needs) (λ c κs. search needs) loop-holds (λ c. search needs)
     (λ c. search needs) (λ c. search needs) (λ c. search needs) (λ c. search needs) cast-e sub-bases mul-bases slice-write-bases mul-count
     sub-count mul-count-2 shared-slice-read-count (λ c κs. search needs) add-sum (λ c. search needs) loop-again same-length returns)

@@ -1,34 +1,45 @@
--- `plan_reads::local::local_position` meets its contract.
+-- `plan_reads::local::local_position` meets its contract: the pair that is found is the bit's.
 -- Assumes nothing.
-use mathlib.Core.Path.{ap, _∙_}
-use Prim.Native.Nat.{ℕ, _+_, _*_, _/_, _%_, _^_}
 use native.Mathlib.Omega.{arith}
 use borrow.Author.Needs.{needs}
-use lib.ListN.{getD}
-use Rattle.words.specs.Bit.{pop}
 use Rattle.reads_try.proofs.SetPairLaws.{mask-bits-le}
-use Rattle.plan_reads.specs.Bases.{localBy}
+use Rattle.plan_reads.proofs.LocalPositionLaws.{asked-small, found-in, found-base, found-local}
 use Rattle.plan_reads.proofs.local.local_position.Statement.{statement}
 use Rattle.plan_reads.proofs.local.local_position.Tie as tie
 
-add-result : tie.Need-add-result
-add-result c =
-    let o = c .before .before .before .before .before .before in
-    let e = c .before .before .before .find-pair .ensures .0 in
-    let b = ap (λ (k : ℕ). getD (o .args .bases .now) k 0) e in
-    omega (arith, mask-bits-le _ _ (c .count-above .ensures), o .pre .small, b)
+word-requires : tie.Need-word-requires
+word-requires c κs =
+    let s = c .before .before in
+    asked-small (s .args .set .now) (s .args .bases .now) (s .args .q .0) (s .pre) (λ i. c .before .shared-slice-known .given i .fits)
+
+shared-slice-read-count-above : tie.Need-shared-slice-read-count-above
+shared-slice-read-count-above c =
+    let found = c .before in
+    let s = found .before .before .before .before in
+    found-in (s .args .set .now) (s .args .bases .now) (s .args .q .0) _ _ (s .pre) (found .before .word .ensures) (found .find-pair .ensures .0) .0
+
+shared-slice-read-place : tie.Need-shared-slice-read-place
+shared-slice-read-place c =
+    let found = c .before .before .before .before in
+    let s = found .before .before .before .before in
+    found-in (s .args .set .now) (s .args .bases .now) (s .args .q .0) _ _ (s .pre) (found .before .word .ensures) (found .find-pair .ensures .0) .1
+
+add-place : tie.Need-add-place
+add-place c =
+    let found = c .before .before .before .before in
+    let s = found .before .before .before .before in
+    let base = found-base (s .args .set .now) (s .args .bases .now) (s .args .q .0) _ _ (s .pre) (found .before .word .ensures) (found .find-pair .ensures .0) in
+    omega (arith, mask-bits-le _ _ (c .before .count-above .ensures), base)
 
 returns : tie.Need-returns
-unfolding localBy
 returns c =
-    let o = c .before .before .before .before .before .before in
-    let e = c .before .before .before .find-pair .ensures .0 in
-    let b = ap (λ (k : ℕ). getD (o .args .bases .now) k 0) e in
-    let m = c .count-above .ensures ∙ ap (λ (k : ℕ). pop (getD (o .args .set .now) (2 * k + 1) 0 / 2 ^ (o .args .q % 32 + 1))) e in
-    omega (arith, b, m)
+    let above = c .before in
+    let found = above .before .before .before in
+    let s = found .before .before .before .before in
+    found-local (s .args .set .now) (s .args .bases .now) (s .args .q .0) _ _ (s .pre) (found .before .word .ensures) (found .find-pair .ensures .0) _ _ (above .before .bit .ensures .0) (above .count-above .ensures)
 
 pub local-position-spec : {M : Type 1} → statement M
 local-position-spec =
     tie.close
-    (tie.spec (λ c κs. search needs) (λ c. search needs) (λ c. search needs) (λ c. search needs) (λ c. search needs) (λ c. search needs)
-    (λ c. search needs) (λ c. search needs) (λ c κs. search needs) add-result returns)
+    (tie.spec word-requires (λ c κs. search needs) (λ c. search needs) (λ c. search needs) (λ c. search needs) shared-slice-read-count-above
+    (λ c κs. search needs) (λ c κs. search needs) (λ c. search needs) shared-slice-read-place add-place returns)

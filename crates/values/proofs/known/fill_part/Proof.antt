@@ -1,7 +1,7 @@
 -- `values::known::fill_part` meets its contract. The loop's invariant: the first words hold the entries of the first j slots, the words after them the winners.
 -- Assumes nothing.
 use Rattle.values.proofs.KnownLaws.{fill-first, fill-next}
-use Rattle.plan_positions.proofs.WinnerLaws.{listed}
+use Rattle.plan_winners.proofs.WinnerLaws.{listed}
 use mathlib.Core.Path.{_≡_, refl, ap, _∙_}
 use Prim.Native.Nat.{ℕ, _-_, _≤_}
 use native.Mathlib.Omega.{arith}
