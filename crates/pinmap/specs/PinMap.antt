@@ -1,12 +1,13 @@
--- Pins to numbers in a lent list of words, by open addressing with linear probing. Slot i has its key at word 2i (0: free, else a pin
--- and 1) and its value at word 2i + 1; an odd last word belongs to no slot. Zeros are the empty map.
+-- Pins to numbers in a lent list of words, by open addressing. Slot i has its key at word 2i (0: free, else a pin and 1) and its value at
+-- word 2i + 1; an odd last word belongs to no slot. Zeros are the empty map. A pin has 32 homes, each found from the one before; it stands
+-- in the first that was free. Only where all of them are taken by others does probing go round the slots.
 -- Assumes nothing.
 use mathlib.Core.Path.{_≡_}
 use mathlib.Core.Bool.{true, false}
 use mathlib.Core.Option.{Option, none, some}
 use mathlib.Core.List.{List, [], _∷_}
 use Prim.Native.Nat.{ℕ, zero, suc, _+_, _*_, _/_, _%_, _^_, _≤_, _<_}
-use lib.Dec.{eqb}
+use lib.Dec.{eqb, ltb}
 use lib.ListN.{length, getD, set}
 use Rattle.words.specs.Round.{next}
 use Rattle.pinmap.specs.declared.Slot.{Slot}
@@ -27,9 +28,20 @@ keyAt t i = getD t (2 * i) 0
 abbrev pub valueAt : List ℕ → ℕ → ℕ
 valueAt t i = getD t (2 * i + 1) 0
 
--- where probing for pin p begins among c slots
-abbrev pub home : ℕ → ℕ → ℕ
-home c p = p * 2654435769 % 2 ^ 32 % c
+-- a pin scattered over 2^32 numbers, each pin to one of its own; and the next such number, the halves exchanged before
+abbrev pub scattered : ℕ → ℕ
+scattered p = p * 2654435769 % 2 ^ 32
+
+abbrev pub scatteredOn : ℕ → ℕ
+scatteredOn s = (s / 65536 + s % 65536 * 65536 + 1) * 2654435769 % 2 ^ 32
+
+-- the home of a scattered pin s among c slots: its high bits say it
+unfoldable pub home : ℕ → ℕ → ℕ
+home c s = s * elim (ltb c (2 ^ 32)) [ true ↦ c | false ↦ 2 ^ 32 ] / 2 ^ 32
+
+-- how many homes a pin has
+abbrev pub homes : ℕ
+homes = 32
 
 -- the first of f slots, going round from slot i, that is free or has pin p
 unfoldable pub probeFrom : List ℕ → ℕ → ℕ → ℕ → Slot
@@ -40,8 +52,17 @@ probeFrom t p (suc f) i =
       | false ↦ elim (eqb (keyAt t i) (p + 1)) [ true ↦ Taken i | false ↦ probeFrom t p f (next (capacity t) i) ]
     ]
 
+-- the first of n homes, from that of s on, that is free or has pin p; else round from the home behind them
+unfoldable pub homeFrom : List ℕ → ℕ → ℕ → ℕ → Slot
+homeFrom t p zero s = probeFrom t p (capacity t) (home (capacity t) s)
+homeFrom t p (suc n) s =
+    elim (eqb (keyAt t (home (capacity t) s)) 0) [
+      | true ↦ Free (home (capacity t) s)
+      | false ↦ elim (eqb (keyAt t (home (capacity t) s)) (p + 1)) [ true ↦ Taken (home (capacity t) s) | false ↦ homeFrom t p n (scatteredOn s) ]
+    ]
+
 unfoldable pub slotOf : List ℕ → ℕ → Slot
-slotOf t p = probeFrom t p (capacity t) (home (capacity t) p)
+slotOf t p = elim (eqb (capacity t) 0) [ true ↦ Nowhere | false ↦ homeFrom t p homes (scattered p) ]
 
 -- what is found for pin p
 unfoldable pub lookAt : List ℕ → Slot → Option ℕ

@@ -1,8 +1,9 @@
-// Pins to numbers in lent words, by open addressing with linear probing. Zeros are the empty map.
+// Pins to numbers in lent words, by open addressing. Zeros are the empty map. A pin has 32 homes of its own; only where all of them are
+// taken by other pins does a probe go round the slots.
 ghost use mathlib.Core.Path.{_≡_};
 ghost use Prim.Native.Nat.{_+_, _*_, _-_, _<_, _^_};
 ghost use lib.ListN.{set};
-ghost use Rattle.pinmap.specs.PinMap.{capacity, keyAt, valueAt, home, slotOf, putAnswer, putIn, putThere, look, lookAnswer};
+ghost use Rattle.pinmap.specs.PinMap.{capacity, keyAt, valueAt, scattered, scatteredOn, home, probeFrom, slotOf, putAnswer, putIn, putThere, look, lookAnswer};
 use words::round::next_of;
 use words::units::Pin;
 
@@ -28,16 +29,29 @@ pub enum Found {
     Missing,
 }
 
-// The slot that probing for a pin begins at. The tables of a build have 16384 slots: a remainder by a number known here is a mask.
-fn home_slot(slots: usize, p: Pin) -> usize
-    requires { ⌜ 0 < slots ⌝ }
-    ensures { λ r. ⌜ r ≡ home slots (p .0) ⌝ }
+// A pin scattered, and the next number of the same pin.
+fn scatter(p: Pin) -> u64
+    ensures { λ r. ⌜ r ≡ scattered (p .0) ⌝ }
 {
-    let scattered = p.0 as u64 * 2654435769 % 4294967296;
-    if slots == 16384 {
-        (scattered % 16384) as usize
+    p.0 as u64 * 2654435769 % 4294967296
+}
+
+fn scatter_on(s: u64) -> u64
+    requires { ⌜ s < 2 ^ 32 ⌝ }
+    ensures { λ r. ⌜ r ≡ scatteredOn s ⌝ }
+{
+    (s / 65536 + s % 65536 * 65536 + 1) * 2654435769 % 4294967296
+}
+
+// The home of a scattered pin.
+fn home_slot(slots: usize, s: u64) -> usize
+    requires { ⌜ s < 2 ^ 32 ⌝ }
+    ensures { λ r. ⌜ r ≡ home slots s ⌝ }
+{
+    if slots < 4294967296 {
+        (s * slots as u64 / 4294967296) as usize
     } else {
-        (scattered % slots as u64) as usize
+        s as usize
     }
 }
 
@@ -72,17 +86,14 @@ fn store_value(t: &mut [u32], i: usize, v: u32)
     t[2 * i + 1] = v;
 }
 
-// The first slot, going round from the pin's home, that is free or has the pin.
-fn probe(t: &[u32], p: Pin) -> Slot
-    requires { ⌜ p .0 < 2 ^ 32 - 1 ⌝ }
-    ensures { λ r. ⌜ r ≡ slotOf (now (t .entry)) (p .0) ⌝ }
+// The first slot, going round from slot i, that is free or has the pin.
+fn go_round(t: &[u32], p: Pin, from: usize) -> Slot
+    requires { ⌜ (p .0 < 2 ^ 32 - 1) × (from < capacity (now t)) ⌝ }
+    ensures { λ r. ⌜ r ≡ probeFrom (now (t .entry)) (p .0) (capacity (now (t .entry))) from ⌝ }
 {
     let slots = t.len() / 2;
-    if slots == 0 {
-        return Slot::Nowhere;
-    }
     let key = p.0 + 1;
-    let mut i = home_slot(slots, p);
+    let mut i = from;
     let mut left = slots;
     while 0 < left {
         let found = key_of(t, i);
@@ -96,6 +107,33 @@ fn probe(t: &[u32], p: Pin) -> Slot
         left -= 1;
     }
     Slot::Nowhere
+}
+
+// The first of the pin's homes that is free or has it, else the first such slot going round.
+fn probe(t: &[u32], p: Pin) -> Slot
+    requires { ⌜ p .0 < 2 ^ 32 - 1 ⌝ }
+    ensures { λ r. ⌜ r ≡ slotOf (now (t .entry)) (p .0) ⌝ }
+{
+    let slots = t.len() / 2;
+    if slots == 0 {
+        return Slot::Nowhere;
+    }
+    let key = p.0 + 1;
+    let mut s = scatter(p);
+    let mut left: usize = 32;
+    while 0 < left {
+        let i = home_slot(slots, s);
+        let found = key_of(t, i);
+        if found == 0 {
+            return Slot::Free(i);
+        }
+        if found == key {
+            return Slot::Taken(i);
+        }
+        s = scatter_on(s);
+        left -= 1;
+    }
+    go_round(t, p, home_slot(slots, s))
 }
 
 // Puts a pin's value, over the one that was there. Where every slot is taken by other pins nothing changes.
