@@ -1,35 +1,30 @@
 -- The marked small set as one list with one claim: what the definitions give is what document 01 says.
 -- Assumes nothing.
-use mathlib.Core.Path.{_≡_, refl}
+use mathlib.Core.Path.{_≡_}
 use mathlib.Core.List.{List, [], _∷_, _++_}
 use Prim.Native.Nat.{ℕ, _^_}
-use Rattle.words.specs.Bit.{popIn}
-use Rattle.reads.specs.ReadSet.{total, pairsFrom, pairForm, brokenFrom}
-use Rattle.reads.specs.Search.{piecesIn, insertPiece, ordered, joined, firstRoom, tryFrom, firstWin, longest}
-use Rattle.reads.specs.Local.{maskIn, later, localAt, roundFrom, laneRoundFrom, localOf}
-use Rattle.reads.specs.SetAnswer.{packed, readSet, setFitted, setAnswer}
-use Rattle.words.specs.Sum.{sumTo}
-use Rattle.words.specs.Section.{listOf}
-use Rattle.plan_counts.specs.Counts.{activationsOf, isIn, different, duplicatesIn}
-use Rattle.plan_blocks.specs.Blocks.{leastTo, blockFor, costsAfter, blockIn, comesBefore, takenBefore}
-use Rattle.marked.specs.Reads.{alike, bitAsked, positions, seen, readRounds}
-use Rattle.words.specs.Section.{entryOf}
-use Rattle.marked.specs.Plans.{duplicateWords, stagesIn, blocksOfParts, startsOfParts}
-use Rattle.words.specs.Bit.{bit, bitAt, wordOf}
-use Rattle.words.specs.Section.{wordOfEntry, halfOf}
-use Rattle.reads.specs.ReadTurn.{appended, laneWord}
-use Rattle.run_machine.specs.Part.{normalAt, endAt, locationIn, readWordAt, readMaskAt, sectionAt, entryAt, laneWordAt}
-use Rattle.run_machine.specs.Turn.{stateWord, readRow, gate, gateAt, levelBit, positionBit, stageRow, captured, begins, ended, afterRead, afterStage, afterStore, chosenBits, storedWord, stored, turned, written}
-use Rattle.run_machine.specs.Run.{blocksFrom, step, runFrom, turnsFrom, turnsAfter, turnsLeft, allLeft}
-use Rattle.marked.specs.Scripts.{markedLocations, locationsSeen, entrySeen, alwaysOn, gateThree, gateRun}
+use lib.ListN.{length}
+use Rattle.reads.specs.ReadSet.{Pair, pairsOf}
+use Rattle.marked_plan.specs.GateRun.{gateAnswer, ranSeen}
+use Rattle.marked.specs.Reads.{alike, bitAsked, readRounds, triesSeen, placedWithin}
+use Rattle.marked.specs.Plans.{duplicateWords, blocksOfParts, startsOfParts}
+use Rattle.marked.specs.Scripts.{locationsSeen, entrySeen}
 
 -- what the definitions give, and what document 01 says
 pub record Example : Type 0 where
   pub got : List ℕ
   pub said : List ℕ
 
-unfoldable pub marked : List Example
-marked =
+-- M5's set
+abbrev pub fiveWords : List ℕ
+fiveWords = alike 256 0 1 ++ (256 ∷ 4294967295 ∷ [])
+
+abbrev pub fivePairs : List Pair
+fivePairs = pairsOf fiveWords
+
+-- M1 to M9, which are computed
+unfoldable pub computed : List Example
+computed =
     -- M1 empty read set: 3
     record { got = readRounds [] []; said = 0 ∷ 3 ∷ 0 ∷ [] }
     -- M2 the listing's set: local positions 1, 0, 32, 64
@@ -41,9 +36,11 @@ marked =
     ∷ record { got = readRounds (alike 256 0 131071) (bitAsked 0 16 ∷ bitAsked 1 16 ∷ bitAsked 255 16 ∷ []); said = 1 ∷ 0 ∷ 32 ∷ 8160 ∷ [] }
     -- M4 257 of them: 4
     ∷ record { got = readRounds (alike 257 0 131071) []; said = 0 ∷ 4 ∷ 0 ∷ [] }
-    -- M5 words 0..255 of one bit, word 256 of 32 bits: word 256 in lane 0, word 255 in lane 1 round 1; rounds 2
+    -- M5 words 0..255 of one bit, word 256 of 32 bits: sizes 257, 128, 64, 32 end, 16 wins; word 256 in lane 0, word 255 in lane 1 round 1; rounds 2
+    ∷ record { got = triesSeen fivePairs 5 (length fivePairs); said = 257 ∷ 0 ∷ 128 ∷ 0 ∷ 64 ∷ 0 ∷ 32 ∷ 0 ∷ 16 ∷ 1 ∷ [] }
+    ∷ record { got = placedWithin fivePairs 4 ∷ []; said = 0 ∷ [] }
     ∷ record {
-      got = readRounds (alike 256 0 1 ++ (256 ∷ 4294967295 ∷ [])) (bitAsked 256 31 ∷ bitAsked 256 0 ∷ bitAsked 255 0 ∷ bitAsked 0 0 ∷ []);
+      got = readRounds fiveWords (bitAsked 256 31 ∷ bitAsked 256 0 ∷ bitAsked 255 0 ∷ bitAsked 0 0 ∷ []);
       said = 2 ∷ 0 ∷ 31 ∷ 32 ∷ 33 ∷ [];
     }
     -- M6 stage 0 locations 1, 2, stage 1 location 3: 0x00020001, 0xFFFF0103
@@ -55,10 +52,19 @@ marked =
     ∷ record { got = startsOfParts; said = 2 ∷ 4 ∷ 5 ∷ 3 ∷ [] }
     -- M9 entry 33: word 4, high half
     ∷ record { got = entrySeen; said = 4 ∷ 1 ∷ 33 ∷ [] }
-    -- M10 pins 1, 2 at state 0, 1; gate 3 = 1 and not 2 at level 1 slot 0, location 128: old word 1 stores 1, old word 3 stores 0xFFFFFFFE
-    ∷ record { got = gateRun 1; said = 0 ∷ 0 ∷ 1 ∷ [] }
-    ∷ record { got = gateRun 3; said = 0 ∷ 0 ∷ 0xFFFFFFFE ∷ [] }
     ∷ []
+
+-- M10 pins 1, 2 at state 0, 1; gate 3 = 1 and not 2 at level 1 slot 0, location 128: old word 1 stores 1, old word 3 stores 0xFFFFFFFE. The run of its plan's
+-- script is not refused (1), no turns are left (0), and the new state's second word is what is stored
+unfoldable pub gateRuns : List Example
+gateRuns =
+    record { got = ranSeen (gateAnswer 1); said = 1 ∷ 0 ∷ 0 ∷ 1 ∷ [] }
+    ∷ record { got = ranSeen (gateAnswer 3); said = 1 ∷ 0 ∷ 0 ∷ 0xFFFFFFFE ∷ [] }
+    ∷ []
+
+-- the whole set
+unfoldable pub marked : List Example
+marked = computed ++ gateRuns
 
 unfoldable pub given : List Example → List (List ℕ)
 given [] = []
@@ -68,11 +74,6 @@ unfoldable pub told : List Example → List (List ℕ)
 told [] = []
 told (e ∷ es) = e .said ∷ told es
 
-pub marked-right : given marked ≡ told marked
-unfolding bit bitAt wordOf wordOfEntry halfOf appended laneWord normalAt endAt locationIn readWordAt readMaskAt sectionAt entryAt laneWordAt stateWord readRow gate gateAt
-    levelBit positionBit stageRow captured begins ended afterRead afterStage afterStore chosenBits storedWord stored turned written blocksFrom step runFrom turnsFrom
-    turnsAfter turnsLeft allLeft entryOf markedLocations locationsSeen entrySeen alwaysOn gateThree gateRun sumTo listOf activationsOf isIn different duplicatesIn leastTo
-    blockFor costsAfter blockIn comesBefore takenBefore duplicateWords stagesIn blocksOfParts startsOfParts marked given told alike positions seen popIn total pairsFrom
-    pairForm brokenFrom piecesIn insertPiece ordered joined firstRoom tryFrom firstWin longest maskIn later localAt roundFrom laneRoundFrom localOf packed readSet setFitted
-    setAnswer
-marked-right = refl
+-- THE CLAIM
+abbrev pub MarkedRight : Type 0
+MarkedRight = given marked ≡ told marked

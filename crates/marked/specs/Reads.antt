@@ -2,8 +2,10 @@
 -- Assumes nothing.
 use mathlib.Core.Option.{Option, none, some}
 use mathlib.Core.List.{List, [], _∷_}
-use Prim.Native.Nat.{ℕ, zero, suc, _+_}
-use Rattle.reads.specs.Search.{Lane, longest}
+use Prim.Native.Nat.{ℕ, zero, suc, _+_, _/_}
+use lib.ListN.{length}
+use Rattle.reads.specs.ReadSet.{Pair}
+use Rattle.reads.specs.Search.{Lane, Tried, all, stuck, try, firstWin, longest}
 use Rattle.reads.specs.Local.{localOf}
 use Rattle.words.specs.Answer.{Answer, good, refused}
 use Rattle.reads.specs.SetAnswer.{setAnswer}
@@ -37,3 +39,20 @@ seen (good ls) bs = longest ls ∷ positions ls bs
 -- a read set at 256 lanes, with working room and result room enough
 abbrev pub readRounds : List ℕ → List BitAsked → List ℕ
 readRounds ws bs = seen (setAnswer 256 ws 16384 16384) bs
+
+-- M5's sizes: of piece sizes k, k/2, k/4 .., m of them, each with whether the try of that size places all (1) or ends (0); and whether the search places all
+-- within its first m sizes
+abbrev pub placesAll : Tried → ℕ
+placesAll (all lanes) = 1
+placesAll (stuck lanes) = 0
+
+unfoldable pub triesSeen : List Pair → ℕ → ℕ → List ℕ
+triesSeen ps zero k = []
+triesSeen ps (suc m) k = k ∷ placesAll (try 256 ps k) ∷ triesSeen ps m (k / 2)
+
+abbrev pub placedIn : Option (List Lane) → ℕ
+placedIn none = 0
+placedIn (some lanes) = 1
+
+abbrev pub placedWithin : List Pair → ℕ → ℕ
+placedWithin ps m = placedIn (firstWin 256 ps m (length ps))

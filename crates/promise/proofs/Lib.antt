@@ -1,3 +1,4 @@
+pub mod LocationStageLaws
 pub mod AcceptedLaws
 pub mod AssembledBlockLaws
 pub mod NeverRefusedLaws

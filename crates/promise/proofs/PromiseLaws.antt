@@ -33,6 +33,7 @@ use Rattle.promise_decode.specs.Decoded.{Decoded}
 use Rattle.promise_meaning.specs.Meaning.{PassedPart}
 use Rattle.promise_meaning.proofs.MeaningLaws.{captured-pin}
 use Rattle.promise.specs.Promise.{assembled, startsOf, stageRun, carried, Carries, enableEntry, invOf, set0Of, dataInvOf, partBeginsAt, enabled, StoredBy, Done, Demand3, AsRun}
+use Rattle.promise.proofs.LocationStageLaws.{carried-is}
 use Rattle.promise.proofs.AcceptedLaws.{part-there, some-blocks, able, sound}
 use Rattle.promise.proofs.AssembledBlockLaws.{starts-are}
 use Rattle.promise.proofs.NeverRefusedLaws.{never-refused}
@@ -114,9 +115,11 @@ module _ (d : List ℕ) (s : ℕ) (turns old new : List ℕ) (done : Done d s tu
     D = found i h .back
 
     captured-bit : (l k : ℕ) → l < locationsOf d p → k < 32 → Carries d p l k → bitAt (captures o) (32 * l + k) ≡ pinValue d p old new (carried d p l k)
-    unfolding carried
     captured-bit l k inside small carries =
-        at-word (captures o) l k small ∙ captured-pin d p _ _ _ W o old new (found i h .sound) D l k inside small (carries .position) (carries .some-pin)
+        let is = carried-is d p l k in
+        at-word (captures o) l k small
+        ∙ captured-pin d p _ _ _ W o old new (found i h .sound) D l k inside small (carries .position) (λ e. carries .some-pin (is ∙ e))
+        ∙ ap (pinValue d p old new) (sym is)
 
     -- past the normal words there is nothing
     captured-none : (e : ℕ) → locationsOf d p ≤ e / 32 → bitAt (captures o) e ≡ 0

@@ -6,20 +6,21 @@
 -- Two more sentences follow from the rule: an enable bit that is gathered from past the normal words, or cleared, is its inv.
 -- Assumes nothing.
 use mathlib.Core.Path.{_≡_}
+use mathlib.Core.Bool.{true, false}
 use mathlib.Core.Option.{none}
 use mathlib.Core.List.{List}
-use Prim.Native.Nat.{ℕ, _+_, _*_, _-_, _/_, _%_, _≤_, _<_}
+use Prim.Native.Nat.{ℕ, zero, suc, _+_, _*_, _-_, _/_, _%_, _≤_, _<_}
 use lib.Bits.{differ}
+use lib.Dec.{ltb}
 use lib.ListN.{length, getD, take, drop}
 use Rattle.words.specs.Sum.{sumTo}
 use Rattle.words.specs.Bit.{bit, bitAt}
 use Rattle.words.specs.Count.{count}
-use Rattle.plan_record.specs.Record.{blocksOf, majorsOf, partsBefore, countAt, stagesOf, locationsOf, locationAt, slotAt, tableAt}
+use Rattle.plan_record.specs.Record.{blocksOf, majorsOf, partsBefore, countAt, stagesOf, stageLocations, locationsOf, locationAt, slotAt, tableAt}
 use Rattle.words.specs.Pins.{empty}
 use Rattle.plan_blocks.specs.Blocks.{blockOf, stateStart, stateWords}
 use Rattle.plan_blocks.specs.Sums.{inBlock}
 use Rattle.values.specs.Values.{pinValue}
-use Rattle.script.specs.Script.{locationStage}
 use Rattle.plan_checks.specs.Refusals.{planRefusal}
 use Rattle.script_assembly.specs.Assembly.{scriptWords, scriptStarts}
 use Rattle.script_assembly.specs.WrittenSoFar.{partsIn, partStart}
@@ -45,8 +46,17 @@ stageRun d s turns old new = runTurns 256 13 (assembled d) (startsOf d s) turns 
 
 -- ---- what a stored bit carries: bit k of location l of part p is position 32·w + k of the location's stage; position 0 carries nothing
 
+-- the record has the locations stage by stage, and how many each stage has: from stage s on, of n stages, location l is in the first that has more than
+-- l; else it is so many fewer in a later one
+unfoldable pub stageHolding : (ℕ → ℕ) → (n s l : ℕ) → ℕ
+stageHolding counts zero s l = s
+stageHolding counts (suc n) s l = elim (ltb l (counts s)) [ true ↦ s | false ↦ stageHolding counts n (s + 1) (l - counts s) ]
+
+unfoldable pub stageOfLocation : List ℕ → ℕ → ℕ → ℕ
+stageOfLocation d p l = stageHolding (stageLocations d p) (stagesOf d p) 0 l
+
 unfoldable pub carried : List ℕ → ℕ → ℕ → ℕ → ℕ
-carried d p l k = slotAt d p (locationStage d p l) (32 * locationAt d p l + k)
+carried d p l k = slotAt d p (stageOfLocation d p l) (32 * locationAt d p l + k)
 
 pub record Carries (d : List ℕ) (p l k : ℕ) : Type 0 where
   pub position : 0 < 32 * locationAt d p l + k

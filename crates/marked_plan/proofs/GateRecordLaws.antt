@@ -1,0 +1,244 @@
+-- What stands where in M10's record: a record that is made of words has these words, and each of its lists is read by its index.
+-- Assumes nothing.
+use mathlib.Core.Path.{_≡_, refl, sym, ap, _∙_}
+use mathlib.Core.Logic.{⊎-elim}
+use mathlib.Core.List.{List, [], _∷_, _++_}
+use Prim.Native.Nat.{ℕ, zero, suc, _+_, _*_, _-_, _≤_, _<_}
+use native.Mathlib.Omega.{arith}
+use borrow.Author.Tests.{le-leb, lt-leb}
+use lib.ListN.{length, getD, length-append, List·getD-append}
+use Rattle.words.proofs.BitLaws.{lt-or-ge}
+use Rattle.words.specs.Sum.{sumTo}
+use Rattle.words.specs.Section.{listOf}
+use Rattle.words.proofs.SectionLaws.{length-listOf, getD-listOf}
+use Rattle.plan_record.specs.Record.{wordAt, countAt, partsBefore, partsOf, gateBase, layoutBase, positionBase, headBase, bodyAt, bodyWords, locationsIn, stagesOf, endpointsOf, countBase, stageLocations, locationsOf, slotBase, slotAt, locationBase, locationAt, tableBase, tableAt}
+use Rattle.marked_plan.specs.GatePlan.{bytesOf, recordHead, slotPin, tableWord, recordWords, gateRecord}
+
+-- ---- bytes and words
+
+word-none : (i : ℕ) → wordAt [] i ≡ 0
+unfolding wordAt
+word-none i = rw (lt-leb (4 * i + 4) 0 (omega arith), wordAt)
+
+word-first : (w : ℕ) (ws : List ℕ) → wordAt (bytesOf (w ∷ ws)) 0 ≡ w
+unfolding wordAt bytesOf
+word-first w ws = rw (le-leb 4 (length (bytesOf (w ∷ ws))) (omega arith), wordAt) (omega arith)
+
+word-there : (d : List ℕ) (i : ℕ) → 4 * i + 4 ≤ length d
+    → wordAt d i ≡ getD d (4 * i) 0 + 256 * getD d (4 * i + 1) 0 + 65536 * getD d (4 * i + 2) 0 + 16777216 * getD d (4 * i + 3) 0
+unfolding wordAt
+word-there d i h = rw (le-leb _ _ h, wordAt)
+
+word-gone : (d : List ℕ) (i : ℕ) → length d < 4 * i + 4 → wordAt d i ≡ 0
+unfolding wordAt
+word-gone d i h = rw (lt-leb _ _ h, wordAt)
+
+word-past : (a b c e : ℕ) (r : List ℕ) (i : ℕ) → wordAt (a ∷ b ∷ c ∷ e ∷ r) (suc i) ≡ wordAt r i
+word-past a b c e r i =
+    ⊎-elim (λ l. word-gone (a ∷ b ∷ c ∷ e ∷ r) (suc i) (omega arith) ∙ sym (word-gone r i l))
+    (λ g.
+    word-there (a ∷ b ∷ c ∷ e ∷ r) (suc i) (omega arith)
+    ∙ rw (past (4 * suc i) (4 * i) (omega arith), past (4 * suc i + 1) (4 * i + 1) (omega arith), past (4 * suc i + 2) (4 * i + 2) (omega arith), past (4 * suc i + 3) (4 * i + 3) (omega arith))
+    (sym (word-there r i g)))
+    (lt-or-ge (length r) (4 * i + 4))
+  where
+    past : (m k : ℕ) → m ≡ suc (suc (suc (suc k))) → getD (a ∷ b ∷ c ∷ e ∷ r) m 0 ≡ getD r k 0
+    past m k q = rw q
+
+pub word-of : (ws : List ℕ) (i : ℕ) → wordAt (bytesOf ws) i ≡ getD ws i 0
+unfolding bytesOf
+word-of [] i = word-none i
+word-of (w ∷ ws) zero = word-first w ws
+word-of (w ∷ ws) (suc i) = word-past _ _ _ _ (bytesOf ws) i ∙ word-of ws i
+
+bytes-length : (ws : List ℕ) → length (bytesOf ws) ≡ 4 * length ws
+unfolding bytesOf
+bytes-length [] = refl
+bytes-length (w ∷ ws) = omega (arith, bytes-length ws)
+
+-- ---- lists one behind the other
+
+after : (a b : List ℕ) (k i : ℕ) → length a ≡ k → getD (a ++ b) (k + i) 0 ≡ getD b i 0
+after [] b k i e = let z : k + i ≡ i = omega arith in ap (λ (x : ℕ). getD b x 0) z
+after (x ∷ a) b k i e = let z : k + i ≡ suc (length a + i) = omega arith in rw z (after a b (length a) i refl)
+
+abbrev slots : List ℕ
+slots = listOf (λ i. slotPin (i + 1)) 16383
+
+abbrev tables : List ℕ
+tables = listOf tableWord 17664
+
+head-length : length recordHead ≡ 14
+unfolding recordHead
+head-length = refl
+
+slots-length : length slots ≡ 16383
+slots-length = length-listOf (λ i. slotPin (i + 1)) 16383
+
+words-length : length recordWords ≡ 34062
+unfolding recordWords
+words-length =
+    omega (arith, length-append recordHead (slots ++ (128 ∷ tables)), length-append slots (128 ∷ tables), head-length, slots-length, length-listOf tableWord 17664)
+
+pub record-length : length gateRecord ≡ 4 * 34062
+unfolding gateRecord
+record-length = bytes-length recordWords ∙ ap (λ (x : ℕ). 4 * x) words-length
+
+head-word : (i : ℕ) → i < 14 → wordAt gateRecord i ≡ getD recordHead i 0
+unfolding gateRecord recordWords
+head-word i l = word-of recordWords i ∙ List·getD-append recordHead (slots ++ (128 ∷ tables)) 0 i (omega (arith, head-length))
+
+behind-head : (i : ℕ) → wordAt gateRecord (14 + i) ≡ getD (slots ++ (128 ∷ tables)) i 0
+unfolding gateRecord recordWords
+behind-head i = word-of recordWords (14 + i) ∙ after recordHead (slots ++ (128 ∷ tables)) 14 i head-length
+
+slot-word : (q : ℕ) → 0 < q → q < 16384 → wordAt gateRecord (14 + (q - 1)) ≡ slotPin q
+slot-word q some few =
+    let e : q - 1 + 1 ≡ q = omega arith in
+    behind-head (q - 1)
+    ∙ List·getD-append slots (128 ∷ tables) 0 (q - 1) (omega (arith, slots-length))
+    ∙ getD-listOf (λ i. slotPin (i + 1)) 16383 (q - 1) (omega arith)
+    ∙ ap slotPin e
+
+behind-slots : (i : ℕ) → wordAt gateRecord (16397 + i) ≡ getD (128 ∷ tables) i 0
+behind-slots i =
+    let e : 16397 + i ≡ 14 + (16383 + i) = omega arith in
+    ap (wordAt gateRecord) e ∙ behind-head (16383 + i) ∙ after slots (128 ∷ tables) 16383 i slots-length
+
+table-word : (i : ℕ) → i < 17664 → wordAt gateRecord (16398 + i) ≡ tableWord i
+table-word i l =
+    let e : 16398 + i ≡ 16397 + suc i = omega arith in
+    ap (wordAt gateRecord) e ∙ behind-slots (suc i) ∙ getD-listOf tableWord 17664 i l
+
+-- ---- the head, number by number
+
+abbrev d : List ℕ
+d = gateRecord
+
+pub blocks-one : wordAt d 0 ≡ 1
+unfolding recordHead
+blocks-one = head-word 0 (omega arith)
+
+pub majors-one : wordAt d 1 ≡ 1
+unfolding recordHead
+majors-one = head-word 1 (omega arith)
+
+pub gates-one : wordAt d 2 ≡ 1
+unfolding recordHead
+gates-one = head-word 2 (omega arith)
+
+pub layout-two : wordAt d 3 ≡ 2
+unfolding recordHead
+layout-two = head-word 3 (omega arith)
+
+pub positions-none : wordAt d 4 ≡ 0
+unfolding recordHead
+positions-none = head-word 4 (omega arith)
+
+pub parts-one : countAt d 0 ≡ 1
+unfolding recordHead
+parts-one = head-word 5 (omega arith)
+
+pub none-earlier : partsBefore d 0 ≡ 0
+unfolding partsBefore sumTo
+none-earlier = refl
+
+pub one-earlier : partsBefore d 1 ≡ 1
+unfolding partsBefore sumTo
+one-earlier = rw parts-one
+
+pub one-part : partsOf d ≡ 1
+one-part = rw (majors-one, one-earlier)
+
+pub gate-base : gateBase d ≡ 6
+unfolding gateBase
+gate-base = rw majors-one
+
+pub gate-pin : wordAt d 6 ≡ 3
+unfolding recordHead
+gate-pin = head-word 6 (omega arith)
+
+pub gate-first : wordAt d 7 ≡ 2
+unfolding recordHead
+gate-first = head-word 7 (omega arith)
+
+pub gate-second : wordAt d 8 ≡ 5
+unfolding recordHead
+gate-second = head-word 8 (omega arith)
+
+pub layout-base : layoutBase d ≡ 9
+unfolding layoutBase
+layout-base = rw (gate-base, gates-one)
+
+pub layout-first : wordAt d 9 ≡ 1
+unfolding recordHead
+layout-first = head-word 9 (omega arith)
+
+pub layout-second : wordAt d 10 ≡ 2
+unfolding recordHead
+layout-second = head-word 10 (omega arith)
+
+pub position-base : positionBase d ≡ 11
+unfolding positionBase
+position-base = rw (layout-base, layout-two)
+
+head-base : headBase d ≡ 11
+unfolding headBase
+head-base = rw (position-base, positions-none)
+
+-- ---- the part
+
+pub stages-one : stagesOf d 0 ≡ 1
+unfolding recordHead
+stages-one = rw head-base (head-word 11 (omega arith))
+
+pub endpoints-none : endpointsOf d 0 ≡ 0
+unfolding recordHead
+endpoints-none = rw head-base (head-word 12 (omega arith))
+
+body-first : bodyAt d 0 ≡ 13
+unfolding bodyAt
+body-first = rw (head-base, one-part)
+
+count-base : countBase d 0 ≡ 13
+unfolding countBase
+count-base = rw (body-first, endpoints-none)
+
+location-count : wordAt d 13 ≡ 1
+unfolding recordHead
+location-count = head-word 13 (omega arith)
+
+pub stage-location : stageLocations d 0 0 ≡ 1
+stage-location = rw (count-base, location-count)
+
+locations-in : locationsIn d 13 1 0 ≡ 1
+unfolding locationsIn sumTo
+locations-in = rw location-count
+
+pub locations-one : locationsOf d 0 ≡ 1
+locations-one = rw (body-first, stages-one, endpoints-none, locations-in)
+
+slot-base : slotBase d 0 ≡ 14
+unfolding slotBase
+slot-base = rw (count-base, stages-one)
+
+location-base : locationBase d 0 ≡ 16397
+unfolding locationBase
+location-base = rw (slot-base, stages-one)
+
+table-base : tableBase d 0 ≡ 16398
+unfolding tableBase
+table-base = rw (location-base, locations-one)
+
+pub body-end : bodyAt d 1 ≡ 34062
+unfolding bodyAt bodyWords
+body-end = rw (body-first, stages-one, endpoints-none, locations-in)
+
+pub slot-is : (q : ℕ) → 0 < q → q < 16384 → slotAt d 0 0 q ≡ slotPin q
+slot-is q some few = rw slot-base (slot-word q some few)
+
+pub location-is : locationAt d 0 0 ≡ 128
+location-is = rw location-base (behind-slots 0)
+
+pub table-is : (i : ℕ) → i < 17664 → tableAt d 0 i ≡ tableWord i
+table-is i l = rw table-base (table-word i l)

@@ -1,0 +1,4 @@
+pub mod GateRecordLaws
+pub mod GateAcceptedLaws
+pub mod GateScriptLaws
+pub mod GateRunLaws

@@ -1,0 +1,3 @@
+pub mod GatePlan
+pub mod GateScript
+pub mod GateRun
