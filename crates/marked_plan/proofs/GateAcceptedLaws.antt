@@ -31,7 +31,9 @@ use Rattle.plan_blocks.specs.Blocks.{stateOf, sramOf, stateWords, totalsFit}
 use Rattle.plan_blocks.proofs.TotalLaws.{same-or}
 use Rattle.plan_slots.specs.Slots.{topBelow, feeds, pinRight, slotRight, nineRight, badItem, refusal9, tenRight, refusal10, readsPin, elevenRight, refusal11}
 use Rattle.plan_slots.proofs.SlotLaws.{ten-first}
-use Rattle.plan_positions.specs.Positions.{Planned, lastBelow, inLayout, inPositions, planned, positionRight, twelveRight, refusal12, thirteenRight, refusal13}
+use Rattle.plan_winners.specs.Planned.{Planned, lastBelow, inLayout, inPositions, planned}
+use Rattle.plan_entries.specs.TableEntries.{thirteenRight, refusal13}
+use Rattle.plan_positions.specs.Positions.{positionRight, twelveRight, refusal12}
 use Rattle.plan_reads.specs.PartReads.{askedBy, askedTo, readWords, partReads, badReads, refusedReads}
 use Rattle.plan_checks.specs.Refusals.{planRefusal}
 use Rattle.promise.specs.Promise.{Accepted}

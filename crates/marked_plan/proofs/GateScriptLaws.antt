@@ -26,7 +26,7 @@ use Rattle.plan_record.specs.Record.{slotAt, tableAt}
 use Rattle.plan_blocks.proofs.TotalLaws.{same-or}
 use Rattle.plan_gates.specs.Gates.{gateOf}
 use Rattle.plan_slots.specs.Slots.{topBelow}
-use Rattle.plan_positions.specs.Positions.{planned}
+use Rattle.plan_winners.specs.Planned.{planned}
 use Rattle.plan_reads.specs.PartReads.{partLanes, localPosition}
 use Rattle.script.specs.Script.{numbers, halfIn, locationStage, locationHalf, locationWords, pinEntry, stageEntry, firstInversion, secondInversion, orbBit, xoraBit, xorbBit, maskWord, laneList, stageSection, stageSections, sramSection, enableSection, partScript}
 use Rattle.script.proofs.SectionsLaws.{lanes-ext}
