@@ -1,3 +1,1 @@
-pub mod PlannedBitLaws
-pub mod KnownLaws
 pub mod ValueAnswerLaws

@@ -23,9 +23,9 @@ use Rattle.plan_gates.proofs.ValueCodeLaws.{words-valued, words-ext}
 use Rattle.plan_slots.specs.Puts.{filled}
 use Rattle.plan_slots.proofs.PutLaws.{filled-length}
 use Rattle.plan_positions.specs.Input.{input}
-use Rattle.values.specs.Known.{knownPuts, ValueAsked}
-use Rattle.values.specs.Values.{Bits, pinValue, bitWords, gateValues, lentBits, valued, valueAnswer, bitsAfter, valueRoomAfter}
-use Rattle.values.proofs.KnownLaws.{known-bit, known-look}
+use Rattle.plan_known.specs.Known.{knownPuts}
+use Rattle.values.specs.Values.{ValueAsked, Bits, pinValue, bitWords, gateValues, lentBits, valued, valueAnswer, bitsAfter, valueRoomAfter}
+use Rattle.plan_known.proofs.KnownLaws.{known-bit, known-look}
 
 -- ---- the value over the table t of state bits
 

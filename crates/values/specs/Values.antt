@@ -1,6 +1,7 @@
 -- The value of a pin by the gates, for any arguments: document 01, "The run" ("The value of a pin by the gates") and "Numbered refusals": 32, 5, 6,
 -- then 14. The lent result has one bit a gate.
 -- Assumes nothing.
+use mathlib.Core.Path.{_≡_}
 use mathlib.Core.Bool.{true, false}
 use mathlib.Core.Option.{Option, none, some}
 use mathlib.Core.List.{List}
@@ -15,6 +16,7 @@ use Rattle.plan_record.specs.Form.{planRoomWords, planForm}
 use Rattle.plan_gates.specs.Gates.{badGate, value}
 use Rattle.plan_gates.specs.GateValues.{gateWords}
 use Rattle.plan_positions.specs.Input.{input}
+use Rattle.plan_known.specs.Known.{Clear}
 use Rattle.values.specs.declared.Valued.{Valued}
 use Rattle.values.specs.declared.Valued.the-variants.{Bit, Refused}
 
@@ -66,3 +68,9 @@ bitsAfter (refused q) bits = bits
 -- the lent room then holds zeros; one that is too short holds what it held
 unfoldable pub valueRoomAfter : List ℕ → List ℕ → List ℕ
 valueRoomAfter d room = elim (leb (planRoomWords d) (length room)) [ false ↦ room | true ↦ replicate (length room) 0 ]
+
+-- a plan that the value of a pin is asked of
+pub record ValueAsked (d room : List ℕ) : Type 0 where
+  pub form : planForm d ≡ true
+  pub gates : badGate d ≡ none
+  pub clear : Clear room

@@ -1,14 +1,11 @@
 // The value of a pin by the gates, for any arguments: document 01, "The run".
-pub mod known;
-
 ghost use mathlib.Core.Path.{_≡_};
 ghost use lib.ListN.{length, replicate};
 ghost use Rattle.words.specs.Answer.{refused, atItem};
-ghost use Rattle.values.specs.Known.{ValueAsked};
-ghost use Rattle.values.specs.Values.{bitWords, pinValue, gateValues, lentBits, valueAnswer, valuedOf, bitsAfter, valueRoomAfter};
-use known::fill_known;
+ghost use Rattle.values.specs.Values.{ValueAsked, bitWords, pinValue, gateValues, lentBits, valueAnswer, valuedOf, bitsAfter, valueRoomAfter};
 use plan_form::plan_form;
 use plan_gates::check_gates;
+use plan_known::fill_known;
 use plan_positions::planned::PIN_TABLE;
 use plan_record::numbers::gates_of;
 use plan_record::places::room_words;

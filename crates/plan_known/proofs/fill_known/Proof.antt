@@ -1,11 +1,11 @@
--- `values::known::fill_known` meets its contract: one law for a part of the plan, one for a part past it.
+-- `plan_known::fill_known` meets its contract: one law for a part of the plan, one for a part past it.
 -- Assumes nothing.
 use native.Mathlib.Omega.{arith}
 use Rattle.plan_record.proofs.PlanFormLaws.{formed}
-use Rattle.values.proofs.KnownLaws.{fill-read, fill-past}
+use Rattle.plan_known.proofs.KnownLaws.{fill-read, fill-past}
 use borrow.Author.Needs.{needs}
-use Rattle.values.proofs.known.fill_known.Statement.{statement}
-use Rattle.values.proofs.known.fill_known.Tie as tie
+use Rattle.plan_known.proofs.fill_known.Statement.{statement}
+use Rattle.plan_known.proofs.fill_known.Tie as tie
 
 parts-of-requires : tie.Need-parts-of-requires
 parts-of-requires c κs = formed _ (c .before .before .before .before .pre .0) .head .majors

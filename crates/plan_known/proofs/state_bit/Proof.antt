@@ -1,10 +1,10 @@
--- `values::known::state_bit` meets its contract. Beyond the end of the state the definition reads 0.
+-- `plan_known::state_bit` meets its contract. Beyond the end of the state the definition reads 0.
 -- Assumes nothing.
 use native.Mathlib.Omega.{arith}
-use Rattle.values.proofs.PlannedBitLaws.{state-bit-is, beyond}
+use Rattle.plan_known.proofs.PlannedBitLaws.{state-bit-is, beyond}
 use borrow.Author.Needs.{needs}
-use Rattle.values.proofs.known.state_bit.Statement.{statement}
-use Rattle.values.proofs.known.state_bit.Tie as tie
+use Rattle.plan_known.proofs.state_bit.Statement.{statement}
+use Rattle.plan_known.proofs.state_bit.Tie as tie
 
 returns : tie.Need-returns
 returns c =

@@ -1,16 +1,16 @@
--- `values::known::fill_part` meets its contract. The loop's invariant: the first words hold the entries of the first j slots, the words after them the winners.
+-- `plan_known::fill_part` meets its contract. The loop's invariant: the first words hold the entries of the first j slots, the words after them the winners.
 -- Assumes nothing.
-use Rattle.values.proofs.KnownLaws.{fill-first, fill-next}
+use Rattle.plan_known.proofs.KnownLaws.{fill-first, fill-next}
 use Rattle.plan_winners.proofs.WinnerLaws.{listed}
 use mathlib.Core.Path.{_≡_, refl, ap, _∙_}
 use Prim.Native.Nat.{ℕ, _-_, _≤_}
 use native.Mathlib.Omega.{arith}
 use lib.ListN.{length, take}
 use Rattle.plan_slots.specs.Puts.{filled}
-use Rattle.values.specs.Known.{bitPuts, WinnersTabled}
+use Rattle.plan_known.specs.Known.{bitPuts, WinnersTabled}
 use borrow.Author.Needs.{needs}
-use Rattle.values.proofs.known.fill_part.Statement.{statement}
-use Rattle.values.proofs.known.fill_part.Tie as tie
+use Rattle.plan_known.proofs.fill_part.Statement.{statement}
+use Rattle.plan_known.proofs.fill_part.Tie as tie
 
 abbrev Inv-loop : tie.InvT-loop
 Inv-loop d p body old new room₀ j₀ room j = (j ≤ 8192) × (length room ≡ length room₀) × WinnersTabled d p body room × (take 32768 room ≡ filled 32768 (bitPuts d p old new j))

@@ -11,9 +11,7 @@ use Rattle.pinmap.specs.PinMap.{Entry, entry}
 use Rattle.plan_record.specs.declared.bodies.Body.{Body}
 use Rattle.plan_record.specs.Record.{partsOf, slotAt}
 use Rattle.words.specs.Pins.{empty}
-use Rattle.plan_record.specs.Form.{planForm}
 use Rattle.plan_record.specs.Body.{BodyOf}
-use Rattle.plan_gates.specs.Gates.{badGate}
 use Rattle.plan_winners.specs.Planned.{planned}
 use Rattle.plan_positions.specs.Places.{plannedTable}
 use Rattle.plan_positions.specs.Input.{plannedBit}
@@ -53,9 +51,3 @@ pub record WinnersTabled (d : List ℕ) (p : ℕ) (b : Body) (room : List ℕ) :
   pub stages : 0 < b .stages
   pub wide : 65536 ≤ length room
   pub winners : drop 32768 room ≡ plannedTable d p (length (drop 32768 room))
-
--- a plan that the value of a pin is asked of
-pub record ValueAsked (d room : List ℕ) : Type 0 where
-  pub form : planForm d ≡ true
-  pub gates : badGate d ≡ none
-  pub clear : Clear room

@@ -1,12 +1,12 @@
--- `values::known::put_slot_bit` meets its contract. The entry that is found for the pin gives its planned position, and each pin that is read is found.
+-- `plan_known::put_slot_bit` meets its contract. The entry that is found for the pin gives its planned position, and each pin that is read is found.
 -- Assumes nothing.
 use mathlib.Core.Path.{sym}
 use native.Mathlib.Omega.{arith}
 use lib.Seq.{length-take-le}
-use Rattle.values.proofs.KnownLaws.{bit-empty, bit-value, bit-missing, rest-is}
+use Rattle.plan_known.proofs.KnownLaws.{bit-empty, bit-value, bit-missing, rest-is}
 use borrow.Author.Needs.{needs}
-use Rattle.values.proofs.known.put_slot_bit.Statement.{statement}
-use Rattle.values.proofs.known.put_slot_bit.Tie as tie
+use Rattle.plan_known.proofs.put_slot_bit.Statement.{statement}
+use Rattle.plan_known.proofs.put_slot_bit.Tie as tie
 
 returns : tie.Need-returns
 returns c =

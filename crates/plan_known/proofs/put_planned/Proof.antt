@@ -1,9 +1,9 @@
--- `values::known::put_planned` meets its contract: entry 0 is none and puts nothing.
+-- `plan_known::put_planned` meets its contract: entry 0 is none and puts nothing.
 -- Assumes nothing.
-use Rattle.values.proofs.KnownLaws.{put-none, put-bit}
+use Rattle.plan_known.proofs.KnownLaws.{put-none, put-bit}
 use borrow.Author.Needs.{needs}
-use Rattle.values.proofs.known.put_planned.Statement.{statement}
-use Rattle.values.proofs.known.put_planned.Tie as tie
+use Rattle.plan_known.proofs.put_planned.Statement.{statement}
+use Rattle.plan_known.proofs.put_planned.Tie as tie
 
 returns : tie.Need-returns
 returns c = let s = c .before .before .before .before .before .args in put-none (s .d .now) (s .old .now) (s .new .now) (s .table .now) (s .pin .0) (s .w) (c .if1 .taken)

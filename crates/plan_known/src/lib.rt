@@ -13,7 +13,7 @@ ghost use Rattle.plan_record.specs.Body.{BodyOf};
 ghost use Rattle.plan_slots.specs.Puts.{filled};
 ghost use Rattle.plan_winners.specs.Winners.{plannedBy};
 ghost use Rattle.plan_positions.specs.Input.{plannedBit};
-ghost use Rattle.values.specs.Known.{heldBit, foundPut, bitPuts, knownPuts, Clear, WinnersTabled};
+ghost use Rattle.plan_known.specs.Known.{heldBit, foundPut, bitPuts, knownPuts, Clear, WinnersTabled};
 use pinmap::Found;
 use pinmap::look_up;
 use plan_positions::planned::PIN_TABLE;

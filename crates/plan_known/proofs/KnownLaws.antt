@@ -31,8 +31,8 @@ use Rattle.plan_positions.specs.Places.{plannedTable}
 use Rattle.plan_positions.specs.Input.{plannedBit, input}
 use Rattle.plan_winners.proofs.WinnerLaws.{by-none, planned-winner}
 use Rattle.plan_positions.proofs.PlannedLaws.{slot-read, planned-look, planned-length}
-use Rattle.values.specs.Known.{heldBit, foundPut, foundBelow, bitPuts, knownPuts, Clear, WinnersTabled}
-use Rattle.values.proofs.PlannedBitLaws.{bit-none, planned-lt}
+use Rattle.plan_known.specs.Known.{heldBit, foundPut, foundBelow, bitPuts, knownPuts, Clear, WinnersTabled}
+use Rattle.plan_known.proofs.PlannedBitLaws.{bit-none, planned-lt}
 
 -- ---- the entry of one pin
 

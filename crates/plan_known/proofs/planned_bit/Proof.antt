@@ -1,9 +1,9 @@
 -- The position that the entry gives, in the old state or in the new.
 -- Assumes nothing.
-use Rattle.values.proofs.PlannedBitLaws.{unstaged-bit, staged-bit}
+use Rattle.plan_known.proofs.PlannedBitLaws.{unstaged-bit, staged-bit}
 use borrow.Author.Needs.{needs}
-use Rattle.values.proofs.known.planned_bit.Statement.{statement}
-use Rattle.values.proofs.known.planned_bit.Tie as tie
+use Rattle.plan_known.proofs.planned_bit.Statement.{statement}
+use Rattle.plan_known.proofs.planned_bit.Tie as tie
 
 returns : tie.Need-returns
 returns c =

@@ -1,4 +1,4 @@
--- `values::known::part_body` meets its contract. The loop's invariant: `at` is where the body of part k begins.
+-- `plan_known::part_body` meets its contract. The loop's invariant: `at` is where the body of part k begins.
 -- Assumes nothing.
 use mathlib.Core.Path.{_≡_, ap, _∙_}
 use Prim.Native.Nat.{_-_, _≤_}
@@ -6,8 +6,8 @@ use native.Mathlib.Omega.{arith}
 use Rattle.plan_record.specs.Record.{bodyAt}
 use Rattle.plan_record.proofs.PlanFormLaws.{formed, body-ready}
 use borrow.Author.Needs.{needs}
-use Rattle.values.proofs.known.part_body.Statement.{statement}
-use Rattle.values.proofs.known.part_body.Tie as tie
+use Rattle.plan_known.proofs.part_body.Statement.{statement}
+use Rattle.plan_known.proofs.part_body.Tie as tie
 
 abbrev Inv-loop : tie.InvT-loop
 Inv-loop d p at₀ k₀ at k = (k ≤ p) × (at ≡ bodyAt d k)

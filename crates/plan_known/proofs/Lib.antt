@@ -1,0 +1,2 @@
+pub mod PlannedBitLaws
+pub mod KnownLaws
