@@ -3,39 +3,28 @@
 use mathlib.Core.Path.{_≡_, refl, sym, ap, _∙_}
 use mathlib.Core.Logic.{⊎-elim}
 use mathlib.Core.List.{List, [], _∷_, _++_}
-use Prim.Native.Nat.{ℕ, zero, suc, _+_, _*_, _-_, _≤_, _<_}
+use Prim.Native.Nat.{ℕ, zero, suc, _+_, _*_, _-_, _<_}
 use native.Mathlib.Omega.{arith}
-use borrow.Author.Tests.{le-leb, lt-leb}
+use borrow.Author.Tests.{le-leb}
 use lib.ListN.{length, getD, length-append, List·getD-append}
 use Rattle.words.proofs.BitLaws.{lt-or-ge}
 use Rattle.words.specs.Sum.{sumTo}
 use Rattle.words.specs.Section.{listOf}
 use Rattle.words.proofs.SectionLaws.{length-listOf, getD-listOf}
+use Rattle.plan_record.proofs.RecordLaws.{word-there, word-missing}
 use Rattle.plan_record.specs.Record.{wordAt, countAt, partsBefore, partsOf, gateBase, layoutBase, positionBase, headBase, bodyAt, bodyWords, locationsIn, stagesOf, endpointsOf, countBase, stageLocations, locationsOf, slotBase, slotAt, locationBase, locationAt, tableBase, tableAt}
+use Rattle.promise_decode.proofs.LaneListLaws.{behind}
 use Rattle.marked_plan.specs.GatePlan.{bytesOf, recordHead, slotPin, tableWord, recordWords, gateRecord}
 
 -- ---- bytes and words
-
-word-none : (i : ℕ) → wordAt [] i ≡ 0
-unfolding wordAt
-word-none i = rw (lt-leb (4 * i + 4) 0 (omega arith), wordAt)
 
 word-first : (w : ℕ) (ws : List ℕ) → wordAt (bytesOf (w ∷ ws)) 0 ≡ w
 unfolding wordAt bytesOf
 word-first w ws = rw (le-leb 4 (length (bytesOf (w ∷ ws))) (omega arith), wordAt) (omega arith)
 
-word-there : (d : List ℕ) (i : ℕ) → 4 * i + 4 ≤ length d
-    → wordAt d i ≡ getD d (4 * i) 0 + 256 * getD d (4 * i + 1) 0 + 65536 * getD d (4 * i + 2) 0 + 16777216 * getD d (4 * i + 3) 0
-unfolding wordAt
-word-there d i h = rw (le-leb _ _ h, wordAt)
-
-word-gone : (d : List ℕ) (i : ℕ) → length d < 4 * i + 4 → wordAt d i ≡ 0
-unfolding wordAt
-word-gone d i h = rw (lt-leb _ _ h, wordAt)
-
 word-past : (a b c e : ℕ) (r : List ℕ) (i : ℕ) → wordAt (a ∷ b ∷ c ∷ e ∷ r) (suc i) ≡ wordAt r i
 word-past a b c e r i =
-    ⊎-elim (λ l. word-gone (a ∷ b ∷ c ∷ e ∷ r) (suc i) (omega arith) ∙ sym (word-gone r i l))
+    ⊎-elim (λ l. word-missing (a ∷ b ∷ c ∷ e ∷ r) (suc i) (omega arith) ∙ sym (word-missing r i l))
     (λ g.
     word-there (a ∷ b ∷ c ∷ e ∷ r) (suc i) (omega arith)
     ∙ rw (past (4 * suc i) (4 * i) (omega arith), past (4 * suc i + 1) (4 * i + 1) (omega arith), past (4 * suc i + 2) (4 * i + 2) (omega arith), past (4 * suc i + 3) (4 * i + 3) (omega arith))
@@ -47,7 +36,7 @@ word-past a b c e r i =
 
 pub word-of : (ws : List ℕ) (i : ℕ) → wordAt (bytesOf ws) i ≡ getD ws i 0
 unfolding bytesOf
-word-of [] i = word-none i
+word-of [] i = word-missing [] i (omega arith)
 word-of (w ∷ ws) zero = word-first w ws
 word-of (w ∷ ws) (suc i) = word-past _ _ _ _ (bytesOf ws) i ∙ word-of ws i
 
@@ -57,10 +46,6 @@ bytes-length [] = refl
 bytes-length (w ∷ ws) = omega (arith, bytes-length ws)
 
 -- ---- lists one behind the other
-
-after : (a b : List ℕ) (k i : ℕ) → length a ≡ k → getD (a ++ b) (k + i) 0 ≡ getD b i 0
-after [] b k i e = let z : k + i ≡ i = omega arith in ap (λ (x : ℕ). getD b x 0) z
-after (x ∷ a) b k i e = let z : k + i ≡ suc (length a + i) = omega arith in rw z (after a b (length a) i refl)
 
 abbrev slots : List ℕ
 slots = listOf (λ i. slotPin (i + 1)) 16383
@@ -90,7 +75,7 @@ head-word i l = word-of recordWords i ∙ List·getD-append recordHead (slots ++
 
 behind-head : (i : ℕ) → wordAt gateRecord (14 + i) ≡ getD (slots ++ (128 ∷ tables)) i 0
 unfolding gateRecord recordWords
-behind-head i = word-of recordWords (14 + i) ∙ after recordHead (slots ++ (128 ∷ tables)) 14 i head-length
+behind-head i = word-of recordWords (14 + i) ∙ behind recordHead (slots ++ (128 ∷ tables)) 14 i head-length
 
 slot-word : (q : ℕ) → 0 < q → q < 16384 → wordAt gateRecord (14 + (q - 1)) ≡ slotPin q
 slot-word q some few =
@@ -103,7 +88,7 @@ slot-word q some few =
 behind-slots : (i : ℕ) → wordAt gateRecord (16397 + i) ≡ getD (128 ∷ tables) i 0
 behind-slots i =
     let e : 16397 + i ≡ 14 + (16383 + i) = omega arith in
-    ap (wordAt gateRecord) e ∙ behind-head (16383 + i) ∙ after slots (128 ∷ tables) 16383 i slots-length
+    ap (wordAt gateRecord) e ∙ behind-head (16383 + i) ∙ behind slots (128 ∷ tables) 16383 i slots-length
 
 table-word : (i : ℕ) → i < 17664 → wordAt gateRecord (16398 + i) ≡ tableWord i
 table-word i l =

@@ -108,8 +108,8 @@ enough b l =
 named : (i : ℕ) → i < length threeTurns → getD threeTurns i 0 < blocksOf d
 named i l = omega (arith, blocks-one, zeros-at 3 i)
 
--- the run is not refused, and leaves no turns
-not-refused : (old : ℕ)
+-- the premises of demand 3 are met, whatever the old word is: the run is not refused, leaves no turns, and keeps what is promised
+pub not-refused : (old : ℕ)
     → (gateAnswer old ≡ ran 0 (stageRun d 0 threeTurns (old ∷ 0 ∷ []) (0 ∷ 0 ∷ []) .new))
     × Kept d 0 (old ∷ 0 ∷ []) (0 ∷ 0 ∷ []) (stageRun d 0 threeTurns (old ∷ 0 ∷ []) (0 ∷ 0 ∷ []) .new)
 unfolding gateAnswer
