@@ -1,5 +1,5 @@
 // Pins to numbers in lent words, by open addressing. Zeros are the empty map. A pin has 32 homes of its own; only where all of them are
-// taken by other pins does a probe go round the slots.
+// taken by other pins does a probe go round the slots. So a probe looks at 32 slots, then at each slot once: no smaller bound is proved.
 ghost use mathlib.Core.Path.{_≡_};
 ghost use Prim.Native.Nat.{_+_, _*_, _-_, _<_, _^_};
 ghost use lib.ListN.{set};
