@@ -21,7 +21,7 @@ use Rattle.words.proofs.SectionLaws.{section-word}
 use Rattle.reads.specs.ReadSet.{Pair, total}
 use Rattle.words.proofs.TestLaws.{some-not-none}
 use Rattle.reads.specs.Search.{Lane, insertPiece, ordered, firstRoom}
-use Rattle.reads.proofs.SearchLaws.{room-found, room-here, room-none}
+use Rattle.reads.proofs.SearchLaws.{room-found}
 use Rattle.plan_record.specs.Record.{countAt, partsBefore, slotAt}
 use Rattle.plan_counts.specs.Counts.{srams}
 use Rattle.plan_blocks.specs.Blocks.{blockOf, sramStart}
@@ -202,6 +202,14 @@ passed-on : (n : ℕ) (lanes : List Lane) (b j k : ℕ) → j < n → 32 < total
 passed-on n lanes b j k l full rest zero u = rw (round-here n j l) full
 passed-on n lanes b j k l full rest (suc m) u = rw (← (round-next n j m l)) (rest m (omega arith))
 
+room-none : (n : ℕ) (lanes : List Lane) (b j : ℕ) → firstRoom n 0 lanes b j ≡ none
+unfolding firstRoom
+room-none n lanes b j = refl
+
+room-here : (n f : ℕ) (lanes : List Lane) (b j : ℕ) → total (getD lanes j []) + b ≤ 32 → firstRoom n (suc f) lanes b j ≡ some j
+unfolding firstRoom
+room-here n f lanes b j h = rw (le-leb _ _ h, firstRoom)
+
 room-next : (n f : ℕ) (lanes : List Lane) (b j : ℕ) → 32 < total (getD lanes j []) + b → firstRoom n (suc f) lanes b j ≡ firstRoom n f lanes b (next n j)
 unfolding firstRoom
 room-next n f lanes b j h = rw (lt-leb _ _ h, firstRoom)
@@ -220,7 +228,7 @@ first-of n (suc f) lanes b j i l e =
       },
     ))
     (λ fits.
-    let is : some j ≡ some i = sym (room-here n (suc f) lanes b j (omega arith) fits) ∙ e in
+    let is : some j ≡ some i = sym (room-here n f lanes b j fits) ∙ e in
     (0, record { below = omega arith; lane = sym (round-here n j l ∙ cc); passed-over = λ m u. absurd (omega arith) }))
     (lt-or-ge 32 (total (getD lanes j []) + b))
 
@@ -237,7 +245,7 @@ none-of n (suc f) lanes b j l e =
     passed-on n lanes b j f l full
     (none-of n f lanes b (next n j) (next-lt n j l)
     (sym (room-next n f lanes b j full) ∙ e)))
-    (λ fits. absurd (some-not-none (sym (room-here n (suc f) lanes b j (omega arith) fits) ∙ e)))
+    (λ fits. absurd (some-not-none (sym (room-here n f lanes b j fits) ∙ e)))
     (lt-or-ge 32 (total (getD lanes j []) + b))
 
 -- each lane is met, going round once

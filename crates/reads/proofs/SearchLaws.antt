@@ -5,11 +5,11 @@ use mathlib.Core.Bool.{Bool, true, false}
 use mathlib.Core.Option.{Option, none, some}
 use mathlib.Core.List.{List, []}
 use mathlib.Core.Logic.{_⊎_, inl, inr, ⊎-elim, _↔_}
-use Prim.Native.Nat.{ℕ, zero, suc, _+_, _-_, _/_, _^_, _≤_, _<_}
+use Prim.Native.Nat.{ℕ, zero, suc, _+_, _/_, _^_, _≤_, _<_}
 use native.Mathlib.Nat.{zero-lt-suc, not-suc-le-zero, lt-of-le-of-lt, lt-of-lt-of-le, div-one, zero-div}
-use native.Mathlib.Numerals.{one-add, sub-one}
+use native.Mathlib.Numerals.{one-add}
 use native.Mathlib.Omega.{arith}
-use borrow.Author.Tests.{leb-true, le-leb, lt-leb}
+use borrow.Author.Tests.{leb-true}
 use lib.Dec.{lit<}
 use lib.ListN.{length, getD}
 use lib.Pow.{pow-mono, shr-shr}
@@ -32,21 +32,6 @@ room-found n (suc f) lanes b j i h e = ⊎-elim
     chosen : (t : Bool) (j i : ℕ) (o : Option ℕ) → elim t [ true ↦ some j | false ↦ o ] ≡ some i → ((t ≡ true) × (j ≡ i)) ⊎ (o ≡ some i)
     chosen true j i o e = inl (refl, cc)
     chosen false j i o e = inr e
-
-pub room-here : (n f : ℕ) (lanes : List Lane) (b j : ℕ) → 0 < f → total (getD lanes j []) + b ≤ 32 → firstRoom n f lanes b j ≡ some j
-unfolding firstRoom
-room-here n zero lanes b j p h = absurd (not-suc-le-zero p)
-room-here n (suc f) lanes b j p h = rw (le-leb _ _ h, firstRoom)
-
-pub room-on : (n f : ℕ) (lanes : List Lane) (b j : ℕ) → 0 < f → 32 < total (getD lanes j []) + b
-    → firstRoom n f lanes b j ≡ firstRoom n (f - 1) lanes b (next n j)
-unfolding firstRoom
-room-on n zero lanes b j p h = absurd (not-suc-le-zero p)
-room-on n (suc f) lanes b j p h = rw (lt-leb _ _ h, firstRoom, sub-one)
-
-pub room-none : (n : ℕ) (lanes : List Lane) (b j : ℕ) → firstRoom n 0 lanes b j ≡ none
-unfolding firstRoom
-room-none n lanes b j = refl
 
 -- ---- the piece sizes k, k/2, k/4 ..
 

@@ -37,8 +37,7 @@ joined (l ∷ ls) = l ++ joined ls
 abbrev pub Lane : Type 0
 Lane = List Pair
 
--- "the first lane, going round from the current one, whose bits plus the pair's are at most 32": f lanes from lane j are looked at. The bits
--- of a lane are summed anew each time, as the Rust does.
+-- "the first lane, going round from the current one, whose bits plus the pair's are at most 32": f lanes from lane j are looked at
 unfoldable pub firstRoom : ℕ → ℕ → List Lane → ℕ → ℕ → Option ℕ
 firstRoom n zero lanes b j = none
 firstRoom n (suc f) lanes b j = elim (leb (total (getD lanes j []) + b) 32) [ true ↦ some j | false ↦ firstRoom n f lanes b (next n j) ]

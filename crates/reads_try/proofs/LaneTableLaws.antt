@@ -1,6 +1,6 @@
 -- The table: reading it gives back the lanes that it was made of, a pair more is a word more, and what is kept of the lanes.
 -- Assumes nothing.
-use mathlib.Core.Path.{_≡_, refl, sym, ap, _∙_}
+use mathlib.Core.Path.{_≡_, refl, ap, _∙_}
 use mathlib.Core.List.{List, [], _∷_, _++_, append-assoc}
 use Prim.Native.Nat.{ℕ, zero, suc, _+_, _*_, _-_, _/_, _≤_, _<_, zero-le}
 use native.Mathlib.Nat.{zero-add, suc-add, not-suc-le-zero, le-of-suc-le-suc}
@@ -15,7 +15,6 @@ use Rattle.reads.proofs.PackingLaws.{total-append}
 use Rattle.reads_try.specs.LaneTable.{row, tableOf}
 use Rattle.reads_try.specs.Tries.{LaneRowIn}
 use Rattle.reads_try.specs.TableLanes.{pairAt, laneOf, rowAt, lanesAt, putInLane, Each, Drawn, SoundLane, SoundLanes, LanesTabled}
-use Rattle.reads_try.proofs.SetPairLaws.{total-le}
 
 -- ---- a row, word by word
 
@@ -67,10 +66,6 @@ lane-at ws t (suc n) zero h = refl
 lane-at ws t (suc n) (suc j) h =
     let e : 32 * suc j ≡ 32 + 32 * j = omega arith in
     lane-at ws (drop 32 t) n j (le-of-suc-le-suc h) ∙ rw (e, drop-drop)
-
--- a row has at most 1024 bits
-pub row-bits-le : (ws t : List ℕ) (j : ℕ) → total (laneOf ws (rowAt t j)) ≤ 1024
-row-bits-le ws t j = omega (arith, total-le (laneOf ws (rowAt t j)), row-short ws (rowAt t j), length-take 32 (drop (32 * j) t))
 
 -- a row whose words name pairs of the set
 pub row-in : (ws t : List ℕ) (n : ℕ) → 32 * n ≤ length t → ((i : ℕ) → i < 32 * n → getD t i 0 ≤ length ws / 2) → (j : ℕ) → j < n → LaneRowIn ws t j
@@ -250,18 +245,15 @@ module _ {ws t : List ℕ} {n : ℕ} (h : LanesTabled ws t n) where
   filled-row j l = row-in ws t n filled-in-room filled-named j l
 
   -- a lane with room has a free word, and the pair that is put there is in the lane
-  pub filled-free : (j b : ℕ) → j < n → 0 < b → total (getD (lanesAt ws t n) j []) + b ≤ 32 → length (laneOf ws (rowAt t j)) < 32
-  filled-free j b l p r =
-      let e = lane-at ws t n j l in
-      omega (arith, drawn-thin ws (laneOf ws (rowAt t j)) (rw e at (kept-sound (h .kept) j l .drawn)), rw e at r)
+  pub filled-free : (j b : ℕ) → j < n → 0 < b → total (getD (lanesAt ws t n) j []) + b ≤ 32 → length (getD (lanesAt ws t n) j []) < 32
+  filled-free j b l p r = omega (arith, drawn-thin ws (getD (lanesAt ws t n) j []) (kept-sound (h .kept) j l .drawn))
 
-  pub filled-put : (j p : ℕ) → j < n → length (laneOf ws (rowAt t j)) < 32 → putInLane ws t j p ≡ tableOf (push (lanesAt ws t n) j (pairAt ws p)) ++ drop (32 * n) t
+  pub filled-put : (j p : ℕ) → j < n → length (getD (lanesAt ws t n) j []) < 32
+      → putInLane t j (length (getD (lanesAt ws t n) j [])) p ≡ tableOf (push (lanesAt ws t n) j (pairAt ws p)) ++ drop (32 * n) t
   filled-put j p l f =
       let ls = lanesAt ws t n in
-      let e : laneOf ws (rowAt t j) ≡ getD ls j [] = sym (lane-at ws t n j l) in
-      let m : 32 * j + length (getD ls j []) < length (tableOf ls) = omega (arith, filled-length, ap length e) in
+      let m : 32 * j + length (getD ls j []) < length (tableOf ls) = omega (arith, filled-length) in
       let there : j < length ls = omega (arith, h .kept .wide) in
-      ap (λ (x : Lane). set t (32 * j + length x) (p + 1)) e
-      ∙ ap (λ (x : List ℕ). set x (32 * j + length (getD ls j [])) (p + 1)) (h .table)
+      ap (λ (x : List ℕ). set x (32 * j + length (getD ls j [])) (p + 1)) (h .table)
       ∙ set-append-left (tableOf ls) (drop (32 * n) t) _ _ m
-      ∙ ap (λ (x : List ℕ). x ++ drop (32 * n) t) (table-put ls j (pairAt ws p) there (rw e at f))
+      ∙ ap (λ (x : List ℕ). x ++ drop (32 * n) t) (table-put ls j (pairAt ws p) there f)

@@ -1,4 +1,5 @@
 pub mod SetPairLaws
 pub mod LaneTableLaws
+pub mod LaneLoadLaws
 pub mod PairPlacedLaws
 pub mod TryLaws

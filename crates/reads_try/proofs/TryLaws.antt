@@ -18,11 +18,12 @@ use Rattle.words.proofs.RoundLaws.{next-lt}
 use Rattle.reads.proofs.SearchLaws.{room-found}
 use Rattle.reads_try.specs.declared.Search.{Search}
 use Rattle.reads_try.specs.declared.Search.the-variants.{Lane as LaneAt, Full}
-use Rattle.reads_try.specs.LaneTable.{tableOf, pieceOf, runOf}
-use Rattle.reads_try.specs.TableLanes.{pairAt, lanesAt, Each, Drawn, SoundLanes, LanesTabled}
+use Rattle.reads_try.specs.LaneTable.{tableOf, usedOf, heldOf, pieceOf, runOf}
+use Rattle.reads_try.specs.TableLanes.{pairAt, lanesAt, Each, Drawn, SoundLanes, LanesTabled, LanesLoaded}
 use Rattle.reads_try.specs.Tries.{laneFor, isAll, triedLanes, triedOf, PairPlaceable, TryReady}
 use Rattle.reads_try.proofs.SetPairLaws.{pairs-length, pairs-at, slice-none, span-step, piece-slice}
 use Rattle.reads_try.proofs.LaneTableLaws.{each-append, each-of, each-take, each-drop, kept-push, kept-empty, table-length, table-empty, filled-lanes, filled-rest, filled-of}
+use Rattle.reads_try.proofs.LaneLoadLaws.{used-long, held-long, used-empty, held-empty}
 use Rattle.reads_try.proofs.PairPlacedLaws.{PairPlaced}
 
 -- ---- what any try keeps of the lanes
@@ -64,38 +65,47 @@ module _ (ws : List ℕ) (whole : length ws % 2 ≡ 0) (masks : (p : ℕ) → p 
 
 -- ---- what holds while a try runs
 
--- the room holds kept lanes, and rest after them; run is still to be placed, from lane cur on, and the try will end in goal
-pub record Held (ws : List ℕ) (n : ℕ) (rest : List ℕ) (goal : Tried) (run : List Pair) (room : List ℕ) (cur : ℕ) : Type 0 where
+-- the room holds kept lanes, with their running numbers, and rest after them; run is still to be placed, from lane cur on, and the try will end
+-- in goal
+pub record Held (ws : List ℕ) (n : ℕ) (rest : List ℕ) (goal : Tried) (run : List Pair) (room used held : List ℕ) (cur : ℕ) : Type 0 where
   pub filled : LanesTabled ws room n
+  pub loaded : LanesLoaded (lanesAt ws room n) used held
   pub rest-is : drop (32 * n) room ≡ rest
   pub lane : cur < n
   pub ends : tryFrom n run (lanesAt ws room n) cur ≡ goal
 
 -- how a try ends
-abbrev pub Ended : Tried → List ℕ → Bool → List ℕ → Type 0
-Ended goal rest fits room = (fits ≡ isAll goal) × (room ≡ tableOf (triedLanes goal) ++ rest)
+abbrev pub Ended : Tried → List ℕ → Bool → (room used held : List ℕ) → Type 0
+Ended goal rest fits room used held =
+    (fits ≡ isAll goal) × ((room ≡ tableOf (triedLanes goal) ++ rest) × ((used ≡ usedOf (triedLanes goal)) × (held ≡ heldOf (triedLanes goal))))
 
 module _ {ws : List ℕ} {n : ℕ} {rest : List ℕ} {goal : Tried} where
-  pub held-room : {run : List Pair} {room : List ℕ} {cur : ℕ} → Held ws n rest goal run room cur → room ≡ tableOf (lanesAt ws room n) ++ rest
+  pub held-room : {run : List Pair} {room used held : List ℕ} {cur : ℕ} → Held ws n rest goal run room used held cur → room ≡ tableOf (lanesAt ws room n) ++ rest
   held-room {room = room} h = h .filled .table ∙ ap (λ (x : List ℕ). tableOf (lanesAt ws room n) ++ x) (h .rest-is)
 
-  pub held-length : {run : List Pair} {room : List ℕ} {cur : ℕ} → Held ws n rest goal run room cur → length room ≡ 32 * n + length rest
+  pub held-length : {run : List Pair} {room used held : List ℕ} {cur : ℕ} → Held ws n rest goal run room used held cur → length room ≡ 32 * n + length rest
   held-length {room = room} h =
       omega (arith, ap length (held-room h), length-append (tableOf (lanesAt ws room n)) rest, table-length (lanesAt ws room n), h .filled .kept .wide)
 
-  -- all is placed
-  pub held-all : {room : List ℕ} {cur : ℕ} → Held ws n rest goal [] room cur → Ended goal rest true room
-  unfolding tryFrom
-  held-all h = rw (← h .ends) (refl, held-room h)
+  pub held-used : {run : List Pair} {room used held : List ℕ} {cur : ℕ} → Held ws n rest goal run room used held cur → length used ≡ n
+  held-used h = used-long (h .loaded) ∙ h .filled .kept .wide
 
-  module _ {p : ℕ} {run : List Pair} {room : List ℕ} {cur : ℕ} (h : Held ws n rest goal (pairAt ws p ∷ run) room cur)
-      (r : Search) (room′ : List ℕ) (placed : PairPlaced ws room n cur p r room′) where
+  pub held-held : {run : List Pair} {room used held : List ℕ} {cur : ℕ} → Held ws n rest goal run room used held cur → length held ≡ n
+  held-held h = held-long (h .loaded) ∙ h .filled .kept .wide
+
+  -- all is placed
+  pub held-all : {room used held : List ℕ} {cur : ℕ} → Held ws n rest goal [] room used held cur → Ended goal rest true room used held
+  unfolding tryFrom
+  held-all h = rw (← h .ends) (refl, (held-room h, (h .loaded .bits-are, h .loaded .pairs-are)))
+
+  module _ {p : ℕ} {run : List Pair} {room used held : List ℕ} {cur : ℕ} (h : Held ws n rest goal (pairAt ws p ∷ run) room used held cur)
+      (r : Search) (room′ used′ held′ : List ℕ) (placed : PairPlaced ws room n cur p r room′ used′ held′) where
     -- the lane that is found takes the pair
-    pub held-step : Drawn ws (pairAt ws p) → (j : ℕ) → r ≡ LaneAt j → Held ws n rest goal run room′ j
+    pub held-step : Drawn ws (pairAt ws p) → (j : ℕ) → r ≡ LaneAt j → Held ws n rest goal run room′ used′ held′ j
     unfolding tryFrom
     held-step d j f = go (laneFor ws room n cur p) refl
       where
-        go : (o : Option ℕ) → laneFor ws room n cur p ≡ o → Held ws n rest goal run room′ j
+        go : (o : Option ℕ) → laneFor ws room n cur p ≡ o → Held ws n rest goal run room′ used′ held′ j
         go none e =
             let q : Full ≡ LaneAt j = sym (rw e at (placed .0)) ∙ f in
             let z : _≡_ {A = ℕ} 0 1 = cc in
@@ -105,23 +115,26 @@ module _ {ws : List ℕ} {n : ℕ} {rest : List ℕ} {goal : Tried} where
             let on : next n i ≡ j = cc in
             let x = room-found n n (lanesAt ws room n) (bits (pairAt ws p)) cur i (h .lane) e in
             let k = kept-push (h .filled .kept) i (pairAt ws p) (x .0) (x .1) d in
-            let t = rw e at (placed .1) in
+            let t = rw e at (placed .1 .0) in
+            let read : lanesAt ws room′ n ≡ push (lanesAt ws room n) i (pairAt ws p) = filled-lanes k _ t in
             record {
               filled = filled-of k _ t;
+              loaded = record { bits-are = rw read (rw e at (placed .1 .1 .0)); pairs-are = rw read (rw e at (placed .1 .1 .1)) };
               rest-is = filled-rest k _ t ∙ h .rest-is;
               lane = rw (← on) (next-lt n i (x .0));
-              ends = rw (filled-lanes k _ t, ← on) (rw (e, tryFrom) at (h .ends));
+              ends = rw (read, ← on) (rw (e, tryFrom) at (h .ends));
             }
 
     -- no lane has room
-    pub held-stop : r ≡ Full → Ended goal rest false room′
+    pub held-stop : r ≡ Full → Ended goal rest false room′ used′ held′
     unfolding tryFrom
     held-stop f = go (laneFor ws room n cur p) refl
       where
-        go : (o : Option ℕ) → laneFor ws room n cur p ≡ o → Ended goal rest false room′
+        go : (o : Option ℕ) → laneFor ws room n cur p ≡ o → Ended goal rest false room′ used′ held′
         go none e =
             let s : stuck (lanesAt ws room n) ≡ goal = rw (e, tryFrom) at (h .ends) in
-            rw (← s) (refl, (rw e at (placed .1)) ∙ ap (λ (x : List ℕ). tableOf (lanesAt ws room n) ++ x) (h .rest-is))
+            let tabled = (rw e at (placed .1 .0)) ∙ ap (λ (x : List ℕ). tableOf (lanesAt ws room n) ++ x) (h .rest-is) in
+            rw (← s) (refl, (tabled, (rw e at (placed .1 .1 .0), rw e at (placed .1 .1 .1))))
         go (some i) e =
             let q : LaneAt (next n i) ≡ Full = sym (rw e at (placed .0)) ∙ f in
             let z : _≡_ {A = ℕ} 0 1 = cc in
@@ -131,39 +144,45 @@ module _ {ws : List ℕ} {n : ℕ} {rest : List ℕ} {goal : Tried} where
 
 -- Pairs p to e of a piece, and the pieces after it, are still to be placed, as they were from p₀ on: whatever the try was to end in, it is to
 -- end in now.
-abbrev pub Piece : (ws : List ℕ) (n p₀ e : ℕ) (room₀ : List ℕ) (cur₀ p : ℕ) (room : List ℕ) (cur : ℕ) → Type 0
-Piece ws n p₀ e room₀ cur₀ p room cur =
+abbrev pub Piece : (ws : List ℕ) (n p₀ e : ℕ) (room₀ used₀ held₀ : List ℕ) (cur₀ p : ℕ) (room used held : List ℕ) (cur : ℕ) → Type 0
+Piece ws n p₀ e room₀ used₀ held₀ cur₀ p room used held cur =
     (rest : List ℕ) (goal : Tried) (tail : List Pair)
-    → Held ws n rest goal (slice p₀ e (pairsOf ws) ++ tail) room₀ cur₀ → Held ws n rest goal (slice p e (pairsOf ws) ++ tail) room cur
+    → Held ws n rest goal (slice p₀ e (pairsOf ws) ++ tail) room₀ used₀ held₀ cur₀
+    → Held ws n rest goal (slice p e (pairsOf ws) ++ tail) room used held cur
 
-module _ {ws room₀ : List ℕ} {n k : ℕ} (ready : TryReady ws room₀ n k) where
-  pub held-start : (keys : List ℕ) → Held ws n (drop (32 * n) room₀) (triedOf n k ws keys) (runOf k (pairsOf ws) keys) room₀ 0
+module _ {ws room₀ used₀ held₀ : List ℕ} {n k : ℕ} (ready : TryReady ws room₀ used₀ held₀ n k) where
+  pub held-start : (keys : List ℕ) → Held ws n (drop (32 * n) room₀) (triedOf n k ws keys) (runOf k (pairsOf ws) keys) room₀ used₀ held₀ 0
   held-start keys =
       let t : room₀ ≡ tableOf (replicate n []) ++ drop (32 * n) room₀ =
       sym (take-append-drop (32 * n) room₀) ∙ ap (λ (x : List ℕ). x ++ drop (32 * n) room₀) (ready .empty ∙ sym (table-empty n)) in
       let q = kept-empty ws n in
+      let read : lanesAt ws room₀ n ≡ replicate n [] = filled-lanes q _ t in
       record {
         filled = filled-of q _ t;
+        loaded = record { bits-are = rw read (ready .no-bits ∙ sym (used-empty n)); pairs-are = rw read (ready .no-pairs ∙ sym (held-empty n)) };
         rest-is = refl;
         lane = ready .some-lanes;
-        ends = ap (λ (x : List Lane). tryFrom n (runOf k (pairsOf ws) keys) x 0) (filled-lanes q _ t);
+        ends = ap (λ (x : List Lane). tryFrom n (runOf k (pairsOf ws) keys) x 0) read;
       }
 
   module _ {rest : List ℕ} {goal : Tried} where
     -- what `place` asks
-    pub held-placeable : {run : List Pair} {room : List ℕ} {cur : ℕ} → Held ws n rest goal run room cur → (p : ℕ) → p < length ws / 2 → PairPlaceable ws room n cur p
+    pub held-placeable : {run : List Pair} {room used held : List ℕ} {cur : ℕ} → Held ws n rest goal run room used held cur → (p : ℕ) → p < length ws / 2
+        → PairPlaceable ws room used held n cur p
     held-placeable h p l = record {
       lane = h .lane;
       pairs = ready .pairs;
       pair = l;
       some-bits = ready .masks p l;
       filled = h .filled;
+      loaded = h .loaded;
     }
 
     -- a key is read, and its piece comes next
-    pub run-step : (keys : List ℕ) (t : ℕ) {room : List ℕ} {cur : ℕ} → t < length keys → Held ws n rest goal (runOf k (pairsOf ws) (drop t keys)) room cur
+    pub run-step : (keys : List ℕ) (t : ℕ) {room used held : List ℕ} {cur : ℕ} → t < length keys
+        → Held ws n rest goal (runOf k (pairsOf ws) (drop t keys)) room used held cur
         → (i e : ℕ) → i ≡ getD keys t 0 % 8192 → e ≡ min (i * k + k) (length ws / 2)
-        → Held ws n rest goal (slice (i * k) e (pairsOf ws) ++ runOf k (pairsOf ws) (drop (t + 1) keys)) room cur
+        → Held ws n rest goal (slice (i * k) e (pairsOf ws) ++ runOf k (pairsOf ws) (drop (t + 1) keys)) room used held cur
     unfolding runOf
     run-step keys t h H i e ei ee =
         let d : drop t keys ≡ getD keys t 0 ∷ drop (t + 1) keys = drop-cons keys t 0 h ∙ rw (add-one t) in
@@ -172,19 +191,21 @@ module _ {ws room₀ : List ℕ} {n k : ℕ} (ready : TryReady ws room₀ n k) w
         rw (← q, ei) (rw d at H)
 
   -- a pair is placed, and the one after it comes next
-  pub piece-step : (p₀ e : ℕ) (room : List ℕ) (cur₀ p : ℕ) (room₁ : List ℕ) (cur : ℕ) → Piece ws n p₀ e room cur₀ p room₁ cur → p < e → e ≤ length ws / 2
-      → (r : Search) (room₂ : List ℕ) → PairPlaced ws room₁ n cur p r room₂ → (j : ℕ) → r ≡ LaneAt j → Piece ws n p₀ e room cur₀ (p + 1) room₂ j
-  piece-step p₀ e room cur₀ p room₁ cur P h l r room₂ placed j f rest goal tail H =
-      held-step (rw (span-step ws p e h l) at (P rest goal tail H)) r room₂ placed (pair-drawn ws (ready .whole) (ready .masks) p (omega arith)) j f
+  pub piece-step : (p₀ e : ℕ) (room used held : List ℕ) (cur₀ p : ℕ) (room₁ used₁ held₁ : List ℕ) (cur : ℕ)
+      → Piece ws n p₀ e room used held cur₀ p room₁ used₁ held₁ cur → p < e → e ≤ length ws / 2
+      → (r : Search) (room₂ used₂ held₂ : List ℕ) → PairPlaced ws room₁ n cur p r room₂ used₂ held₂ → (j : ℕ) → r ≡ LaneAt j
+      → Piece ws n p₀ e room used held cur₀ (p + 1) room₂ used₂ held₂ j
+  piece-step p₀ e room used held cur₀ p room₁ used₁ held₁ cur P h l r room₂ used₂ held₂ placed j f rest goal tail H =
+      held-step (rw (span-step ws p e h l) at (P rest goal tail H)) r room₂ used₂ held₂ placed (pair-drawn ws (ready .whole) (ready .masks) p (omega arith)) j f
 
 -- the piece is through
-pub run-next : {ws : List ℕ} {n : ℕ} {rest : List ℕ} {goal : Tried} (p e : ℕ) (tail : List Pair) {room : List ℕ} {cur : ℕ} → e ≤ p
-    → Held ws n rest goal (slice p e (pairsOf ws) ++ tail) room cur → Held ws n rest goal tail room cur
+pub run-next : {ws : List ℕ} {n : ℕ} {rest : List ℕ} {goal : Tried} (p e : ℕ) (tail : List Pair) {room used held : List ℕ} {cur : ℕ} → e ≤ p
+    → Held ws n rest goal (slice p e (pairsOf ws) ++ tail) room used held cur → Held ws n rest goal tail room used held cur
 run-next {ws} p e tail h H = rw (slice-none p e (pairsOf ws) h) at H
 
 -- so are all
-pub run-ended : {ws : List ℕ} {n : ℕ} {rest : List ℕ} {goal : Tried} (k : ℕ) (keys : List ℕ) (t : ℕ) {room : List ℕ} {cur : ℕ} → length keys ≤ t
-    → Held ws n rest goal (runOf k (pairsOf ws) (drop t keys)) room cur → Ended goal rest true room
+pub run-ended : {ws : List ℕ} {n : ℕ} {rest : List ℕ} {goal : Tried} (k : ℕ) (keys : List ℕ) (t : ℕ) {room used held : List ℕ} {cur : ℕ} → length keys ≤ t
+    → Held ws n rest goal (runOf k (pairsOf ws) (drop t keys)) room used held cur → Ended goal rest true room used held
 unfolding runOf
 run-ended k keys t h H = held-all (rw (drop-of-length-le keys h) at H)
 

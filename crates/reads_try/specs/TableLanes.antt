@@ -6,7 +6,7 @@ use Prim.Native.Nat.{ℕ, zero, suc, _+_, _*_, _/_, _≤_, _<_}
 use lib.ListN.{length, getD, set, take, drop}
 use Rattle.reads.specs.ReadSet.{Pair, bits, total}
 use Rattle.reads.specs.Search.{Lane}
-use Rattle.reads_try.specs.LaneTable.{tableOf}
+use Rattle.reads_try.specs.LaneTable.{tableOf, usedOf, heldOf}
 
 -- pair p of a set
 abbrev pub pairAt : List ℕ → ℕ → Pair
@@ -27,9 +27,9 @@ unfoldable pub lanesAt : List ℕ → List ℕ → ℕ → List Lane
 lanesAt ws t zero = []
 lanesAt ws t (suc n) = laneOf ws (take 32 t) ∷ lanesAt ws (drop 32 t) n
 
--- the words with pair p behind those of lane j
-abbrev pub putInLane : List ℕ → List ℕ → ℕ → ℕ → List ℕ
-putInLane ws t j p = set t (32 * j + length (laneOf ws (rowAt t j))) (p + 1)
+-- the words with pair p in lane j, behind h pairs
+abbrev pub putInLane : List ℕ → ℕ → ℕ → ℕ → List ℕ
+putInLane t j h p = set t (32 * j + h) (p + 1)
 
 -- P holds of each
 abbrev pub Each : {A : Type 0} → (A → Type 0) → List A → Type 0
@@ -56,3 +56,8 @@ pub record SoundLanes (ws : List ℕ) (n : ℕ) (lanes : List Lane) : Type 0 whe
 pub record LanesTabled (ws t : List ℕ) (n : ℕ) : Type 0 where
   pub table : t ≡ tableOf (lanesAt ws t n) ++ drop (32 * n) t
   pub kept : SoundLanes ws n (lanesAt ws t n)
+
+-- the running numbers of lanes
+pub record LanesLoaded (lanes : List Lane) (used held : List ℕ) : Type 0 where
+  pub bits-are : used ≡ usedOf lanes
+  pub pairs-are : held ≡ heldOf lanes

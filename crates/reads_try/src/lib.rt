@@ -1,13 +1,12 @@
 // The lanes: the search for room, and one try.
 ghost use mathlib.Core.Path.{_≡_};
 ghost use mathlib.Core.List.{_++_};
-ghost use Prim.Native.Nat.{_*_, min};
-ghost use lib.ListN.{length, drop};
+ghost use Prim.Native.Nat.{_+_, _*_, min};
+ghost use lib.ListN.{length, getD, set, drop};
 ghost use Rattle.reads.specs.ReadSet.{total};
-ghost use Rattle.reads.specs.Search.{firstRoom};
-ghost use Rattle.reads_try.specs.LaneTable.{tableOf};
+ghost use Rattle.reads_try.specs.LaneTable.{tableOf, usedOf, heldOf};
 ghost use Rattle.reads_try.specs.TableLanes.{pairAt, laneOf, rowAt, lanesAt, putInLane};
-ghost use Rattle.reads_try.specs.Tries.{laneFound, laneFor, nextOf, lanesAfter, isAll, triedLanes, triedOf, RowNamed, LaneRowIn, LanesSearchable, PairPuttable, PairPlaceable, TryReady};
+ghost use Rattle.reads_try.specs.Tries.{laneFound, firstFree, laneFor, nextOf, lanesAfter, isAll, triedLanes, triedOf, RowNamed, LaneRowIn, LanesSearchable, PairPuttable, PairPlaceable, TryReady};
 use words::round::next_of;
 
 // What a lane search finds.
@@ -51,15 +50,14 @@ pub fn lane_load(set: &[u32], room: &[u32], j: usize) -> Load
 }
 
 // The first lane with room for b more bits, going round from lane `from`.
-fn find_lane(set: &[u32], room: &[u32], lanes: usize, from: usize, b: u32) -> Search
-    requires { ⌜ LanesSearchable (now set) (now room) lanes from b ⌝ }
-    ensures { λ r. ⌜ r ≡ laneFound (firstRoom lanes lanes (lanesAt (now (set .entry)) (now (room .entry)) lanes) b from) ⌝ }
+fn find_lane(used: &[u32], lanes: usize, from: usize, b: u32) -> Search
+    requires { ⌜ LanesSearchable (length (now used)) lanes from b ⌝ }
+    ensures { λ r. ⌜ r ≡ laneFound (firstFree lanes lanes (now (used .entry)) b from) ⌝ }
 {
     let mut j = from;
     let mut left = lanes;
     while 0 < left {
-        let held = lane_load(set, room, j);
-        if held.bits + b <= 32 {
+        if used[j] <= 32 - b {
             return Search::Lane(j);
         }
         j = next_of(j, lanes);
@@ -68,27 +66,40 @@ fn find_lane(set: &[u32], room: &[u32], lanes: usize, from: usize, b: u32) -> Se
     Search::Full
 }
 
-// Puts pair p behind those of lane j.
-fn put(set: &[u32], room: &mut [u32], j: usize, p: usize)
-    requires { ⌜ PairPuttable (now set) (now room) j p ⌝ }
-    ensures { λ _. ⌜ now (room .exit) ≡ putInLane (now (set .entry)) (now (room .entry)) j p ⌝ }
+// Puts pair p, of b bits, behind those of lane j.
+fn put(room: &mut [u32], used: &mut [u32], held: &mut [u32], j: usize, p: usize, b: u32)
+    requires { ⌜ PairPuttable (length (now room)) (now used) (now held) j p b ⌝ }
+    ensures { λ _. ⌜ now (room .exit) ≡ putInLane (now (room .entry)) j (getD (now (held .entry)) j 0) p ⌝ }
+    ensures { λ _. ⌜ now (used .exit) ≡ set (now (used .entry)) j (getD (now (used .entry)) j 0 + b) ⌝ }
+    ensures { λ _. ⌜ now (held .exit) ≡ set (now (held .entry)) j (getD (now (held .entry)) j 0 + 1) ⌝ }
 {
-    let held = lane_load(set, room, j);
-    let at = 32 * j + held.pairs;
+    let at = 32 * j + held[j] as usize;
     room[at] = p as u32 + 1;
+    used[j] += b;
+    held[j] += 1;
 }
 
 // Puts pair p into the first lane with room, going round from lane `cur`. The answer is the lane after that one, or Full.
-fn place(set: &[u32], room: &mut [u32], lanes: usize, cur: usize, p: usize) -> Search
-    requires { ⌜ PairPlaceable (now set) (now room) lanes cur p ⌝ }
+fn place(
+    set: &[u32],
+    room: &mut [u32],
+    used: &mut [u32],
+    held: &mut [u32],
+    lanes: usize,
+    cur: usize,
+    p: usize,
+) -> Search
+    requires { ⌜ PairPlaceable (now set) (now room) (now used) (now held) lanes cur p ⌝ }
     ensures { λ r. ⌜ r ≡ laneFound (nextOf lanes (laneFor (now (set .entry)) (now (room .entry)) lanes cur p)) ⌝ }
     ensures { λ r. ⌜ now (room .exit) ≡ tableOf (lanesAfter (laneFor (now (set .entry)) (now (room .entry)) lanes cur p) (lanesAt (now (set .entry)) (now (room .entry)) lanes) (pairAt (now (set .entry)) p)) ++ drop (32 * lanes) (now (room .entry)) ⌝ }
+    ensures { λ r. ⌜ now (used .exit) ≡ usedOf (lanesAfter (laneFor (now (set .entry)) (now (room .entry)) lanes cur p) (lanesAt (now (set .entry)) (now (room .entry)) lanes) (pairAt (now (set .entry)) p)) ⌝ }
+    ensures { λ r. ⌜ now (held .exit) ≡ heldOf (lanesAfter (laneFor (now (set .entry)) (now (room .entry)) lanes cur p) (lanesAt (now (set .entry)) (now (room .entry)) lanes) (pairAt (now (set .entry)) p)) ⌝ }
 {
     let b = words::bits::count(set[2 * p + 1]);
-    match find_lane(set, room, lanes, cur, b) {
+    match find_lane(used, lanes, cur, b) {
         Search::Full => Search::Full,
         Search::Lane(j) => {
-            put(set, room, j, p);
+            put(room, used, held, j, p, b);
             Search::Lane(next_of(j, lanes))
         }
     }
@@ -101,10 +112,21 @@ pub fn least(a: usize, b: usize) -> usize
 }
 
 // One try at piece size k, the pieces in the order of the keys: a key's rest by 8192 is its piece's number. No lane with room for a pair ends it.
-pub fn try_size(set: &[u32], keys: &[u64], room: &mut [u32], lanes: usize, k: usize) -> bool
-    requires { ⌜ TryReady (now set) (now room) lanes k ⌝ }
+// The bits and the pairs of each lane are kept as running numbers.
+pub fn try_size(
+    set: &[u32],
+    keys: &[u64],
+    room: &mut [u32],
+    used: &mut [u32],
+    held: &mut [u32],
+    lanes: usize,
+    k: usize,
+) -> bool
+    requires { ⌜ TryReady (now set) (now room) (now used) (now held) lanes k ⌝ }
     ensures { λ r. ⌜ r ≡ isAll (triedOf lanes k (now (set .entry)) (now (keys .entry))) ⌝ }
     ensures { λ r. ⌜ now (room .exit) ≡ tableOf (triedLanes (triedOf lanes k (now (set .entry)) (now (keys .entry)))) ++ drop (32 * lanes) (now (room .entry)) ⌝ }
+    ensures { λ r. ⌜ now (used .exit) ≡ usedOf (triedLanes (triedOf lanes k (now (set .entry)) (now (keys .entry)))) ⌝ }
+    ensures { λ r. ⌜ now (held .exit) ≡ heldOf (triedLanes (triedOf lanes k (now (set .entry)) (now (keys .entry)))) ⌝ }
 {
     let n = set.len() / 2;
     let mut fits = true;
@@ -115,7 +137,7 @@ pub fn try_size(set: &[u32], keys: &[u64], room: &mut [u32], lanes: usize, k: us
         let mut p = i * k;
         let end = least(p + k, n);
         'pairs: while p < end {
-            match place(set, room, lanes, cur, p) {
+            match place(set, room, used, held, lanes, cur, p) {
                 Search::Full => {
                     fits = false;
                     break 'pieces;

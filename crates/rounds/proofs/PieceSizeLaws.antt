@@ -39,8 +39,9 @@ module _ {ws : List ℕ} {t K S n k : ℕ} (s : SetSearchable ws t K S n) (h : 0
     room = omega (arith, piece-count-le (length ws / 2) k h, s .scratch-room);
   }
 
-  pub ready : (table : List ℕ) → table ≡ replicate (32 * n) 0 → k ≤ length ws / 2 → TryReady ws table n k
-  ready table e l =
+  pub ready : (table used held : List ℕ) → table ≡ replicate (32 * n) 0 → used ≡ replicate n 0 → held ≡ replicate n 0 → k ≤ length ws / 2
+      → TryReady ws table used held n k
+  ready table used held e eu eh l =
       let long : length table ≡ 32 * n = zeros-length e in
       record {
         whole = s .whole;
@@ -48,6 +49,8 @@ module _ {ws : List ℕ} {t K S n k : ℕ} (s : SetSearchable ws t K S n) (h : 0
         masks = s .masks;
         in-room = omega arith;
         empty = take-all (32 * n) table (omega arith) ∙ e;
+        no-bits = eu;
+        no-pairs = eh;
         some-lanes = s .some-lanes;
         size = omega (arith, s .few);
       }

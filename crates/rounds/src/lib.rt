@@ -24,18 +24,48 @@ pub enum Rounds {
 fn try_pieces(
     set: &[u32],
     table: &mut [u32],
+    used: &mut [u32],
+    held: &mut [u32],
     keys: &mut [u64],
     scratch: &mut [u64],
     lanes: usize,
     k: usize,
 ) -> bool
-    requires { ⌜ SetSearchable (now set) (length (now table)) (length (now keys)) (length (now scratch)) lanes × (0 < k) × (k ≤ length (now set) / 2) × (now table ≡ replicate (32 * lanes) 0) ⌝ }
+    requires { ⌜ SetSearchable (now set) (length (now table)) (length (now keys)) (length (now scratch)) lanes × (0 < k) × (k ≤ length (now set) / 2) × (now table ≡ replicate (32 * lanes) 0) × (length (now used) ≡ lanes) × (length (now held) ≡ lanes) ⌝ }
     ensures { λ r. ⌜ r ≡ isAll (try lanes (pairsOf (now (set .entry))) k) ⌝ }
     ensures { λ _. ⌜ now (table .exit) ≡ tableOf (triedLanes (try lanes (pairsOf (now (set .entry))) k)) ⌝ }
 {
     let count = (set.len() / 2 + k - 1) / k;
     reads_pieces::order(set, &mut keys[..count], scratch, k);
-    reads_try::try_size(set, &keys[..count], table, lanes, k)
+    clear(used);
+    clear(held);
+    reads_try::try_size(set, &keys[..count], table, used, held, lanes, k)
+}
+
+// The search over the sizes, with the running numbers of the lanes lent: what they hold afterwards is left open.
+fn sizes_over(
+    set: &[u32],
+    table: &mut [u32],
+    used: &mut [u32],
+    held: &mut [u32],
+    keys: &mut [u64],
+    scratch: &mut [u64],
+    lanes: usize,
+) -> bool
+    requires { ⌜ SetSearchable (now set) (length (now table)) (length (now keys)) (length (now scratch)) lanes × (length (now used) ≡ lanes) × (length (now held) ≡ lanes) ⌝ }
+    ensures { λ r. ⌜ r ≡ isWon (lanesOf lanes (pairsOf (now (set .entry)))) ⌝ }
+    ensures { λ _. ⌜ now (table .exit) ≡ tableAfter lanes (lanesOf lanes (pairsOf (now (set .entry)))) ⌝ }
+{
+    let mut k = set.len() / 2;
+    clear(table);
+    while 0 < k {
+        if try_pieces(set, table, used, held, keys, scratch, lanes, k) {
+            return true;
+        }
+        clear(table);
+        k /= 2;
+    }
+    false
 }
 
 // The sizes n, n/2, n/4 .. 1, up to the first that places all: then true, with its lanes in the table. Else the table is empty.
@@ -50,16 +80,17 @@ pub fn search_sizes(
     ensures { λ r. ⌜ r ≡ isWon (lanesOf lanes (pairsOf (now (set .entry)))) ⌝ }
     ensures { λ _. ⌜ now (table .exit) ≡ tableAfter lanes (lanesOf lanes (pairsOf (now (set .entry)))) ⌝ }
 {
-    let mut k = set.len() / 2;
-    clear(table);
-    while 0 < k {
-        if try_pieces(set, table, keys, scratch, lanes, k) {
-            return true;
-        }
-        clear(table);
-        k /= 2;
-    }
-    false
+    let mut used = [0u32; 256];
+    let mut held = [0u32; 256];
+    sizes_over(
+        set,
+        table,
+        &mut used[..lanes],
+        &mut held[..lanes],
+        keys,
+        scratch,
+        lanes,
+    )
 }
 
 // A refusal of a read set: its part is 0.

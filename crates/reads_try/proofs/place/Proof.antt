@@ -12,37 +12,50 @@ use Rattle.reads_try.proofs.place.Tie as tie
 
 -- after the search: what the function was called with, and the count of the mask's bits
 abbrev called : tie.After-find-lane → tie.Start
-called c = c .before .before .before .before .before .before
+called c =
+    let at-count = c .before .before in
+    at-count .before .before .before .before .before .before
 
 counted : (c : tie.After-find-lane) → c .before .before .count .result ≡ pop (getD (called c .args .set .now) (2 * called c .args .p + 1) 0)
 counted c = c .before .before .count .ensures
 
 find-lane-requires : tie.Need-find-lane-requires
-find-lane-requires c κs = place-search _ _ _ _ _ (c .before .before .before .before .before .pre) _ (c .before .count .ensures)
+find-lane-requires c κs =
+    let start = c .before .before .before .before .before .before in
+    place-search _ _ _ _ _ _ _ (start .before .pre) _ (c .before .count .ensures)
 
 put-requires : tie.Need-put-requires
 put-requires c κs =
-    let at-find-lane = c .before .before .before .before in
-    place-put _ _ _ _ _ (called at-find-lane .pre) _ (counted at-find-lane) _ (at-find-lane .find-lane .ensures) _ (c .before .before .j .given .1)
+    let at-j = c .before .before .before .before in
+    let at-find-lane = at-j .before .before in
+    place-put _ _ _ _ _ _ _ (called at-find-lane .pre) _ (counted at-find-lane) _ (at-find-lane .find-lane .ensures) _ (at-j .j .given .1)
 
 next-of-requires : tie.Need-next-of-requires
 next-of-requires c κs =
-    let at-j = c .before .before .before .before .before in
+    let at-put = c .before .before .before .before .before .before in
+    let at-j = at-put .before .before .before .before .before in
     let at-find-lane = at-j .before .before in
-    omega (arith, called at-find-lane .pre .lane, place-lt _ _ _ _ _ (called at-find-lane .pre) _ (counted at-find-lane) _ (at-find-lane .find-lane .ensures) _ (at-j .j .given .1))
+    let below = place-lt _ _ _ _ _ _ _ (called at-find-lane .pre) _ (counted at-find-lane) _ (at-find-lane .find-lane .ensures) _ (at-j .j .given .1) in
+    omega (arith, called at-find-lane .pre .lane, below)
 
 returns : tie.Need-returns
-returns c = place-full _ _ _ _ _ (called (c .before .before) .pre) _ (counted (c .before .before)) _ (c .before .before .find-lane .ensures) (c .enum-told .given .1)
+returns c =
+    let at-find-lane = c .before .before in
+    place-full _ _ _ _ _ _ _ (called at-find-lane .pre) _ (counted at-find-lane) _ (at-find-lane .find-lane .ensures) (c .enum-told .given .1)
 
 returns-2 : tie.Need-returns-2
 returns-2 c =
-    let at-put = c .before .before .before in
-    let at-j = at-put .before .before .before in
+    let way = c .before .before .before .before .before .before in
+    let at-put = way .before in
+    let at-j = at-put .before .before .before .before .before in
     let at-find-lane = at-j .before .before in
-    place-lane _ _ _ _ _ (called at-find-lane .pre) _ (counted at-find-lane) _ (at-find-lane .find-lane .ensures) _ (at-j .j .given .1) _ _ (c .next-of .ensures) (at-put .put .ensures)
+    let e = at-put .put .ensures in
+    place-lane _ _ _ _ _ _ _ (called at-find-lane .pre) _ (counted at-find-lane) _ (at-find-lane .find-lane .ensures) _ (at-j .j .given .1) _ _ _ _ (c .next-of .ensures)
+    (e .0) (e .1 .0) (e .1 .1)
 
 pub place-spec : {M : Type 1} → statement M
 place-spec =
     tie.close
     (tie.spec (λ c. search needs) (λ c. search needs) (λ c. search needs) (λ c. search needs) (λ c κs. search needs) find-lane-requires
-    (λ c. search needs) (λ c. search needs) put-requires next-of-requires (λ c. search needs) returns (λ c. search needs) returns-2)
+    (λ c. search needs) (λ c. search needs) put-requires next-of-requires (λ c. search needs) returns (λ c. search needs)
+    (λ c. search needs) (λ c. search needs) returns-2)
