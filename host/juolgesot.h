@@ -53,7 +53,8 @@ extern "C" {
 #define JUOLGESOT_PURGE_BIT_STACK 147456
 
 /* The rounds of a read set: word, mask, word, mask ..
- * 0: *first is the number of rounds (at most 32), and out begins with 512 words a round. Refused by 32, 1, 2, 3, 4, 14. */
+ * 0: *first is the number of rounds (at most 32), *second the piece size that won (1 to the number of pairs: below it, the packing
+ * fell back), and out begins with 512 words a round. Refused by 32, 1, 2, 3, 4, 14. */
 uint32_t juolgesot_read_rounds(const uint32_t *set, size_t set_len, uint32_t *room, size_t room_len,
                                uint32_t *out, size_t out_len, uint64_t *first, uint64_t *second);
 
@@ -68,9 +69,11 @@ uint32_t juolgesot_plan_sizes(const uint8_t *plan, size_t plan_len, uint32_t *ro
                               uint64_t *first, uint64_t *second, uint64_t *third, uint64_t *fourth);
 
 /* The script of a plan record.
- * 0: as above, and starts and words begin with the script's. Refused by the same, then 14. */
+ * 0: as above, and starts and words begin with the script's, pieces with the piece size that won for each part: parts are counted
+ * on through the major stages, and pieces has one word for each at least. Refused by the same, then 14. */
 uint32_t juolgesot_build(const uint8_t *plan, size_t plan_len, uint32_t *room, size_t room_len,
                          uint64_t *starts, size_t starts_len, uint32_t *words, size_t words_len,
+                         uint32_t *pieces, size_t pieces_len,
                          uint64_t *first, uint64_t *second, uint64_t *third, uint64_t *fourth);
 
 /* Turns of one major stage: its blocks' starts and their end, and a block for each turn. Bits are read from old, or

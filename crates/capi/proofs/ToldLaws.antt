@@ -4,7 +4,7 @@ use mathlib.Core.Path.{_≡_, refl}
 use mathlib.Core.List.{List, _∷_}
 use Prim.Native.Nat.{ℕ}
 use Rattle.words.specs.Answer.{Answer, good, refused, handed}
-use Rattle.reads.specs.Search.{Lane}
+use Rattle.reads.specs.SetAnswer.{Packed}
 use Rattle.rounds.specs.Rounds.{roundsOf}
 use Rattle.listing.specs.Listing.{listedOf}
 use Rattle.values.specs.Values.{Bits, valuedOf}
@@ -17,13 +17,13 @@ use Rattle.repair_settle.specs.Settle.{repairedOf}
 use Rattle.aiger.specs.Reading.{Read}
 use Rattle.aiger_read.specs.ReadTold.{gatesReadOf as gatesOf}
 use Rattle.aiger_write.specs.WriteTold.{textWrittenOf as textOf}
-use Rattle.capi.specs.Exported.{roundCount, textLength, ownBit, turnCount, planSize, entryCount, gateCounts}
+use Rattle.capi.specs.Exported.{roundsAndSize, textLength, ownBit, turnCount, planSize, entryCount, gateCounts}
 use Rattle.capi.specs.Numbers.{roundsNumbers, listedNumbers, valuedNumbers, ranNumbers, repairedNumbers, textNumbers, flattenedNumbers, gatesNumbers}
 
 pub also : {x y : List ℕ} {l m : List (List ℕ)} → x ≡ y → l ≡ m → x ∷ l ≡ y ∷ m
 also e f = cc
 
-pub rounds-told : (o : Answer (List Lane)) → roundsNumbers (roundsOf o) ≡ handed 2 roundCount o
+pub rounds-told : (o : Answer Packed) → roundsNumbers (roundsOf o) ≡ handed 2 roundsAndSize o
 rounds-told (good x) = refl
 rounds-told (refused q) = refl
 

@@ -5,12 +5,12 @@ use mathlib.Core.List.{List, [], _∷_}
 use Prim.Native.Nat.{ℕ}
 use lib.ListN.{length}
 use Rattle.words.specs.Answer.{handed}
-use Rattle.reads.specs.Search.{Lane, longest}
-use Rattle.reads.specs.SetAnswer.{setAnswer as rounds, resultAfter, setRoomAfter}
+use Rattle.reads.specs.Search.{longest}
+use Rattle.reads.specs.SetAnswer.{Packed, setAnswer as rounds, resultAfter, setRoomAfter}
 use Rattle.listing.specs.Listing.{listed, textAfter}
 use Rattle.values.specs.Values.{Bits, valueAnswer as valued, bitsAfter, valueRoomAfter as planRoomAfter}
 use Rattle.run_machine.specs.Run.{Ran, runAnswer as ranAs, newAfter, runRoomAfter}
-use Rattle.flatten.specs.Flatten.{Sizes, sizing, building, laid, buildRoomAfter as builtRoomAfter}
+use Rattle.flatten.specs.Flatten.{Sizes, sizing, building, laid, pieceSizes, buildRoomAfter as builtRoomAfter}
 use Rattle.script_assembly.specs.Assembly.{scriptWords, scriptStarts}
 use Rattle.aiger.specs.Reading.{Read, readAiger}
 use Rattle.aiger.specs.Writing.{writeAiger}
@@ -19,9 +19,9 @@ use Rattle.repair_nodes.specs.RepairAnswer.{Repair, placed, cleared, slotsAfter
 
 -- ---- the numbers of a good answer, after 0
 
--- of a read set how many rounds
-abbrev pub roundCount : List Lane → List ℕ
-roundCount lanes = longest lanes ∷ []
+-- of a read set how many rounds, and the piece size that won
+abbrev pub roundsAndSize : Packed → List ℕ
+roundsAndSize x = longest (x .lanes) ∷ x .size ∷ []
 
 -- of a text its length
 abbrev pub textLength : List ℕ → List ℕ
@@ -52,7 +52,7 @@ gateCounts x = x .header .gates ∷ x .header .inputs ∷ x .header .latches ∷
 unfoldable pub afterReadRounds : (set room out : List ℕ) → List (List ℕ)
 afterReadRounds set room out =
     let o = rounds 256 set (length out) (length room) in
-    handed 2 roundCount o ∷ setRoomAfter room ∷ resultAfter o out ∷ []
+    handed 2 roundsAndSize o ∷ setRoomAfter room ∷ resultAfter o out ∷ []
 
 unfoldable pub afterList : (records room out : List ℕ) → List (List ℕ)
 afterList records room out =
@@ -72,10 +72,11 @@ afterRun words starts turns old new room =
 unfoldable pub afterPlanSizes : (plan room : List ℕ) → List (List ℕ)
 afterPlanSizes plan room = handed 4 planSize (sizing 256 plan (length room)) ∷ builtRoomAfter plan room ∷ []
 
-unfoldable pub afterBuild : (plan room starts words : List ℕ) → List (List ℕ)
-afterBuild plan room starts words =
-    let o = building 256 plan (length room) (length starts) (length words) in
-    handed 4 planSize o ∷ builtRoomAfter plan room ∷ laid o (scriptStarts 256 plan) starts ∷ laid o (scriptWords 256 plan) words ∷ []
+unfoldable pub afterBuild : (plan room starts words pieces : List ℕ) → List (List ℕ)
+afterBuild plan room starts words pieces =
+    let o = building 256 plan (length room) (length starts) (length words) (length pieces) in
+    handed 4 planSize o
+    ∷ builtRoomAfter plan room ∷ laid o (scriptStarts 256 plan) starts ∷ laid o (scriptWords 256 plan) words ∷ laid o (pieceSizes 256 plan) pieces ∷ []
 
 unfoldable pub afterPlaceBit : (gates levels counts slots after room : List ℕ) (level slot node : ℕ) → List (List ℕ)
 afterPlaceBit gates levels counts slots after room level slot node =

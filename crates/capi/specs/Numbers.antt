@@ -23,7 +23,7 @@ use Rattle.aiger_write.specs.declared.Text.the-variants as text
 
 -- two numbers beside the one that is returned
 abbrev pub roundsNumbers : Rounds → List ℕ
-roundsNumbers (rounds.Placed n) = 0 ∷ n ∷ 0 ∷ []
+roundsNumbers (rounds.Placed n k) = 0 ∷ n ∷ k ∷ []
 roundsNumbers (rounds.Refused q) = refusalNumbers q
 
 abbrev pub listedNumbers : Listed → List ℕ

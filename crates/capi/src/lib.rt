@@ -21,12 +21,16 @@ fn tell_rounds(answer: Rounds, first: &mut u64, second: &mut u64) -> u32
     ensures { λ r. ⌜ (r ∷ now (first .exit) ∷ now (second .exit) ∷ []) ≡ roundsNumbers answer ⌝ }
 {
     match answer {
-        Rounds::Placed(n) => hand_good(n as u64, first, second),
+        Rounds::Placed(n, size) => {
+            *first = n as u64;
+            *second = size as u64;
+            0
+        }
         Rounds::Refused(refusal) => hand_refusal(refusal, first, second),
     }
 }
 
-// A read set's rounds: `first` is their number, or the refusal's part; `second` is 0, or its item.
+// A read set's rounds: `first` is their number, or the refusal's part; `second` is the piece size that won, or its item.
 #[no_mangle]
 pub extern "C" fn juolgesot_read_rounds(
     set: &[u32],
@@ -176,22 +180,23 @@ pub extern "C" fn juolgesot_plan_sizes(
     )
 }
 
-// The assembled script of a plan; the four numbers are those of its sizes.
+// The assembled script of a plan, and the piece size that won for each part; the four numbers are those of its sizes.
 #[no_mangle]
 pub extern "C" fn juolgesot_build(
     plan: &[u8],
     room: &mut [u32],
     starts: &mut [u64],
     words: &mut [u32],
+    pieces: &mut [u32],
     first: &mut u64,
     second: &mut u64,
     third: &mut u64,
     fourth: &mut u64,
 ) -> u32
-    ensures { λ r. ⌜ ((r ∷ now (first .exit) ∷ now (second .exit) ∷ now (third .exit) ∷ now (fourth .exit) ∷ []) ∷ now (room .exit) ∷ now (starts .exit) ∷ now (words .exit) ∷ []) ≡ afterBuild (now (plan .entry)) (now (room .entry)) (now (starts .entry)) (now (words .entry)) ⌝ }
+    ensures { λ r. ⌜ ((r ∷ now (first .exit) ∷ now (second .exit) ∷ now (third .exit) ∷ now (fourth .exit) ∷ []) ∷ now (room .exit) ∷ now (starts .exit) ∷ now (words .exit) ∷ now (pieces .exit) ∷ []) ≡ afterBuild (now (plan .entry)) (now (room .entry)) (now (starts .entry)) (now (words .entry)) (now (pieces .entry)) ⌝ }
 {
     tell_flattened(
-        flatten::build_flattened_script_v1(plan, room, starts, words),
+        flatten::build_flattened_script_v1(plan, room, starts, words, pieces),
         first,
         second,
         third,

@@ -1,20 +1,25 @@
 -- From the verdict of the checks to the answer of a build, and what the lent slices then hold.
 -- Assumes nothing.
-use mathlib.Core.Path.{_≡_, refl, sym, ap, _∙_}
+use mathlib.Core.Path.{_≡_, refl, sym, ap, ap₂, _∙_}
 use mathlib.Core.Bool.{Bool, true, false, _&&_}
 use mathlib.Core.Option.{Option, none, some}
-use mathlib.Core.List.{List}
+use mathlib.Core.List.{List, [], _∷_}
 use Prim.Native.Nat.{ℕ, _+_, _*_, _≤_, _<_}
+use native.Mathlib.Numerals.{add-one}
 use native.Mathlib.Omega.{arith}
 use borrow.Author.Tests.{leb-true, le-leb, lt-leb}
 use lib.Dec.{leb}
-use lib.ListN.{length, replicate}
+use lib.ListN.{length, set, replicate}
 use lib.Seq.{sets}
 use Rattle.words.specs.Answer.{Answer, good, refused, nowhere}
+use Rattle.words.specs.Section.{listOf}
+use Rattle.words.proofs.ListLaws.{sets-append}
+use Rattle.words.proofs.SectionLaws.{length-listOf}
 use Rattle.words.specs.declared.refusals.Refusal.{Refusal}
-use Rattle.plan_record.specs.Record.{blocksOf, majorsOf}
+use Rattle.plan_record.specs.Record.{blocksOf, majorsOf, partsOf}
 use Rattle.plan_record.specs.Form.{planRoomWords}
 use Rattle.words.proofs.TestLaws.{and-true}
+use Rattle.plan_reads.specs.PartReads.{partSize}
 use Rattle.plan_checks.specs.Refusals.{planRefusal, planVerdict}
 use Rattle.plan_checks.specs.CheckedRoom.{PlanReady, readyRoom, roomLeft}
 use Rattle.plan_checks.specs.Verdicts.{verdictOf}
@@ -26,7 +31,7 @@ use Rattle.script_layout.specs.Layout.{AcceptedTabled, PlanRoom}
 use Rattle.flatten.specs.declared.sizes.Sizes.{Sizes}
 use Rattle.flatten.specs.declared.Flattened.the-variants as flattened
 use Rattle.flatten.specs.Flatten as flat
-use Rattle.flatten.specs.Flatten.{sizesOf, sizing, fits, ifFits, building, laid, buildRoomAfter}
+use Rattle.flatten.specs.Flatten.{sizesOf, sizing, fits, ifFits, fitted, building, laid, buildRoomAfter}
 use Rattle.flatten.specs.FlattenedAnswer.{sizesIn, flattenedOf}
 
 no-verdict : {A : Type 0} (x : Refusal) → verdict.Accepted ≡ verdict.Refused x → A
@@ -61,8 +66,8 @@ module _ (d room : List ℕ) where
     unfolding sizing
     refused-sizing = rw (e, sizing)
 
-    module _ (s w : ℕ) where
-      refused-building : refused q ≡ building 256 d (length room) s w
+    module _ (s w k : ℕ) where
+      refused-building : refused q ≡ building 256 d (length room) s w k
       unfolding building
       refused-building = rw (e, building)
 
@@ -88,32 +93,49 @@ module _ (d room : List ℕ) where
     unfolding sizing
     accepted-sizing = rw (e, sizing)
 
-    pub accepted-building : (s w : ℕ) → ifFits (fits (sizesOf 256 d) s w) (sizesOf 256 d) ≡ building 256 d (length room) s w
+    pub accepted-building : (s w k : ℕ) → fitted 256 d s w k ≡ building 256 d (length room) s w k
     unfolding building
-    accepted-building s w = rw (e, building)
+    accepted-building s w k = rw (e, building)
 
 -- ---- refusal 14
 
-module _ (d : List ℕ) (s w : ℕ) (x : Sizes) (are : x ≡ sizesIn (sizesOf 256 d)) (t : Bool) (test : t ≡ (leb (x .starts) s && leb (x .words) w)) where
-  fits-is : fits (sizesOf 256 d) s w ≡ t
+module _ (d : List ℕ) (s w k : ℕ) (x : Sizes) (are : x ≡ sizesIn (sizesOf 256 d)) (parts : ℕ) (count : parts ≡ partsOf d) (t : Bool) (test : t ≡ (leb parts k && (leb (x .starts) s && leb (x .words) w))) where
+  fits-is : fits (sizesOf 256 d) (partsOf d) s w k ≡ t
   unfolding fits
-  fits-is = sym (test ∙ ap (λ (y : Sizes). leb (y .starts) s && leb (y .words) w) are)
+  fits-is = sym (test ∙ ap₂ (λ (n : ℕ) (y : Sizes). leb n k && (leb (y .starts) s && leb (y .words) w)) count are)
 
-  pub long-enough : t ≡ true → ifFits (fits (sizesOf 256 d) s w) (sizesOf 256 d) ≡ good (sizesOf 256 d)
+  pub long-enough : t ≡ true → fitted 256 d s w k ≡ good (sizesOf 256 d)
   long-enough e = ap (λ (b : Bool). ifFits b (sizesOf 256 d)) (fits-is ∙ e)
 
-  pub too-short : t ≡ false → ifFits (fits (sizesOf 256 d) s w) (sizesOf 256 d) ≡ refused (nowhere 14)
+  pub too-short : t ≡ false → fitted 256 d s w k ≡ refused (nowhere 14)
   too-short e = ap (λ (b : Bool). ifFits b (sizesOf 256 d)) (fits-is ∙ e)
 
+  all-fit : t ≡ true → (leb (partsOf d) k ≡ true) × ((leb (sizesOf 256 d .starts) s && leb (sizesOf 256 d .words) w) ≡ true)
+  unfolding fits
+  all-fit e = and-true (leb (partsOf d) k) (leb (sizesOf 256 d .starts) s && leb (sizesOf 256 d .words) w) (fits-is ∙ e)
+
+  pub pieces-room : t ≡ true → partsOf d ≤ k
+  pieces-room e = leb-true (partsOf d) k (all-fit e .0)
+
   pub plan-room : (room : List ℕ) → AcceptedTabled d room → t ≡ true → PlanRoom d room s w
-  unfolding fits sizesOf
+  unfolding sizesOf
   plan-room room h e =
-      let r = and-true (leb (sizesOf 256 d .starts) s) (leb (sizesOf 256 d .words) w) (fits-is ∙ e) in
+      let r = and-true (leb (sizesOf 256 d .starts) s) (leb (sizesOf 256 d .words) w) (all-fit e .1) in
       record {
         sound = h;
         starts = omega (arith, leb-true (blocksOf d * majorsOf d + 1) s (r .0), starts-length 256 d);
         words = leb-true (length (scriptWords 256 d)) w (r .1);
       }
+
+-- one piece size more
+pub pieces-more : (d before so-far : List ℕ) (p v : ℕ) → so-far ≡ sets before 0 (listOf (partSize 256 d) p) → v ≡ partSize 256 d p
+    → set so-far p v ≡ sets before 0 (listOf (partSize 256 d) (p + 1))
+unfolding listOf
+pieces-more d before so-far p v e is =
+    let sizes = listOf (partSize 256 d) p in
+    let last : sets before 0 (listOf (partSize 256 d) (p + 1)) ≡ set (sets before 0 sizes) (0 + length sizes) (partSize 256 d p) =
+    rw add-one (sets-append before 0 sizes (partSize 256 d p ∷ [])) in
+    rw (e, is) (sym (last ∙ ap (λ (n : ℕ). set (sets before 0 sizes) n (partSize 256 d p)) (omega (arith, length-listOf (partSize 256 d) p))))
 
 -- what a result slice then holds
 pub laid-built : (o : Answer flat.Sizes) (x : flat.Sizes) → o ≡ good x → (l before after : List ℕ) → after ≡ sets before 0 l → after ≡ laid o l before
@@ -132,14 +154,15 @@ module _ (d room : List ℕ) (x : Refusal) (v : verdict.Refused x ≡ verdictOf 
       let e = refused-is (planVerdict 256 d (length room)) x v in
       (ap flattenedOf (refused-sizing d room x e), refused-room d room x e after is)
 
-  module _ (starts words : List ℕ) where
-    pub refused-built : flattened.Refused x ≡ flattenedOf (building 256 d (length room) (length starts) (length words))
-    refused-built = ap flattenedOf (refused-building d room x (refused-is (planVerdict 256 d (length room)) x v) (length starts) (length words))
+  module _ (starts words pieces : List ℕ) where
+    pub refused-built : flattened.Refused x ≡ flattenedOf (building 256 d (length room) (length starts) (length words) (length pieces))
+    refused-built = ap flattenedOf (refused-building d room x (refused-is (planVerdict 256 d (length room)) x v) (length starts) (length words) (length pieces))
 
-    pub refused-kept : (l before : List ℕ) → before ≡ laid (building 256 d (length room) (length starts) (length words)) l before
+    pub refused-kept : (l before : List ℕ) → before ≡ laid (building 256 d (length room) (length starts) (length words) (length pieces)) l before
     refused-kept l before =
         let e = refused-is (planVerdict 256 d (length room)) x v in
-        laid-refused (building 256 d (length room) (length starts) (length words)) x (sym (refused-building d room x e (length starts) (length words))) l before
+        let same = sym (refused-building d room x e (length starts) (length words) (length pieces)) in
+        laid-refused (building 256 d (length room) (length starts) (length words) (length pieces)) x same l before
 
 -- one test, then the other
 pub test-on : (a b : ℕ) (c : Bool) → a ≤ b → c ≡ (leb a b && c)

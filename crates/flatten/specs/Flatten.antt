@@ -8,9 +8,11 @@ use lib.Dec.{leb}
 use lib.ListN.{length, replicate}
 use lib.Seq.{sets}
 use Rattle.words.specs.Answer.{Answer, good, refused, nowhere}
-use Rattle.plan_record.specs.Record.{blocksOf, majorsOf}
+use Rattle.words.specs.Section.{listOf}
+use Rattle.plan_record.specs.Record.{blocksOf, majorsOf, partsOf}
 use Rattle.plan_record.specs.Form.{planRoomWords}
 use Rattle.plan_blocks.specs.Blocks.{stateWords, sramWords}
+use Rattle.plan_reads.specs.PartReads.{partSize}
 use Rattle.plan_checks.specs.Refusals.{planVerdict}
 use Rattle.script_assembly.specs.Assembly.{scriptWords, scriptStarts}
 
@@ -34,28 +36,39 @@ sizesOf n d = record {
 unfoldable pub sizing : ℕ → List ℕ → ℕ → Answer Sizes
 sizing n d r = elim (planVerdict n d r) [ some q ↦ refused q | none ↦ good (sizesOf n d) ]
 
--- ---- the build: "then 3, 4, 14". Result slices of s starts and w words
+-- ---- the build: "then 3, 4, 14". Result slices of s starts, w words and k piece sizes
 
-unfoldable pub fits : Sizes → ℕ → ℕ → Bool
-fits x s w = leb (x .starts) s && leb (x .words) w
+-- document 02, 2/13: the piece size of the winning try, "passed up to the part and plan results": that of each part, parts counted on through the
+-- major stages
+unfoldable pub pieceSizes : ℕ → List ℕ → List ℕ
+pieceSizes n d = listOf (partSize n d) (partsOf d)
+
+unfoldable pub fits : Sizes → ℕ → ℕ → ℕ → ℕ → Bool
+fits x parts s w k = leb parts k && (leb (x .starts) s && leb (x .words) w)
 
 abbrev pub ifFits : Bool → Sizes → Answer Sizes
 ifFits true x = good x
 ifFits false x = refused (nowhere 14)
 
-unfoldable pub building : ℕ → List ℕ → ℕ → ℕ → ℕ → Answer Sizes
-building n d r s w = elim (planVerdict n d r) [ some q ↦ refused q | none ↦ ifFits (fits (sizesOf n d) s w) (sizesOf n d) ]
+abbrev pub fitted : ℕ → List ℕ → ℕ → ℕ → ℕ → Answer Sizes
+fitted n d s w k = ifFits (fits (sizesOf n d) (partsOf d) s w k) (sizesOf n d)
 
--- what the two result slices then hold, and the room
+unfoldable pub building : ℕ → List ℕ → ℕ → ℕ → ℕ → ℕ → Answer Sizes
+building n d r s w k = elim (planVerdict n d r) [ some q ↦ refused q | none ↦ fitted n d s w k ]
+
+-- what the three result slices then hold, and the room
 unfoldable pub laid : Answer Sizes → List ℕ → List ℕ → List ℕ
 laid (good x) l before = sets before 0 l
 laid (refused q) l before = before
 
-abbrev pub startsAfter : ℕ → List ℕ → ℕ → List ℕ → List ℕ → List ℕ
-startsAfter n d r starts words = laid (building n d r (length starts) (length words)) (scriptStarts n d) starts
+abbrev pub startsAfter : ℕ → List ℕ → ℕ → List ℕ → List ℕ → List ℕ → List ℕ
+startsAfter n d r starts words pieces = laid (building n d r (length starts) (length words) (length pieces)) (scriptStarts n d) starts
 
-abbrev pub wordsAfter : ℕ → List ℕ → ℕ → List ℕ → List ℕ → List ℕ
-wordsAfter n d r starts words = laid (building n d r (length starts) (length words)) (scriptWords n d) words
+abbrev pub wordsAfter : ℕ → List ℕ → ℕ → List ℕ → List ℕ → List ℕ → List ℕ
+wordsAfter n d r starts words pieces = laid (building n d r (length starts) (length words) (length pieces)) (scriptWords n d) words
+
+abbrev pub piecesAfter : ℕ → List ℕ → ℕ → List ℕ → List ℕ → List ℕ → List ℕ
+piecesAfter n d r starts words pieces = laid (building n d r (length starts) (length words) (length pieces)) (pieceSizes n d) pieces
 
 unfoldable pub buildRoomAfter : List ℕ → List ℕ → List ℕ
 buildRoomAfter d room = elim (leb (planRoomWords d) (length room)) [ false ↦ room | true ↦ replicate (length room) 0 ]

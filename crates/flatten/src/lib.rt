@@ -1,4 +1,5 @@
 // The whole build: refusals in order, then the sizes or the words. The Rust is `build_flattened_script_v1`.
+pub mod pieces;
 pub mod sizes;
 
 ghost use mathlib.Core.Path.{_≡_};
@@ -8,10 +9,12 @@ ghost use lib.ListN.{length, replicate};
 ghost use Rattle.words.specs.Answer.{good};
 ghost use Rattle.script_assembly.specs.Assembly.{scriptWords, scriptStarts};
 ghost use Rattle.script_layout.specs.Layout.{AcceptedTabled};
-ghost use Rattle.flatten.specs.Flatten.{sizesOf, sizing, fits, ifFits, building, laid, startsAfter, wordsAfter, buildRoomAfter};
+ghost use Rattle.flatten.specs.Flatten.{sizesOf, sizing, pieceSizes, fitted, building, laid, startsAfter, wordsAfter, piecesAfter, buildRoomAfter};
 ghost use Rattle.flatten.specs.FlattenedAnswer.{flattenedOf};
+use pieces::write_pieces;
 use plan_checks::Verdict;
 use plan_checks::check_plan;
+use plan_record::bodies::parts_of;
 use script_layout::write_plan;
 use sizes::Sizes;
 use sizes::sizes_of;
@@ -47,23 +50,42 @@ pub fn plan_sizes(plan: &[u8], room: &mut [u32]) -> Flattened
     }
 }
 
-// Whether the result slices are long enough.
-fn enough(sizes: Sizes, starts: usize, words: usize) -> bool
+// Whether starts and words are long enough.
+fn script_fits(sizes: Sizes, starts: usize, words: usize) -> bool
     ensures { λ r. ⌜ r ≡ (leb (sizes .starts) starts && leb (sizes .words) words) ⌝ }
 {
     sizes.starts <= starts as u64 && sizes.words <= words as u64
 }
 
+// Whether the result slices are long enough: there is a piece size for each part.
+fn enough(sizes: Sizes, parts: usize, starts: usize, words: usize, pieces: usize) -> bool
+    ensures { λ r. ⌜ r ≡ (leb parts pieces && (leb (sizes .starts) starts && leb (sizes .words) words)) ⌝ }
+{
+    if parts <= pieces {
+        return script_fits(sizes, starts, words);
+    }
+    false
+}
+
 // The result of an accepted plan, or refusal 14. The room is clear afterwards.
-fn build_accepted(plan: &[u8], room: &mut [u32], starts: &mut [u64], words: &mut [u32]) -> Flattened
+fn build_accepted(
+    plan: &[u8],
+    room: &mut [u32],
+    starts: &mut [u64],
+    words: &mut [u32],
+    pieces: &mut [u32],
+) -> Flattened
     requires { ⌜ AcceptedTabled (now plan) (now room) ⌝ }
-    ensures { λ r. ⌜ r ≡ flattenedOf (ifFits (fits (sizesOf 256 (now (plan .entry))) (length (now (starts .entry))) (length (now (words .entry)))) (sizesOf 256 (now (plan .entry)))) ⌝ }
+    ensures { λ r. ⌜ r ≡ flattenedOf (fitted 256 (now (plan .entry)) (length (now (starts .entry))) (length (now (words .entry))) (length (now (pieces .entry)))) ⌝ }
     ensures { λ _. ⌜ now (room .exit) ≡ replicate (length (now (room .entry))) 0 ⌝ }
-    ensures { λ _. ⌜ now (starts .exit) ≡ laid (ifFits (fits (sizesOf 256 (now (plan .entry))) (length (now (starts .entry))) (length (now (words .entry)))) (sizesOf 256 (now (plan .entry)))) (scriptStarts 256 (now (plan .entry))) (now (starts .entry)) ⌝ }
-    ensures { λ _. ⌜ now (words .exit) ≡ laid (ifFits (fits (sizesOf 256 (now (plan .entry))) (length (now (starts .entry))) (length (now (words .entry)))) (sizesOf 256 (now (plan .entry)))) (scriptWords 256 (now (plan .entry))) (now (words .entry)) ⌝ }
+    ensures { λ _. ⌜ now (starts .exit) ≡ laid (fitted 256 (now (plan .entry)) (length (now (starts .entry))) (length (now (words .entry))) (length (now (pieces .entry)))) (scriptStarts 256 (now (plan .entry))) (now (starts .entry)) ⌝ }
+    ensures { λ _. ⌜ now (words .exit) ≡ laid (fitted 256 (now (plan .entry)) (length (now (starts .entry))) (length (now (words .entry))) (length (now (pieces .entry)))) (scriptWords 256 (now (plan .entry))) (now (words .entry)) ⌝ }
+    ensures { λ _. ⌜ now (pieces .exit) ≡ laid (fitted 256 (now (plan .entry)) (length (now (starts .entry))) (length (now (words .entry))) (length (now (pieces .entry)))) (pieceSizes 256 (now (plan .entry))) (now (pieces .entry)) ⌝ }
 {
     let sizes = sizes_of(plan, room);
-    if enough(sizes, starts.len(), words.len()) {
+    let parts = parts_of(plan);
+    if enough(sizes, parts, starts.len(), words.len(), pieces.len()) {
+        write_pieces(plan, room, pieces);
         write_plan(plan, room, starts, words);
         clear(room);
         return Flattened::Built(sizes);
@@ -76,20 +98,22 @@ fn build_accepted(plan: &[u8], room: &mut [u32], starts: &mut [u64], words: &mut
     })
 }
 
-// The assembled script of a plan, and where its blocks begin.
+// The assembled script of a plan, where its blocks begin, and the piece size of each part.
 pub fn build_flattened_script_v1(
     plan: &[u8],
     room: &mut [u32],
     starts: &mut [u64],
     words: &mut [u32],
+    pieces: &mut [u32],
 ) -> Flattened
-    ensures { λ r. ⌜ r ≡ flattenedOf (building 256 (now (plan .entry)) (length (now (room .entry))) (length (now (starts .entry))) (length (now (words .entry)))) ⌝ }
+    ensures { λ r. ⌜ r ≡ flattenedOf (building 256 (now (plan .entry)) (length (now (room .entry))) (length (now (starts .entry))) (length (now (words .entry))) (length (now (pieces .entry)))) ⌝ }
     ensures { λ _. ⌜ now (room .exit) ≡ buildRoomAfter (now (plan .entry)) (now (room .entry)) ⌝ }
-    ensures { λ _. ⌜ now (starts .exit) ≡ startsAfter 256 (now (plan .entry)) (length (now (room .entry))) (now (starts .entry)) (now (words .entry)) ⌝ }
-    ensures { λ _. ⌜ now (words .exit) ≡ wordsAfter 256 (now (plan .entry)) (length (now (room .entry))) (now (starts .entry)) (now (words .entry)) ⌝ }
+    ensures { λ _. ⌜ now (starts .exit) ≡ startsAfter 256 (now (plan .entry)) (length (now (room .entry))) (now (starts .entry)) (now (words .entry)) (now (pieces .entry)) ⌝ }
+    ensures { λ _. ⌜ now (words .exit) ≡ wordsAfter 256 (now (plan .entry)) (length (now (room .entry))) (now (starts .entry)) (now (words .entry)) (now (pieces .entry)) ⌝ }
+    ensures { λ _. ⌜ now (pieces .exit) ≡ piecesAfter 256 (now (plan .entry)) (length (now (room .entry))) (now (starts .entry)) (now (words .entry)) (now (pieces .entry)) ⌝ }
 {
     match check_plan(plan, room) {
         Verdict::Refused(x) => Flattened::Refused(x),
-        Verdict::Accepted => build_accepted(plan, room, starts, words),
+        Verdict::Accepted => build_accepted(plan, room, starts, words, pieces),
     }
 }

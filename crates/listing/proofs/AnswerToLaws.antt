@@ -8,10 +8,10 @@ use native.Mathlib.Omega.{arith}
 use lib.ListN.{length, take, replicate, length-replicate}
 use lib.Seq.{sets, length-sets, length-take-le}
 use Rattle.words.specs.declared.refusals.Refusal.{Refusal}
-use Rattle.reads.specs.Search.{Lane, longest}
+use Rattle.reads.specs.Search.{longest}
 use Rattle.reads.specs.Asked.{readSetOf}
 use Rattle.words.specs.Answer.{Answer, good, refused}
-use Rattle.reads.specs.SetAnswer.{setAnswer, resultAfter}
+use Rattle.reads.specs.SetAnswer.{Packed, setAnswer, resultAfter}
 use Rattle.reads_asked.proofs.AskedFormLaws.{set-length-le}
 use Rattle.reads_asked.proofs.FrontStoreLaws.{take-front}
 use Rattle.rounds.specs.Rounds.{roundsOf}
@@ -28,14 +28,14 @@ pub to-bad : (p : Parsed) (b : ℕ) (section : List ℕ) → p .fault ≡ some b
 unfolding answerTo sectionAfter
 to-bad p b section t = (rw (t, answerTo), rw (t, sectionAfter))
 
-as-rounds : (o : Answer (List Lane)) (n : ℕ) → Placed n ≡ roundsOf o → Rounds n ≡ answered o
+as-rounds : (o : Answer Packed) (n k : ℕ) → Placed n k ≡ roundsOf o → Rounds n ≡ answered o
 unfolding answered
-as-rounds (good lanes) n e = let s : n ≡ longest lanes = cc in ap Rounds s
-as-rounds (refused q) n e = let z : _≡_ {A = ℕ} 0 1 = cc in absurd (omega arith)
+as-rounds (good x) n k e = let s : n ≡ longest (x .lanes) = cc in ap Rounds s
+as-rounds (refused q) n k e = let z : _≡_ {A = ℕ} 0 1 = cc in absurd (omega arith)
 
-as-refused : (o : Answer (List Lane)) (f : Refusal) → Denied f ≡ roundsOf o → Refused (f .number) ≡ answered o
+as-refused : (o : Answer Packed) (f : Refusal) → Denied f ≡ roundsOf o → Refused (f .number) ≡ answered o
 unfolding answered
-as-refused (good lanes) f e = let z : _≡_ {A = ℕ} 0 1 = cc in absurd (omega arith)
+as-refused (good x) f e = let z : _≡_ {A = ℕ} 0 1 = cc in absurd (omega arith)
 as-refused (refused q) f e = let s : f ≡ q = cc in ap (λ (g : Refusal). Refused (g .number)) s
 
 -- the set at the front of 16384 words that held zeros
@@ -69,12 +69,12 @@ module _ (p : Parsed) (small : length (p .keys) ≤ 8192) {set : List ℕ} (held
     unfolding answerTo
     answer-is = rw (right, answerTo)
 
-    pub to-rounds : (k : ℕ) → Placed k ≡ roundsOf (setAnswer 256 (take n set) o r) → Rounds k ≡ answerTo p
-    to-rounds k e = as-rounds (recordsAnswer p) k (e ∙ ap roundsOf same) ∙ answer-is
+    pub to-rounds : (k size : ℕ) → Placed k size ≡ roundsOf (setAnswer 256 (take n set) o r) → Rounds k ≡ answerTo p
+    to-rounds k size e = as-rounds (recordsAnswer p) k size (e ∙ ap roundsOf same) ∙ answer-is
 
     pub to-refused : (f : Refusal) → Denied f ≡ roundsOf (setAnswer 256 (take n set) o r) → Refused (f .number) ≡ answerTo p
     to-refused f e = as-refused (recordsAnswer p) f (e ∙ ap roundsOf same) ∙ answer-is
 
     pub to-section : (s new : List ℕ) → new ≡ resultAfter (setAnswer 256 (take n set) o r) s → new ≡ sectionAfter p s
     unfolding sectionAfter
-    to-section s new e = e ∙ ap (λ (x : Answer (List Lane)). resultAfter x s) same ∙ (rw (right, sectionAfter))
+    to-section s new e = e ∙ ap (λ (x : Answer Packed). resultAfter x s) same ∙ (rw (right, sectionAfter))

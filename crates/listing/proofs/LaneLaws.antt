@@ -16,12 +16,11 @@ use Rattle.reads.specs.ReadSection.{readSection}
 use Rattle.reads.specs.Local.{wordIn, maskIn}
 use Rattle.reads.specs.Packing.{Packing}
 use Rattle.words.specs.Answer.{good}
-use Rattle.reads.specs.SetAnswer.{readSet, setFitted}
+use Rattle.reads.specs.SetAnswer.{Packed, readSet, setFitted}
 use Rattle.reads.proofs.SetLaws.{times-at, mask-some}
 use Rattle.reads.proofs.RoundCountLaws.{in-lanes, longest-ge}
 use Rattle.reads.proofs.SectionWordLaws.{section-length, section-word, section-mask}
-use Rattle.reads.proofs.PackingLaws.{lanes-packing}
-use Rattle.reads.proofs.SetAnswerLaws.{SetPassed, placed-passed, fitted-placed}
+use Rattle.reads.proofs.SetAnswerLaws.{placed-packing, SetPassed, placed-passed, fitted-placed}
 use Rattle.listing.specs.SectionLines.{pairStart, laneRoundLines, sectionLines}
 use Rattle.listing.specs.Listing.{laneLines, lines}
 use Rattle.listing.proofs.SectionLineLaws.{no-line, one-line}
@@ -118,12 +117,13 @@ section-stands o lanes long full j h =
       fits = longest-ge lanes j;
     }
 
-pub placed-lines : (n o : ℕ) (ws : List ℕ) (lanes : List Lane) → 0 < n → setFitted n o (readSet n (pairsOf ws)) ≡ good lanes
-    → sectionLines n (sets (replicate o 0) 0 (readSection lanes)) (longest lanes) n 0 ≡ lines 0 lanes
-placed-lines n o ws lanes pos e =
-    let f = fitted-placed n o (readSet n (pairsOf ws)) lanes e in
-    let p : SetPassed n (pairsOf ws) lanes = placed-passed n (pairsOf ws) lanes (f .0) in
-    let q : Packing n (pairsOf ws) lanes = lanes-packing n (pairsOf ws) lanes (p .found) pos in
+pub placed-lines : (n o : ℕ) (ws : List ℕ) (x : Packed) → 0 < n → setFitted n o (readSet n (pairsOf ws)) ≡ good x
+    → sectionLines n (sets (replicate o 0) 0 (readSection (x .lanes))) (longest (x .lanes)) n 0 ≡ lines 0 (x .lanes)
+placed-lines n o ws x pos e =
+    let lanes = x .lanes in
+    let f = fitted-placed n o (readSet n (pairsOf ws)) x e in
+    let p : SetPassed n (pairsOf ws) x = placed-passed n (pairsOf ws) x (f .0) in
+    let q : Packing n (pairsOf ws) lanes = placed-packing n (pairsOf ws) x (p .placed) pos in
     let long : length (readSection lanes) ≤ o = (rw (section-length n lanes (q .wide)) (f .1)) in
     rw (← (q .wide))
     (lane-all (length lanes) (sets (replicate o 0) 0 (readSection lanes)) (longest lanes) 0 lanes (section-stands o lanes long (masks-some n (pairsOf ws) lanes q (p .form))))

@@ -8,10 +8,10 @@ use native.Mathlib.Omega.{arith}
 use borrow.Author.Tests.{le-leb, lt-leb}
 use lib.ListN.{length, replicate}
 use lib.Seq.{sets}
-use Rattle.reads.specs.Search.{Lane, longest}
+use Rattle.reads.specs.Search.{longest}
 use Rattle.reads.specs.Asked.{readSetOf}
 use Rattle.words.specs.Answer.{Answer, good, refused, nowhere}
-use Rattle.reads.specs.SetAnswer.{setAnswer, resultAfter, setRoomAfter}
+use Rattle.reads.specs.SetAnswer.{Packed, setAnswer, resultAfter, setRoomAfter}
 use Rattle.listing.specs.Records.{Parsed, records}
 use Rattle.text.specs.Text.{decimal}
 use Rattle.listing.specs.Listing.{roundsWord, printed, printedAt, said, listing, listed, listedOf, textAfter}
@@ -24,11 +24,11 @@ use Rattle.listing.proofs.LaneLaws.{placed-lines}
 
 -- ---- the answer's text
 
-text-printed : (ws : List ℕ) (o : Answer (List Lane)) → setAnswer 256 ws 16384 16384 ≡ o → answerText (answered o) (resultAfter o (replicate 16384 0)) ≡ printed o
+text-printed : (ws : List ℕ) (o : Answer Packed) → setAnswer 256 ws 16384 16384 ≡ o → answerText (answered o) (resultAfter o (replicate 16384 0)) ≡ printed o
 unfolding answerText answered resultAfter printed setAnswer
 text-printed ws (refused q) e = refl
-text-printed ws (good lanes) e =
-    ap (λ (l : List ℕ). roundsWord ++ (decimal (longest lanes) ++ ((10 ∷ []) ++ l))) (placed-lines 256 16384 ws lanes (omega arith) e)
+text-printed ws (good x) e =
+    ap (λ (l : List ℕ). roundsWord ++ (decimal (longest (x .lanes)) ++ ((10 ∷ []) ++ l))) (placed-lines 256 16384 ws x (omega arith) e)
 
 text-bad : (b : ℕ) → answerText (Bad b) (replicate 16384 0) ≡ printedAt b
 unfolding answerText printedAt

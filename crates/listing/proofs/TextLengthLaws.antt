@@ -17,10 +17,9 @@ use Rattle.reads.specs.Search.{Lane, longest}
 use Rattle.reads.specs.Asked.{readSetOf}
 use Rattle.reads.specs.Packing.{Packing}
 use Rattle.words.specs.Answer.{Answer, good, refused}
-use Rattle.reads.specs.SetAnswer.{readSet, setAnswer}
+use Rattle.reads.specs.SetAnswer.{Packed, readSet, setAnswer}
 use Rattle.reads.proofs.RoundCountLaws.{longest-ge}
-use Rattle.reads.proofs.PackingLaws.{lanes-packing}
-use Rattle.reads.proofs.SetAnswerLaws.{placed-passed, fitted-placed}
+use Rattle.reads.proofs.SetAnswerLaws.{placed-packing, placed-passed, fitted-placed}
 use Rattle.listing.specs.Records.{records}
 use Rattle.text.specs.Text.{decimalIn, decimal, field}
 use Rattle.listing.specs.Line.{hex, kindLetter, line}
@@ -82,14 +81,15 @@ lines-length i (l ∷ ls) a b =
       lines-length (i + 1) ls (omega arith) (λ j. b (suc j)),
     )
 
-printed-length : (ws : List ℕ) (o : Answer (List Lane)) → setAnswer 256 ws 16384 16384 ≡ o → length (printed o) ≤ 237578
+printed-length : (ws : List ℕ) (o : Answer Packed) → setAnswer 256 ws 16384 16384 ≡ o → length (printed o) ≤ 237578
 unfolding printed setAnswer
 printed-length ws (refused q) e =
     let n = q .number in
     omega (arith, length-append refusedWord (decimal n ++ (10 ∷ [])), length-append (decimal n) (10 ∷ []), decimal-short 20 n)
-printed-length ws (good lanes) e =
-    let f = fitted-placed 256 16384 (readSet 256 (pairsOf ws)) lanes e in
-    let q : Packing 256 (pairsOf ws) lanes = lanes-packing 256 (pairsOf ws) lanes (placed-passed 256 (pairsOf ws) lanes (f .0) .found) (omega arith) in
+printed-length ws (good x) e =
+    let lanes = x .lanes in
+    let f = fitted-placed 256 16384 (readSet 256 (pairsOf ws)) x e in
+    let q : Packing 256 (pairsOf ws) lanes = placed-packing 256 (pairsOf ws) x (placed-passed 256 (pairsOf ws) x (f .0) .placed) (omega arith) in
     let few : longest lanes ≤ 32 = omega (arith, f .1) in
     omega (
       arith,

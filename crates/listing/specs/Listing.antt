@@ -10,7 +10,7 @@ use lib.Seq.{sets}
 use Rattle.reads.specs.Search.{Lane, longest}
 use Rattle.reads.specs.Asked.{readSetOf}
 use Rattle.words.specs.Answer.{Answer, good, refused, nowhere}
-use Rattle.reads.specs.SetAnswer.{setAnswer}
+use Rattle.reads.specs.SetAnswer.{Packed, setAnswer}
 use Rattle.listing.specs.Records.{Parsed, records}
 use Rattle.text.specs.Text.{decimal}
 use Rattle.listing.specs.Line.{line}
@@ -38,9 +38,9 @@ abbrev pub atWord : List ℕ
 atWord = 49 ∷ 55 ∷ 32 ∷ 97 ∷ 116 ∷ 32 ∷ []
 
 -- "It prints `refused N`", or the rounds and the lines; each line ends in LF
-unfoldable pub printed : Answer (List Lane) → List ℕ
+unfoldable pub printed : Answer Packed → List ℕ
 printed (refused q) = refusedWord ++ (decimal (q .number) ++ (10 ∷ []))
-printed (good lanes) = roundsWord ++ (decimal (longest lanes) ++ ((10 ∷ []) ++ lines 0 lanes))
+printed (good x) = roundsWord ++ (decimal (longest (x .lanes)) ++ ((10 ∷ []) ++ lines 0 (x .lanes)))
 
 -- "and ` at B` for 17"
 unfoldable pub printedAt : ℕ → List ℕ

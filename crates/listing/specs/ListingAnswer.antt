@@ -3,10 +3,10 @@
 use mathlib.Core.Option.{none, some}
 use mathlib.Core.List.{List, [], _∷_, _++_}
 use Prim.Native.Nat.{ℕ}
-use Rattle.reads.specs.Search.{Lane, longest}
+use Rattle.reads.specs.Search.{longest}
 use Rattle.reads.specs.Asked.{readSetOf}
 use Rattle.words.specs.Answer.{Answer, good, refused}
-use Rattle.reads.specs.SetAnswer.{setAnswer, resultAfter}
+use Rattle.reads.specs.SetAnswer.{Packed, setAnswer, resultAfter}
 use Rattle.listing.specs.Records.{Parsed}
 use Rattle.text.specs.Text.{decimal}
 use Rattle.listing.specs.Listing.{roundsWord, refusedWord, atWord}
@@ -15,11 +15,11 @@ use Rattle.listing.specs.declared.answer.Said.{Said}
 use Rattle.listing.specs.declared.answer.Said.the-variants.{Rounds, Refused, Bad}
 
 -- the answer to records, and the lent section then
-unfoldable pub answered : Answer (List Lane) → Said
-answered (good lanes) = Rounds (longest lanes)
+unfoldable pub answered : Answer Packed → Said
+answered (good x) = Rounds (longest (x .lanes))
 answered (refused q) = Refused (q .number)
 
-abbrev pub recordsAnswer : Parsed → Answer (List Lane)
+abbrev pub recordsAnswer : Parsed → Answer Packed
 recordsAnswer p = setAnswer 256 (readSetOf (p .keys)) 16384 16384
 
 unfoldable pub answerTo : Parsed → Said

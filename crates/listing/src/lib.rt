@@ -57,7 +57,7 @@ fn answer_to(s: &[u8], room: &mut [u32], section: &mut [u32]) -> Said
             Said::Bad(b)
         }
         Read::Asked(n) => match rounds::map_global_read_to_rounds(&set[..n], room, section) {
-            Rounds::Placed(rounds) => Said::Rounds(rounds),
+            Rounds::Placed(rounds, _) => Said::Rounds(rounds),
             Rounds::Refused(refusal) => Said::Refused(refusal.number),
         },
     }

@@ -1,4 +1,4 @@
--- The marked small set as one list with one claim: what the definitions give is what document 01 says.
+-- The marked small set as one list with one claim: what the definitions give is what document 01 says, and of piece sizes document 02 (2/13).
 -- Assumes nothing.
 use mathlib.Core.Path.{_≡_}
 use mathlib.Core.List.{List, [], _∷_, _++_}
@@ -10,7 +10,7 @@ use Rattle.marked.specs.Reads.{alike, bitAsked, readRounds, triesSeen, p
 use Rattle.marked.specs.Plans.{duplicateWords, blocksOfParts, startsOfParts}
 use Rattle.marked.specs.Scripts.{locationsSeen, entrySeen}
 
--- what the definitions give, and what document 01 says
+-- what the definitions give, and what the documents say
 pub record Example : Type 0 where
   pub got : List ℕ
   pub said : List ℕ
@@ -27,21 +27,22 @@ unfoldable pub computed : List Example
 computed =
     -- M1 empty read set: 3
     record { got = readRounds [] []; said = 0 ∷ 3 ∷ 0 ∷ [] }
-    -- M2 the listing's set: local positions 1, 0, 32, 64
+    -- M2 the listing's set: local positions 1, 0, 32, 64; all three pairs at once
     ∷ record {
       got = readRounds (0 ∷ 3 ∷ 1 ∷ 32 ∷ 2 ^ 31 ∷ 1 ∷ []) (bitAsked 0 0 ∷ bitAsked 0 1 ∷ bitAsked 1 5 ∷ bitAsked (2 ^ 31) 0 ∷ []);
-      said = 1 ∷ 1 ∷ 0 ∷ 32 ∷ 64 ∷ [];
+      said = 1 ∷ 3 ∷ 1 ∷ 0 ∷ 32 ∷ 64 ∷ [];
     }
-    -- M3 256 words of 17 bits: one each
-    ∷ record { got = readRounds (alike 256 0 131071) (bitAsked 0 16 ∷ bitAsked 1 16 ∷ bitAsked 255 16 ∷ []); said = 1 ∷ 0 ∷ 32 ∷ 8160 ∷ [] }
+    -- M3 256 words of 17 bits: one each, all at once
+    ∷ record { got = readRounds (alike 256 0 131071) (bitAsked 0 16 ∷ bitAsked 1 16 ∷ bitAsked 255 16 ∷ []); said = 1 ∷ 256 ∷ 0 ∷ 32 ∷ 8160 ∷ [] }
     -- M4 257 of them: 4
     ∷ record { got = readRounds (alike 257 0 131071) []; said = 0 ∷ 4 ∷ 0 ∷ [] }
-    -- M5 words 0..255 of one bit, word 256 of 32 bits: sizes 257, 128, 64, 32 end, 16 wins; word 256 in lane 0, word 255 in lane 1 round 1; rounds 2
+    -- M5 words 0..255 of one bit, word 256 of 32 bits: sizes 257, 128, 64, 32 end, 16 wins; word 256 in lane 0, word 255 in lane 1 round 1; rounds 2;
+    -- "M5 then reports 16"
     ∷ record { got = triesSeen fivePairs 5 (length fivePairs); said = 257 ∷ 0 ∷ 128 ∷ 0 ∷ 64 ∷ 0 ∷ 32 ∷ 0 ∷ 16 ∷ 1 ∷ [] }
     ∷ record { got = placedWithin fivePairs 4 ∷ []; said = 0 ∷ [] }
     ∷ record {
       got = readRounds fiveWords (bitAsked 256 31 ∷ bitAsked 256 0 ∷ bitAsked 255 0 ∷ bitAsked 0 0 ∷ []);
-      said = 2 ∷ 0 ∷ 31 ∷ 32 ∷ 33 ∷ [];
+      said = 2 ∷ 16 ∷ 0 ∷ 31 ∷ 32 ∷ 33 ∷ [];
     }
     -- M6 stage 0 locations 1, 2, stage 1 location 3: 0x00020001, 0xFFFF0103
     ∷ record { got = locationsSeen; said = 0x00020001 ∷ 0xFFFF0103 ∷ [] }

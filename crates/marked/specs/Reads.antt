@@ -5,10 +5,10 @@ use mathlib.Core.List.{List, [], _∷_}
 use Prim.Native.Nat.{ℕ, zero, suc, _+_, _/_}
 use lib.ListN.{length}
 use Rattle.reads.specs.ReadSet.{Pair}
-use Rattle.reads.specs.Search.{Lane, Tried, all, stuck, try, firstWin, longest}
+use Rattle.reads.specs.Search.{Lane, Tried, all, stuck, try, Found, won, ended, firstWin, longest}
 use Rattle.reads.specs.Local.{localOf}
 use Rattle.words.specs.Answer.{Answer, good, refused}
-use Rattle.reads.specs.SetAnswer.{setAnswer}
+use Rattle.reads.specs.SetAnswer.{Packed, setAnswer}
 
 -- n pairs of the mask m, from the word w on
 unfoldable pub alike : ℕ → ℕ → ℕ → List ℕ
@@ -31,10 +31,11 @@ unfoldable pub positions : List Lane → List BitAsked → List ℕ
 positions ls [] = []
 positions ls (b ∷ bs) = orNone (localOf ls (b .word) (b .bit)) ∷ positions ls bs
 
--- what is seen of an outcome: the refusal's number and item after a 0; or the rounds, then the local positions of some bits
-unfoldable pub seen : Answer (List Lane) → List BitAsked → List ℕ
+-- what is seen of an outcome: the refusal's number and item after a 0; or the rounds and the piece size, then the local positions
+-- of some bits
+unfoldable pub seen : Answer Packed → List BitAsked → List ℕ
 seen (refused q) bs = 0 ∷ q .number ∷ q .item ∷ []
-seen (good ls) bs = longest ls ∷ positions ls bs
+seen (good x) bs = longest (x .lanes) ∷ x .size ∷ positions (x .lanes) bs
 
 -- a read set at 256 lanes, with working room and result room enough
 abbrev pub readRounds : List ℕ → List BitAsked → List ℕ
@@ -50,9 +51,9 @@ unfoldable pub triesSeen : List Pair → ℕ → ℕ → List ℕ
 triesSeen ps zero k = []
 triesSeen ps (suc m) k = k ∷ placesAll (try 256 ps k) ∷ triesSeen ps m (k / 2)
 
-abbrev pub placedIn : Option (List Lane) → ℕ
-placedIn none = 0
-placedIn (some lanes) = 1
+abbrev pub placedIn : Found → ℕ
+placedIn ended = 0
+placedIn (won k lanes) = 1
 
 abbrev pub placedWithin : List Pair → ℕ → ℕ
 placedWithin ps m = placedIn (firstWin 256 ps m (length ps))

@@ -22,7 +22,7 @@ use Rattle.gatelist.specs.GateList.{beforeOver, rightOver, badOver, gateOver}
 use Rattle.reads.specs.ReadSet.{pairsOf, pairsFrom, total}
 use Rattle.reads.specs.Search.{Lane, piecesIn, insertPiece, ordered, joined, firstRoom, tryFrom, firstWin}
 use Rattle.reads.specs.Asked.{ask, readSetOf}
-use Rattle.reads.specs.SetAnswer.{packed}
+use Rattle.reads.specs.SetAnswer.{Packed, packed}
 use Rattle.words.specs.Answer.{good}
 use Rattle.words.specs.Bit.{popIn, withBit}
 use Rattle.plan_gates.specs.Gates.{badGate, gateOf}
@@ -312,11 +312,14 @@ asked-all =
 abbrev pub gateLanes : List Lane
 gateLanes = (record { at = 0; word = 0; mask = 3 } ∷ []) ∷ replicate 255 []
 
-packing : packed 256 (pairsOf (readSetOf (0 ∷ 1 ∷ []))) ≡ good gateLanes
+abbrev pub gatePacked : Packed
+gatePacked = record { size = 1; lanes = gateLanes }
+
+packing : packed 256 (pairsOf (readSetOf (0 ∷ 1 ∷ []))) ≡ good gatePacked
 unfolding readSetOf ask withBit pairsFrom packed popIn total piecesIn insertPiece ordered joined firstRoom tryFrom firstWin
 packing = refl
 
-pub reads-are : partReads 256 d 0 ≡ good gateLanes
+pub reads-are : partReads 256 d 0 ≡ good gatePacked
 unfolding partReads readWords
 reads-are = rw (asked-all, packing)
 

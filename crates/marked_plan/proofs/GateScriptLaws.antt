@@ -27,7 +27,9 @@ use Rattle.plan_blocks.proofs.TotalLaws.{same-or}
 use Rattle.plan_gates.specs.Gates.{gateOf}
 use Rattle.plan_slots.specs.Slots.{topBelow}
 use Rattle.plan_winners.specs.Planned.{planned}
-use Rattle.plan_reads.specs.PartReads.{partLanes, localPosition}
+use Rattle.plan_reads.specs.PartReads.{packedIn, partLanes, localPosition}
+use Rattle.reads.specs.SetAnswer.{Packed}
+use Rattle.words.specs.Answer.{Answer}
 use Rattle.script.specs.Script.{numbers, halfIn, locationStage, locationHalf, locationWords, pinEntry, stageEntry, firstInversion, secondInversion, orbBit, xoraBit, xorbBit, maskWord, laneList, stageSection, stageSections, sramSection, enableSection, partScript}
 use Rattle.script.proofs.SectionsLaws.{lanes-ext}
 use Rattle.marked_plan.specs.GatePlan.{tableWord, gateRecord}
@@ -75,7 +77,7 @@ no-entries = sym (listOf-is (λ w. 0 * 2 ^ 16 + 0) 4096 (replicate 4096 0) (leng
 -- ---- the first 256 words
 
 lanes-are : partLanes 256 d 0 ≡ gateLanes
-lanes-are = rw reads-are
+lanes-are = ap (λ (o : Answer Packed). packedIn o .lanes) reads-are
 
 numbers-are : numbers 256 d 0 1 1 0 ≡ headWords
 unfolding numbers headWords sumTo longest

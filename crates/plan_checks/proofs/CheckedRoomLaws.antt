@@ -1,4 +1,4 @@
--- The room: clear, then with the part table, then with the rounds; and what it holds in the end.
+-- The room: clear, then with the part table, then with the rounds and the piece sizes; and what it holds in the end.
 -- Assumes nothing.
 use mathlib.Core.Path.{_≡_, refl, sym, ap, _∙_}
 use mathlib.Core.Bool.{true}
@@ -16,12 +16,13 @@ use Rattle.plan_rows.specs.Columns as col
 use Rattle.plan_rows.specs.Rows.{rowBase, cellAt}
 use Rattle.plan_blocks.specs.PartTable.{Tabled}
 use Rattle.plan_blocks.specs.TableFill.{TableFillable, tabledRoom, allottedRoom}
-use Rattle.plan_blocks.proofs.CellLaws.{put-long, put-here, put-word, put-low}
 use Rattle.plan_table.proofs.PartTableLaws.{tabled-room, tabled-long, tabled-other}
 use Rattle.plan_table.proofs.AllPartsLaws.{fillable}
 use Rattle.plan_positions.specs.Places.{Judgeable}
 use Rattle.plan_reads.specs.ReadsReady.{ClearRoom, ReadsSearchable}
-use Rattle.plan_reads.specs.PartReadAnswers.{roundsIn, partsUpTo, roundRows, searchedRoom}
+use Rattle.plan_reads.specs.PartReadAnswers.{roundsIn, partsUpTo, readRows, searchedRoom}
+use Rattle.plan_reads.specs.PartReads.{partSize}
+use Rattle.plan_reads.proofs.ReadRowLaws.{read-long, read-rounds, read-size, read-word, read-low}
 use Rattle.words.specs.Tests.{Place}
 use Rattle.words.specs.Answer.{nowhere}
 use Rattle.words.specs.declared.refusals.Refusal.{Refusal}
@@ -107,16 +108,16 @@ module _ (d room₀ : List ℕ) (c : Cleared d room₀) (lists : listRefusal d �
     pub room-ready : (last : List ℕ) → last ≡ searchedRoom d room → planRefusal 256 d ≡ none → last ≡ readyRoom d (length room₀)
     unfolding searchedRoom readyRoom
     room-ready last e h =
-        e ∙ (ap (λ (o : Option Place). roundRows d room (partsUpTo o (partsOf d))) (passed 256 d h .nothing) ∙ ap (λ (l : List ℕ). roundRows d l (partsOf d)) table-is)
+        e ∙ (ap (λ (o : Option Place). readRows d room (partsUpTo o (partsOf d))) (passed 256 d h .nothing) ∙ ap (λ (l : List ℕ). readRows d l (partsOf d)) table-is)
 
 -- ---- what the room of an accepted plan holds
 
 module _ (d room : List ℕ) (n : ℕ) where
   abbrev rows : List ℕ
-  rows = roundRows d room n
+  rows = readRows d room n
 
   rows-word : (p k : ℕ) → k < 10 → cellAt rows p k ≡ cellAt room p k
-  rows-word p k h = put-word room 10 (λ q. q) (roundsIn d) n p k (omega arith) (omega arith) (λ e. omega arith)
+  rows-word p k h = read-word d room n p k (omega arith) (λ e. omega arith) (λ e. omega arith)
 
   rows-tabled : Tabled d room → Tabled d rows
   rows-tabled t = record {
@@ -149,26 +150,29 @@ module _ (d : List ℕ) (n : ℕ) (h : rowBase (partsOf d) ≤ n) where
 
   ready-long : length (readyRoom d n) ≡ n
   unfolding readyRoom
-  ready-long = put-long table 10 (λ q. q) (roundsIn d) (partsOf d) ∙ table-length d n some-room
+  ready-long = read-long d table (partsOf d) ∙ table-length d n some-room
 
   ready-zero : (i : ℕ) → i < 65536 → getD (readyRoom d n) i 0 ≡ 0
   unfolding readyRoom
-  ready-zero i l = put-low table 10 (λ q. q) (roundsIn d) (partsOf d) i l ∙ table-zero d n some-room i l
+  ready-zero i l = read-low d table (partsOf d) i l ∙ table-zero d n some-room i l
 
   ready-front : take 65536 (readyRoom d n) ≡ replicate 65536 0
   ready-front = zeros-take 65536 (readyRoom d n) (omega (arith, ready-long)) ready-zero
 
   ready-rounds : (p : ℕ) → p < partsOf d → cellAt (readyRoom d n) p col.rounds ≡ roundsIn d p
   unfolding readyRoom
-  ready-rounds p l =
-      put-here table 10 (λ q. q) (roundsIn d) (partsOf d) p l (omega (arith, table-length d n some-room)) (λ j a b e. omega arith)
+  ready-rounds p l = read-rounds d table (partsOf d) p l (omega (arith, table-length d n some-room))
+
+  ready-sizes : (p : ℕ) → p < partsOf d → cellAt (readyRoom d n) p col.pieceSize ≡ partSize 256 d p
+  unfolding readyRoom
+  ready-sizes p l = read-size d table (partsOf d) p l (omega (arith, table-length d n some-room))
 
   ready-tabled : Tabled d (readyRoom d n)
   unfolding readyRoom
   ready-tabled = rows-tabled d table (partsOf d) (tabled-room d (replicate n 0) (omega (arith, length-replicate {A = ℕ} n 0)))
 
   pub ready : PlanReady d (readyRoom d n)
-  ready = record { wide = omega (arith, ready-long); tabled = ready-tabled; rounds = ready-rounds; front = ready-front }
+  ready = record { wide = omega (arith, ready-long); tabled = ready-tabled; rounds = ready-rounds; sizes = ready-sizes; front = ready-front }
 
 -- ---- 32, and the rest
 

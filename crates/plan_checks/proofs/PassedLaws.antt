@@ -16,7 +16,7 @@ use Rattle.plan_blocks.specs.Blocks.{totalsFit}
 use Rattle.plan_slots.specs.Slots.{refusal9, refusal10, refusal11}
 use Rattle.plan_positions.specs.Positions.{refusal12}
 use Rattle.plan_entries.specs.TableEntries.{refusal13}
-use Rattle.plan_reads.specs.PartReads.{partReads, partLanes, refusedReads}
+use Rattle.plan_reads.specs.PartReads.{partReads, partPacked, refusedReads}
 use Rattle.plan_reads.proofs.CheckLaws.{placed-part}
 use Rattle.words.specs.declared.refusals.Refusal.{Refusal}
 use Rattle.plan_checks.specs.Refusals.{orElse, unless, gatePlace, planRefusal}
@@ -75,8 +75,8 @@ passed n d e =
       no-room = four .0;
     }
 
-pub placed-lanes : (d : List ℕ) → planRefusal 256 d ≡ none → (p : ℕ) → p < partsOf d → partReads 256 d p ≡ good (partLanes 256 d p)
+pub placed-reads : (d : List ℕ) → planRefusal 256 d ≡ none → (p : ℕ) → p < partsOf d → partReads 256 d p ≡ good (partPacked 256 d p)
 unfolding refusedReads
-placed-lanes d e p h =
+placed-reads d e p h =
     let s = passed 256 d e in
     placed-part 256 d p (lowest-none _ _ (s .nothing) p h) (lowest-none _ _ (s .no-room) p h)

@@ -7,7 +7,7 @@ use mathlib.Core.List.{List}
 use Prim.Native.Nat.{ℕ}
 use native.Mathlib.Omega.{arith}
 use lib.Dec.{eqb}
-use Rattle.reads.specs.Search.{Lane}
+use Rattle.reads.specs.SetAnswer.{Packed}
 use Rattle.words.specs.Answer.{Answer, good, refused}
 use Rattle.plan_record.specs.Record.{partsOf}
 use Rattle.words.specs.Tests.{Place, lowest}
@@ -78,9 +78,9 @@ few-same o p e h x f = h x (sym e ∙ f)
 
 -- ---- 3 and 4 are told at item 0
 
-bad-item : (k : ℕ) (o : Answer (List Lane)) (i : ℕ) → badReads k o ≡ some i → i ≡ 0
+bad-item : (k : ℕ) (o : Answer Packed) (i : ℕ) → badReads k o ≡ some i → i ≡ 0
 unfolding badReads
-bad-item k (good lanes) i e = absurd (some-not-none (sym e))
+bad-item k (good y) i e = absurd (some-not-none (sym e))
 bad-item k (refused x) i e = go (eqb (x .number) k) refl
   where
     go : (b : Bool) → eqb (x .number) k ≡ b → i ≡ 0

@@ -14,8 +14,8 @@ use Rattle.plan_rows.specs.Columns as col
 use Rattle.plan_rows.specs.Rows.{rowBase, cellAt}
 use Rattle.plan_blocks.specs.PartTable.{Tabled}
 use Rattle.plan_blocks.specs.TableFill.{tabledRoom}
-use Rattle.plan_reads.specs.PartReads.{partLanes}
-use Rattle.plan_reads.specs.PartReadAnswers.{roundRows}
+use Rattle.plan_reads.specs.PartReads.{partLanes, partSize}
+use Rattle.plan_reads.specs.PartReadAnswers.{readRows}
 use Rattle.plan_checks.specs.Refusals.{planRefusal}
 
 -- what the room holds once a plan is accepted
@@ -23,11 +23,12 @@ pub record PlanReady (d room : List ℕ) : Type 0 where
   pub wide : rowBase (partsOf d) ≤ length room
   pub tabled : Tabled d room
   pub rounds : (p : ℕ) → p < partsOf d → cellAt room p col.rounds ≡ longest (partLanes 256 d p)
+  pub sizes : (p : ℕ) → p < partsOf d → cellAt room p col.pieceSize ≡ partSize 256 d p
   pub front : take 65536 room ≡ replicate 65536 0
 
--- which words these are, of a room of n words: the part table with the rounds, and zeros
+-- which words these are, of a room of n words: the part table with the rounds and the piece sizes, and zeros
 unfoldable pub readyRoom : List ℕ → ℕ → List ℕ
-readyRoom d n = roundRows d (tabledRoom d (replicate n 0)) (partsOf d)
+readyRoom d n = readRows d (tabledRoom d (replicate n 0)) (partsOf d)
 
 -- the room after the checks: one that is too short holds what it held, that of a refused plan zeros
 unfoldable pub roomLeft : List ℕ → List ℕ → List ℕ

@@ -1,4 +1,4 @@
-// Refusals 3 and 4, and the rounds of each part.
+// Refusals 3 and 4, and the rounds and the piece size of each part.
 ghost use mathlib.Core.Path.{_≡_};
 ghost use Rattle.plan_reads.specs.PartReads.{refusedReads};
 ghost use Rattle.plan_reads.specs.ReadsReady.{ReadsSearchable};

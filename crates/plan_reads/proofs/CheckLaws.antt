@@ -11,9 +11,9 @@ use lib.Dec.{ltb, eqb}
 use lib.ListN.{length, set, take, drop, replicate, length-append, take-append-drop}
 use lib.Seq.{sets, length-take-le, drop-at, getD-take, ext-getD}
 use Rattle.reads.specs.ReadSet.{Pair, pairsOf}
-use Rattle.reads.specs.Search.{Lane, lanesOf, longest}
+use Rattle.reads.specs.Search.{Found, won, ended, foundOf, longest}
 use Rattle.words.specs.Answer.{Answer, good, refused, nowhere}
-use Rattle.reads.specs.SetAnswer.{packed}
+use Rattle.reads.specs.SetAnswer.{Packed, packed}
 use Rattle.reads_asked.proofs.FrontStoreLaws.{take-front}
 use Rattle.rounds.specs.Rounds.{Solvable}
 use Rattle.plan_record.specs.Record.{partsOf, bodyAt}
@@ -21,13 +21,13 @@ use Rattle.words.specs.Tests.{Place, lowestFrom}
 use Rattle.words.proofs.TestLaws.{some-not-none, lowest-fault, lowest-next, lowest-end}
 use Rattle.plan_rows.specs.Columns as col
 use Rattle.plan_rows.specs.Rows.{cell}
-use Rattle.plan_blocks.proofs.CellLaws.{put-more, put-long, put-low}
-use Rattle.plan_reads.specs.PartReads.{lanesIn, askedTo, readWords, partReads, partLanes, badReads, refusedReads}
+use Rattle.plan_reads.specs.PartReads.{packedIn, askedTo, readWords, partReads, partPacked, partSize, badReads, refusedReads}
 use Rattle.plan_reads.specs.ReadsReady.{AllNarrow, SetRoom, SetInForm, ClearRoom}
 use Rattle.plan_reads.specs.declared.searched.Reads.{Reads}
 use Rattle.plan_reads.specs.declared.searched.Reads.the-variants.{Nothing, NoRoom}
 use Rattle.plan_reads.specs.declared.check.Checked.the-variants as checked
-use Rattle.plan_reads.specs.PartReadAnswers.{readsOf, isNothing, earlierOf, fullAfter, checkedOf, roundsKept, roundsIn, partsUpTo, roundRows, searchedRoom}
+use Rattle.plan_reads.specs.PartReadAnswers.{readsOf, isNothing, earlierOf, fullAfter, checkedOf, roundsKept, sizeKept, roundsIn, partsUpTo, readRows, searchedRoom}
+use Rattle.plan_reads.proofs.ReadRowLaws.{read-more, read-long, read-low}
 use Rattle.plan_reads.proofs.FirstEntryLaws.{words-form}
 
 -- ---- one part
@@ -53,7 +53,7 @@ part-solvable room K S K′ S′ set n r k s =
 
 -- ---- what an outcome says of 3 and 4
 
-pub nothing-bad : (o : Answer (List Lane)) → isNothing (readsOf o) ≡ true → badReads 3 o ≡ some 0
+pub nothing-bad : (o : Answer Packed) → isNothing (readsOf o) ≡ true → badReads 3 o ≡ some 0
 unfolding badReads
 nothing-bad (good lanes) h =
     let z : _≡_ {A = ℕ} 0 1 = cc in
@@ -67,7 +67,7 @@ nothing-bad (refused q) h = go (eqb (q .number) 3) refl
         let z : _≡_ {A = ℕ} 0 1 = cc in
         absurd (omega arith)
 
-pub other-fine : (o : Answer (List Lane)) → isNothing (readsOf o) ≡ false → badReads 3 o ≡ none
+pub other-fine : (o : Answer Packed) → isNothing (readsOf o) ≡ false → badReads 3 o ≡ none
 unfolding badReads
 other-fine (good lanes) h = refl
 other-fine (refused q) h = go (eqb (q .number) 3) refl
@@ -80,29 +80,29 @@ other-fine (refused q) h = go (eqb (q .number) 3) refl
     go false e = rw (e, badReads)
 
 -- the search refuses with 3 or 4
-pub data Answered (o : Answer (List Lane)) : Type 0 where
+pub data Answered (o : Answer Packed) : Type 0 where
   three : o ≡ refused (nowhere 3) → Answered o
   four : o ≡ refused (nowhere 4) → Answered o
-  rounds : (lanes : List Lane) → o ≡ good lanes → Answered o
+  rounds : (x : Packed) → o ≡ good x → Answered o
 
 pub answered : (n : ℕ) (ps : List Pair) → Answered (packed n ps)
 unfolding packed
-answered n ps = go (ltb 0 (length ps)) refl (lanesOf n ps) refl
+answered n ps = go (ltb 0 (length ps)) refl (foundOf n ps) refl
   where
-    go : (b : Bool) → ltb 0 (length ps) ≡ b → (o : Option (List Lane)) → lanesOf n ps ≡ o → Answered (packed n ps)
+    go : (b : Bool) → ltb 0 (length ps) ≡ b → (o : Found) → foundOf n ps ≡ o → Answered (packed n ps)
     go false e o f = three (rw (e, packed))
-    go true e none f = four (rw (e, f, packed))
-    go true e (some lanes) f = rounds lanes (rw (e, f, packed))
+    go true e ended f = four (rw (e, f, packed))
+    go true e (won k lanes) f = rounds (record { size = k; lanes = lanes }) (rw (e, f, packed))
 
 -- a part that neither refuses has lanes
-pub placed-part : (n : ℕ) (d : List ℕ) (p : ℕ) → badReads 3 (partReads n d p) ≡ none → badReads 4 (partReads n d p) ≡ none → partReads n d p ≡ good (partLanes n d p)
+pub placed-part : (n : ℕ) (d : List ℕ) (p : ℕ) → badReads 3 (partReads n d p) ≡ none → badReads 4 (partReads n d p) ≡ none → partReads n d p ≡ good (partPacked n d p)
 unfolding badReads partReads
 placed-part n d p a b = go (answered n (pairsOf (readWords d p)))
   where
-    go : Answered (partReads n d p) → partReads n d p ≡ good (partLanes n d p)
+    go : Answered (partReads n d p) → partReads n d p ≡ good (partPacked n d p)
     go (three q) = absurd (some-not-none (rw (q, badReads) at a))
     go (four q) = absurd (some-not-none (rw (q, badReads) at b))
-    go (rounds lanes q) = rw q
+    go (rounds x q) = rw q
 
 -- ---- a pass over the parts
 
@@ -215,9 +215,9 @@ module _ (room part : List ℕ) (wide : 65536 ≤ length room) (kept : length pa
 pub roomy : (d room : List ℕ) → ClearRoom d room → 65536 ≤ length room
 roomy d room c = omega (arith, c .wide)
 
--- ---- the rounds
+-- ---- the rounds and the piece size
 
-pub rounds-are : (o : Answer (List Lane)) → roundsKept (readsOf o) ≡ longest (lanesIn o)
+pub rounds-are : (o : Answer Packed) → roundsKept (readsOf o) ≡ longest (packedIn o .lanes)
 unfolding longest
 rounds-are (good lanes) = refl
 rounds-are (refused q) = go (eqb (q .number) 3)
@@ -226,36 +226,46 @@ rounds-are (refused q) = go (eqb (q .number) 3)
     go true = refl
     go false = refl
 
-module _ (d room₀ room : List ℕ) (p : ℕ) (is : room ≡ roundRows d room₀ p) where
+pub size-is : (o : Answer Packed) → sizeKept (readsOf o) ≡ packedIn o .size
+size-is (good x) = refl
+size-is (refused q) = go (eqb (q .number) 3)
+  where
+    go : (b : Bool) → sizeKept (elim b [ true ↦ Nothing | false ↦ NoRoom ]) ≡ 0
+    go true = refl
+    go false = refl
+
+module _ (d room₀ room : List ℕ) (p : ℕ) (is : room ≡ readRows d room₀ p) where
   pub rows-long : length room ≡ length room₀
-  rows-long = ap length is ∙ put-long room₀ 10 (λ q. q) (roundsIn d) p
+  rows-long = ap length is ∙ read-long d room₀ p
 
   pub rows-clear : ClearRoom d room₀ → ClearRoom d room
   rows-clear c = record { wide = omega (arith, rows-long, c .wide); clear = ap (take 32768) is ∙ (front ∙ c .clear) }
     where
-      long : length (take 32768 (roundRows d room₀ p)) ≡ 32768
-      long = length-take-le 32768 (roundRows d room₀ p) (omega (arith, put-long room₀ 10 (λ q. q) (roundsIn d) p, c .wide))
+      long : length (take 32768 (readRows d room₀ p)) ≡ 32768
+      long = length-take-le 32768 (readRows d room₀ p) (omega (arith, read-long d room₀ p, c .wide))
 
-      front : take 32768 (roundRows d room₀ p) ≡ take 32768 room₀
+      front : take 32768 (readRows d room₀ p) ≡ take 32768 room₀
       front =
           ext-getD 0 _ _ (long ∙ sym (length-take-le 32768 room₀ (omega (arith, c .wide))))
           (λ i l.
           let u : i < 32768 = omega (arith, long) in
-          getD-take 32768 (roundRows d room₀ p) i 0 u ∙ (put-low room₀ 10 (λ q. q) (roundsIn d) p i (omega arith) ∙ sym (getD-take 32768 room₀ i 0 u)))
+          getD-take 32768 (readRows d room₀ p) i 0 u ∙ (read-low d room₀ p i (omega arith) ∙ sym (getD-take 32768 room₀ i 0 u)))
 
-  pub row-inside : ClearRoom d room₀ → p < partsOf d → cell p col.rounds < length room
+  pub row-inside : ClearRoom d room₀ → p < partsOf d → cell p col.pieceSize < length room
   row-inside c l = omega (arith, rows-long, c .wide)
 
-  pub rows-more : (r : Reads) → r ≡ readsOf (partReads 256 d p) → (n : ℕ) → n ≡ roundsKept r → set room (cell p col.rounds) n ≡ roundRows d room₀ (p + 1)
-  rows-more r e n f =
-      let m : n ≡ roundsIn d p = f ∙ (ap roundsKept e ∙ rounds-are (partReads 256 d p)) in
-      rw (is, m) (sym (put-more room₀ 10 (λ q. q) (roundsIn d) p))
+  pub rows-more : (r : Reads) → r ≡ readsOf (partReads 256 d p)
+      → set (set room (cell p col.rounds) (roundsKept r)) (cell p col.pieceSize) (sizeKept r) ≡ readRows d room₀ (p + 1)
+  rows-more r e =
+      let m : roundsKept r ≡ roundsIn d p = ap roundsKept e ∙ rounds-are (partReads 256 d p) in
+      let k : sizeKept r ≡ partSize 256 d p = ap sizeKept e ∙ size-is (partReads 256 d p) in
+      rw (is, m, k) (sym (read-more d room₀ p))
 
 -- the parts that were searched, all of them or those before the first with nothing to read
-pub rows-fault : (d room₀ room : List ℕ) (p : ℕ) → room ≡ roundRows d room₀ p → refusedReads 256 3 d ≡ some (record { part = p; item = 0 }) → room ≡ searchedRoom d room₀
+pub rows-fault : (d room₀ room : List ℕ) (p : ℕ) → room ≡ readRows d room₀ p → refusedReads 256 3 d ≡ some (record { part = p; item = 0 }) → room ≡ searchedRoom d room₀
 unfolding searchedRoom
-rows-fault d room₀ room p is e = is ∙ ap (λ (o : Option Place). roundRows d room₀ (partsUpTo o (partsOf d))) (sym e)
+rows-fault d room₀ room p is e = is ∙ ap (λ (o : Option Place). readRows d room₀ (partsUpTo o (partsOf d))) (sym e)
 
-pub rows-all : (d room₀ room : List ℕ) (p : ℕ) → room ≡ roundRows d room₀ p → p ≡ partsOf d → refusedReads 256 3 d ≡ none → room ≡ searchedRoom d room₀
+pub rows-all : (d room₀ room : List ℕ) (p : ℕ) → room ≡ readRows d room₀ p → p ≡ partsOf d → refusedReads 256 3 d ≡ none → room ≡ searchedRoom d room₀
 unfolding searchedRoom
-rows-all d room₀ room p is n e = is ∙ (ap (roundRows d room₀) n ∙ ap (λ (o : Option Place). roundRows d room₀ (partsUpTo o (partsOf d))) (sym e))
+rows-all d room₀ room p is n e = is ∙ (ap (readRows d room₀) n ∙ ap (λ (o : Option Place). readRows d room₀ (partsUpTo o (partsOf d))) (sym e))

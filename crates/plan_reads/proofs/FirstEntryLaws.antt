@@ -1,7 +1,7 @@
 -- Each bit that a slot asks for is among the bits asked for, so it is requested and has a local position; and the entries of stage 0.
 -- Assumes nothing.
 use mathlib.Core.Path.{_≡_, refl, sym, ap, _∙_}
-use mathlib.Core.Bool.{Bool, true, false}
+use mathlib.Core.Bool.{true, false}
 use mathlib.Core.Option.{Option, none, some}
 use mathlib.Core.List.{List, [], _∷_, _++_}
 use mathlib.Core.Logic.{⊎-elim}
@@ -9,28 +9,27 @@ use Prim.Native.Nat.{ℕ, zero, suc, _+_, _*_, _/_, _%_, _^_, _≤_, _<_}
 use native.Mathlib.Nat.{not-suc-le-zero, eq-or-lt-of-le}
 use native.Mathlib.Omega.{arith}
 use borrow.Author.Tests.{eq-eqb, ne-eqb}
-use lib.Dec.{ltb}
 use lib.ListN.{length, getD, set, length-append, List·getD-append}
 use lib.Seq.{getD-at, getD-set-same, getD-set-other}
 use Rattle.words.proofs.BitLaws.{lt-or-ge}
-use Rattle.reads.specs.ReadSet.{Pair, pairsOf}
-use Rattle.reads.specs.Search.{Lane, lanesOf}
-use Rattle.words.specs.Answer.{good, refused, nowhere}
-use Rattle.reads.specs.SetAnswer.{packed}
+use Rattle.reads.specs.ReadSet.{pairsOf}
+use Rattle.reads.specs.Search.{Lane, lanesOf, sizeOf}
+use Rattle.words.specs.Answer.{Answer, good}
+use Rattle.reads.specs.SetAnswer.{Packed}
 use Rattle.reads.specs.Local.{localOf}
 use Rattle.reads.proofs.LocalLaws.{Requested}
-use Rattle.reads.proofs.SetAnswerLaws.{Sound}
+use Rattle.reads.proofs.SetAnswerLaws.{placed-lanes, Sound}
 use Rattle.reads_asked.proofs.AskedFormLaws.{set-rising, set-form, set-small, set-length-le}
 use Rattle.reads_asked.proofs.RequestLaws.{set-requests}
 use Rattle.reads_try.specs.TableLanes.{lanesAt}
 use Rattle.rounds.specs.Rounds.{tableAfter, Solvable}
-use Rattle.rounds.proofs.RoundsAnswerLaws.{Win, won}
+use Rattle.rounds.proofs.RoundsAnswerLaws.{Win, win-of}
 use Rattle.plan_record.specs.Record.{slotAt, partsOf}
 use Rattle.words.specs.Pins.{empty}
 use Rattle.words.proofs.TestLaws.{lowest-none, not-none}
 use Rattle.plan_positions.specs.Positions.{positionRight, twelveRight, refusal12}
 use Rattle.plan_winners.specs.Planned.{Planned, planned}
-use Rattle.plan_reads.specs.PartReads.{bitNumber, orZero, askedBy, askedTo, readWords, partReads, lanesIn, partLanes, localPosition}
+use Rattle.plan_reads.specs.PartReads.{bitNumber, orZero, askedBy, askedTo, readWords, partReads, packedIn, partLanes, localPosition}
 use Rattle.plan_reads.specs.ReadsReady.{plannedNumber, AllNarrow, AllPlanned, SetInForm}
 use Rattle.plan_reads.specs.Bases.{storeLanes, localBy}
 use Rattle.plan_reads.specs.Entries.{firstEntry, NumberedAt, AllNumbered}
@@ -77,43 +76,25 @@ asked-in d p (suc n) j y h full e = ⊎-elim last (earlier (λ s. asked-in d p n
 
 -- ---- a part that was searched, with its lanes in the table
 
-pub packed-found : (n : ℕ) (ps : List Pair) (lanes : List Lane) → packed n ps ≡ good lanes → lanesOf n ps ≡ some lanes
-unfolding packed
-packed-found n ps lanes h = go (ltb 0 (length ps)) refl (lanesOf n ps) refl
-  where
-    go : (b : Bool) → ltb 0 (length ps) ≡ b → (o : Option (List Lane)) → lanesOf n ps ≡ o → lanesOf n ps ≡ some lanes
-    go false e o f =
-        let q : refused (nowhere 3) ≡ good lanes = rw (e, packed) at h in
-        let z : _≡_ {A = ℕ} 0 1 = cc in
-        absurd (omega arith)
-    go true e none f =
-        let q : refused (nowhere 4) ≡ good lanes = rw (e, f, packed) at h in
-        let z : _≡_ {A = ℕ} 0 1 = cc in
-        absurd (omega arith)
-    go true e (some ls) f =
-        let q : good ls ≡ good lanes = rw (e, f, packed) at h in
-        let g : ls ≡ lanes = cc in
-        f ∙ ap some g
-
 is-planned : (o : Option Planned) → (o ≡ none → ⊥) → (y : Planned) × (o ≡ some y)
 is-planned none h = absurd (h refl)
 is-planned (some y) h = (y, refl)
 
-module _ (d : List ℕ) (p : ℕ) (narrow : AllNarrow (askedTo d p 8192)) {K S n : ℕ} {t : ℕ} (s : Solvable t K S n) (lanes : List Lane) (found : partReads n d p ≡ good lanes) where
-  pub part-found : lanesOf n (pairsOf (readWords d p)) ≡ some lanes
+module _ (d : List ℕ) (p : ℕ) (narrow : AllNarrow (askedTo d p 8192)) {K S n : ℕ} {t : ℕ} (s : Solvable t K S n) (x : Packed) (found : partReads n d p ≡ good x) where
+  pub part-found : lanesOf n (pairsOf (readWords d p)) ≡ some (x .lanes)
   unfolding partReads
-  part-found = packed-found n (pairsOf (readWords d p)) lanes found
+  part-found = placed-lanes n (pairsOf (readWords d p)) x found
 
   pub part-win : (table : List ℕ) → table ≡ tableAfter n (lanesOf n (pairsOf (readWords d p))) → length table ≡ 32 * n → Win (readWords d p) table n
-  part-win table e long = won (in-search (words-form d p narrow) s (words-small d p narrow)) true table (rw part-found) refl e long
+  part-win table e long = win-of (in-search (words-form d p narrow) s (words-small d p narrow)) (x .lanes) table part-found e long
 
   -- the table says the part's lanes
   pub part-lanes : (table : List ℕ) → table ≡ tableAfter n (lanesOf n (pairsOf (readWords d p))) → length table ≡ 32 * n → lanesAt (readWords d p) table n ≡ partLanes n d p
   part-lanes table e long =
       let w = part-win table e long in
-      let twice : some (w .lanes) ≡ some lanes = sym (w .found) ∙ part-found in
-      let one : w .lanes ≡ lanes = cc in
-      w .same ∙ (one ∙ ap lanesIn (sym found))
+      let twice : some (w .lanes) ≡ some (x .lanes) = sym (w .found) ∙ part-found in
+      let one : w .lanes ≡ x .lanes = cc in
+      w .same ∙ (one ∙ ap (λ (o : Answer Packed). packedIn o .lanes) (sym found))
 
   -- the pins of the slots are found at their local positions
   pub part-numbered : (table bases : List ℕ) → table ≡ tableAfter n (lanesOf n (pairsOf (readWords d p))) → length table ≡ 32 * n → length (readWords d p) / 2 ≤ length bases
@@ -123,7 +104,7 @@ module _ (d : List ℕ) (p : ℕ) (narrow : AllNarrow (askedTo d p 8192)) {K S n
       let ws = readWords d p in
       let w = part-win table e long in
       let at = lanesAt ws table n in
-      let sound : Sound n (pairsOf ws) at = rw (w .same) (won-sound (words-form d p narrow) s (words-small d p narrow) (w .lanes) (w .found)) in
+      let sound : Sound n (pairsOf ws) (record { size = sizeOf n (pairsOf ws); lanes = at }) = rw (w .same) (won-sound (words-form d p narrow) s (words-small d p narrow) (w .lanes) (w .found)) in
       let (y, is) = is-planned (planned d (slotAt d p 0 (8192 + j))) (all j l full) in
       let (i, k, g) = asked-in d p 8192 j y l full is in
       let asked : Requested (pairsOf ws) (bitNumber y / 32) (bitNumber y % 32) = rw g at (set-requests (askedTo d p 8192) i k) in

@@ -4,4 +4,5 @@ pub mod SearchedLaws
 pub mod LocalPositionLaws
 pub mod FirstEntryLaws
 pub mod ListedBitLaws
+pub mod ReadRowLaws
 pub mod CheckLaws

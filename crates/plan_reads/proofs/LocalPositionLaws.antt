@@ -186,7 +186,7 @@ pub record LocalAt (n : ℕ) (ws : List ℕ) (lanes : List Lane) (bases : List �
   pub is : localBy ws bases q ≡ orZero (localOf lanes (q / 32) (q % 32))
   pub below : localBy ws bases q < 32 * n
 
-module _ (n : ℕ) (ws : List ℕ) (lanes : List Lane) (few : n ≤ 256) (rising : Rising 0 ws) (sound : Sound n (pairsOf ws) lanes) (kept : SoundLanes ws n lanes) (bases : List ℕ) (room : length ws / 2 ≤ length bases) where
+module _ (n : ℕ) (ws : List ℕ) (lanes : List Lane) (few : n ≤ 256) (rising : Rising 0 ws) {k : ℕ} (sound : Sound n (pairsOf ws) (record { size = k; lanes = lanes })) (kept : SoundLanes ws n lanes) (bases : List ℕ) (room : length ws / 2 ≤ length bases) where
   pub local-is : (q : ℕ) → Requested (pairsOf ws) (q / 32) (q % 32) → LocalAt n ws lanes (storeLanes 0 lanes bases) q
   unfolding localBy localAt
   local-is q asked =

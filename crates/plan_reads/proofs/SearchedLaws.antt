@@ -1,20 +1,20 @@
 -- What the search's answer and its table say of the outcome; and the table of pins, which has each read pin's winner.
 -- Assumes nothing.
-use mathlib.Core.Path.{_≡_, refl, sym, ap, _∙_}
+use mathlib.Core.Path.{_≡_, refl, sym, ap, ap₂, _∙_}
 use mathlib.Core.Bool.{Bool, true}
 use mathlib.Core.Option.{none, some}
 use mathlib.Core.List.{List}
 use Prim.Native.Nat.{ℕ, zero, suc, _+_, _^_, _≤_, _<_}
 use native.Mathlib.Omega.{arith}
-use borrow.Author.Tests.{eq-eqb, lt-ltb, le-ltb}
+use borrow.Author.Tests.{eq-eqb, le-ltb}
 use lib.Dec.{eqb}
 use lib.ListN.{length, getD}
 use Rattle.reads.specs.ReadSet.{pairsOf}
-use Rattle.reads.specs.Search.{Lane, lanesOf, longest}
+use Rattle.reads.specs.Search.{Lane, lanesFound, lanesOf, sizeOf, longest}
 use Rattle.words.specs.Answer.{good}
-use Rattle.reads.specs.SetAnswer.{packed}
+use Rattle.reads.specs.SetAnswer.{Packed, packed}
 use Rattle.reads.proofs.SearchLaws.{win-none}
-use Rattle.reads.proofs.SetAnswerLaws.{Sound, placed-sound}
+use Rattle.reads.proofs.SetAnswerLaws.{found-packed, ended-packed, Sound, placed-sound}
 use Rattle.reads_try.proofs.SetPairLaws.{pairs-length}
 use Rattle.reads_try.specs.TableLanes.{lanesAt}
 use Rattle.rounds.specs.Rounds.{SetSearchable, Solvable}
@@ -40,20 +40,24 @@ module _ {ws : List ℕ} {t K S n : ℕ} (f : SetInForm ws) (s : Solvable t K S 
   in-search = searchable s (f .few) (f .form) fits
 
   some-words : (lanes : List Lane) → lanesOf n (pairsOf ws) ≡ some lanes → length ws ≡ 0 → ⊥
+  unfolding lanesFound
   some-words lanes e z =
       let none-there : length (pairsOf ws) ≡ 0 = omega (arith, pairs-length 0 ws) in
-      let q : none ≡ some lanes = sym (win-none n (pairsOf ws) 14) ∙ (rw none-there at e) in
+      let q : none ≡ some lanes = sym (ap lanesFound (win-none n (pairsOf ws) 14)) ∙ (rw none-there at e) in
       let x : _≡_ {A = ℕ} 0 1 = cc in
       omega arith
 
-  pub won-sound : (lanes : List Lane) → lanesOf n (pairsOf ws) ≡ some lanes → Sound n (pairsOf ws) lanes
-  won-sound lanes e = placed-sound n ws lanes (s .some-lanes) fits (is-packed n ws 0 (f .few) (f .form) (some-words lanes e) lanes e)
+  -- what the search found
+  abbrev pub wonBy : List Lane → Packed
+  wonBy lanes = record { size = sizeOf n (pairsOf ws); lanes = lanes }
 
-  pub won-packed : (lanes : List Lane) → lanesOf n (pairsOf ws) ≡ some lanes → packed n (pairsOf ws) ≡ good lanes
-  unfolding packed
+  pub won-sound : (lanes : List Lane) → lanesOf n (pairsOf ws) ≡ some lanes → Sound n (pairsOf ws) (wonBy lanes)
+  won-sound lanes e = placed-sound n ws (wonBy lanes) (s .some-lanes) fits (is-packed n ws 0 (f .few) (f .form) (some-words lanes e) lanes e)
+
+  pub won-packed : (lanes : List Lane) → lanesOf n (pairsOf ws) ≡ some lanes → packed n (pairsOf ws) ≡ good (wonBy lanes)
   won-packed lanes e =
       let some-there : 0 < length (pairsOf ws) = omega (arith, pairs-length 0 ws, some-words lanes e) in
-      rw (lt-ltb 0 (length (pairsOf ws)) some-there, e, packed)
+      found-packed n (pairsOf ws) lanes some-there e
 
   module _ (table : List ℕ) (w : Win ws table n) (r : ℕ) (is : r ≡ longest (lanesAt ws table n)) where
     rounds-are : r ≡ longest (w .lanes)
@@ -62,16 +66,15 @@ module _ {ws : List ℕ} {t K S n : ℕ} (f : SetInForm ws) (s : Solvable t K S 
     pub won-few : r ≤ 32
     won-few = omega (arith, rounds-are, won-sound (w .lanes) (w .found) .rounds .1)
 
-    pub won-reads : Rounds r ≡ readsOf (packed n (pairsOf ws))
-    won-reads = rw (won-packed (w .lanes) (w .found)) (ap Rounds rounds-are)
+    pub won-reads : (k : ℕ) → sizeOf n (pairsOf ws) ≡ k → Rounds r k ≡ readsOf (packed n (pairsOf ws))
+    won-reads k size-is = rw (won-packed (w .lanes) (w .found)) (ap₂ Rounds rounds-are (sym size-is))
 
 pub none-reads : (n : ℕ) (ws : List ℕ) → length ws ≡ 0 → Nothing ≡ readsOf (packed n (pairsOf ws))
 unfolding packed
 none-reads n ws z = rw (le-ltb 0 (length (pairsOf ws)) (omega (arith, pairs-length 0 ws)), packed)
 
 pub stuck-reads : (n : ℕ) (ws : List ℕ) → (length ws ≡ 0 → ⊥) → lanesOf n (pairsOf ws) ≡ none → NoRoom ≡ readsOf (packed n (pairsOf ws))
-unfolding packed
-stuck-reads n ws z e = rw (lt-ltb 0 (length (pairsOf ws)) (omega (arith, pairs-length 0 ws, z)), e, packed)
+stuck-reads n ws z e = rw (ended-packed n (pairsOf ws) (omega (arith, pairs-length 0 ws, z)) e)
 
 -- ---- the table of pins
 

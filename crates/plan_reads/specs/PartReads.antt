@@ -11,7 +11,7 @@ use Rattle.reads.specs.Asked.{readSetOf}
 use Rattle.reads.specs.Search.{Lane}
 use Rattle.reads.specs.Local.{localOf}
 use Rattle.words.specs.Answer.{Answer, good, refused}
-use Rattle.reads.specs.SetAnswer.{packed}
+use Rattle.reads.specs.SetAnswer.{Packed, packed}
 use Rattle.plan_record.specs.Record.{slotAt, partsOf}
 use Rattle.words.specs.Pins.{empty}
 use Rattle.words.specs.Tests.{lowest, Place}
@@ -35,15 +35,22 @@ askedTo d p (suc j) = askedTo d p j ++ askedBy (eqb (slotAt d p 0 (8192 + j)) em
 unfoldable pub readWords : List ℕ → ℕ → List ℕ
 readWords d p = readSetOf (askedTo d p 8192)
 
-unfoldable pub partReads : ℕ → List ℕ → ℕ → Answer (List Lane)
+unfoldable pub partReads : ℕ → List ℕ → ℕ → Answer Packed
 partReads n d p = packed n (pairsOf (readWords d p))
 
-abbrev pub lanesIn : Answer (List Lane) → List Lane
-lanesIn (good lanes) = lanes
-lanesIn (refused q) = []
+abbrev pub packedIn : Answer Packed → Packed
+packedIn (good x) = x
+packedIn (refused q) = record { size = 0; lanes = [] }
 
+abbrev pub partPacked : ℕ → List ℕ → ℕ → Packed
+partPacked n d p = packedIn (partReads n d p)
+
+-- its lanes, and document 02, 2/13: the piece size, "passed up to the part"
 abbrev pub partLanes : ℕ → List ℕ → ℕ → List Lane
-partLanes n d p = lanesIn (partReads n d p)
+partLanes n d p = partPacked n d p .lanes
+
+abbrev pub partSize : ℕ → List ℕ → ℕ → ℕ
+partSize n d p = partPacked n d p .size
 
 -- "the local position of the pin's state bit"
 abbrev pub orZero : Option ℕ → ℕ
@@ -55,8 +62,8 @@ localPosition lanes none = 0
 localPosition lanes (some x) = orZero (localOf lanes (bitNumber x / 32) (bitNumber x % 32))
 
 -- 3 and 4: the parts whose read set is refused with that number; "Else item 0"
-unfoldable pub badReads : ℕ → Answer (List Lane) → Option ℕ
-badReads k (good lanes) = none
+unfoldable pub badReads : ℕ → Answer Packed → Option ℕ
+badReads k (good x) = none
 badReads k (refused q) = elim (eqb (q .number) k) [ true ↦ some 0 | false ↦ none ]
 
 unfoldable pub refusedReads : ℕ → ℕ → List ℕ → Option Place

@@ -8,7 +8,7 @@ ghost use Rattle.plan_rows.specs.Rows.{cell};
 ghost use Rattle.plan_winners.specs.Winners.{ListsInRange};
 ghost use Rattle.plan_reads.specs.PartReads.{partReads, refusedReads};
 ghost use Rattle.plan_reads.specs.ReadsReady.{AllPlanned, SetRoom, ClearRoom, ReadsSearchable};
-ghost use Rattle.plan_reads.specs.PartReadAnswers.{readsOf, isNothing, earlierOf, fullAfter, checkedOf, roundsKept, searchedRoom};
+ghost use Rattle.plan_reads.specs.PartReadAnswers.{readsOf, isNothing, earlierOf, fullAfter, checkedOf, roundsKept, sizeKept, searchedRoom};
 use crate::asked::part_set;
 use crate::searched::Reads;
 use crate::searched::search_set;
@@ -70,7 +70,7 @@ fn is_nothing(reads: Reads) -> bool
     match reads {
         Reads::Nothing => true,
         Reads::NoRoom => false,
-        Reads::Rounds(_) => false,
+        Reads::Rounds(_, _) => false,
     }
 }
 
@@ -91,7 +91,7 @@ fn full_after(full: usize, parts: usize, p: usize, reads: Reads) -> usize
     match reads {
         Reads::Nothing => full,
         Reads::NoRoom => earlier(full, parts, p),
-        Reads::Rounds(_) => full,
+        Reads::Rounds(_, _) => full,
     }
 }
 
@@ -102,19 +102,31 @@ fn rounds_of(reads: Reads) -> u32
     match reads {
         Reads::Nothing => 0,
         Reads::NoRoom => 0,
-        Reads::Rounds(n) => n,
+        Reads::Rounds(n, _) => n,
     }
 }
 
-// The rounds of part p into its row.
-fn put_rounds(room: &mut [u32], p: usize, reads: Reads)
-    requires { ⌜ (p < 262144) × (cell p col.rounds < length (now room)) ⌝ }
-    ensures { λ _. ⌜ now (room .exit) ≡ set (now (room .entry)) (cell p col.rounds) (roundsKept reads) ⌝ }
+// The piece size as it is kept.
+fn size_of(reads: Reads) -> u32
+    ensures { λ r. ⌜ r ≡ sizeKept reads ⌝ }
 {
-    put_cell(room, p, Column::ROUNDS, rounds_of(reads));
+    match reads {
+        Reads::Nothing => 0,
+        Reads::NoRoom => 0,
+        Reads::Rounds(_, k) => k,
+    }
 }
 
-// Refusals 3 and 4. Each part's row then has its rounds; the first part with nothing to read ends it. What keys, scratch and set
+// The rounds and the piece size of part p into its row.
+fn put_reads(room: &mut [u32], p: usize, reads: Reads)
+    requires { ⌜ (p < 262144) × (cell p col.pieceSize < length (now room)) ⌝ }
+    ensures { λ _. ⌜ now (room .exit) ≡ set (set (now (room .entry)) (cell p col.rounds) (roundsKept reads)) (cell p col.pieceSize) (sizeKept reads) ⌝ }
+{
+    put_cell(room, p, Column::ROUNDS, rounds_of(reads));
+    put_cell(room, p, Column::PIECE_SIZE, size_of(reads));
+}
+
+// Refusals 3 and 4. Each part's row then has its rounds and its piece size; the first part with nothing to read ends it. What keys, scratch and set
 // hold afterwards is left open.
 pub fn check_reads(
     d: &[u8],
@@ -138,7 +150,7 @@ pub fn check_reads(
             return Checked::Nothing(p);
         }
         full = full_after(full, parts, p, reads);
-        put_rounds(room, p, reads);
+        put_reads(room, p, reads);
         at = body.end;
         p += 1;
     }

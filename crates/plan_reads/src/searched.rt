@@ -7,12 +7,13 @@ ghost use Rattle.reads.specs.SetAnswer.{packed};
 ghost use Rattle.rounds.specs.Rounds.{tableAfter, Solvable};
 ghost use Rattle.plan_reads.specs.ReadsReady.{SetInForm};
 ghost use Rattle.plan_reads.specs.PartReadAnswers.{readsOf};
+use rounds::Searched;
 
-// Refusals 3 and 4, or the number of rounds.
+// Refusals 3 and 4, or the number of rounds and the piece size that won.
 pub enum Reads {
     Nothing,
     NoRoom,
-    Rounds(u32),
+    Rounds(u32, u32),
 }
 
 // The search over a read set. The table then has the lanes, or zeros where there are none. What keys and scratch hold afterwards is left open.
@@ -27,8 +28,9 @@ pub fn search_set(
     ensures { λ r. ⌜ r ≡ readsOf (packed lanes (pairsOf (now (set .entry)))) ⌝ }
     ensures { λ _. ⌜ now (table .exit) ≡ tableAfter lanes (lanesOf lanes (pairsOf (now (set .entry)))) ⌝ }
 {
-    if rounds::search_sizes(set, table, keys, scratch, lanes) {
-        return Reads::Rounds(reads_section::longest_row(set, table, lanes) as u32);
+    if let Searched::Won(size) = rounds::search_sizes(set, table, keys, scratch, lanes) {
+        let n = reads_section::longest_row(set, table, lanes);
+        return Reads::Rounds(n as u32, size as u32);
     }
     if set.len() == 0 {
         return Reads::Nothing;

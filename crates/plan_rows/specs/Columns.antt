@@ -43,3 +43,6 @@ ranked = 9
 
 abbrev pub rounds : ℕ
 rounds = 10
+
+abbrev pub pieceSize : ℕ
+pieceSize = 11

@@ -31,6 +31,8 @@ impl Column {
     pub const RANKED: usize = 9;
     // How many rounds its reads take.
     pub const ROUNDS: usize = 10;
+    // The piece size that won for them.
+    pub const PIECE_SIZE: usize = 11;
 }
 
 // What word k of the row of part p holds.

@@ -8,8 +8,8 @@ use Rattle.words.specs.Answer.{good}
 use Rattle.plan_record.specs.Record.{blocksOf, majorsOf, countAt, partsBefore, partsOf}
 use Rattle.plan_record.proofs.PlanFormLaws.{formed}
 use Rattle.plan_blocks.proofs.StateStartLaws.{parts-mono, parts-next}
-use Rattle.plan_reads.specs.PartReads.{partReads, partLanes}
-use Rattle.plan_checks.proofs.PassedLaws.{Passed, passed, placed-lanes}
+use Rattle.plan_reads.specs.PartReads.{partReads, partPacked}
+use Rattle.plan_checks.proofs.PassedLaws.{Passed, passed, placed-reads}
 use Rattle.promise_decode.specs.Decodable.{Decodable}
 use Rattle.promise_decode.proofs.DecodableLaws.{decodable}
 use Rattle.promise_meaning.specs.Meaning.{PassedPart}
@@ -26,8 +26,8 @@ module _ (d : List ℕ) (accepted : Accepted d) where
   pub some-blocks : 0 < blocksOf d
   some-blocks = formed d (tests .form) .head .some-blocks
 
-  pub lanes-found : (p : ℕ) → p < partsOf d → partReads 256 d p ≡ good (partLanes 256 d p)
-  lanes-found p h = placed-lanes d accepted p h
+  pub lanes-found : (p : ℕ) → p < partsOf d → partReads 256 d p ≡ good (partPacked 256 d p)
+  lanes-found p h = placed-reads d accepted p h
 
   pub able : (p : ℕ) → p < partsOf d → Decodable d p
   able p h = decodable d p (tests .form) (tests .counts) (tests .totals) (tests .twelve) (tests .thirteen) h (lanes-found p h)

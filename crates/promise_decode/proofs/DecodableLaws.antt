@@ -27,27 +27,27 @@ use Rattle.plan_positions.specs.Positions.{refusal12}
 use Rattle.plan_winners.specs.Planned.{planned}
 use Rattle.plan_entries.specs.TableEntries.{refusal13}
 use Rattle.plan_entries.proofs.TableEntryLaws.{sram-entry, enable-entry}
-use Rattle.plan_reads.specs.PartReads.{readWords, partReads, partLanes, localPosition}
+use Rattle.plan_reads.specs.PartReads.{readWords, partReads, partPacked, partLanes, localPosition}
 use Rattle.plan_reads.proofs.FirstEntryLaws.{part-found, part-numbered, all-planned}
 use Rattle.script.specs.Script.{pinEntry, stageEntry}
 use Rattle.script.proofs.LaterEntryLaws.{entry-small}
 use Rattle.promise_decode.specs.Decodable.{Decodable}
-use Rattle.promise_decode.proofs.InsideLaws.{solvable, narrow, part-sound}
+use Rattle.promise_decode.proofs.InsideLaws.{solvable, narrow, part-packing}
 
-module _ (d : List ℕ) (p : ℕ) (form : planForm d ≡ true) (seven : refusal7 d ≡ none) (fit : totalsFit d ≡ true) (twelve : refusal12 d ≡ none) (thirteen : refusal13 d ≡ none) (part : p < partsOf d) (found : partReads 256 d p ≡ good (partLanes 256 d p)) where
+module _ (d : List ℕ) (p : ℕ) (form : planForm d ≡ true) (seven : refusal7 d ≡ none) (fit : totalsFit d ≡ true) (twelve : refusal12 d ≡ none) (thirteen : refusal13 d ≡ none) (part : p < partsOf d) (found : partReads 256 d p ≡ good (partPacked 256 d p)) where
   abbrev lanes : List Lane
   lanes = partLanes 256 d p
 
   lanes-wide : length lanes ≡ 256
-  lanes-wide = part-sound d fit twelve p part found .packing .wide
+  lanes-wide = part-packing d fit twelve p part found .wide
 
   -- the pin of a slot of stage 0 has its local position
   numbered : (j : ℕ) → j < 8192 → (slotAt d p 0 (8192 + j) ≡ empty → ⊥) → localPosition lanes (planned d (slotAt d p 0 (8192 + j))) < 8192
   numbered j h full =
       let ws = readWords d p in
       let few = narrow d fit twelve p part in
-      let is : tableOf lanes ≡ tableAfter 256 (lanesOf 256 (pairsOf ws)) = ap (tableAfter 256) (sym (part-found d p few solvable lanes found)) in
-      let at = part-numbered d p few solvable lanes found (tableOf lanes) ws is (table-length lanes ∙ ap (λ (n : ℕ). 32 * n) lanes-wide) (omega arith) (all-planned d twelve p part) j h full in
+      let is : tableOf lanes ≡ tableAfter 256 (lanesOf 256 (pairsOf ws)) = ap (tableAfter 256) (sym (part-found d p few solvable (partPacked 256 d p) found)) in
+      let at = part-numbered d p few solvable (partPacked 256 d p) found (tableOf lanes) ws is (table-length lanes ∙ ap (λ (n : ℕ). 32 * n) lanes-wide) (omega arith) (all-planned d twelve p part) j h full in
       omega (arith, at .is, at .below)
 
   first-small : (i : ℕ) → i < 8192 → stageEntry 256 d p 0 i ≤ 8191

@@ -1,5 +1,5 @@
 -- What a part of a plan without refusals 8 and 12 reads lies in the planned state, and before the state of its own major stage where it is staged:
--- each bit that a slot asks for, so each word of its lanes. So the search was given a set in form, and its lanes are sound.
+-- each bit that a slot asks for, so each word of its lanes, which are a packing of its set.
 -- Assumes nothing.
 use mathlib.Core.Path.{_≡_, refl, sym, _∙_}
 use mathlib.Core.Bool.{Bool, true, false}
@@ -15,14 +15,14 @@ use lib.ListN.{length, getD}
 use Rattle.words.proofs.BitLaws.{lt-or-ge}
 use Rattle.reads.specs.ReadSet.{pairsFrom, pairsOf}
 use Rattle.reads.specs.Search.{Lane}
-use Rattle.reads.specs.Packing.{times}
+use Rattle.reads.specs.Packing.{times, Packing}
 use Rattle.reads.specs.Local.{wordIn, maskIn}
 use Rattle.words.specs.Answer.{good}
 use Rattle.reads.proofs.PackingLaws.{times-nil, times-cons}
 use Rattle.reads.proofs.SetLaws.{times-here, times-cases}
 use Rattle.reads.proofs.RoundCountLaws.{in-lanes}
 use Rattle.reads.proofs.SectionWordLaws.{mask-none}
-use Rattle.reads.proofs.SetAnswerLaws.{Sound}
+use Rattle.reads.proofs.SetAnswerLaws.{placed-packing}
 use Rattle.reads_asked.proofs.AskedFormLaws.{EachPair, set-each}
 use Rattle.reads_try.specs.TableLanes.{Each}
 use Rattle.reads_try.proofs.LaneTableLaws.{each-append, each-at}
@@ -37,11 +37,9 @@ use Rattle.plan_winners.specs.Planned.{Planned, planned}
 use Rattle.plan_positions.proofs.MajorLaws.{MajorAt, major-at}
 use Rattle.plan_positions.proofs.PositionLaws.{RightlyPlanned, read-planned}
 use Rattle.plan_positions.proofs.PlannedLaws.{slot-read}
-use Rattle.plan_reads.specs.PartReads.{bitNumber, askedBy, askedTo, readWords, partReads, partLanes}
+use Rattle.plan_reads.specs.PartReads.{bitNumber, askedBy, askedTo, readWords, partReads, partPacked, partLanes}
 use Rattle.plan_reads.specs.ReadsReady.{AllNarrow}
 use Rattle.plan_reads.proofs.AskedLaws.{slotAsks}
-use Rattle.plan_reads.proofs.SearchedLaws.{won-sound}
-use Rattle.plan_reads.proofs.FirstEntryLaws.{words-form, words-small, part-found}
 
 -- a word that, but for its mark, is one of the state's; a staged one is before word b
 abbrev WordInside : List ℕ → ℕ → ℕ → Type 0
@@ -124,11 +122,10 @@ module _ (d : List ℕ) (fit : totalsFit d ≡ true) (twelve : refusal12 d ≡ n
 
   -- ---- the lanes
 
-  module _ (found : partReads 256 d p ≡ good (partLanes 256 d p)) where
-    pub part-sound : Sound 256 (pairsOf (readWords d p)) (partLanes 256 d p)
-    part-sound =
-        won-sound (words-form d p narrow) solvable (words-small d p narrow) (partLanes 256 d p)
-        (part-found d p narrow solvable (partLanes 256 d p) found)
+  module _ (found : partReads 256 d p ≡ good (partPacked 256 d p)) where
+    pub part-packing : Packing 256 (pairsOf (readWords d p)) (partLanes 256 d p)
+    unfolding partReads
+    part-packing = placed-packing 256 (pairsOf (readWords d p)) (partPacked 256 d p) found (omega arith)
 
     word-inside : (r i : ℕ) → (maskIn (getD (partLanes 256 d p) i []) r ≡ 0 → ⊥) → WordInside d B (wordIn (getD (partLanes 256 d p) i []) r)
     word-inside r i some-bits = ⊎-elim there (λ l. absurd (some-bits (mask-none lane r l))) (lt-or-ge r (length lane))
@@ -140,7 +137,7 @@ module _ (d : List ℕ) (fit : totalsFit d ≡ true) (twelve : refusal12 d ≡ n
         there l =
             let stands = in-lanes (wordIn lane r) (maskIn lane r) (partLanes 256 d p) i (times-in lane r l) in
             each-times (λ w m. WordInside d B w) 0 (readWords d p) (wordIn lane r) (maskIn lane r) set-inside
-            (omega (arith, part-sound .packing .once (wordIn lane r) (maskIn lane r)))
+            (omega (arith, part-packing .once (wordIn lane r) (maskIn lane r)))
 
     pub read-inside : (r i : ℕ) → (maskIn (getD (partLanes 256 d p) i []) r ≡ 0 → ⊥) → wordIn (getD (partLanes 256 d p) i []) r % 2 ^ 31 < stateWords d
     read-inside r i some-bits = word-inside r i some-bits .0

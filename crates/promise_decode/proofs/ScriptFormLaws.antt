@@ -28,7 +28,7 @@ use Rattle.plan_blocks.specs.Blocks.{stateWords, totalsFit}
 use Rattle.plan_blocks.proofs.StateStartLaws.{part-split, state-in, state-mono}
 use Rattle.plan_positions.specs.Positions.{partStateStart, refusal12}
 use Rattle.plan_positions.proofs.MajorLaws.{start-is}
-use Rattle.plan_reads.specs.PartReads.{partReads, partLanes}
+use Rattle.plan_reads.specs.PartReads.{partReads, partPacked, partLanes}
 use Rattle.script.specs.Script.{locationStage}
 use Rattle.run_machine.specs.Part.{stagesAt, lastAt, writeOutsAt, startAt, sramsAt, roundsAt, duplicatesAt, normalAt, endAt, locationIn, readWordAt, readMaskAt, entryAt}
 use Rattle.run_machine.specs.Run.{entriesForm, locationsForm, lanesForm, readsForm, storesForm, partForm}
@@ -36,7 +36,7 @@ use Rattle.promise_decode.specs.Decoded.{Decoded}
 use Rattle.promise_decode.specs.Decodable.{Decodable}
 use Rattle.promise_decode.specs.Fitting.{Fitting}
 use Rattle.promise_decode.proofs.DecodeLaws.{stage-lt}
-use Rattle.promise_decode.proofs.InsideLaws.{part-sound, read-inside}
+use Rattle.promise_decode.proofs.InsideLaws.{part-packing, read-inside}
 
 -- ---- the clauses, over the number of lanes n
 
@@ -143,7 +143,7 @@ module _ (d : List ℕ) (p last state sram : ℕ) (W : List ℕ) (o : ℕ) (able
 
 -- ---- a part of an accepted plan fits: its state start is the plan's, and both states hold the planned state
 
-module _ (d : List ℕ) (fit : totalsFit d ≡ true) (twelve : refusal12 d ≡ none) (p : ℕ) (part : p < partsOf d) (found : partReads 256 d p ≡ good (partLanes 256 d p)) where
+module _ (d : List ℕ) (fit : totalsFit d ≡ true) (twelve : refusal12 d ≡ none) (p : ℕ) (part : p < partsOf d) (found : partReads 256 d p ≡ good (partPacked 256 d p)) where
   stored-inside : partStateStart d p + locationsOf d p ≤ stateWords d
   unfolding writeOuts
   stored-inside =
@@ -157,7 +157,7 @@ module _ (d : List ℕ) (fit : totalsFit d ≡ true) (twelve : refusal12 d ≡ n
     mark = m;
     old-stores = omega (arith, stored-inside);
     new-stores = omega (arith, stored-inside);
-    thin = part-sound d fit twelve p part found .packing .thin;
+    thin = part-packing d fit twelve p part found .thin;
     old-reads = λ r i k. omega (arith, read-inside d fit twelve p part found r i k);
     new-reads = λ r i k. omega (arith, read-inside d fit twelve p part found r i k);
   }

@@ -1,7 +1,7 @@
 -- A build that is not refused leaves the assembled words and starts in front of what was there; a run of these keeps demand 3.
 -- Assumes nothing.
 use mathlib.Core.Path.{_≡_, refl, sym, ap, ap₂, _∙_}
-use mathlib.Core.Bool.{Bool, true, false}
+use mathlib.Core.Bool.{Bool, true, false, _&&_}
 use mathlib.Core.Option.{Option, none, some}
 use mathlib.Core.List.{List}
 use Prim.Native.Nat.{ℕ, _+_, _*_, _≤_}
@@ -13,7 +13,7 @@ use lib.Seq.{sets, sets-eq, take-at}
 use Rattle.words.specs.Answer.{Answer, good, refused, nowhere}
 use Rattle.words.specs.declared.refusals.Refusal.{Refusal}
 use Rattle.words.proofs.AnswerLaws.{refused-good}
-use Rattle.plan_record.specs.Record.{blocksOf, majorsOf}
+use Rattle.plan_record.specs.Record.{blocksOf, majorsOf, partsOf}
 use Rattle.plan_record.specs.Form.{planRoomWords}
 use Rattle.words.proofs.TestLaws.{and-true}
 use Rattle.plan_blocks.specs.Blocks.{stateWords}
@@ -48,9 +48,11 @@ front before l k h e = ap (take k) (sets-eq l before 0 (omega arith)) ∙ take-a
 
 pub build-leaves : BuildLeaves
 unfolding building laid sizesOf fits planVerdict
-build-leaves d r starts words x s e =
-    let B = built-so (planVerdict 256 d r) (fits (sizesOf 256 d) (length starts) (length words)) (sizesOf 256 d) x e in
-    let (a, b) = and-true (leb (blocksOf d * majorsOf d + 1) (length starts)) (leb (length (scriptWords 256 d)) (length words)) (B .fit) in
+build-leaves d r starts words pieces x s e =
+    let B = built-so (planVerdict 256 d r) (fits (sizesOf 256 d) (partsOf d) (length starts) (length words) (length pieces)) (sizesOf 256 d) x e in
+    let starts-fit = leb (blocksOf d * majorsOf d + 1) (length starts) in
+    let words-fit = leb (length (scriptWords 256 d)) (length words) in
+    let (a, b) = and-true starts-fit words-fit (and-true (leb (partsOf d) (length pieces)) (starts-fit && words-fit) (B .fit) .1) in
     let ws : x .words ≡ length (scriptWords 256 d) = ap (λ (y : Sizes). y .words) (sym (B .sizes)) in
     let ss : x .starts ≡ length (scriptStarts 256 d) = ap (λ (y : Sizes). y .starts) (sym (B .sizes)) ∙ sym (starts-length 256 d) in
     record {
@@ -64,10 +66,10 @@ build-leaves d r starts words x s e =
 
 pub built-run : BuiltRun
 unfolding building sizesOf
-built-run d r starts words x s turns old new room e stage old-size new-size space named all =
-    let B = built-so (planVerdict 256 d r) (fits (sizesOf 256 d) (length starts) (length words)) (sizesOf 256 d) x e in
+built-run d r starts words pieces x s turns old new room e stage old-size new-size space named all =
+    let B = built-so (planVerdict 256 d r) (fits (sizesOf 256 d) (partsOf d) (length starts) (length words) (length pieces)) (sizesOf 256 d) x e in
     let size : x .state ≡ stateWords d = ap (λ (y : Sizes). y .state) (sym (B .sizes)) in
-    let L = build-leaves d r starts words x s e in
+    let L = build-leaves d r starts words pieces x s e in
     let F = finished d s turns old new room (L .accepted) stage (old-size ∙ size) (new-size ∙ size) space named all in (
       stageRun d s turns old new .new,
       ap₂ (λ (w t : List ℕ). runAnswer 256 13 w t turns old new room) (L .words-are) (L .starts-are) ∙ F .0,

@@ -15,7 +15,7 @@ use Rattle.reads.specs.ReadSet.{pairsOf, broken}
 use Rattle.reads.specs.Packing.{times, Packing}
 use Rattle.reads.specs.Local.{localOf}
 use Rattle.reads.specs.ReadTurn.{laneWord}
-use Rattle.reads.proofs.PackingLaws.{lanes-packing}
+use Rattle.reads.proofs.SetAnswerLaws.{placed-packing}
 use Rattle.reads.proofs.SetLaws.{pairs-small}
 use Rattle.reads.proofs.LocalLaws.{Requested, own-positions}
 use Rattle.reads.proofs.SectionWordLaws.{section-word, section-mask}
@@ -37,11 +37,11 @@ use Rattle.plan_positions.specs.Input.{plannedBit, input}
 use Rattle.plan_positions.proofs.MajorLaws.{major-at}
 use Rattle.plan_positions.proofs.PositionLaws.{RightlyPlanned, read-planned, input-read, bit-unstaged, bit-staged}
 use Rattle.values.specs.Values.{pinValue}
-use Rattle.plan_reads.specs.PartReads.{bitNumber, orZero, askedBy, askedTo, readWords, partReads, partLanes, localPosition}
+use Rattle.plan_reads.specs.PartReads.{bitNumber, orZero, askedBy, askedTo, readWords, partReads, partPacked, partLanes, localPosition}
 use Rattle.plan_reads.specs.ReadsReady.{Narrow, AllNarrow}
 use Rattle.plan_reads.proofs.AskedLaws.{slotAsks, narrow-append}
 use Rattle.plan_reads.proofs.SearchedLaws.{reads-slot}
-use Rattle.plan_reads.proofs.FirstEntryLaws.{words-form, words-small, asked-in, packed-found}
+use Rattle.plan_reads.proofs.FirstEntryLaws.{words-form, words-small, asked-in}
 use Rattle.script.specs.Script.{stageEntry, pinEntry}
 use Rattle.run_machine.specs.Part.{readWordAt, readMaskAt, entryAt}
 use Rattle.run_machine.specs.Turn.{stateWord, readRow}
@@ -133,7 +133,7 @@ module _ (d : List ℕ) (p : ℕ) (s : PassedPart d p) where
 
   packing : Packing 256 (pairsOf (readWords d p)) (partLanes 256 d p)
   unfolding partReads
-  packing = lanes-packing 256 (pairsOf (readWords d p)) (partLanes 256 d p) (packed-found 256 (pairsOf (readWords d p)) (partLanes 256 d p) (s .reads)) (omega arith)
+  packing = placed-packing 256 (pairsOf (readWords d p)) (partPacked 256 d p) (s .reads) (omega arith)
 
   in-form : broken (pairsOf (readWords d p)) ≡ none
   in-form = words-form d p narrow .form

@@ -16,7 +16,7 @@ use Rattle.plan_counts.specs.Counts.{refusal7}
 use Rattle.plan_slots.specs.Slots.{refusal9, refusal10, refusal11}
 use Rattle.plan_positions.specs.Positions.{refusal12}
 use Rattle.values.specs.Values.{pinValue}
-use Rattle.plan_reads.specs.PartReads.{partReads, partLanes}
+use Rattle.plan_reads.specs.PartReads.{partReads, partPacked}
 use Rattle.script.specs.Script.{locationStage}
 use Rattle.run_machine.specs.Part.{entryAt}
 
@@ -30,7 +30,7 @@ pub record PassedPart (d : List ℕ) (p : ℕ) : Type 0 where
   pub eleven : refusal11 d ≡ none
   pub twelve : refusal12 d ≡ none
   pub part : p < partsOf d
-  pub reads : partReads 256 d p ≡ good (partLanes 256 d p)
+  pub reads : partReads 256 d p ≡ good (partPacked 256 d p)
 
 -- where location l is captured: in a stage of the part, below word 256
 pub record LocationAt (d : List ℕ) (p l : ℕ) : Type 0 where

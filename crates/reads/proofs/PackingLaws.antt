@@ -4,7 +4,7 @@ use mathlib.Core.Path.{_≡_, refl, sym, ap, _∙_}
 use mathlib.Core.Bool.{Bool, true, false, _&&_}
 use mathlib.Core.Option.{Option, none, some}
 use mathlib.Core.List.{List, [], _∷_, _++_}
-use Prim.Native.Nat.{ℕ, zero, suc, _+_, _/_, _^_, _≤_, _<_}
+use Prim.Native.Nat.{ℕ, zero, suc, _+_, _≤_, _<_}
 use native.Mathlib.Nat.{zero-add, add-zero, le-refl, not-suc-le-zero, le-of-suc-le-suc}
 use native.Mathlib.Decide.{ℕ-discrete}
 use native.Mathlib.Omega.{arith}
@@ -14,9 +14,9 @@ use lib.Seq.{getD-set-same, getD-set-other}
 use Rattle.words.specs.Round.{next}
 use Rattle.words.proofs.RoundLaws.{next-lt}
 use Rattle.reads.specs.ReadSet.{Pair, bits, total}
-use Rattle.reads.specs.Search.{Lane, all, stuck, piecesIn, pieces, insertPiece, ordered, joined, firstRoom, push, tryFrom, try, lanesOf}
+use Rattle.reads.specs.Search.{Lane, all, stuck, piecesIn, pieces, insertPiece, ordered, joined, firstRoom, push, tryFrom, try, lanesOf, sizeOf}
 use Rattle.reads.specs.Packing.{times, Packing}
-use Rattle.reads.proofs.SearchLaws.{room-found, win-first}
+use Rattle.reads.proofs.SearchLaws.{room-found, size-won}
 
 -- ---- how often a pair stands
 
@@ -160,5 +160,5 @@ try-packing n ps k lanes h l e =
 -- What the search returns is a packing.
 pub lanes-packing : (n : ℕ) (ps : List Pair) (lanes : List Lane) → lanesOf n ps ≡ some lanes → 0 < n → Packing n ps lanes
 lanes-packing n ps lanes e h =
-    let w = win-first n ps 14 (length ps) lanes e in
-    try-packing n ps (length ps / 2 ^ w .i) lanes h (w .size) (w .wins)
+    let w = size-won n ps lanes e in
+    try-packing n ps (sizeOf n ps) lanes h (w .size) (w .wins)

@@ -16,7 +16,7 @@ use lib.Pow.{pow-mono, shr-shr}
 use Rattle.words.specs.Round.{next}
 use Rattle.words.proofs.RoundLaws.{next-lt}
 use Rattle.reads.specs.ReadSet.{Pair, total}
-use Rattle.reads.specs.Search.{Lane, Tried, all, stuck, firstRoom, try, firstWin, lanesOf}
+use Rattle.reads.specs.Search.{Lane, Tried, all, stuck, firstRoom, try, Found, won, ended, firstWin, foundOf, lanesFound, sizeFound, lanesOf, sizeOf}
 
 -- ---- the search for room, lane by lane
 
@@ -36,12 +36,12 @@ room-found n (suc f) lanes b j i h e = ⊎-elim
 -- ---- the piece sizes k, k/2, k/4 ..
 
 module _ (n : ℕ) (ps : List Pair) where
-  pub win-none : (f : ℕ) → firstWin n ps f 0 ≡ none
+  pub win-none : (f : ℕ) → firstWin n ps f 0 ≡ ended
   unfolding firstWin
   win-none zero = refl
   win-none (suc f) = refl
 
-  pub win-all : (f k : ℕ) (lanes : List Lane) → 0 < k → try n ps k ≡ all lanes → firstWin n ps (suc f) k ≡ some lanes
+  pub win-all : (f k : ℕ) (lanes : List Lane) → 0 < k → try n ps k ≡ all lanes → firstWin n ps (suc f) k ≡ won k lanes
   unfolding firstWin
   win-all f zero lanes h t = absurd (not-suc-le-zero h)
   win-all f (suc k) lanes h t = rw (t, firstWin)
@@ -65,8 +65,8 @@ module _ (n : ℕ) (ps : List Pair) where
       go (stuck lanes) t r = win-stuck f (suc k) lanes (zero-lt-suc k) t ∙ r ∙ sym (win-stuck g (suc k) lanes (zero-lt-suc k) t)
 
   -- so fourteen is no bound of its own
-  pub lanes-fuel : (f : ℕ) → length ps ≤ 8192 → 14 ≤ f → firstWin n ps f (length ps) ≡ lanesOf n ps
-  lanes-fuel f h l =
+  pub found-fuel : (f : ℕ) → length ps ≤ 8192 → 14 ≤ f → firstWin n ps f (length ps) ≡ foundOf n ps
+  found-fuel f h l =
       let few : length ps < 2 ^ 14 = lt-of-le-of-lt h (lit< tt) in
       win-fuel f 14 (length ps) (lt-of-lt-of-le few (pow-mono l)) few
 
@@ -74,51 +74,60 @@ module _ (n : ℕ) (ps : List Pair) where
   abbrev pub Ended : ℕ → Type 0
   Ended k = (lanes : List Lane) × (try n ps k ≡ stuck lanes)
 
-  -- size k / 2 ^ i wins, with these lanes, and it is the first of k, k/2, k/4 .. that does
-  pub record Won (k : ℕ) (lanes : List Lane) : Type 0 where
+  -- size s, which is k / 2 ^ i, wins, with these lanes, and it is the first of k, k/2, k/4 .. that does
+  pub record Won (k s : ℕ) (lanes : List Lane) : Type 0 where
     pub i : ℕ
-    pub size : 0 < k / 2 ^ i
-    pub wins : try n ps (k / 2 ^ i) ≡ all lanes
+    pub is : s ≡ k / 2 ^ i
+    pub size : 0 < s
+    pub wins : try n ps s ≡ all lanes
     pub before : (j : ℕ) → j < i → Ended (k / 2 ^ j)
 
   half : (k i : ℕ) → k / 2 / 2 ^ i ≡ k / 2 ^ suc i
   half k i = shr-shr k 1 i ∙ ap (λ (x : ℕ). k / 2 ^ x) (one-add i)
 
-  pub win-first : (f k : ℕ) (lanes : List Lane) → firstWin n ps f k ≡ some lanes → Won k lanes
+  pub win-first : (f k s : ℕ) (lanes : List Lane) → firstWin n ps f k ≡ won s lanes → Won k s lanes
   unfolding firstWin
-  win-first zero k lanes e = let z : _≡_ {A = ℕ} 0 1 = cc in absurd (omega arith)
-  win-first (suc f) zero lanes e = let z : _≡_ {A = ℕ} 0 1 = cc in absurd (omega arith)
-  win-first (suc f) (suc k) lanes e = go (try n ps (suc k)) refl (win-first f (suc k / 2) lanes)
+  win-first zero k s lanes e = let z : _≡_ {A = ℕ} 0 1 = cc in absurd (omega arith)
+  win-first (suc f) zero s lanes e = let z : _≡_ {A = ℕ} 0 1 = cc in absurd (omega arith)
+  win-first (suc f) (suc k) s lanes e = go (try n ps (suc k)) refl (win-first f (suc k / 2) s lanes)
     where
-      go : (t : Tried) → try n ps (suc k) ≡ t → (firstWin n ps f (suc k / 2) ≡ some lanes → Won (suc k / 2) lanes) → Won (suc k) lanes
+      go : (t : Tried) → try n ps (suc k) ≡ t → (firstWin n ps f (suc k / 2) ≡ won s lanes → Won (suc k / 2) s lanes) → Won (suc k) s lanes
       go (all ls) t r =
-          let s : some ls ≡ some lanes = sym (win-all f (suc k) ls (zero-lt-suc k) t) ∙ e in
+          let same : won (suc k) ls ≡ won s lanes = sym (win-all f (suc k) ls (zero-lt-suc k) t) ∙ e in
           let q : ls ≡ lanes = cc in
-          record { i = 0; size = omega arith; wins = rw (div-one (suc k)) (t ∙ ap all q); before = λ j h. absurd (not-suc-le-zero h) }
+          let z : suc k ≡ s = cc in
+          record {
+            i = 0;
+            is = sym z ∙ sym (div-one (suc k));
+            size = rw (← z) (zero-lt-suc k);
+            wins = rw (← z) (t ∙ ap all q);
+            before = λ j h. absurd (not-suc-le-zero h);
+          }
       go (stuck ls) t r =
           let w = r (sym (win-stuck f (suc k) ls (zero-lt-suc k) t) ∙ e) in
           record {
             i = suc (w .i);
-            size = rw (← (half (suc k) (w .i))) (w .size);
-            wins = rw (← (half (suc k) (w .i))) (w .wins);
+            is = w .is ∙ half (suc k) (w .i);
+            size = w .size;
+            wins = w .wins;
             before = earlier w (w .before);
           }
         where
-          earlier : (w : Won (suc k / 2) lanes) → ((j : ℕ) → j < w .i → Ended (suc k / 2 / 2 ^ j)) → (j : ℕ) → j < suc (w .i) → Ended (suc k / 2 ^ j)
+          earlier : (w : Won (suc k / 2) s lanes) → ((j : ℕ) → j < w .i → Ended (suc k / 2 / 2 ^ j)) → (j : ℕ) → j < suc (w .i) → Ended (suc k / 2 ^ j)
           earlier w b zero h = rw (div-one (suc k)) (ls, t)
           earlier w b (suc j) h = rw (← (half (suc k) j)) (b j (omega arith))
 
   -- none wins: each size ends without room
-  pub win-never : (f k : ℕ) → k < 2 ^ f → firstWin n ps f k ≡ none → (j : ℕ) → 0 < k / 2 ^ j → Ended (k / 2 ^ j)
+  pub win-never : (f k : ℕ) → k < 2 ^ f → firstWin n ps f k ≡ ended → (j : ℕ) → 0 < k / 2 ^ j → Ended (k / 2 ^ j)
   win-never zero zero h e j l = absurd (omega (arith, zero-div (2 ^ j)))
   win-never zero (suc k) h e j l = absurd (omega arith)
   win-never (suc f) zero h e j l = absurd (omega (arith, zero-div (2 ^ j)))
   win-never (suc f) (suc k) h e j l = go (try n ps (suc k)) refl j l (win-never f (suc k / 2) (omega arith))
     where
       go : (t : Tried) → try n ps (suc k) ≡ t → (j : ℕ) → 0 < suc k / 2 ^ j
-          → (firstWin n ps f (suc k / 2) ≡ none → (j : ℕ) → 0 < suc k / 2 / 2 ^ j → Ended (suc k / 2 / 2 ^ j)) → Ended (suc k / 2 ^ j)
+          → (firstWin n ps f (suc k / 2) ≡ ended → (j : ℕ) → 0 < suc k / 2 / 2 ^ j → Ended (suc k / 2 / 2 ^ j)) → Ended (suc k / 2 ^ j)
       go (all ls) t j l r =
-          let s : some ls ≡ none = sym (win-all f (suc k) ls (zero-lt-suc k) t) ∙ e in
+          let s : won (suc k) ls ≡ ended = sym (win-all f (suc k) ls (zero-lt-suc k) t) ∙ e in
           let z : _≡_ {A = ℕ} 0 1 = cc in
           absurd (omega arith)
       go (stuck ls) t zero l r = rw (div-one (suc k)) (ls, t)
@@ -126,7 +135,7 @@ module _ (n : ℕ) (ps : List Pair) where
           rw (← (half (suc k) j)) (r (sym (win-stuck f (suc k) ls (zero-lt-suc k) t) ∙ e) j (rw (half (suc k) j) l))
 
   -- and the other way round
-  pub never-win : (f k : ℕ) → ((j : ℕ) → 0 < k / 2 ^ j → Ended (k / 2 ^ j)) → firstWin n ps f k ≡ none
+  pub never-win : (f k : ℕ) → ((j : ℕ) → 0 < k / 2 ^ j → Ended (k / 2 ^ j)) → firstWin n ps f k ≡ ended
   unfolding firstWin
   never-win zero k h = refl
   never-win (suc f) zero h = refl
@@ -136,5 +145,21 @@ module _ (n : ℕ) (ps : List Pair) where
       ∙ never-win f (suc k / 2) (λ j l. rw (half (suc k) j) (h (suc j) (rw (← (half (suc k) j)) l)))
 
   -- Refusal 4, "every piece size ended without room", for the sets that get that far.
-  pub lanes-none : length ps ≤ 8192 → (lanesOf n ps ≡ none) ↔ ((j : ℕ) → 0 < length ps / 2 ^ j → Ended (length ps / 2 ^ j))
-  lanes-none h = (win-never 14 (length ps) (lt-of-le-of-lt h (lit< tt)), never-win 14 (length ps))
+  pub found-none : length ps ≤ 8192 → (foundOf n ps ≡ ended) ↔ ((j : ℕ) → 0 < length ps / 2 ^ j → Ended (length ps / 2 ^ j))
+  found-none h = (win-never 14 (length ps) (lt-of-le-of-lt h (lit< tt)), never-win 14 (length ps))
+
+-- ---- what is found, by its lanes
+
+pub won-lanes : (t : Found) (lanes : List Lane) → lanesFound t ≡ some lanes → t ≡ won (sizeFound t) lanes
+unfolding lanesFound sizeFound
+won-lanes (won k ls) lanes e = let q : ls ≡ lanes = cc in ap (won k) q
+won-lanes ended lanes e = let z : _≡_ {A = ℕ} 0 1 = cc in absurd (omega arith)
+
+pub ended-lanes : (t : Found) → lanesFound t ≡ none → t ≡ ended
+unfolding lanesFound
+ended-lanes (won k ls) e = let z : _≡_ {A = ℕ} 0 1 = cc in absurd (omega arith)
+ended-lanes ended e = refl
+
+-- Document 02, 2/13: the size that is told wins, and no larger one of n, n/2, n/4 .. does.
+pub size-won : (n : ℕ) (ps : List Pair) (lanes : List Lane) → lanesOf n ps ≡ some lanes → Won n ps (length ps) (sizeOf n ps) lanes
+size-won n ps lanes e = win-first n ps 14 (length ps) (sizeOf n ps) lanes (won-lanes (foundOf n ps) lanes e)

@@ -64,15 +64,35 @@ tryFrom n (p ∷ ps) lanes j =
 abbrev pub try : ℕ → List Pair → ℕ → Tried
 try n ps k = tryFrom n (joined (ordered (pieces k ps))) (replicate n []) 0
 
+-- What the search finds: the piece size of the try that places all, with its lanes; or every try ended without room.
+pub data Found : Type 0 where
+  won : ℕ → List Lane → Found
+  ended : Found
+
 -- "Try piece sizes n, n/2, n/4 .. down to 1 (whole division)", where 01 has n pairs; here k. "The first try that places all is the result." f sizes at most.
-unfoldable pub firstWin : ℕ → List Pair → ℕ → ℕ → Option (List Lane)
-firstWin n ps zero k = none
-firstWin n ps (suc f) zero = none
-firstWin n ps (suc f) (suc k) = elim (try n ps (suc k)) [ all lanes ↦ some lanes | stuck lanes ↦ firstWin n ps f (suc k / 2) ]
+unfoldable pub firstWin : ℕ → List Pair → ℕ → ℕ → Found
+firstWin n ps zero k = ended
+firstWin n ps (suc f) zero = ended
+firstWin n ps (suc f) (suc k) = elim (try n ps (suc k)) [ all lanes ↦ won (suc k) lanes | stuck lanes ↦ firstWin n ps f (suc k / 2) ]
 
 -- fourteen sizes are enough for 8192 pairs
+abbrev pub foundOf : ℕ → List Pair → Found
+foundOf n ps = firstWin n ps 14 (length ps)
+
+-- its lanes, and document 02, 2/13: "the piece size of the winning try", 0 where none won
+unfoldable pub lanesFound : Found → Option (List Lane)
+lanesFound (won k lanes) = some lanes
+lanesFound ended = none
+
+unfoldable pub sizeFound : Found → ℕ
+sizeFound (won k lanes) = k
+sizeFound ended = 0
+
 abbrev pub lanesOf : ℕ → List Pair → Option (List Lane)
-lanesOf n ps = firstWin n ps 14 (length ps)
+lanesOf n ps = lanesFound (foundOf n ps)
+
+abbrev pub sizeOf : ℕ → List Pair → ℕ
+sizeOf n ps = sizeFound (foundOf n ps)
 
 -- "rounds is the longest lane"
 unfoldable pub longest : List Lane → ℕ

@@ -10,29 +10,38 @@ use lib.ListN.{length, replicate}
 use lib.Seq.{sets}
 use Rattle.words.specs.Answer.{Answer, good, refused, atItem, nowhere}
 use Rattle.reads.specs.ReadSet.{Pair, pairsOf, broken}
-use Rattle.reads.specs.Search.{Lane, lanesOf, longest}
+use Rattle.reads.specs.Search.{Lane, won, ended, foundOf, longest}
 use Rattle.reads.specs.ReadSection.{readSection}
 
--- what the search over a set's pairs gives: 3, 4 or the lanes of the winning try
-unfoldable pub packed : ℕ → List Pair → Answer (List Lane)
-packed n ps = elim (ltb 0 (length ps)) [ false ↦ refused (nowhere 3) | true ↦ elim (lanesOf n ps) [ none ↦ refused (nowhere 4) | some lanes ↦ good lanes ] ]
+-- what a set that is placed gets: "the piece size of the winning try" (document 02, 2/13) and its lanes
+pub record Packed : Type 0 where
+  pub size : ℕ
+  pub lanes : List Lane
+
+-- what the search over a set's pairs gives: 3, 4 or the winning try
+unfoldable pub packed : ℕ → List Pair → Answer Packed
+packed n ps =
+    elim (ltb 0 (length ps)) [
+      | false ↦ refused (nowhere 3)
+      | true ↦ elim (foundOf n ps) [ ended ↦ refused (nowhere 4) | won k lanes ↦ good (record { size = k; lanes = lanes }) ]
+    ]
 
 -- 1 and 2 come before that
-unfoldable pub readSet : ℕ → List Pair → Answer (List Lane)
+unfoldable pub readSet : ℕ → List Pair → Answer Packed
 readSet n ps = elim (leb (length ps) 8192) [ false ↦ refused (nowhere 1) | true ↦ elim (broken ps) [ some i ↦ refused (atItem 2 i) | none ↦ packed n ps ] ]
 
 -- 14 after it: the lent result has o words
-unfoldable pub setFitted : ℕ → ℕ → Answer (List Lane) → Answer (List Lane)
+unfoldable pub setFitted : ℕ → ℕ → Answer Packed → Answer Packed
 setFitted n o (refused q) = refused q
-setFitted n o (good lanes) = elim (leb (2 * n * longest lanes) o) [ false ↦ refused (nowhere 14) | true ↦ good lanes ]
+setFitted n o (good x) = elim (leb (2 * n * longest (x .lanes)) o) [ false ↦ refused (nowhere 14) | true ↦ good x ]
 
 -- and 32 before all: the lent room has r words
-unfoldable pub setAnswer : ℕ → List ℕ → ℕ → ℕ → Answer (List Lane)
+unfoldable pub setAnswer : ℕ → List ℕ → ℕ → ℕ → Answer Packed
 setAnswer n ws o r = elim (leb 16384 r) [ false ↦ refused (nowhere 32) | true ↦ setFitted n o (readSet n (pairsOf ws)) ]
 
 -- the lent result then holds the read section from its start, or what it held
-unfoldable pub resultAfter : Answer (List Lane) → List ℕ → List ℕ
-resultAfter (good lanes) out = sets out 0 (readSection lanes)
+unfoldable pub resultAfter : Answer Packed → List ℕ → List ℕ
+resultAfter (good x) out = sets out 0 (readSection (x .lanes))
 resultAfter (refused q) out = out
 
 -- the lent room then holds zeros; one that is too short holds what it held

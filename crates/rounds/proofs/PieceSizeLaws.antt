@@ -2,7 +2,6 @@
 -- Assumes nothing.
 use mathlib.Core.Path.{_≡_, refl, sym, ap, subst, _∙_}
 use mathlib.Core.Bool.{Bool, true, false}
-use mathlib.Core.Option.{none, some}
 use mathlib.Core.List.{List, [], _++_, append-nil}
 use Prim.Native.Nat.{ℕ, _*_, _/_, _%_, _≤_, _<_}
 use native.Mathlib.Nat.{le-refl, lt-of-le-of-lt}
@@ -11,7 +10,7 @@ use lib.Dec.{lit<}
 use lib.ListN.{length, drop, replicate, length-append, length-replicate, drop-of-length-le}
 use lib.Seq.{take-all}
 use Rattle.reads.specs.ReadSet.{Pair, pairsOf}
-use Rattle.reads.specs.Search.{Tried, all, stuck, tryFrom, try, firstWin, lanesOf}
+use Rattle.reads.specs.Search.{Tried, all, stuck, tryFrom, try, won, ended, firstWin, foundOf, lanesFound, lanesOf}
 use Rattle.reads.proofs.SearchLaws.{win-none, win-all, win-stuck, win-fuel}
 use Rattle.reads_try.specs.LaneTable.{tableOf}
 use Rattle.reads_try.specs.Tries.{isAll, triedLanes, triedOf, TryReady}
@@ -19,7 +18,8 @@ use Rattle.reads_try.proofs.SetPairLaws.{pairs-length}
 use Rattle.reads_pieces.specs.Keys.{keysOf, pieceCount, Orderable}
 use Rattle.reads_pieces.proofs.PieceKeyLaws.{piece-count-le}
 use Rattle.reads_pieces.proofs.PieceOrderLaws.{run-is}
-use Rattle.rounds.specs.Rounds.{isWon, tableAfter, SetSearchable}
+use Rattle.rounds.specs.Rounds.{searchedOf, tableAfter, SetSearchable}
+use Rattle.rounds.specs.declared.Searched.the-variants.{Won, Ended}
 
 pub zeros-length : {t : List ℕ} {n : ℕ} → t ≡ replicate n 0 → length t ≡ n
 zeros-length {t} {n} e = ap length e ∙ length-replicate n 0
@@ -74,7 +74,7 @@ front-room keys rest m e = omega (arith, length-append keys rest)
 
 -- from size k on the search ends as it does from the first
 abbrev pub Left : ℕ → List Pair → ℕ → Type 0
-Left n ps k = (k ≤ length ps) × (firstWin n ps 14 k ≡ lanesOf n ps)
+Left n ps k = (k ≤ length ps) × (firstWin n ps 14 k ≡ foundOf n ps)
 
 pub left-start : (n : ℕ) (ps : List Pair) → Left n ps (length ps)
 left-start n ps = (le-refl (length ps), refl)
@@ -102,8 +102,13 @@ module _ {ws : List ℕ} {t K S n : ℕ} (s : SetSearchable ws t K S n) where
   search-start = subst (λ (k : ℕ). Left n (pairsOf ws) k) (pairs-whole ws (s .whole)) (left-start n (pairsOf ws))
 
 module _ (n : ℕ) (ps : List Pair) (few : length ps ≤ 8192) where
-  pub left-end : (k : ℕ) → k ≤ 0 → Left n ps k → lanesOf n ps ≡ none
-  left-end k h l = let z : k ≡ 0 = omega arith in sym (l .1) ∙ rw z (win-none n ps 14)
+  pub left-end : (k : ℕ) → k ≤ 0 → Left n ps k → (table : List ℕ) → table ≡ replicate (32 * n) 0
+      → (Ended ≡ searchedOf (foundOf n ps)) × (table ≡ tableAfter n (lanesOf n ps))
+  unfolding lanesFound
+  left-end k h l table et =
+      let z : k ≡ 0 = omega arith in
+      let none-won : foundOf n ps ≡ ended = sym (l .1) ∙ rw z (win-none n ps 14) in
+      rw none-won (refl, et)
 
   pub left-on : (k : ℕ) → 0 < k → Left n ps k → (r : Bool) → r ≡ isAll (try n ps k) → r ≡ false → Left n ps (k / 2)
   left-on k h l r e f = go (try n ps k) refl
@@ -119,14 +124,15 @@ module _ (n : ℕ) (ps : List Pair) (few : length ps ≤ 8192) where
           (omega arith, sym (win-stuck n ps 13 k lanes h t ∙ same) ∙ l .1)
 
   pub left-won : (k : ℕ) → 0 < k → Left n ps k → (r : Bool) → r ≡ isAll (try n ps k) → r ≡ true → (table : List ℕ) → table ≡ tableOf (triedLanes (try n ps k))
-      → (true ≡ isWon (lanesOf n ps)) × (table ≡ tableAfter n (lanesOf n ps))
+      → (Won k ≡ searchedOf (foundOf n ps)) × (table ≡ tableAfter n (lanesOf n ps))
+  unfolding lanesFound
   left-won k h l r e f table et = go (try n ps k) refl
     where
-      go : (T : Tried) → try n ps k ≡ T → (true ≡ isWon (lanesOf n ps)) × (table ≡ tableAfter n (lanesOf n ps))
+      go : (T : Tried) → try n ps k ≡ T → (Won k ≡ searchedOf (foundOf n ps)) × (table ≡ tableAfter n (lanesOf n ps))
       go (stuck lanes) t =
           let q : false ≡ true = sym (rw t at e) ∙ f in
           let z : _≡_ {A = ℕ} 0 1 = cc in
           absurd (omega arith)
       go (all lanes) t =
-          let won : lanesOf n ps ≡ some lanes = sym (l .1) ∙ win-all n ps 13 k lanes h t in
-          rw won (refl, rw t at et)
+          let wins : foundOf n ps ≡ won k lanes = sym (l .1) ∙ win-all n ps 13 k lanes h t in
+          rw wins (refl, rw t at et)

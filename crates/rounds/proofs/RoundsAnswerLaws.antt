@@ -1,22 +1,23 @@
 -- Which outcome each way through the code has, and what the table holds when a size has won.
 -- Assumes nothing.
 use mathlib.Core.Path.{_≡_, refl, sym, ap, subst, _∙_}
-use mathlib.Core.Bool.{Bool, true, false}
-use mathlib.Core.Option.{Option, none, some}
+use mathlib.Core.Bool.{true, false}
+use mathlib.Core.Option.{none, some}
 use mathlib.Core.List.{List, [], _++_, append-nil}
 use Prim.Native.Nat.{ℕ, _*_, _/_, _^_, _≤_, _<_}
-use native.Mathlib.Nat.{le-trans, mul-le-mul-left}
+use native.Mathlib.Nat.{le-trans, mul-le-mul-left, div-le-self}
 use native.Mathlib.Omega.{arith}
-use borrow.Author.Tests.{le-leb, lt-leb, lt-ltb, le-ltb}
-use lib.Dec.{leb, ltb}
+use borrow.Author.Tests.{le-leb, lt-leb, le-ltb}
+use lib.Dec.{leb}
 use lib.ListN.{length, getD, take, drop, replicate, length-append, length-drop}
 use lib.Seq.{sets, length-take-le}
 use Rattle.reads.specs.ReadSet.{pairsOf, broken}
-use Rattle.reads.specs.Search.{Lane, Tried, all, lanesOf, longest}
+use Rattle.reads.specs.Search.{Lane, Tried, all, Found, won, ended, foundOf, lanesFound, sizeFound, lanesOf, sizeOf, longest}
 use Rattle.reads.specs.ReadSection.{roundsFrom}
 use Rattle.words.specs.Answer.{Answer, good, refused, atItem, nowhere}
-use Rattle.reads.specs.SetAnswer.{packed, readSet, setFitted, setAnswer, resultAfter, setRoomAfter}
-use Rattle.reads.proofs.SearchLaws.{win-first}
+use Rattle.reads.specs.SetAnswer.{Packed, packed, readSet, setFitted, setAnswer, resultAfter, setRoomAfter}
+use Rattle.reads.proofs.SearchLaws.{size-won}
+use Rattle.reads.proofs.SetAnswerLaws.{found-packed, ended-packed}
 use Rattle.reads_try.specs.LaneTable.{tableOf}
 use Rattle.reads_try.specs.Tries.{triedLanes, triedOf}
 use Rattle.reads_try.specs.TableLanes.{lanesAt, SoundLanes}
@@ -28,13 +29,14 @@ use Rattle.reads_section.specs.Readout.{TableReadable}
 use Rattle.reads_section.proofs.PairFormLaws.{form-whole, form-masks}
 use Rattle.rounds.specs.declared.Rounds.{Rounds}
 use Rattle.rounds.specs.declared.Rounds.the-variants.{Placed}
-use Rattle.rounds.specs.Rounds.{roundsOf, isWon, tableAfter, SetSearchable, Solvable}
+use Rattle.rounds.specs.declared.Searched.the-variants.{Won, Ended}
+use Rattle.rounds.specs.Rounds.{roundsOf, searchedOf, tableAfter, SetSearchable, Solvable}
 use Rattle.rounds.proofs.PieceSizeLaws.{tried-is}
 
 -- ---- which outcome: 1, 2, 3, 4, 14, each after those before it
 
 module _ (n : ℕ) (ws : List ℕ) (o : ℕ) where
-  abbrev pub end : Answer (List Lane)
+  abbrev pub end : Answer Packed
   end = setFitted n o (readSet n (pairsOf ws))
 
   pub is-many : 16384 < length ws → end ≡ refused (nowhere 1)
@@ -55,39 +57,43 @@ module _ (n : ℕ) (ws : List ℕ) (o : ℕ) where
       is-none z = rw (pairs-few, form, le-ltb 0 (length (pairsOf ws)) (omega (arith, pairs-length 0 ws)), readSet, packed)
 
       module _ (some-words : length ws ≡ 0 → ⊥) where
-        some-pairs : ltb 0 (length (pairsOf ws)) ≡ true
-        some-pairs = lt-ltb 0 (length (pairsOf ws)) (omega (arith, pairs-length 0 ws))
+        some-pairs : 0 < length (pairsOf ws)
+        some-pairs = omega (arith, pairs-length 0 ws)
 
         pub is-stuck : lanesOf n (pairsOf ws) ≡ none → end ≡ refused (nowhere 4)
-        unfolding readSet packed setFitted
-        is-stuck e = rw (pairs-few, form, some-pairs, e, readSet, packed)
+        unfolding readSet setFitted
+        is-stuck e = rw (pairs-few, form, ended-packed n (pairsOf ws) some-pairs e, readSet)
 
         module _ (lanes : List Lane) (e : lanesOf n (pairsOf ws) ≡ some lanes) where
-          pub is-packed : readSet n (pairsOf ws) ≡ good lanes
-          unfolding readSet packed
-          is-packed = rw (pairs-few, form, some-pairs, e, readSet, packed)
+          -- what the search found
+          abbrev pub placed : Packed
+          placed = record { size = sizeOf n (pairsOf ws); lanes = lanes }
+
+          pub is-packed : readSet n (pairsOf ws) ≡ good placed
+          unfolding readSet
+          is-packed = rw (pairs-few, form, readSet) (found-packed n (pairsOf ws) lanes some-pairs e)
 
           pub is-short : o < 2 * n * longest lanes → end ≡ refused (nowhere 14)
           unfolding setFitted
           is-short l = rw (is-packed, lt-leb (2 * n * longest lanes) o l, setFitted)
 
-          pub is-placed : 2 * n * longest lanes ≤ o → end ≡ good lanes
+          pub is-placed : 2 * n * longest lanes ≤ o → end ≡ good placed
           unfolding setFitted
           is-placed l = rw (is-packed, le-leb (2 * n * longest lanes) o l, setFitted)
 
 -- ---- the answer and the result, by the outcome
 
-module _ (D : Answer (List Lane)) (r : Rounds) (out : List ℕ) where
+module _ (D : Answer Packed) (r : Rounds) (out : List ℕ) where
   pub refused-post : (n i : ℕ) → D ≡ refused (atItem n i) → r ≡ roundsOf (refused (atItem n i)) → (r ≡ roundsOf D) × (out ≡ resultAfter D out)
   unfolding resultAfter
   refused-post n i e er = rw e (er, refl)
 
-pub placed-post : (D : Answer (List Lane)) (lanes ls : List Lane) (n : ℕ) (out out′ : List ℕ) → D ≡ good lanes → ls ≡ lanes → n ≡ longest ls
-    → out′ ≡ sets out 0 (roundsFrom ls n 0) → (Placed n ≡ roundsOf D) × (out′ ≡ resultAfter D out)
+pub placed-post : (D : Answer Packed) (x : Packed) (ls : List Lane) (n s : ℕ) (out out′ : List ℕ) → D ≡ good x → ls ≡ x .lanes → n ≡ longest ls → x .size ≡ s
+    → out′ ≡ sets out 0 (roundsFrom ls n 0) → (Placed n s ≡ roundsOf D) × (out′ ≡ resultAfter D out)
 unfolding resultAfter
-placed-post D lanes ls n out out′ e el en eo =
-    let q : n ≡ longest lanes = en ∙ ap longest el in
-    rw e (ap Placed q, rw (← q) (rw el at eo))
+placed-post D x ls n s out out′ e el en es eo =
+    let q : n ≡ longest (x .lanes) = en ∙ ap longest el in
+    rw (e, ← es) (ap (λ (k : ℕ). Placed k (x .size)) q, rw (← q) (rw el at eo))
 
 -- ---- a set that has the form is searched
 
@@ -106,10 +112,17 @@ searchable {ws} s few form small = record {
 
 -- ---- a size has won
 
-pub lost : (o : Option (List Lane)) (r : Bool) → r ≡ isWon o → r ≡ false → o ≡ none
-lost none r e f = refl
-lost (some lanes) r e f =
-    let q : true ≡ false = sym e ∙ f in
+pub lost : (o : Found) → searchedOf o ≡ Ended → lanesFound o ≡ none
+unfolding lanesFound
+lost ended e = refl
+lost (won k lanes) e =
+    let z : _≡_ {A = ℕ} 0 1 = cc in
+    absurd (omega arith)
+
+pub size-told : (o : Found) (k : ℕ) → searchedOf o ≡ Won k → (sizeFound o ≡ k) × (lanes : List Lane) × (lanesFound o ≡ some lanes)
+unfolding sizeFound lanesFound
+size-told (won s lanes) k e = (cc, lanes, refl)
+size-told ended k e =
     let z : _≡_ {A = ℕ} 0 1 = cc in
     absurd (omega arith)
 
@@ -123,29 +136,36 @@ pub record Win (ws table : List ℕ) (n : ℕ) : Type 0 where
 module _ {ws : List ℕ} {t K S n : ℕ} (s : SetSearchable ws t K S n) where
   won-kept : (lanes : List Lane) → lanesOf n (pairsOf ws) ≡ some lanes → SoundLanes ws n lanes
   won-kept lanes e =
-      let w = win-first n (pairsOf ws) 14 (length (pairsOf ws)) lanes e in
-      let k = length (pairsOf ws) / 2 ^ w .i in
+      let w = size-won n (pairsOf ws) lanes e in
+      let k = sizeOf n (pairsOf ws) in
       let tried : triedOf n k ws (keysOf k (pairsOf ws)) ≡ all lanes = tried-is s (w .size) (keysOf k (pairsOf ws)) refl ∙ w .wins in
       subst (λ (T : Tried). SoundLanes ws n (triedLanes T)) tried (tried-kept ws (s .whole) (s .masks) n k (keysOf k (pairsOf ws)) (s .some-lanes))
 
-  pub won : (r : Bool) (table : List ℕ) → r ≡ isWon (lanesOf n (pairsOf ws)) → r ≡ true → table ≡ tableAfter n (lanesOf n (pairsOf ws)) → length table ≡ 32 * n
+  pub win-of : (lanes : List Lane) (table : List ℕ) → lanesOf n (pairsOf ws) ≡ some lanes → table ≡ tableAfter n (lanesOf n (pairsOf ws)) → length table ≡ 32 * n
       → Win ws table n
-  won r table e f et long = go (lanesOf n (pairsOf ws)) refl
-    where
-      go : (o : Option (List Lane)) → lanesOf n (pairsOf ws) ≡ o → Win ws table n
-      go none q =
-          let x : false ≡ true = sym (rw q at e) ∙ f in
-          let z : _≡_ {A = ℕ} 0 1 = cc in
-          absurd (omega arith)
-      go (some lanes) q =
-          let kept = won-kept lanes q in
-          let filled : table ≡ tableOf lanes ++ [] = (rw q at et) ∙ sym (append-nil (tableOf lanes)) in
-          record {
-            lanes = lanes;
-            found = q;
-            readable = record { few = s .few-lanes; in-room = omega arith; filled = filled-of kept [] filled };
-            same = filled-lanes kept [] filled;
-          }
+  win-of lanes table e et long =
+      let kept = won-kept lanes e in
+      let filled : table ≡ tableOf lanes ++ [] = (rw e at et) ∙ sym (append-nil (tableOf lanes)) in
+      record {
+        lanes = lanes;
+        found = e;
+        readable = record { few = s .few-lanes; in-room = omega arith; filled = filled-of kept [] filled };
+        same = filled-lanes kept [] filled;
+      }
+
+  pub won-win : (k : ℕ) (table : List ℕ) → searchedOf (foundOf n (pairsOf ws)) ≡ Won k → table ≡ tableAfter n (lanesOf n (pairsOf ws)) → length table ≡ 32 * n
+      → Win ws table n
+  won-win k table e et long =
+      let told = size-told (foundOf n (pairsOf ws)) k e in
+      win-of (told .1) table (told .2) et long
+
+  -- a size is at most the number of pairs
+  pub won-small : (k : ℕ) → searchedOf (foundOf n (pairsOf ws)) ≡ Won k → k ≤ 8192
+  won-small k e =
+      let told = size-told (foundOf n (pairsOf ws)) k e in
+      let w = size-won n (pairsOf ws) (told .1) (told .2) in
+      let few : length (pairsOf ws) / 2 ^ w .i ≤ length (pairsOf ws) = div-le-self (length (pairsOf ws)) (2 ^ w .i) in
+      omega (arith, few, w .is, told .0, pairs-length 0 ws, s .few)
 
 -- the words of 32 rounds of 256 lanes
 pub size-fits : (n r : ℕ) → n ≤ 256 → r ≤ 32 → 2 * n * r ≤ 16384

@@ -1,27 +1,29 @@
--- Document 01's numbers of the answer, and what the search over the piece sizes asks and leaves. n is the number of lanes.
+-- The numbers of the answer, and what the search over the piece sizes asks and leaves. n is the number of lanes.
 -- Assumes nothing.
 use mathlib.Core.Path.{_≡_}
-use mathlib.Core.Bool.{Bool, true, false}
 use mathlib.Core.Option.{Option, none, some}
 use mathlib.Core.List.{List}
 use Prim.Native.Nat.{ℕ, _+_, _*_, _/_, _%_, _≤_, _<_}
 use lib.ListN.{length, getD, replicate}
 use Rattle.words.specs.Bit.{pop}
-use Rattle.reads.specs.Search.{Lane, longest}
+use Rattle.reads.specs.Search.{Lane, Found, won, ended, longest}
 use Rattle.words.specs.Answer.{Answer, good, refused}
+use Rattle.reads.specs.SetAnswer.{Packed}
 use Rattle.reads_try.specs.LaneTable.{tableOf}
 use Rattle.rounds.specs.declared.Rounds.{Rounds}
 use Rattle.rounds.specs.declared.Rounds.the-variants.{Placed, Refused}
+use Rattle.rounds.specs.declared.Searched.{Searched}
+use Rattle.rounds.specs.declared.Searched.the-variants.{Won, Ended}
 
--- the number of rounds, or the refusal
-abbrev pub roundsOf : Answer (List Lane) → Rounds
-roundsOf (good lanes) = Placed (longest lanes)
+-- the number of rounds and the piece size that won, or the refusal
+abbrev pub roundsOf : Answer Packed → Rounds
+roundsOf (good x) = Placed (longest (x .lanes)) (x .size)
 roundsOf (refused q) = Refused q
 
--- whether a size wins, and the table then: that of its lanes, or empty
-abbrev pub isWon : Option (List Lane) → Bool
-isWon none = false
-isWon (some lanes) = true
+-- the size that wins, if one does, and the table then: that of its lanes, or empty
+abbrev pub searchedOf : Found → Searched
+searchedOf (won k lanes) = Won k
+searchedOf ended = Ended
 
 abbrev pub tableAfter : ℕ → Option (List Lane) → List ℕ
 tableAfter n none = replicate (32 * n) 0

@@ -3,21 +3,27 @@ ghost use mathlib.Core.Path.{_≡_};
 ghost use Prim.Native.Nat.{_*_, _/_, _≤_, _<_};
 ghost use lib.ListN.{length, replicate};
 ghost use Rattle.reads.specs.ReadSet.{pairsOf};
-ghost use Rattle.reads.specs.Search.{try, lanesOf};
+ghost use Rattle.reads.specs.Search.{try, foundOf, lanesOf};
 ghost use Rattle.words.specs.Answer.{refused, atItem};
 ghost use Rattle.reads.specs.SetAnswer.{readSet, setFitted, setAnswer, resultAfter, setRoomAfter};
 ghost use Rattle.reads_try.specs.LaneTable.{tableOf};
 ghost use Rattle.reads_try.specs.Tries.{isAll, triedLanes};
-ghost use Rattle.rounds.specs.Rounds.{roundsOf, isWon, tableAfter, SetSearchable, Solvable};
+ghost use Rattle.rounds.specs.Rounds.{roundsOf, searchedOf, tableAfter, SetSearchable, Solvable};
 use words::clear::clear;
 use words::edition::Edition;
 use words::found::Item;
 use words::refusals;
 
-// The number of rounds that were written, or the refusal.
+// The number of rounds that were written and the piece size that won, or the refusal.
 pub enum Rounds {
-    Placed(u32),
+    Placed(u32, u32),
     Refused(refusals::Refusal),
+}
+
+// The piece size that won, or that none did.
+pub enum Searched {
+    Won(usize),
+    Ended,
 }
 
 // A try at piece size k: the pieces are put in order, and their pairs placed in the empty table.
@@ -51,33 +57,33 @@ fn sizes_over(
     keys: &mut [u64],
     scratch: &mut [u64],
     lanes: usize,
-) -> bool
+) -> Searched
     requires { ⌜ SetSearchable (now set) (length (now table)) (length (now keys)) (length (now scratch)) lanes × (length (now used) ≡ lanes) × (length (now held) ≡ lanes) ⌝ }
-    ensures { λ r. ⌜ r ≡ isWon (lanesOf lanes (pairsOf (now (set .entry)))) ⌝ }
+    ensures { λ r. ⌜ r ≡ searchedOf (foundOf lanes (pairsOf (now (set .entry)))) ⌝ }
     ensures { λ _. ⌜ now (table .exit) ≡ tableAfter lanes (lanesOf lanes (pairsOf (now (set .entry)))) ⌝ }
 {
     let mut k = set.len() / 2;
     clear(table);
     while 0 < k {
         if try_pieces(set, table, used, held, keys, scratch, lanes, k) {
-            return true;
+            return Searched::Won(k);
         }
         clear(table);
         k /= 2;
     }
-    false
+    Searched::Ended
 }
 
-// The sizes n, n/2, n/4 .. 1, up to the first that places all: then true, with its lanes in the table. Else the table is empty.
+// The sizes n, n/2, n/4 .. 1, up to the first that places all: then it, with its lanes in the table. Else the table is empty.
 pub fn search_sizes(
     set: &[u32],
     table: &mut [u32],
     keys: &mut [u64],
     scratch: &mut [u64],
     lanes: usize,
-) -> bool
+) -> Searched
     requires { ⌜ SetSearchable (now set) (length (now table)) (length (now keys)) (length (now scratch)) lanes ⌝ }
-    ensures { λ r. ⌜ r ≡ isWon (lanesOf lanes (pairsOf (now (set .entry)))) ⌝ }
+    ensures { λ r. ⌜ r ≡ searchedOf (foundOf lanes (pairsOf (now (set .entry)))) ⌝ }
     ensures { λ _. ⌜ now (table .exit) ≡ tableAfter lanes (lanesOf lanes (pairsOf (now (set .entry)))) ⌝ }
 {
     let mut used = [0u32; 256];
@@ -127,13 +133,13 @@ pub fn rounds_over(
     if set.len() == 0 {
         return refused(refusals::NOTHING_TO_READ, 0);
     }
-    if search_sizes(set, table, keys, scratch, lanes) {
+    if let Searched::Won(size) = search_sizes(set, table, keys, scratch, lanes) {
         let rounds = reads_section::longest_row(set, table, lanes);
         if out.len() < 2 * lanes * rounds {
             return refused(refusals::RESULT_SHORT, 0);
         }
         reads_section::write_rounds(set, table, lanes, rounds, out);
-        return Rounds::Placed(rounds as u32);
+        return Rounds::Placed(rounds as u32, size as u32);
     }
     refused(refusals::NO_ROOM_FOUND, 0)
 }

@@ -3,25 +3,22 @@
 use mathlib.Core.Path.{_≡_, refl}
 use mathlib.Core.List.{List, [], _++_}
 use mathlib.Core.Logic.{_⊎_, inl, inr, ⊎-elim}
-use mathlib.Core.Option.{Option, none, some}
-use mathlib.Core.Bool.{Bool, true, false}
 use Prim.Native.Nat.{ℕ, zero, suc, _*_, _-_, _/_, _%_, _≤_, _<_}
 use native.Mathlib.Nat.{mul-suc}
 use native.Mathlib.Omega.{arith}
-use lib.Dec.{ltb}
 use lib.ListN.{length, length-append, length-replicate}
 use Rattle.words.specs.Edition.{sectionWords, partWords}
 use Rattle.words.specs.Section.{sectionOf}
 use Rattle.words.proofs.SectionLaws.{length-listOf, section-length}
 use Rattle.reads.specs.ReadSet.{Pair, pairsOf}
-use Rattle.reads.specs.Search.{Lane, longest, lanesOf}
+use Rattle.reads.specs.Search.{Lane, longest}
 use Rattle.reads.specs.ReadSection.{roundsFrom, readSection}
-use Rattle.words.specs.Answer.{Answer, good, refused, nowhere}
-use Rattle.reads.specs.SetAnswer.{packed}
-use Rattle.reads.proofs.PackingLaws.{lanes-packing}
+use Rattle.words.specs.Answer.{Answer, good, refused}
+use Rattle.reads.specs.SetAnswer.{Packed, packed}
+use Rattle.reads.proofs.SetAnswerLaws.{placed-packing}
 use Rattle.reads.proofs.SectionWordLaws.{section-length as reads-section}
 use Rattle.plan_record.specs.Record.{stagesOf}
-use Rattle.plan_reads.specs.PartReads.{readWords, partReads, lanesIn, partLanes}
+use Rattle.plan_reads.specs.PartReads.{readWords, partReads, packedIn, partLanes}
 use Rattle.script.specs.Script.{numbers, locationWords, laneList, stageSection, stageSections, sramSection, enableSection, partScript}
 use Rattle.script.proofs.SectionsLaws.{lanes-length}
 
@@ -29,15 +26,12 @@ section-words : (n : ℕ) (e a b c : ℕ → ℕ) → length (sectionOf n e ++ l
 section-words n e a b c = omega (arith, length-append (sectionOf n e) (laneList a b c n), section-length n e, lanes-length a b c n)
 
 -- the lanes of a search: as many as there are, or none
-packed-wide : (n : ℕ) (ps : List Pair) → 0 < n → (lanesIn (packed n ps) ≡ []) ⊎ (length (lanesIn (packed n ps)) ≡ n)
-unfolding packed
-packed-wide n ps h = go (ltb 0 (length ps)) (lanesOf n ps) refl
+packed-wide : (n : ℕ) (ps : List Pair) → 0 < n → (packedIn (packed n ps) .lanes ≡ []) ⊎ (length (packedIn (packed n ps) .lanes) ≡ n)
+packed-wide n ps h = go (packed n ps) refl
   where
-    go : (t : Bool) (o : Option (List Lane)) → lanesOf n ps ≡ o
-        → let r : Answer (List Lane) = elim t [ false ↦ refused (nowhere 3) | true ↦ elim o [ none ↦ refused (nowhere 4) | some lanes ↦ good lanes ] ] in (lanesIn r ≡ []) ⊎ (length (lanesIn r) ≡ n)
-    go false o e = inl refl
-    go true none e = inl refl
-    go true (some lanes) e = inr (lanes-packing n ps lanes e h .wide)
+    go : (o : Answer Packed) → packed n ps ≡ o → (packedIn o .lanes ≡ []) ⊎ (length (packedIn o .lanes) ≡ n)
+    go (refused q) e = inl refl
+    go (good x) e = inr (placed-packing n ps x e h .wide)
 
 no-reads : (ls : List Lane) (n : ℕ) → ls ≡ [] → length (readSection ls) ≡ 2 * n * longest ls
 unfolding roundsFrom longest

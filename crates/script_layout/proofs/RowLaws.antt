@@ -19,7 +19,7 @@ use Rattle.script.specs.declared.head.Numbers.{Numbers}
 use Rattle.script.specs.Script.{partScript}
 use Rattle.script.specs.Writers.{NumbersOf}
 use Rattle.script_part.specs.Build.{Buildable}
-use Rattle.plan_checks.proofs.PassedLaws.{Passed, passed, placed-lanes}
+use Rattle.plan_checks.proofs.PassedLaws.{Passed, passed, placed-reads}
 use Rattle.script_assembly.specs.WrittenSoFar.{lengthOf}
 use Rattle.script_layout.specs.Layout.{AcceptedTabled, rowScript}
 
@@ -67,7 +67,7 @@ module _ (d room : List ℕ) (h : AcceptedTabled d room) where
       locations = plan-passed .counts;
       positions = plan-passed .twelve;
       tables = plan-passed .thirteen;
-      reads = placed-lanes d (h .accepted) p l;
+      reads = placed-reads d (h .accepted) p l;
     }
 
     module _ (x : Numbers) (are : NumbersOf d p x) where

@@ -23,7 +23,7 @@ use Rattle.plan_record.proofs.PlanFormLaws.{formed}
 use Rattle.plan_winners.specs.Winners.{ListsInRange}
 use Rattle.plan_positions.specs.Places.{plannedTable}
 use Rattle.plan_winners.proofs.WinnerLaws.{listed}
-use Rattle.plan_reads.specs.PartReads.{askedTo, readWords, partLanes}
+use Rattle.plan_reads.specs.PartReads.{askedTo, readWords, partPacked, partLanes}
 use Rattle.plan_reads.specs.ReadsReady.{AllNarrow, AllPlanned, AllWon, SetRoom}
 use Rattle.plan_reads.specs.Bases.{storeLanes}
 use Rattle.plan_reads.specs.Entries.{firstEntry, AllNumbered}
@@ -137,10 +137,10 @@ module _ (d : List ℕ) (p : ℕ) (b : Body) (k : Buildable d p b) (narrow : All
   any-room = record { room = refl; some-lanes = omega arith; few-lanes = omega arith; keys-room = omega arith; scratch-room = omega arith }
 
   win : Win (readWords d p) table 256
-  win = part-win d p narrow any-room (partLanes 256 d p) (k .reads) table table-is table-length
+  win = part-win d p narrow any-room (partPacked 256 d p) (k .reads) table table-is table-length
 
   same-lanes : lanesAt (readWords d p) table 256 ≡ partLanes 256 d p
-  same-lanes = part-lanes d p narrow any-room (partLanes 256 d p) (k .reads) table table-is table-length
+  same-lanes = part-lanes d p narrow any-room (partPacked 256 d p) (k .reads) table table-is table-length
 
   front : take n set′ ≡ readWords d p
   front = set-front d p set₀ set′ n count holds set-room
@@ -167,7 +167,7 @@ module _ (d : List ℕ) (p : ℕ) (b : Body) (k : Buildable d p b) (narrow : All
 
   pub pairs-numbered : (bases bases′ : List ℕ) → 8192 ≤ length bases → bases′ ≡ storeLanes 0 (lanesAt (take n set′) table 256) bases → AllNumbered 256 d p (take n set′) bases′
   pairs-numbered bases bases′ pairs e =
-      rw (e, front) (part-numbered d p narrow any-room (partLanes 256 d p) (k .reads) table bases table-is table-length (omega (arith, count)) (reads-planned d p b k))
+      rw (e, front) (part-numbered d p narrow any-room (partPacked 256 d p) (k .reads) table bases table-is table-length (omega (arith, count)) (reads-planned d p b k))
 
 -- ---- the read section is there: the rest of its part is for the first stage
 

@@ -21,7 +21,7 @@ use Rattle.plan_counts.specs.Counts.{refusal7}
 use Rattle.plan_positions.specs.Positions.{refusal12}
 use Rattle.plan_entries.specs.TableEntries.{refusal13}
 use Rattle.plan_positions.specs.Places.{plannedTable}
-use Rattle.plan_reads.specs.PartReads.{readWords, partReads, partLanes}
+use Rattle.plan_reads.specs.PartReads.{readWords, partReads, partPacked}
 use Rattle.plan_reads.specs.ReadsReady.{SetRoom}
 
 -- b is the body of part p; the plan passed refusals 5, 6, 7, 12 and 13, and the part 3 and 4
@@ -33,7 +33,7 @@ pub record Buildable (d : List ℕ) (p : ℕ) (b : Body) : Type 0 where
   pub locations : refusal7 d ≡ none
   pub positions : refusal12 d ≡ none
   pub tables : refusal13 d ≡ none
-  pub reads : partReads 256 d p ≡ good (partLanes 256 d p)
+  pub reads : partReads 256 d p ≡ good (partPacked 256 d p)
 
 -- the room when a part's reads are found: the winners of its pins, and behind them its lanes
 pub record FoundRoom (d : List ℕ) (p : ℕ) (room : List ℕ) : Type 0 where

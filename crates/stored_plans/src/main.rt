@@ -111,7 +111,8 @@ fn script_agrees(
     )
 }
 
-// Whether a plan gives what the file says from word `at` on: 0 and a script, or a refusal.
+// Whether a plan gives what the file says from word `at` on: 0 and a script, or a refusal. The file has no piece sizes; no stored plan has more than
+// 64 parts.
 fn agrees(
     file: &[u8],
     at: usize,
@@ -123,7 +124,8 @@ fn agrees(
 ) -> bool
     requires { ⌜ at < 2 ^ 61 ⌝ }
 {
-    match build_flattened_script_v1(plan, room, starts, words) {
+    let mut pieces = [0u32; 64];
+    match build_flattened_script_v1(plan, room, starts, words, &mut pieces) {
         Flattened::Built(sizes) => {
             if word_at(file, at) != 0 {
                 return false;

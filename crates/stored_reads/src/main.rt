@@ -66,7 +66,7 @@ fn agrees(file: &[u8], at: usize, set: &[u32]) -> bool
     let mut section = [0u32; 16384];
     let stored = word_at(file, at);
     match rounds::map_global_read_to_rounds(set, &mut room, &mut section) {
-        Rounds::Placed(found) => {
+        Rounds::Placed(found, _) => {
             if found == stored {
                 if all_stand(file, at + 1, set, &section) {
                     return reads(&section) == reads(set);

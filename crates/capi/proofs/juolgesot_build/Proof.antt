@@ -14,14 +14,16 @@ returns : tie.Need-returns
 unfolding afterBuild
 returns c =
     let lent = c .before .before .before .before .before in
-    let m = lent .before .before .before .before .before .before in
-    let given = m .before .before .before .before .before .before in
-    let a = given .before .before .args in
-    let o = building 256 (a .plan .now) (length (a .room .now)) (length (a .starts .now)) (length (a .words .now)) in
+    let way = lent .before .before .before .before in
+    let m = way .before .before .before .before in
+    let given = m .before .before .before .before .before in
+    let start = given .before .before .before .before .before in
+    let a = start .args in
+    let o = building 256 (a .plan .now) (length (a .room .now)) (length (a .starts .now)) (length (a .words .now)) (length (a .pieces .now)) in
     let made = m .build-flattened-script-v1 .ensures in
     let numbers = c .tell-flattened .ensures ∙ (ap flattenedNumbers (made .0) ∙ flattened-told o) in
-    also numbers (also (made .1 .0) (also (made .1 .1 .0) (also (made .1 .1 .1) refl)))
+    also numbers (also (made .1 .0) (also (made .1 .1 .0) (also (made .1 .1 .1 .0) (also (made .1 .1 .1 .1) refl))))
 
 pub juolgesot-build-spec : {M : Type 1} → statement M
 juolgesot-build-spec = tie.close
-    (tie.spec (λ c κs. search needs) (λ c κs. search needs) (λ c. search needs) (λ c. search needs) (λ c. search needs) returns)
+    (tie.spec (λ c κs. search needs) (λ c κs. search needs) (λ c. search needs) (λ c. search needs) (λ c. search needs) (λ c. search needs) returns)

@@ -10,6 +10,7 @@ returns-2 : tie.Need-returns-2
 returns-2 c = c .hand-refusal .ensures ∙ ap roundsNumbers (sym (c .before .before .before .before .answer2 .given .1))
 
 pub tell-rounds-spec : {M : Type 1} → statement M
-tell-rounds-spec = tie.close
-    (tie.spec (λ c. search needs) (λ c. search needs) (λ c κs. search needs) (λ c. search needs) (λ c κs. search needs) (λ c. search needs)
+tell-rounds-spec =
+    tie.close
+    (tie.spec (λ c. search needs) (λ c. search needs) (λ c. search needs) (λ c. search needs) (λ c κs. search needs) (λ c. search needs)
     returns-2)

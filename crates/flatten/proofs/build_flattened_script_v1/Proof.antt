@@ -6,7 +6,7 @@ use Rattle.words.specs.Answer.{Answer}
 use Rattle.plan_checks.specs.Refusals.{planVerdict}
 use Rattle.flatten.specs.FlattenedAnswer.{flattenedOf}
 use Rattle.script_assembly.specs.Assembly.{scriptStarts, scriptWords}
-use Rattle.flatten.specs.Flatten.{Sizes, laid}
+use Rattle.flatten.specs.Flatten.{Sizes, pieceSizes, laid}
 use Rattle.flatten.proofs.BuildAnswerLaws.{accepted-is, sound, refused-sized, refused-built, refused-kept, accepted-building, cleared-room}
 use borrow.Author.Needs.{needs}
 use Rattle.flatten.proofs.build_flattened_script_v1.Statement.{statement}
@@ -14,9 +14,10 @@ use Rattle.flatten.proofs.build_flattened_script_v1.Tie as tie
 
 build-accepted-requires : tie.Need-build-accepted-requires
 build-accepted-requires c κs =
-    let at-enum-told = c .before .before .before in
+    let at-enum-told = c .before .before .before .before in
     let at-check-plan = at-enum-told .before .before .before .before in
-    let start = at-check-plan .before .before .before .before .before .before in
+    let way = at-check-plan .before .before .before .before in
+    let start = way .before .before .before in
     let a = start .args in
     let e = accepted-is (planVerdict 256 (a .plan .now) (length (a .room .now))) (sym (at-enum-told .enum-told .given .1) ∙ at-check-plan .check-plan .ensures .0) in
     sound (a .plan .now) (a .room .now) e (at-check-plan .check-plan .last .1 .0) (at-check-plan .check-plan .ensures .1 .1 e)
@@ -25,38 +26,47 @@ returns : tie.Need-returns
 returns c =
     let at-x = c .before in
     let at-check-plan = at-x .before .before .before .before in
-    let start = at-check-plan .before .before .before .before .before .before in
-    let a = start .args in (
-      refused-built (a .plan .now) (a .room .now) (at-x .x .given .0 .0) (sym (at-x .x .given .1) ∙ at-check-plan .check-plan .ensures .0) (at-check-plan .check-plan .last .1 .0) (at-check-plan .check-plan .ensures .1 .0) (a .starts .now) (a .words .now),
+    let way = at-check-plan .before .before .before .before in
+    let start = way .before .before .before in
+    let a = start .args in
+    let x = at-x .x .given .0 .0 in
+    let v = sym (at-x .x .given .1) ∙ at-check-plan .check-plan .ensures .0 in
+    let after = at-check-plan .check-plan .last .1 .0 in
+    let is = at-check-plan .check-plan .ensures .1 .0 in (
+      refused-built (a .plan .now) (a .room .now) x v after is (a .starts .now) (a .words .now) (a .pieces .now),
       (
-        refused-sized (a .plan .now) (a .room .now) (at-x .x .given .0 .0) (sym (at-x .x .given .1) ∙ at-check-plan .check-plan .ensures .0) (at-check-plan .check-plan .last .1 .0) (at-check-plan .check-plan .ensures .1 .0) .1,
+        refused-sized (a .plan .now) (a .room .now) x v after is .1,
         (
-          refused-kept (a .plan .now) (a .room .now) (at-x .x .given .0 .0) (sym (at-x .x .given .1) ∙ at-check-plan .check-plan .ensures .0)
-              (at-check-plan .check-plan .last .1 .0) (at-check-plan .check-plan .ensures .1 .0) (a .starts .now) (a .words .now) (scriptStarts 256 (a .plan .now))
-              (a .starts .now),
-          refused-kept (a .plan .now) (a .room .now) (at-x .x .given .0 .0) (sym (at-x .x .given .1) ∙ at-check-plan .check-plan .ensures .0)
-              (at-check-plan .check-plan .last .1 .0) (at-check-plan .check-plan .ensures .1 .0) (a .starts .now) (a .words .now) (scriptWords 256 (a .plan .now))
-              (a .words .now),
+          refused-kept (a .plan .now) (a .room .now) x v after is (a .starts .now) (a .words .now) (a .pieces .now) (scriptStarts 256 (a .plan .now)) (a .starts .now),
+          (
+            refused-kept (a .plan .now) (a .room .now) x v after is (a .starts .now) (a .words .now) (a .pieces .now) (scriptWords 256 (a .plan .now)) (a .words .now),
+            refused-kept (a .plan .now) (a .room .now) x v after is (a .starts .now) (a .words .now) (a .pieces .now) (pieceSizes 256 (a .plan .now)) (a .pieces .now),
+          ),
         ),
       ),
     )
 
 returns-2 : tie.Need-returns-2
 returns-2 c =
-    let at-build-accepted = c .before .before .before .before .before .before in
-    let at-enum-told = at-build-accepted .before .before .before .before in
+    let way = c .before .before .before .before in
+    let at-build-accepted = way .before .before .before .before in
+    let at-enum-told = at-build-accepted .before .before .before .before .before in
     let at-check-plan = at-enum-told .before .before .before .before in
-    let start = at-check-plan .before .before .before .before .before .before in
+    let way-2 = at-check-plan .before .before .before .before in
+    let start = way-2 .before .before .before in
     let a = start .args in
     let e = accepted-is (planVerdict 256 (a .plan .now) (length (a .room .now))) (sym (at-enum-told .enum-told .given .1) ∙ at-check-plan .check-plan .ensures .0) in
     let z = at-build-accepted .build-accepted in
-    let k = accepted-building (a .plan .now) (a .room .now) e (length (a .starts .now)) (length (a .words .now)) in (
+    let k = accepted-building (a .plan .now) (a .room .now) e (length (a .starts .now)) (length (a .words .now)) (length (a .pieces .now)) in (
       z .ensures .0 ∙ ap flattenedOf k,
       (
         cleared-room (a .plan .now) (a .room .now) e _ _ (at-check-plan .check-plan .kept .1 .0) (z .ensures .1 .0),
         (
           z .ensures .1 .1 .0 ∙ ap (λ (o : Answer Sizes). laid o (scriptStarts 256 (a .plan .now)) (a .starts .now)) k,
-          z .ensures .1 .1 .1 ∙ ap (λ (o : Answer Sizes). laid o (scriptWords 256 (a .plan .now)) (a .words .now)) k,
+          (
+            z .ensures .1 .1 .1 .0 ∙ ap (λ (o : Answer Sizes). laid o (scriptWords 256 (a .plan .now)) (a .words .now)) k,
+            z .ensures .1 .1 .1 .1 ∙ ap (λ (o : Answer Sizes). laid o (pieceSizes 256 (a .plan .now)) (a .pieces .now)) k,
+          ),
         ),
       ),
     )
@@ -65,4 +75,4 @@ pub build-flattened-script-v1-spec : {M : Type 1} → statement M
 build-flattened-script-v1-spec =
     tie.close
     (tie.spec (λ c κs. search needs) (λ c. search needs) (λ c. search needs) build-accepted-requires (λ c. search needs) returns
-    (λ c. search needs) (λ c. search needs) (λ c. search needs) returns-2)
+    (λ c. search needs) (λ c. search needs) (λ c. search needs) (λ c. search needs) returns-2)

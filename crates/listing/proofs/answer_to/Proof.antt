@@ -36,7 +36,7 @@ returns-2 c =
     let start = at-read-set-of .before .before .before .before .before in
     let s = start .args .s .now in (
       to-rounds (records s) (keys-few _ 8192 0) (at-read-set-of .read-set-of .ensures .1) _ (sym (at-n .n .given .1) ∙ at-read-set-of .read-set-of .ensures .0) _ _
-          (start .pre .1) (start .pre .0) _ (sym (c .before .rounds .given .1) ∙ at-map-global-read-to-rounds .map-global-read-to-rounds .ensures .0),
+          (start .pre .1) (start .pre .0) _ _ (sym (c .before .rounds .given .1) ∙ at-map-global-read-to-rounds .map-global-read-to-rounds .ensures .0),
       (
         at-map-global-read-to-rounds .map-global-read-to-rounds .ensures .1 .1 ∙ room-zeros _ (start .pre .0),
         to-section (records s) (keys-few _ 8192 0)

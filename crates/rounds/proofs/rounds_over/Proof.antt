@@ -6,11 +6,12 @@ use Prim.Native.Nat.{_≤_}
 use native.Mathlib.Omega.{arith}
 use lib.ListN.{length}
 use Rattle.reads.specs.ReadSet.{pairsOf, broken}
-use Rattle.reads.specs.Search.{longest}
+use Rattle.reads.specs.Search.{foundOf, longest}
 use Rattle.reads.proofs.SetAnswerLaws.{placed-sound}
 use Rattle.words.proofs.FoundLaws.{item-some, item-none}
-use Rattle.rounds.specs.Rounds.{SetSearchable}
-use Rattle.rounds.proofs.RoundsAnswerLaws.{is-many, is-bad, is-none, is-stuck, is-packed, is-short, is-placed, refused-post, placed-post, searchable, lost, Win, won, size-fits}
+use Rattle.rounds.specs.Rounds.{searchedOf, SetSearchable}
+use Rattle.rounds.specs.declared.Searched.the-variants.{Won}
+use Rattle.rounds.proofs.RoundsAnswerLaws.{is-many, is-bad, is-none, is-stuck, is-packed, is-short, is-placed, refused-post, placed-post, searchable, lost, size-told, Win, won-win, won-small, size-fits}
 use borrow.Author.Needs.{needs}
 use Rattle.rounds.proofs.rounds_over.Statement.{statement}
 use Rattle.rounds.proofs.rounds_over.Tie as tie
@@ -32,39 +33,51 @@ search-in c =
     searchable (at-shared-slice-known .before .pre) (at-if1 .if1 .left) (form-in (c .before)) (λ x. at-shared-slice-known .shared-slice-known .given x .fits)
 
 -- a size won
-win-in : (c : tie.Then3)
+told-in : (c : tie.After-size)
     → let way = c .before .before .before .before in
-    let at-search-sizes = way .before .before .before in
+    let at-search-sizes = way .before .before .before .before in
+    let way-2 = at-search-sizes .before .before .before .before .before in
+    let way-3 = way-2 .before .before .before .before .before in
+    let start = way-3 .before .before .before .before in
+    searchedOf (foundOf (start .args .lanes) (pairsOf (start .args .set .now))) ≡ Won (c .size .given .0 .0)
+told-in c =
+    let way = c .before .before .before .before in
+    let at-search-sizes = way .before .before .before .before in
+    sym (at-search-sizes .search-sizes .ensures .0) ∙ c .size .given .1
+
+win-in : (c : tie.After-size)
+    → let way = c .before .before .before .before in
+    let at-search-sizes = way .before .before .before .before in
     let way-2 = at-search-sizes .before .before .before .before .before in
     let way-3 = way-2 .before .before .before .before .before in
     let start = way-3 .before .before .before .before in
     Win (start .args .set .now) (at-search-sizes .search-sizes .last .1 .0) (start .args .lanes)
 win-in c =
     let way = c .before .before .before .before in
-    let at-search-sizes = way .before .before .before in
+    let at-search-sizes = way .before .before .before .before in
     let way-2 = at-search-sizes .before .before .before .before in
     let way-3 = way-2 .before .before .before .before .before in
     let start = way-3 .before .before .before .before .before in
     let t = at-search-sizes .search-sizes in
-    won (search-in way-2) (t .result) (t .last .1 .0) (t .ensures .0) (c .if3 .taken) (t .ensures .1) (t .kept .1 .0 ∙ start .pre .room)
+    won-win (search-in way-2) (c .size .given .0 .0) (t .last .1 .0) (told-in c) (t .ensures .1) (t .kept .1 .0 ∙ start .pre .room)
 
 -- the rounds are those of its lanes, at most 32
-rounds-in : (c : tie.After-longest-row) → c .longest-row .result ≡ longest (win-in (c .before .before) .lanes)
-rounds-in c = c .longest-row .ensures ∙ ap longest (win-in (c .before .before) .same)
+rounds-in : (c : tie.After-longest-row) → c .longest-row .result ≡ longest (win-in (c .before .before .before) .lanes)
+rounds-in c = c .longest-row .ensures ∙ ap longest (win-in (c .before .before .before) .same)
 
 few-in : (c : tie.After-longest-row) → c .longest-row .result ≤ 32
 few-in c =
-    let way = c .before .before .before .before .before in
-    let way-2 = way .before .before .before .before in
-    let at-if2 = way-2 .before .before .before .before in
+    let at-size = c .before .before .before in
+    let way = at-size .before .before .before .before .before .before in
+    let at-if2 = way .before .before .before .before .before .before in
     let at-if1 = at-if2 .before .before .before .before in
     let at-shared-slice-known = at-if1 .before .before .before .before .before in
     let a = at-shared-slice-known .before in
     let lanes = a .args .lanes in
     let set = a .args .set .now in
-    let w = win-in (c .before .before) in
+    let w = win-in at-size in
     let packed = is-packed lanes set 0 (at-if1 .if1 .left) (form-in (at-if2 .before)) (at-if2 .if2 .left) (w .lanes) (w .found) in
-    let sound = placed-sound lanes set (w .lanes) (a .pre .some-lanes) (λ x. at-shared-slice-known .shared-slice-known .given x .fits) packed in
+    let sound = placed-sound lanes set _ (a .pre .some-lanes) (λ x. at-shared-slice-known .shared-slice-known .given x .fits) packed in
     omega (arith, rounds-in c, sound .rounds .1)
 
 returns : tie.Need-returns
@@ -93,63 +106,74 @@ search-sizes-requires : tie.Need-search-sizes-requires
 search-sizes-requires c κs = search-in (c .before .before .before)
 
 longest-row-requires : tie.Need-longest-row-requires
-longest-row-requires c κs = win-in (c .before) .readable
+longest-row-requires c κs = win-in (c .before .before) .readable
 
-mul-if4-2 : tie.Need-mul-if4-2
-mul-if4-2 c =
-    let way = c .before .before .before .before .before .before in
+mul-if3-2 : tie.Need-mul-if3-2
+mul-if3-2 c =
+    let way = c .before .before .before .before .before in
     let way-2 = way .before .before .before .before .before .before in
     let way-3 = way-2 .before .before .before .before .before .before in
-    let start = way-3 .before .before .before .before .before in
+    let way-4 = way-3 .before .before .before .before .before in
+    let start = way-4 .before .before .before in
     omega (arith, size-fits (start .args .lanes) _ (start .pre .few-lanes) (few-in c))
 
 returns-4 : tie.Need-returns-4
 returns-4 c =
-    let way = c .before .before .before .before in
-    let way-2 = way .before .before .before .before .before .before in
-    let at-if2 = way-2 .before .before .before .before .before in
+    let at-size = c .before .before .before .before .before in
+    let way = at-size .before .before .before .before .before .before in
+    let at-if2 = way .before .before .before .before .before .before in
     let at-if1 = at-if2 .before .before .before .before in
     let start = at-if1 .before .before .before .before .before .before in
     let a = start .args in
-    let w = win-in way in
-    let short = is-short (a .lanes) (a .set .now) _ (at-if1 .if1 .left) (form-in (at-if2 .before)) (at-if2 .if2 .left) (w .lanes) (w .found) (rw (rounds-in (c .before .before)) at (c .before .if4 .taken)) in
+    let w = win-in at-size in
+    let short = is-short (a .lanes) (a .set .now) _ (at-if1 .if1 .left) (form-in (at-if2 .before)) (at-if2 .if2 .left) (w .lanes) (w .found) (rw (rounds-in (c .before .before)) at (c .before .if3 .taken)) in
     refused-post _ _ _ 14 0 short (c .refused4 .ensures)
 
 write-rounds-requires : tie.Need-write-rounds-requires
-write-rounds-requires c κs = record { table = win-in (c .before .before .before .before .before) .readable; rounds = few-in (c .before .before .before); fits = c .before .before .if4 .left }
+write-rounds-requires c κs =
+    let at-longest = c .before .before .before in
+    record { table = win-in (at-longest .before .before .before) .readable; rounds = few-in at-longest; fits = c .before .before .if3 .left }
 
-cast-t31 : tie.Need-cast-t31
-cast-t31 c = omega (arith, few-in (c .before .before .before .before .before .before))
+cast-t32 : tie.Need-cast-t32
+cast-t32 c = omega (arith, few-in (c .before .before .before .before .before .before))
+
+cast-t33 : tie.Need-cast-t33
+cast-t33 c =
+    let at-longest = c .before .before .before .before .before .before in
+    let at-size = at-longest .before .before .before in
+    let way = at-size .before .before .before .before .before .before in
+    omega (arith, won-small (search-in (way .before .before .before .before .before .before)) _ (told-in at-size))
 
 returns-5 : tie.Need-returns-5
 returns-5 c =
-    let at-if4 = c .before .before .before .before .before in
-    let way = at-if4 .before .before .before in
-    let way-2 = way .before .before .before .before .before .before in
-    let at-if2 = way-2 .before .before .before .before .before in
+    let at-if3 = c .before .before .before .before .before in
+    let at-size = at-if3 .before .before .before .before in
+    let way = at-size .before .before .before .before .before .before in
+    let at-if2 = way .before .before .before .before .before .before in
     let at-if1 = at-if2 .before .before .before .before in
     let start = at-if1 .before .before .before .before .before .before in
     let a = start .args in
-    let w = win-in way in
-    let fits = is-placed (a .lanes) (a .set .now) _ (at-if1 .if1 .left) (form-in (at-if2 .before)) (at-if2 .if2 .left) (w .lanes) (w .found) (rw (rounds-in (at-if4 .before)) at (at-if4 .if4 .left)) in
-    placed-post _ (w .lanes) _ _ (a .out .now) _ fits (w .same) (at-if4 .before .longest-row .ensures) (c .before .before .write-rounds .ensures)
+    let w = win-in at-size in
+    let size-is = size-told _ _ (told-in at-size) .0 in
+    let fits = is-placed (a .lanes) (a .set .now) _ (at-if1 .if1 .left) (form-in (at-if2 .before)) (at-if2 .if2 .left) (w .lanes) (w .found) (rw (rounds-in (at-if3 .before)) at (at-if3 .if3 .left)) in
+    placed-post _ _ _ _ _ (a .out .now) _ fits (w .same) (at-if3 .before .longest-row .ensures) size-is (c .before .before .write-rounds .ensures)
 
 returns-6 : tie.Need-returns-6
 returns-6 c =
-    let way = c .before .before .before .before in
+    let way = c .before .before .before .before .before in
     let at-search-sizes = way .before .before .before .before in
     let at-if2 = at-search-sizes .before .before .before .before in
     let at-if1 = at-if2 .before .before .before .before in
     let start = at-if1 .before .before .before .before .before .before in
     let a = start .args in
-    let none-won = lost _ _ (at-search-sizes .search-sizes .ensures .0) (c .before .if3 .left) in
+    let none-won = lost _ (sym (at-search-sizes .search-sizes .ensures .0) ∙ c .before .enum-told2 .given .1) in
     refused-post _ _ _ 4 0 (is-stuck (a .lanes) (a .set .now) _ (at-if1 .if1 .left) (form-in (at-if2 .before)) (at-if2 .if2 .left) none-won) (c .refused5 .ensures)
 
 pub rounds-over-spec : {M : Type 1} → statement M
 rounds-over-spec =
     tie.close
     (tie.spec (λ c κs. search needs) returns (λ c κs. search needs) (λ c. search needs) (λ c κs. search needs) returns-2 (λ c. search needs)
-    (λ c κs. search needs) returns-3 search-sizes-requires longest-row-requires (λ c. search needs) mul-if4-2 (λ c κs. search needs)
-    (λ c. search needs) (λ c. search needs) (λ c. search needs) returns-4 write-rounds-requires cast-t31 (λ c. search needs)
-    (λ c. search needs) (λ c. search needs) (λ c. search needs) returns-5 (λ c κs. search needs) (λ c. search needs) (λ c. search needs)
-    (λ c. search needs) returns-6)
+    (λ c κs. search needs) returns-3 search-sizes-requires (λ c. search needs) longest-row-requires (λ c. search needs) mul-if3-2 (λ c κs. search needs)
+    (λ c. search needs) (λ c. search needs) (λ c. search needs) returns-4 write-rounds-requires cast-t32 cast-t33 (λ c. search needs)
+    (λ c. search needs) (λ c. search needs) (λ c. search needs) returns-5 (λ c. search needs) (λ c κs. search needs) (λ c. search needs)
+    (λ c. search needs) (λ c. search needs) returns-6)

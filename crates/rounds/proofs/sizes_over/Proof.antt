@@ -104,7 +104,7 @@ same-length-8 c = c .before .loop .inv .5 ∙ sym (called (c .before) .pre .2)
 returns-2 : tie.Need-returns-2 Inv-loop μ-loop
 returns-2 c =
     let l = c .before .loop in
-    rw (left-end _ _ (search-few (called (c .before) .pre .0)) (l .k) (c .loop-test .left) (l .inv .3)) (refl, l .inv .2)
+    left-end _ _ (search-few (called (c .before) .pre .0)) (l .k) (c .loop-test .left) (l .inv .3) _ (l .inv .2)
 
 pub sizes-over-spec : {M : Type 1} → statement M
 sizes-over-spec =

@@ -1,5 +1,5 @@
 -- `plan_reads::check::check_reads` meets its contract. The loop's invariant: what the parts that are left say of 3 and 4 is what all say, and the
--- rows of those before them have their rounds.
+-- rows of those before them have their rounds and piece sizes.
 -- Assumes nothing.
 use mathlib.Core.Path.{_≡_, refl, sym, _∙_}
 use Prim.Native.Nat.{_-_, _<_}
@@ -9,8 +9,8 @@ use lib.ListN.{length}
 use Rattle.plan_record.specs.Record.{partsOf}
 use Rattle.plan_record.proofs.PlanFormLaws.{formed, body-ready}
 use Rattle.plan_winners.proofs.WinnerLaws.{listed}
-use Rattle.plan_blocks.proofs.CellLaws.{put-none}
-use Rattle.plan_reads.specs.PartReadAnswers.{roundRows}
+use Rattle.plan_reads.specs.PartReadAnswers.{readRows}
+use Rattle.plan_reads.proofs.ReadRowLaws.{read-none}
 use Rattle.plan_reads.proofs.FirstEntryLaws.{all-planned}
 use Rattle.plan_reads.proofs.CheckLaws.{Passing, passing-start, passing-place, passing-fault, passing-on, none-early, passed-fine, passed-full, rows-long, rows-clear, row-inside, rows-more, rows-fault, rows-all}
 use Rattle.plan_reads.proofs.check.check_reads.Statement.{statement}
@@ -18,7 +18,7 @@ use Rattle.plan_reads.proofs.check.check_reads.Tie as tie
 
 abbrev Inv-loop : tie.InvT-loop
 Inv-loop d room₀ keys₀ scratch₀ set₀ parts at₀ full₀ p₀ room keys scratch set at full p =
-    Passing d parts at full p × (room ≡ roundRows d room₀ p) × (length keys ≡ length keys₀) × (length scratch ≡ length scratch₀) × (length set ≡ length set₀)
+    Passing d parts at full p × (room ≡ readRows d room₀ p) × (length keys ≡ length keys₀) × (length scratch ≡ length scratch₀) × (length set ≡ length set₀)
 
 abbrev μ-loop : tie.MeasureT-loop
 μ-loop d room₀ keys₀ scratch₀ set₀ parts at₀ full₀ p₀ room keys scratch set at full p = parts - p
@@ -30,7 +30,7 @@ first-body-requires : tie.Need-first-body-requires Inv-loop μ-loop
 first-body-requires c κs = formed _ (c .before .before .before .before .before .before .pre .0 .form) .head .majors
 
 loop-holds : tie.Need-loop-holds Inv-loop μ-loop
-loop-holds c = (passing-start _ _ _ (c .first-body .ensures .0), sym (put-none _ 10 _ _), refl, refl, refl)
+loop-holds c = (passing-start _ _ _ (c .first-body .ensures .0), sym (read-none _ _), refl, refl, refl)
 
 body-at-requires : tie.Need-body-at-requires Inv-loop μ-loop
 body-at-requires c κs =
@@ -106,8 +106,8 @@ returns c =
       rows-fault (s .d .now) (s .room .now) _ (l .p) (k .ensures .1 ∙ l .inv .1) there,
     )
 
-put-rounds-requires : tie.Need-put-rounds-requires Inv-loop μ-loop
-put-rounds-requires c κs =
+put-reads-requires : tie.Need-put-reads-requires Inv-loop μ-loop
+put-reads-requires c κs =
     let way = c .before .before .before .before .before .before in
     let at-check-part = way .before .before .before .before .before .before in
     let at-loop-test = at-check-part .before .before .before .before .before .before in
@@ -144,7 +144,7 @@ loop-again c =
       passing-on (s .d .now) _ (l .at) (l .full) (l .p) (at-parts-of .parts-of .ensures .0) (at-body-at .before .loop-test .taken) (l .inv .0) _ (q .ensures .0) _
           (at-full-after .before .before .is-nothing .ensures) (at-full-after .before .if1 .left) _ _ (at-full-after .full-after .ensures)
           (at-body-at .body-at .ensures .end),
-      c .before .before .put-rounds .ensures ∙ rows-more (s .d .now) (s .room .now) _ (l .p) (q .ensures .1 ∙ l .inv .1) _ (q .ensures .0) _ refl,
+      c .before .before .put-reads .ensures ∙ rows-more (s .d .now) (s .room .now) _ (l .p) (q .ensures .1 ∙ l .inv .1) _ (q .ensures .0),
       k .1 .1 .1 .1 .0 ∙ l .inv .2,
       k .1 .1 .1 .1 .1 .0 ∙ l .inv .3,
       k .1 .1 .1 .1 .1 .1 .0 ∙ l .inv .4,
@@ -210,6 +210,6 @@ pub check-reads-spec : {M : Type 1} → statement M
 check-reads-spec =
     tie.close
     (tie.spec Inv-loop μ-loop parts-of-requires first-body-requires loop-holds body-at-requires check-part-requires (λ c κs. search needs)
-    same-length same-length-2 same-length-3 same-length-4 returns (λ c κs. search needs) put-rounds-requires (λ c. search needs) loop-less
+    same-length same-length-2 same-length-3 same-length-4 returns (λ c κs. search needs) put-reads-requires (λ c. search needs) loop-less
     loop-again same-length-5 same-length-6 same-length-7 same-length-8 returns-2 same-length-9 same-length-10 same-length-11 same-length-12
     returns-3)
