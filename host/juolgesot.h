@@ -54,7 +54,8 @@ extern "C" {
 
 /* The rounds of a read set: word, mask, word, mask ..
  * 0: *first is the number of rounds (at most 32), *second the piece size that won (1 to the number of pairs: below it, the packing
- * fell back), and out begins with 512 words a round. Refused by 32, 1, 2, 3, 4, 14. */
+ * fell back), and out begins with 512 words a round. Refused by 32, 1, 2, 3, 21, 22, 4, 14; the item of
+ * 4 is the word that the search stopped at, bit 31 included. */
 uint32_t juolgesot_read_rounds(const uint32_t *set, size_t set_len, uint32_t *room, size_t room_len,
                                uint32_t *out, size_t out_len, uint64_t *first, uint64_t *second);
 
@@ -64,7 +65,8 @@ uint32_t juolgesot_list(const uint8_t *records, size_t records_len, uint32_t *ro
                         uint8_t *out, size_t out_len, uint64_t *first, uint64_t *second);
 
 /* How large the script of a plan record is.
- * 0: starts, words, state words, SRAM words. Refused by 32, 5 to 13, 3, 4. */
+ * 0: starts, words, state words, SRAM words. Refused by 32, 5 to 13, 3, 21, 22, 4; the place is
+ * part and item, and the item of 4 is the word as above. */
 uint32_t juolgesot_plan_sizes(const uint8_t *plan, size_t plan_len, uint32_t *room, size_t room_len,
                               uint64_t *first, uint64_t *second, uint64_t *third, uint64_t *fourth);
 

@@ -77,7 +77,7 @@ static void read_rounds(void)
     uint64_t *first = number(), *second = number();
     is("rounds", juolgesot_read_rounds(set, 6, room, JUOLGESOT_SET_ROOM, out, 512, first, second), 0);
     is("number of rounds", *first, 1);
-    is("second", *second, 0);
+    is("piece size", *second, 3);
     is_zero(room, JUOLGESOT_SET_ROOM);
     for (size_t i = 0; i < 512; i++)
         is("word of the read section", out[i], i < 6 ? m2[i] : 0);
@@ -89,6 +89,41 @@ static void read_rounds(void)
     is("short room", juolgesot_read_rounds(set, 6, short_room, JUOLGESOT_SET_ROOM - 1, out, 512, first, second), 32);
     is("first word of a short room", short_room[0], 0x5A5A5A5A);
     calls += 5;
+}
+
+/* So many pairs of a mask, from word 0 on; then one pair more. */
+static uint32_t *pairs(size_t count, uint32_t mask, uint32_t last)
+{
+    uint32_t *made = between_pages(8 * (count + 1), NULL);
+    for (size_t i = 0; i <= count; i++) {
+        made[2 * i] = (uint32_t)i;
+        made[2 * i + 1] = i < count ? mask : last;
+    }
+    return made;
+}
+
+/* M4, M5, 8193 bits, and the set that no size places: 254 words of 32 bits, one of 10, two of 16, two of 11. */
+static void sizes_and_bounds(void)
+{
+    uint32_t *room = room_of(JUOLGESOT_SET_ROOM);
+    uint32_t *out = between_pages(4 * 1024, NULL);
+    uint64_t *first = number(), *second = number();
+    is("M5", juolgesot_read_rounds(pairs(256, 1, 0xFFFFFFFFu), 514, room, JUOLGESOT_SET_ROOM, out, 1024, first, second), 0);
+    is("M5's rounds", *first, 2);
+    is("M5's piece size", *second, 16);
+    is("M4", juolgesot_read_rounds(pairs(256, 0x1FFFF, 0x1FFFF), 514, room, JUOLGESOT_SET_ROOM, out, 1024, first, second), 22);
+    is("M4's item", *second, 0);
+    is("8193 bits", juolgesot_read_rounds(pairs(256, 0xFFFFFFFFu, 1), 514, room, JUOLGESOT_SET_ROOM, out, 1024, first, second), 21);
+    is("its item", *second, 0);
+    static const uint32_t rest[5] = {0x3FF, 0xFFFF, 0xFFFF, 0x7FF, 0x7FF};
+    uint32_t *missed = pairs(258, 0xFFFFFFFFu, 0);
+    for (size_t i = 0; i < 5; i++)
+        missed[2 * (254 + i) + 1] = rest[i];
+    is("the search ended", juolgesot_read_rounds(missed, 518, room, JUOLGESOT_SET_ROOM, out, 1024, first, second), 4);
+    is("part", *first, 0);
+    is("the word it stopped at", *second, 254);
+    is_zero(room, JUOLGESOT_SET_ROOM);
+    calls += 4;
 }
 
 static void list(void)
@@ -165,15 +200,20 @@ static void build(void)
     is_zero(room, ROOM);
     uint64_t *starts = between_pages(sizeof m10_starts, NULL);
     uint32_t *words = between_pages(sizeof m10_words, NULL);
-    is("build", juolgesot_build(plan, sizeof m10, room, ROOM, starts, STARTS, words, WORDS, first, second, third, fourth), 0);
+    uint32_t *pieces = between_pages(4, NULL);
+    is("build", juolgesot_build(plan, sizeof m10, room, ROOM, starts, STARTS, words, WORDS, pieces, 1, first, second, third, fourth), 0);
+    is("its fourth number", *fourth, 0);
+    is("M10's piece size", pieces[0], 1);
     is_zero(room, ROOM);
     if (memcmp(starts, m10_starts, sizeof m10_starts) != 0 || memcmp(words, m10_words, sizeof m10_words) != 0)
         fail("M10's script");
     is("short words",
-       juolgesot_build(plan, sizeof m10, room, ROOM, starts, STARTS, words, WORDS - 1, first, second, third, fourth), 14);
+       juolgesot_build(plan, sizeof m10, room, ROOM, starts, STARTS, words, WORDS - 1, pieces, 1, first, second, third, fourth), 14);
+    is("no piece sizes",
+       juolgesot_build(plan, sizeof m10, room, ROOM, starts, STARTS, words, WORDS, pieces, 0, first, second, third, fourth), 14);
     is("cut plan", juolgesot_plan_sizes(plan, sizeof m10 - 1, room, ROOM, first, second, third, fourth), 5);
     is("no plan", juolgesot_plan_sizes(plan, 0, room, ROOM, first, second, third, fourth), 5);
-    calls += 5;
+    calls += 6;
 }
 
 /* Two words of the old state, the inv of lane 0 of the enables, and what is stored: M10, and the same never enabled. */
@@ -336,3 +376,4 @@ int main(void)
     printf("C: %d calls between guard pages, no difference\n", calls);
     return 0;
 }
+        sizes_and_bounds();

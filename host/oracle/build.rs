@@ -1,6 +1,7 @@
 //! Copies GEM's files, from GEM_SRC or from ../shared/docs/src beside the repository, to where cargo builds, as they are, and
-//! puts the tails behind them. `flatten_given.rs` is flatten.rs once more with one call renamed, so that tables can be given
-//! (tails/flatten_given.rs); `one_bit.rs` is cut out of pe.rs. host/gem's file for GEM is put beside flatten.rs, as it says itself.
+//! puts the tails behind them. `flatten_given.rs` is flatten.rs once more with one call renamed, so that tables can be given, and
+//! two lines that also note what they know: the piece size that won and the word that a try stopped at (tails/flatten_given.rs).
+//! `one_bit.rs` is cut out of pe.rs. host/gem's file for GEM is put beside flatten.rs, as it says itself.
 
 use std::path::{Path, PathBuf};
 use std::{env, fs, process};
@@ -8,9 +9,12 @@ use std::{env, fs, process};
 const FILES: [&str; 5] = ["aig", "aigpdk", "flatten", "pe", "staging"];
 /// Files that a tail is put behind, so that private functions can be called.
 const WITH_TAILS: [&str; 3] = ["flatten", "flatten_given", "one_bit"];
-/// The call that is renamed for flatten_given.rs.
-const CALL: [&str; 2] =
-    ["flattening_parts[part_id].make_inputs_outputs(", "flattening_parts[part_id].oracle_given("];
+/// What is changed for flatten_given.rs: each stands in flatten.rs exactly once.
+const CHANGES: [[&str; 2]; 3] = [
+    ["flattening_parts[part_id].make_inputs_outputs(", "flattening_parts[part_id].oracle_given("],
+    ["return rounds_idx_masks\n", "return oracle_won(chunk_size, rounds_idx_masks)\n"],
+    ["fail = true;\n", "oracle_stopped(chunk_size, offset); fail = true;\n"],
+];
 
 /// What host/gem/juolgesot_plan.rs asks for at the end of flatten.rs.
 const CREW: &str = "\n#[path = \"juolgesot_plan.rs\"]\npub mod juolgesot_plan;\n";
@@ -26,11 +30,14 @@ fn main() {
     for name in FILES {
         write(&out, name, read(&from.join("src").join(name).with_extension("rs")));
     }
-    let flatten = read(&out.join("flatten.rs"));
-    if flatten.matches(CALL[0]).count() != 1 {
-        stop("flatten.rs has not one call of make_inputs_outputs");
+    let mut given = read(&out.join("flatten.rs"));
+    for [text, changed] in CHANGES {
+        if given.matches(text).count() != 1 {
+            stop(&format!("flatten.rs does not have `{}` once", text.trim()));
+        }
+        given = given.replace(text, changed);
     }
-    write(&out, "flatten_given", flatten.replace(CALL[0], CALL[1]));
+    write(&out, "flatten_given", given);
     write(&out, "one_bit", one_bit(&read(&out.join("pe.rs"))));
     for name in WITH_TAILS {
         let tail = read(&here.join("tails").join(name).with_extension("rs"));

@@ -7,7 +7,8 @@ use Rattle.words.specs.Bit.{popIn, withBit}
 use Rattle.reads.specs.ReadSet.{total, pairsFrom, pairForm, brokenFrom}
 use Rattle.reads.specs.Asked.{ask, readSetOf}
 use Rattle.reads.specs.Search.{piecesIn, insertPiece, ordered, joined, firstRoom, tryFrom, firstWin, longest}
-use Rattle.reads.specs.SetAnswer.{packed, readSet, setFitted, setAnswer}
+use Rattle.reads.specs.Packing.{weigh, wideMask}
+use Rattle.reads.specs.SetAnswer.{searched, packed, readSet, setFitted, setAnswer}
 use Rattle.listing.specs.Records.{numberAt, positionAt, endRecordAt, kindAt, recordAt, recordsFrom}
 use Rattle.text.specs.Text.{decimalIn}
 use Rattle.listing.specs.Line.{hexDigit, hexIn, kindLetter, line}
@@ -25,6 +26,6 @@ exactly =
     ++ (50 ∷ 32 ∷ 48 ∷ 32 ∷ 115 ∷ 32 ∷ 48 ∷ 32 ∷ 48 ∷ 48 ∷ 48 ∷ 48 ∷ 48 ∷ 48 ∷ 48 ∷ 49 ∷ 10 ∷ [])
 
 pub example-right : listing example ≡ exactly
-unfolding example exactly popIn withBit total pairsFrom pairForm brokenFrom ask readSetOf piecesIn insertPiece ordered joined firstRoom tryFrom firstWin longest packed
+unfolding example exactly popIn withBit total pairsFrom pairForm brokenFrom ask readSetOf piecesIn insertPiece ordered joined firstRoom tryFrom firstWin longest weigh wideMask searched packed
     readSet setFitted setAnswer numberAt positionAt endRecordAt kindAt recordAt recordsFrom decimalIn hexDigit hexIn kindLetter line laneLines lines printed printedAt said listing
 example-right = refl

@@ -7,9 +7,10 @@ use Rattle.words.specs.Bit.{popIn}
 use Rattle.words.specs.Sum.{sumTo}
 use Rattle.words.specs.Section.{wordOfEntry, entryOf, listOf}
 use Rattle.reads.specs.ReadSet.{total, pairsFrom, pairForm, brokenFrom}
-use Rattle.reads.specs.Search.{piecesIn, insertPiece, ordered, joined, firstRoom, tryFrom, firstWin, longest}
+use Rattle.reads.specs.Search.{piecesIn, insertPiece, ordered, joined, firstRoom, tryFrom, firstWin, stopWord, longest}
+use Rattle.reads.specs.Packing.{weigh, wideMask}
 use Rattle.reads.specs.Local.{maskIn, later, localAt, roundFrom, laneRoundFrom, localOf}
-use Rattle.reads.specs.SetAnswer.{packed, readSet, setFitted, setAnswer}
+use Rattle.reads.specs.SetAnswer.{searched, packed, readSet, setFitted, setAnswer}
 use Rattle.plan_record.specs.Record.{wordAt, partsBefore}
 use Rattle.plan_counts.specs.Counts.{activationsOf, isIn, different, duplicatesIn}
 use Rattle.plan_blocks.specs.Blocks.{leastTo, blockFor, costsAfter, blockIn, comesBefore, takenBefore, stateOf}
@@ -22,7 +23,7 @@ use Rattle.marked.specs.Marked.{Example, computed, gateRuns, marked, giv
 
 computed-right : given computed ≡ told computed
 unfolding computed given told alike positions seen triesSeen popIn total pairsFrom pairForm brokenFrom piecesIn insertPiece ordered joined firstRoom tryFrom firstWin longest maskIn
-    later localAt roundFrom laneRoundFrom localOf packed readSet setFitted setAnswer sumTo listOf wordOfEntry entryOf markedLocations locationsSeen entrySeen activationsOf isIn different
+    later localAt roundFrom laneRoundFrom localOf stopWord weigh wideMask searched packed readSet setFitted setAnswer sumTo listOf wordOfEntry entryOf markedLocations locationsSeen entrySeen activationsOf isIn different
     duplicatesIn duplicateWords bytesOf wordAt partsBefore stateOf leastTo blockFor costsAfter blockIn comesBefore takenBefore stagesIn fourParts blocksOfParts startsOfParts
 computed-right = refl
 

@@ -22,6 +22,10 @@ fiveWords = alike 256 0 1 ++ (256 ∷ 4294967295 ∷ [])
 abbrev pub fivePairs : List Pair
 fivePairs = pairsOf fiveWords
 
+-- a set of 8192 bits that the search misses: 255 and 256 fill a lane, and so do 254, 257 and 258
+abbrev pub missedWords : List ℕ
+missedWords = alike 254 0 4294967295 ++ (254 ∷ 1023 ∷ 255 ∷ 65535 ∷ 256 ∷ 65535 ∷ 257 ∷ 2047 ∷ 258 ∷ 2047 ∷ [])
+
 -- M1 to M9, which are computed
 unfoldable pub computed : List Example
 computed =
@@ -34,8 +38,10 @@ computed =
     }
     -- M3 256 words of 17 bits: one each, all at once
     ∷ record { got = readRounds (alike 256 0 131071) (bitAsked 0 16 ∷ bitAsked 1 16 ∷ bitAsked 255 16 ∷ []); said = 1 ∷ 256 ∷ 0 ∷ 32 ∷ 8160 ∷ [] }
-    -- M4 257 of them: 4
-    ∷ record { got = readRounds (alike 257 0 131071) []; said = 0 ∷ 4 ∷ 0 ∷ [] }
+    -- M4 257 of them: by 4/13 "M4 now reads 22"
+    ∷ record { got = readRounds (alike 257 0 131071) []; said = 0 ∷ 22 ∷ 0 ∷ [] }
+    -- and one for 4: words 0..253 of 32 bits, 254 of 10, 255 and 256 of 16, 257 and 258 of 11. The try of size 1 stops at word 254
+    ∷ record { got = readRounds missedWords []; said = 0 ∷ 4 ∷ 254 ∷ [] }
     -- M5 words 0..255 of one bit, word 256 of 32 bits: sizes 257, 128, 64, 32 end, 16 wins; word 256 in lane 0, word 255 in lane 1 round 1; rounds 2;
     -- "M5 then reports 16"
     ∷ record { got = triesSeen fivePairs 5 (length fivePairs); said = 257 ∷ 0 ∷ 128 ∷ 0 ∷ 64 ∷ 0 ∷ 32 ∷ 0 ∷ 16 ∷ 1 ∷ [] }

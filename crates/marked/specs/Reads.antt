@@ -45,7 +45,7 @@ readRounds ws bs = seen (setAnswer 256 ws 16384 16384) bs
 -- within its first m sizes
 abbrev pub placesAll : Tried → ℕ
 placesAll (all lanes) = 1
-placesAll (stuck lanes) = 0
+placesAll (stuck p lanes) = 0
 
 unfoldable pub triesSeen : List Pair → ℕ → ℕ → List ℕ
 triesSeen ps zero k = []

@@ -22,7 +22,8 @@ use Rattle.gatelist.specs.GateList.{beforeOver, rightOver, badOver, gateOver}
 use Rattle.reads.specs.ReadSet.{pairsOf, pairsFrom, total}
 use Rattle.reads.specs.Search.{Lane, piecesIn, insertPiece, ordered, joined, firstRoom, tryFrom, firstWin}
 use Rattle.reads.specs.Asked.{ask, readSetOf}
-use Rattle.reads.specs.SetAnswer.{Packed, packed}
+use Rattle.reads.specs.SetAnswer.{Packed, packed, searched}
+use Rattle.reads.specs.Packing.{weigh, wideMask}
 use Rattle.words.specs.Answer.{good}
 use Rattle.words.specs.Bit.{popIn, withBit}
 use Rattle.plan_gates.specs.Gates.{badGate, gateOf}
@@ -316,7 +317,7 @@ abbrev pub gatePacked : Packed
 gatePacked = record { size = 1; lanes = gateLanes }
 
 packing : packed 256 (pairsOf (readSetOf (0 ∷ 1 ∷ []))) ≡ good gatePacked
-unfolding readSetOf ask withBit pairsFrom packed popIn total piecesIn insertPiece ordered joined firstRoom tryFrom firstWin
+unfolding readSetOf ask withBit pairsFrom packed searched weigh wideMask popIn total piecesIn insertPiece ordered joined firstRoom tryFrom firstWin
 packing = refl
 
 pub reads-are : partReads 256 d 0 ≡ good gatePacked
@@ -330,7 +331,7 @@ reads-fine k = one-of (λ p. badReads k (partReads 256 d p)) (rw reads-are)
 -- M10'S PLAN IS ACCEPTED
 pub gate-accepted : Accepted gateRecord
 unfolding planRefusal
-gate-accepted = rw (form-right, gates-right, seven, eight, nine, ten, eleven, twelve, thirteen, reads-fine 3, reads-fine 4)
+gate-accepted = rw (form-right, gates-right, seven, eight, nine, ten, eleven, twelve, thirteen, reads-fine 3, reads-fine 21, reads-fine 22, reads-fine 4)
 
 -- THE PLAN OF NO PARTS IS ACCEPTED
 pub none-accepted : Accepted noParts

@@ -32,6 +32,8 @@ pub record Passed (n : ℕ) (d : List ℕ) : Type 0 where
   pub twelve : refusal12 d ≡ none
   pub thirteen : refusal13 d ≡ none
   pub nothing : refusedReads n 3 d ≡ none
+  pub bits : refusedReads n 21 d ≡ none
+  pub wide : refusedReads n 22 d ≡ none
   pub no-room : refusedReads n 4 d ≡ none
 
 -- a test that lets a plan pass
@@ -60,7 +62,9 @@ passed n d e =
     let twelve = past 12 _ _ (eleven .1) in
     let thirteen = past 13 _ _ (twelve .1) in
     let three = past 3 _ _ (thirteen .1) in
-    let four = past 4 _ _ (three .1) in
+    let bits = past 21 _ _ (three .1) in
+    let wide = past 22 _ _ (bits .1) in
+    let four = past 4 _ _ (wide .1) in
     record {
       form = five .0;
       gates = no-gate _ (six .0);
@@ -72,6 +76,8 @@ passed n d e =
       twelve = twelve .0;
       thirteen = thirteen .0;
       nothing = three .0;
+      bits = bits .0;
+      wide = wide .0;
       no-room = four .0;
     }
 
@@ -79,4 +85,4 @@ pub placed-reads : (d : List ℕ) → planRefusal 256 d ≡ none → (p : ℕ) �
 unfolding refusedReads
 placed-reads d e p h =
     let s = passed 256 d e in
-    placed-part 256 d p (lowest-none _ _ (s .nothing) p h) (lowest-none _ _ (s .no-room) p h)
+    placed-part 256 d p (lowest-none _ _ (s .nothing) p h) (lowest-none _ _ (s .bits) p h) (lowest-none _ _ (s .wide) p h) (lowest-none _ _ (s .no-room) p h)

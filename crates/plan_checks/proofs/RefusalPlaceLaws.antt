@@ -1,14 +1,11 @@
 -- The places that the steps answer with are those of the definitions, and a plan in form has few parts.
 -- Assumes nothing.
 use mathlib.Core.Path.{_≡_, refl, sym, ap, _∙_}
-use mathlib.Core.Bool.{Bool, true, false}
+use mathlib.Core.Bool.{true}
 use mathlib.Core.Option.{Option, none, some}
 use mathlib.Core.List.{List}
 use Prim.Native.Nat.{ℕ}
 use native.Mathlib.Omega.{arith}
-use lib.Dec.{eqb}
-use Rattle.reads.specs.SetAnswer.{Packed}
-use Rattle.words.specs.Answer.{Answer, good, refused}
 use Rattle.plan_record.specs.Record.{partsOf}
 use Rattle.words.specs.Tests.{Place, lowest}
 use Rattle.plan_record.specs.Form.{planForm}
@@ -22,11 +19,12 @@ use Rattle.plan_slots.specs.Slots.{refusal9, refusal10, refusal11}
 use Rattle.plan_positions.specs.Positions.{refusal12}
 use Rattle.plan_entries.specs.TableEntries.{refusal13}
 use Rattle.plan_reads.specs.declared.check.Checked.{Checked}
-use Rattle.plan_reads.specs.PartReads.{badReads, refusedReads}
+use Rattle.plan_reads.specs.PartReads.{refusedReads}
 use Rattle.plan_reads.specs.PartReadAnswers.{checkedOf}
+use Rattle.plan_reads.proofs.CheckLaws.{zero-item}
 use Rattle.plan_checks.specs.Refusals.{orElse, gatePlace}
 use Rattle.plan_checks.specs.RefusalGroups.{Few, readRefusal}
-use Rattle.plan_checks.specs.Verdicts.{lowestPlace, listPlace, nothingPlace, roomPlace, checkedRefusal}
+use Rattle.plan_checks.specs.Verdicts.{lowestPlace, listPlace, checkedPlace, checkedRefusal}
 use Rattle.words.proofs.TestLaws.{some-not-none}
 
 -- ---- parts are few
@@ -76,51 +74,42 @@ lowest-told (some x) r e = ap lowestPlace e
 pub few-same : (o p : Option Place) → p ≡ o → Few o → Few p
 few-same o p e h x f = h x (sym e ∙ f)
 
--- ---- 3 and 4 are told at item 0
+-- ---- 3, 21 and 22 are told at item 0, 4 at its word
 
-bad-item : (k : ℕ) (o : Answer Packed) (i : ℕ) → badReads k o ≡ some i → i ≡ 0
-unfolding badReads
-bad-item k (good y) i e = absurd (some-not-none (sym e))
-bad-item k (refused x) i e = go (eqb (x .number) k) refl
-  where
-    go : (b : Bool) → eqb (x .number) k ≡ b → i ≡ 0
-    go true q =
-        let z : some 0 ≡ some i = rw (q, badReads) at e in
-        cc
-    go false q = absurd (some-not-none (sym (rw (q, badReads) at e)))
-
-reads-item : (n k : ℕ) (d : List ℕ) (x : Place) → refusedReads n k d ≡ some x → x .item ≡ 0
+reads-item : (k : ℕ) → (4 ≡ k → ⊥) → (d : List ℕ) (x : Place) → refusedReads 256 k d ≡ some x → x .item ≡ 0
 unfolding refusedReads
-reads-item n k d x e = bad-item k _ (x .item) (lowest-at _ (partsOf d) 0 x e .refused)
+reads-item k other d x e = zero-item k other d (x .part) (x .item) (lowest-at _ (partsOf d) 0 x e .refused)
 
-checked-told : (a b : Option Place) → ((x : Place) → a ≡ some x → x .item ≡ 0) → ((x : Place) → b ≡ some x → x .item ≡ 0)
-    → checkedRefusal (checkedOf a b) ≡ orElse 3 a (orElse 4 b none)
-checked-told (some x) b h g = rw (h x refl)
-checked-told none (some x) h g = rw (g x refl)
-checked-told none none h g = refl
+checked-told : (a b w f : Option Place) → ((x : Place) → a ≡ some x → x .item ≡ 0) → ((x : Place) → b ≡ some x → x .item ≡ 0) → ((x : Place) → w ≡ some x → x .item ≡ 0)
+    → checkedRefusal (checkedOf a b w f) ≡ orElse 3 a (orElse 21 b (orElse 22 w (orElse 4 f none)))
+checked-told (some x) b w f h g l = rw (h x refl)
+checked-told none (some x) w f h g l = rw (g x refl)
+checked-told none none (some x) f h g l = rw (l x refl)
+checked-told none none none (some x) h g l = refl
+checked-told none none none none h g l = refl
 
-pub reads-told : (d : List ℕ) (r : Checked) → r ≡ checkedOf (refusedReads 256 3 d) (refusedReads 256 4 d) → checkedRefusal r ≡ readRefusal 256 d
+-- what the pass over the parts answers for plan d
+abbrev pub checkedReads : List ℕ → Checked
+checkedReads d = checkedOf (refusedReads 256 3 d) (refusedReads 256 21 d) (refusedReads 256 22 d) (refusedReads 256 4 d)
+
+pub reads-told : (d : List ℕ) (r : Checked) → r ≡ checkedReads d → checkedRefusal r ≡ readRefusal 256 d
 unfolding readRefusal
 reads-told d r e =
-    ap checkedRefusal e ∙ checked-told (refusedReads 256 3 d) (refusedReads 256 4 d) (reads-item 256 3 d) (reads-item 256 4 d)
+    let three = reads-item 3 (λ f. omega arith) d in
+    let bits = reads-item 21 (λ f. omega arith) d in
+    let wide = reads-item 22 (λ f. omega arith) d in
+    ap checkedRefusal e ∙ checked-told (refusedReads 256 3 d) (refusedReads 256 21 d) (refusedReads 256 22 d) (refusedReads 256 4 d) three bits wide
 
 -- the part of a place that stands for another
 same-part : (x y : Place) (i : ℕ) → some (record { part = x .part; item = i }) ≡ some y → x .part ≡ y .part
 same-part x y i e = let q : record { part = x .part; item = i } ≡ y = cc in ap (λ (z : Place). z .part) q
 
-nothing-few : (a b : Option Place) → Few a → Few (nothingPlace (checkedOf a b))
-nothing-few (some x) b h y e = omega (arith, h x refl, same-part x y 0 e)
-nothing-few none (some x) h y e = absurd (some-not-none (sym e))
-nothing-few none none h y e = absurd (some-not-none (sym e))
+checked-few : (a b w f : Option Place) → Few a → Few b → Few w → Few f → Few (checkedPlace (checkedOf a b w f))
+checked-few (some x) b w f h g l m y e = omega (arith, h x refl, same-part x y 0 e)
+checked-few none (some x) w f h g l m y e = omega (arith, g x refl, same-part x y 0 e)
+checked-few none none (some x) f h g l m y e = omega (arith, l x refl, same-part x y 0 e)
+checked-few none none none (some x) h g l m y e = omega (arith, m x refl, same-part x y (x .item) e)
+checked-few none none none none h g l m y e = absurd (some-not-none (sym e))
 
-room-few : (a b : Option Place) → Few b → Few (roomPlace (checkedOf a b))
-room-few (some x) b h y e = absurd (some-not-none (sym e))
-room-few none (some x) h y e = omega (arith, h x refl, same-part x y 0 e)
-room-few none none h y e = absurd (some-not-none (sym e))
-
-pub reads-few : (d : List ℕ) → planForm d ≡ true → (r : Checked) → r ≡ checkedOf (refusedReads 256 3 d) (refusedReads 256 4 d)
-    → Few (nothingPlace r) × Few (roomPlace r)
-reads-few d form r e =
-    let a = refusedReads 256 3 d in
-    let b = refusedReads 256 4 d in
-    rw e (nothing-few a b (few-reads d form 3), room-few a b (few-reads d form 4))
+pub reads-few : (d : List ℕ) → planForm d ≡ true → (r : Checked) → r ≡ checkedReads d → Few (checkedPlace r)
+reads-few d form r e = rw e (checked-few _ _ _ _ (few-reads d form 3) (few-reads d form 21) (few-reads d form 22) (few-reads d form 4))

@@ -37,9 +37,10 @@ pinRefusal d = orElse 9 (refusal9 d) (orElse 10 (refusal10 d) (orElse 11 (refusa
 unfoldable pub placeRefusal : List ℕ → Option Refusal
 placeRefusal d = orElse 12 (refusal12 d) (orElse 13 (refusal13 d) none)
 
--- 3 and 4
+-- 3, 21, 22 and 4
 unfoldable pub readRefusal : ℕ → List ℕ → Option Refusal
-readRefusal n d = orElse 3 (refusedReads n 3 d) (orElse 4 (refusedReads n 4 d) none)
+readRefusal n d =
+    orElse 3 (refusedReads n 3 d) (orElse 21 (refusedReads n 21 d) (orElse 22 (refusedReads n 22 d) (orElse 4 (refusedReads n 4 d) none)))
 
 -- a place whose part is told in one word
 abbrev pub Few : Option Place → Type 0

@@ -1,4 +1,4 @@
--- The order of a plan's refusals: document 01, "Numbered refusals". n is the number of lanes.
+-- The order of a plan's refusals: document 01, "Numbered refusals", with 21 and 22 of document 02, 4/13. n is the number of lanes.
 -- Assumes nothing.
 use mathlib.Core.Bool.{Bool, true, false}
 use mathlib.Core.Option.{Option, none, some}
@@ -17,7 +17,7 @@ use Rattle.plan_positions.specs.Positions.{refusal12}
 use Rattle.plan_entries.specs.TableEntries.{refusal13}
 use Rattle.plan_reads.specs.PartReads.{refusedReads}
 
--- ---- "A plan: 5 to 13, each over the whole plan before the next, then 3, 4, 14."
+-- ---- "A plan: 5 to 13, each over the whole plan before the next, then 3, 4, 14"; "3, then 21, 22, 4".
 
 -- a refusal if a test gives a place, else what comes after it
 abbrev pub orElse : ℕ → Option Place → Option Refusal → Option Refusal
@@ -45,7 +45,9 @@ planRefusal n d =
     (orElse 12 (refusal12 d)
     (orElse 13 (refusal13 d)
     (orElse 3 (refusedReads n 3 d)
-    (orElse 4 (refusedReads n 4 d) none))))))))))
+    (orElse 21 (refusedReads n 21 d)
+    (orElse 22 (refusedReads n 22 d)
+    (orElse 4 (refusedReads n 4 d) none))))))))))))
 
 -- "working room too short; before all others": a room of r words
 unfoldable pub planVerdict : ℕ → List ℕ → ℕ → Option Refusal

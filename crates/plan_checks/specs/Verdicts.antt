@@ -2,6 +2,7 @@
 -- Assumes nothing.
 use mathlib.Core.Bool.{Bool, true, false}
 use mathlib.Core.Option.{Option, none, some}
+use Prim.Native.Nat.{ℕ}
 use Rattle.words.specs.Tests.{Place}
 use Rattle.words.specs.declared.found.Item.{Item}
 use Rattle.words.specs.declared.found.Item.the-variants as item
@@ -31,16 +32,20 @@ abbrev pub listPlace : Item → Option Place
 listPlace item.Fine = none
 listPlace (item.At g) = some (record { part = 0; item = g })
 
--- 3 and 4 are told at the part
-abbrev pub nothingPlace : Checked → Option Place
-nothingPlace checked.Fine = none
-nothingPlace (checked.Nothing p) = some (record { part = p; item = 0 })
-nothingPlace (checked.NoRoom p) = none
+-- 3, 21, 22 and 4 are told at the part, 4 with its word
+abbrev pub checkedPlace : Checked → Option Place
+checkedPlace checked.Fine = none
+checkedPlace (checked.Nothing p) = some (record { part = p; item = 0 })
+checkedPlace (checked.Bits p) = some (record { part = p; item = 0 })
+checkedPlace (checked.Wide p) = some (record { part = p; item = 0 })
+checkedPlace (checked.NoRoom p w) = some (record { part = p; item = w })
 
-abbrev pub roomPlace : Checked → Option Place
-roomPlace checked.Fine = none
-roomPlace (checked.Nothing p) = none
-roomPlace (checked.NoRoom p) = some (record { part = p; item = 0 })
+abbrev pub checkedNumber : Checked → ℕ
+checkedNumber checked.Fine = 0
+checkedNumber (checked.Nothing p) = 3
+checkedNumber (checked.Bits p) = 21
+checkedNumber (checked.Wide p) = 22
+checkedNumber (checked.NoRoom p w) = 4
 
 abbrev pub checkedRefusal : Checked → Option Refusal
-checkedRefusal c = orElse 3 (nothingPlace c) (orElse 4 (roomPlace c) none)
+checkedRefusal c = orElse (checkedNumber c) (checkedPlace c) none

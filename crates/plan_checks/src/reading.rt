@@ -1,4 +1,4 @@
-// Refusals 3 and 4, and the rounds and the piece size of each part.
+// Refusals 3, 21, 22 and 4, and the rounds and the piece size of each part.
 ghost use mathlib.Core.Path.{_≡_};
 ghost use Rattle.plan_reads.specs.PartReads.{refusedReads};
 ghost use Rattle.plan_reads.specs.ReadsReady.{ReadsSearchable};
@@ -13,7 +13,7 @@ use plan_reads::check::check_reads;
 // The search over all parts, with room for its keys and sets.
 fn search_parts(plan: &[u8], room: &mut [u32]) -> Checked
     requires { ⌜ ReadsSearchable (now plan) (now room) ⌝ }
-    ensures { λ r. ⌜ r ≡ checkedOf (refusedReads 256 3 (now (plan .entry))) (refusedReads 256 4 (now (plan .entry))) ⌝ }
+    ensures { λ r. ⌜ r ≡ checkedOf (refusedReads 256 3 (now (plan .entry))) (refusedReads 256 21 (now (plan .entry))) (refusedReads 256 22 (now (plan .entry))) (refusedReads 256 4 (now (plan .entry))) ⌝ }
     ensures { λ _. ⌜ now (room .exit) ≡ searchedRoom (now (plan .entry)) (now (room .entry)) ⌝ }
 {
     let mut keys = [0u64; 8192];
@@ -22,7 +22,7 @@ fn search_parts(plan: &[u8], room: &mut [u32]) -> Checked
     check_reads(plan, room, &mut keys, &mut scratch, &mut set)
 }
 
-// Refusals 3 and 4.
+// Refusals 3, 21, 22 and 4.
 pub fn check_reading(plan: &[u8], room: &mut [u32]) -> Verdict
     requires { ⌜ ReadsSearchable (now plan) (now room) ⌝ }
     ensures { λ r. ⌜ r ≡ verdictOf (readRefusal 256 (now (plan .entry))) ⌝ }

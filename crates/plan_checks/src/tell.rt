@@ -4,13 +4,15 @@ ghost use mathlib.Core.Option.{none};
 ghost use Prim.Native.Nat.{_^_, _<_};
 ghost use Rattle.plan_checks.specs.Refusals.{orElse, unless};
 ghost use Rattle.plan_checks.specs.RefusalGroups.{Few};
-ghost use Rattle.plan_checks.specs.Verdicts.{verdictOf, isRefused, lowestPlace, listPlace, nothingPlace, roomPlace, checkedRefusal};
+ghost use Rattle.plan_checks.specs.Verdicts.{verdictOf, isRefused, lowestPlace, listPlace, checkedPlace, checkedRefusal};
 ghost use Rattle.plan_checks.specs.declared.Verdict.the-variants as verdict;
 use crate::Verdict;
 use plan_reads::check::Checked;
 use words::found::Item;
 use words::found::Lowest;
 use words::refusals::GATE_ORDER;
+use words::refusals::MANY_BITS;
+use words::refusals::MANY_WIDE;
 use words::refusals::NO_ROOM_FOUND;
 use words::refusals::NOTHING_TO_READ;
 use words::refusals::Refusal;
@@ -25,15 +27,23 @@ pub fn is_refused(verdict: Verdict) -> bool
 }
 
 // A refusal at a place.
-fn refuse(number: u32, part: usize, item: usize) -> Verdict
+fn refuse_at(number: u32, part: usize, item: u64) -> Verdict
     requires { ⌜ part < 2 ^ 32 ⌝ }
     ensures { λ r. ⌜ r ≡ verdict.Refused (record { number = number; part = part; item = item }) ⌝ }
 {
     Verdict::Refused(Refusal {
         number,
         part: part as u32,
-        item: item as u64,
+        item,
     })
+}
+
+// The same, where the item is an index.
+fn refuse(number: u32, part: usize, item: usize) -> Verdict
+    requires { ⌜ part < 2 ^ 32 ⌝ }
+    ensures { λ r. ⌜ r ≡ verdict.Refused (record { number = number; part = part; item = item }) ⌝ }
+{
+    refuse_at(number, part, item as u64)
 }
 
 // A refusal that is told at part 0, item 0, where a test fails.
@@ -65,14 +75,16 @@ pub fn of_lowest(number: u32, found: Lowest) -> Verdict
     }
 }
 
-// Refusals 3 and 4.
+// Refusals 3, 21, 22 and 4.
 pub fn of_reads(found: Checked) -> Verdict
-    requires { ⌜ Few (nothingPlace found) × Few (roomPlace found) ⌝ }
+    requires { ⌜ Few (checkedPlace found) ⌝ }
     ensures { λ r. ⌜ r ≡ verdictOf (checkedRefusal found) ⌝ }
 {
     match found {
         Checked::Fine => Verdict::Accepted,
-        Checked::Nothing(p) => refuse(NOTHING_TO_READ, p, 0),
-        Checked::NoRoom(p) => refuse(NO_ROOM_FOUND, p, 0),
+        Checked::Nothing(p) => refuse_at(NOTHING_TO_READ, p, 0),
+        Checked::Bits(p) => refuse_at(MANY_BITS, p, 0),
+        Checked::Wide(p) => refuse_at(MANY_WIDE, p, 0),
+        Checked::NoRoom(p, word) => refuse_at(NO_ROOM_FOUND, p, word),
     }
 }

@@ -6,19 +6,20 @@ use mathlib.Core.Option.{none, some}
 use mathlib.Core.List.{List}
 use Prim.Native.Nat.{ℕ, zero, suc, _+_, _^_, _≤_, _<_}
 use native.Mathlib.Omega.{arith}
-use borrow.Author.Tests.{eq-eqb, le-ltb}
+use borrow.Author.Tests.{eq-eqb}
 use lib.Dec.{eqb}
 use lib.ListN.{length, getD}
 use Rattle.reads.specs.ReadSet.{pairsOf}
-use Rattle.reads.specs.Search.{Lane, lanesFound, lanesOf, sizeOf, longest}
-use Rattle.words.specs.Answer.{good}
+use Rattle.reads.specs.Search.{Lane, lanesFound, sizeFound, lanesOf, sizeOf, longest}
+use Rattle.words.specs.Answer.{good, refused}
+use Rattle.words.specs.declared.refusals.Refusal.{Refusal}
 use Rattle.reads.specs.SetAnswer.{Packed, packed}
 use Rattle.reads.proofs.SearchLaws.{win-none}
-use Rattle.reads.proofs.SetAnswerLaws.{found-packed, ended-packed, Sound, placed-sound}
+use Rattle.reads.proofs.SetAnswerLaws.{packed-placed, found-packed, Sound, placed-sound}
 use Rattle.reads_try.proofs.SetPairLaws.{pairs-length}
 use Rattle.reads_try.specs.TableLanes.{lanesAt}
 use Rattle.rounds.specs.Rounds.{SetSearchable, Solvable}
-use Rattle.rounds.proofs.RoundsAnswerLaws.{searchable, is-packed, Win}
+use Rattle.rounds.proofs.RoundsAnswerLaws.{searchable, is-read, Win}
 use Rattle.pinmap.specs.PinMap.{look}
 use Rattle.plan_record.specs.Record.{slotAt}
 use Rattle.words.proofs.TestLaws.{some-at}
@@ -29,7 +30,7 @@ use Rattle.plan_winners.specs.Planned.{planned}
 use Rattle.plan_winners.specs.Winners.{winner, plannedBy, winnerPuts}
 use Rattle.plan_positions.specs.Places.{plannedTable}
 use Rattle.plan_winners.proofs.WinnerLaws.{winners-look, planned-winner, by-none, renewals-length}
-use Rattle.plan_reads.specs.declared.searched.Reads.the-variants.{Nothing, NoRoom, Rounds}
+use Rattle.plan_reads.specs.declared.searched.Reads.the-variants.{Refused, Rounds}
 use Rattle.plan_reads.specs.ReadsReady.{AllPlanned, AllWon, SetInForm}
 use Rattle.plan_reads.specs.PartReadAnswers.{readsOf}
 
@@ -51,13 +52,13 @@ module _ {ws : List ℕ} {t K S n : ℕ} (f : SetInForm ws) (s : Solvable t K S 
   abbrev pub wonBy : List Lane → Packed
   wonBy lanes = record { size = sizeOf n (pairsOf ws); lanes = lanes }
 
-  pub won-sound : (lanes : List Lane) → lanesOf n (pairsOf ws) ≡ some lanes → Sound n (pairsOf ws) (wonBy lanes)
-  won-sound lanes e = placed-sound n ws (wonBy lanes) (s .some-lanes) fits (is-packed n ws 0 (f .few) (f .form) (some-words lanes e) lanes e)
-
   pub won-packed : (lanes : List Lane) → lanesOf n (pairsOf ws) ≡ some lanes → packed n (pairsOf ws) ≡ good (wonBy lanes)
   won-packed lanes e =
       let some-there : 0 < length (pairsOf ws) = omega (arith, pairs-length 0 ws, some-words lanes e) in
-      found-packed n (pairsOf ws) lanes some-there e
+      found-packed n (pairsOf ws) lanes (s .some-lanes) some-there e
+
+  pub won-sound : (lanes : List Lane) → lanesOf n (pairsOf ws) ≡ some lanes → Sound n (pairsOf ws) (wonBy lanes)
+  won-sound lanes e = placed-sound n ws (wonBy lanes) (s .some-lanes) fits (is-read n ws 0 (f .few) (f .form) ∙ won-packed lanes e)
 
   module _ (table : List ℕ) (w : Win ws table n) (r : ℕ) (is : r ≡ longest (lanesAt ws table n)) where
     rounds-are : r ≡ longest (w .lanes)
@@ -69,12 +70,13 @@ module _ {ws : List ℕ} {t K S n : ℕ} (f : SetInForm ws) (s : Solvable t K S 
     pub won-reads : (k : ℕ) → sizeOf n (pairsOf ws) ≡ k → Rounds r k ≡ readsOf (packed n (pairsOf ws))
     won-reads k size-is = rw (won-packed (w .lanes) (w .found)) (ap₂ Rounds rounds-are (sym size-is))
 
-pub none-reads : (n : ℕ) (ws : List ℕ) → length ws ≡ 0 → Nothing ≡ readsOf (packed n (pairsOf ws))
-unfolding packed
-none-reads n ws z = rw (le-ltb 0 (length (pairsOf ws)) (omega (arith, pairs-length 0 ws)), packed)
+-- the size that is told, and the refusal
+pub size-of : (n : ℕ) (ws : List ℕ) (x : Packed) → packed n (pairsOf ws) ≡ good x → sizeOf n (pairsOf ws) ≡ x .size
+unfolding sizeFound
+size-of n ws x e = ap sizeFound (packed-placed n (pairsOf ws) x e .1)
 
-pub stuck-reads : (n : ℕ) (ws : List ℕ) → (length ws ≡ 0 → ⊥) → lanesOf n (pairsOf ws) ≡ none → NoRoom ≡ readsOf (packed n (pairsOf ws))
-stuck-reads n ws z e = rw (ended-packed n (pairsOf ws) (omega (arith, pairs-length 0 ws, z)) e)
+pub lost-reads : (n : ℕ) (ws : List ℕ) (q : Refusal) → packed n (pairsOf ws) ≡ refused q → Refused q ≡ readsOf (packed n (pairsOf ws))
+lost-reads n ws q e = rw e
 
 -- ---- the table of pins
 

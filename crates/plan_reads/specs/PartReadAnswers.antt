@@ -1,5 +1,6 @@
 -- What the answers of the code stand for.
 -- Assumes nothing.
+use mathlib.Core.Path.{_≡_}
 use mathlib.Core.Bool.{Bool, true, false}
 use mathlib.Core.Option.{Option, none, some}
 use mathlib.Core.List.{List}
@@ -14,44 +15,65 @@ use Rattle.plan_rows.specs.Columns as col
 use Rattle.plan_blocks.specs.TableFill.{putCells}
 use Rattle.plan_reads.specs.PartReads.{partLanes, partSize, refusedReads}
 use Rattle.plan_reads.specs.declared.searched.Reads.{Reads}
-use Rattle.plan_reads.specs.declared.searched.Reads.the-variants.{Nothing, NoRoom, Rounds}
+use Rattle.plan_reads.specs.declared.searched.Reads.the-variants.{Refused, Rounds}
 use Rattle.plan_reads.specs.declared.check.Checked.{Checked}
 use Rattle.plan_reads.specs.declared.check.Checked.the-variants as checked
+use Rattle.plan_reads.specs.declared.check.Firsts.{Firsts}
 
--- the number of rounds and the piece size; 3 nothing to read; 4 no room
+-- the number of rounds and the piece size, or the refusal
 abbrev pub readsOf : Answer Packed → Reads
 readsOf (good x) = Rounds (longest (x .lanes)) (x .size)
-readsOf (refused q) = elim (eqb (q .number) 3) [ true ↦ Nothing | false ↦ NoRoom ]
+readsOf (refused q) = Refused q
 
 abbrev pub isNothing : Reads → Bool
-isNothing Nothing = true
-isNothing NoRoom = false
+isNothing (Refused q) = eqb (q .number) 3
 isNothing (Rounds n k) = false
 
--- the first part without room, after part p: `parts` stands for none
+-- the first part refused with number k, after part p, and its item: `parts` stands for none
 unfoldable pub earlierOf : ℕ → ℕ → ℕ → ℕ
-earlierOf full parts p = elim (eqb full parts) [ true ↦ p | false ↦ full ]
+earlierOf first parts x = elim (eqb first parts) [ true ↦ x | false ↦ first ]
 
-abbrev pub fullAfter : ℕ → ℕ → ℕ → Reads → ℕ
-fullAfter full parts p Nothing = full
-fullAfter full parts p NoRoom = earlierOf full parts p
-fullAfter full parts p (Rounds n k) = full
+unfoldable pub firstAfter : ℕ → ℕ → ℕ → ℕ → Reads → ℕ
+firstAfter k first parts p (Rounds n s) = first
+firstAfter k first parts p (Refused q) = elim (eqb (q .number) k) [ true ↦ earlierOf first parts p | false ↦ first ]
 
--- 3 over the whole plan before 4
-abbrev pub checkedOf : Option Place → Option Place → Checked
-checkedOf (some x) o = checked.Nothing (x .part)
-checkedOf none (some x) = checked.NoRoom (x .part)
-checkedOf none none = checked.Fine
+unfoldable pub wordAfter : ℕ → ℕ → ℕ → Reads → ℕ
+wordAfter word first parts (Rounds n s) = word
+wordAfter word first parts (Refused q) = elim (eqb (q .number) 4) [ true ↦ elim (eqb first parts) [ true ↦ q .item | false ↦ word ] | false ↦ word ]
+
+-- the four numbers after part p
+pub record FirstsAfter (f : Firsts) (parts p : ℕ) (r : Reads) (g : Firsts) : Type 0 where
+  pub bits : g .bits ≡ firstAfter 21 (f .bits) parts p r
+  pub wide : g .wide ≡ firstAfter 22 (f .wide) parts p r
+  pub stuck : g .stuck ≡ firstAfter 4 (f .stuck) parts p r
+  pub word : g .word ≡ wordAfter (f .word) (f .stuck) parts r
+
+-- what they tell: 21, then 22, then 4
+unfoldable pub firstsTold : Firsts → ℕ → Checked
+firstsTold f parts =
+    elim (eqb (f .bits) parts) [
+      | false ↦ checked.Bits (f .bits)
+      | true ↦ elim (eqb (f .wide) parts) [
+        | false ↦ checked.Wide (f .wide)
+        | true ↦ elim (eqb (f .stuck) parts) [ false ↦ checked.NoRoom (f .stuck) (f .word) | true ↦ checked.Fine ]
+      ]
+    ]
+
+-- 3 over the whole plan, then 21, 22, 4
+abbrev pub checkedOf : (three bits wide four : Option Place) → Checked
+checkedOf (some x) b w f = checked.Nothing (x .part)
+checkedOf none (some x) w f = checked.Bits (x .part)
+checkedOf none none (some x) f = checked.Wide (x .part)
+checkedOf none none none (some x) = checked.NoRoom (x .part) (x .item)
+checkedOf none none none none = checked.Fine
 
 -- the number of rounds and the piece size as they are kept: 0 where there are none
 abbrev pub roundsKept : Reads → ℕ
-roundsKept Nothing = 0
-roundsKept NoRoom = 0
+roundsKept (Refused q) = 0
 roundsKept (Rounds n k) = n
 
 abbrev pub sizeKept : Reads → ℕ
-sizeKept Nothing = 0
-sizeKept NoRoom = 0
+sizeKept (Refused q) = 0
 sizeKept (Rounds n k) = k
 
 abbrev pub roundsIn : List ℕ → ℕ → ℕ

@@ -61,10 +61,10 @@ unfoldable pub localPosition : List Lane → Option Planned → ℕ
 localPosition lanes none = 0
 localPosition lanes (some x) = orZero (localOf lanes (bitNumber x / 32) (bitNumber x % 32))
 
--- 3 and 4: the parts whose read set is refused with that number; "Else item 0"
+-- 3, 21, 22 and 4: the parts whose read set is refused with that number, at the item of that refusal
 unfoldable pub badReads : ℕ → Answer Packed → Option ℕ
 badReads k (good x) = none
-badReads k (refused q) = elim (eqb (q .number) k) [ true ↦ some 0 | false ↦ none ]
+badReads k (refused q) = elim (eqb (q .number) k) [ true ↦ some (q .item) | false ↦ none ]
 
 unfoldable pub refusedReads : ℕ → ℕ → List ℕ → Option Place
 refusedReads n k d = lowest (λ p. badReads k (partReads n d p)) (partsOf d)

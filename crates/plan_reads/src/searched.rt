@@ -8,11 +8,11 @@ ghost use Rattle.rounds.specs.Rounds.{tableAfter, Solvable};
 ghost use Rattle.plan_reads.specs.ReadsReady.{SetInForm};
 ghost use Rattle.plan_reads.specs.PartReadAnswers.{readsOf};
 use rounds::Searched;
+use words::refusals::Refusal;
 
-// Refusals 3 and 4, or the number of rounds and the piece size that won.
+// A refusal (3, 21, 22 or 4), or the number of rounds and the piece size that won.
 pub enum Reads {
-    Nothing,
-    NoRoom,
+    Refused(Refusal),
     Rounds(u32, u32),
 }
 
@@ -28,12 +28,11 @@ pub fn search_set(
     ensures { λ r. ⌜ r ≡ readsOf (packed lanes (pairsOf (now (set .entry)))) ⌝ }
     ensures { λ _. ⌜ now (table .exit) ≡ tableAfter lanes (lanesOf lanes (pairsOf (now (set .entry)))) ⌝ }
 {
-    if let Searched::Won(size) = rounds::search_sizes(set, table, keys, scratch, lanes) {
-        let n = reads_section::longest_row(set, table, lanes);
-        return Reads::Rounds(n as u32, size as u32);
+    match rounds::search_sizes(set, table, keys, scratch, lanes) {
+        Searched::Lost(q) => Reads::Refused(q),
+        Searched::Won(size) => {
+            let n = reads_section::longest_row(set, table, lanes);
+            Reads::Rounds(n as u32, size as u32)
+        }
     }
-    if set.len() == 0 {
-        return Reads::Nothing;
-    }
-    Reads::NoRoom
 }

@@ -1,5 +1,7 @@
 pub mod SearchLaws
 pub mod PackingLaws
+pub mod WeightLaws
+pub mod BoundLaws
 pub mod SetLaws
 pub mod RoundCountLaws
 pub mod SectionWordLaws

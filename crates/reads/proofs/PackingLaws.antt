@@ -123,7 +123,7 @@ added n (p ∷ run) lanes j after h wide thin e =
         → Added n run (push lanes i p) after)
         → Added n (p ∷ run) lanes after
     go none o r =
-        let s : stuck lanes ≡ all after = rw (o, tryFrom) at e in
+        let s : stuck p lanes ≡ all after = rw (o, tryFrom) at e in
         let z : _≡_ {A = ℕ} 0 1 = cc in
         absurd (omega arith)
     go (some i) o r =

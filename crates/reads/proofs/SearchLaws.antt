@@ -2,7 +2,7 @@
 -- Assumes nothing.
 use mathlib.Core.Path.{_≡_, refl, sym, ap, _∙_}
 use mathlib.Core.Bool.{Bool, true, false}
-use mathlib.Core.Option.{Option, none, some}
+use mathlib.Core.Option.{Option, some}
 use mathlib.Core.List.{List, []}
 use mathlib.Core.Logic.{_⊎_, inl, inr, ⊎-elim, _↔_}
 use Prim.Native.Nat.{ℕ, zero, suc, _+_, _/_, _^_, _≤_, _<_}
@@ -46,10 +46,10 @@ module _ (n : ℕ) (ps : List Pair) where
   win-all f zero lanes h t = absurd (not-suc-le-zero h)
   win-all f (suc k) lanes h t = rw (t, firstWin)
 
-  pub win-stuck : (f k : ℕ) (lanes : List Lane) → 0 < k → try n ps k ≡ stuck lanes → firstWin n ps (suc f) k ≡ firstWin n ps f (k / 2)
+  pub win-stuck : (f k : ℕ) (p : Pair) (lanes : List Lane) → 0 < k → try n ps k ≡ stuck p lanes → firstWin n ps (suc f) k ≡ firstWin n ps f (k / 2)
   unfolding firstWin
-  win-stuck f zero lanes h t = absurd (not-suc-le-zero h)
-  win-stuck f (suc k) lanes h t = rw (t, firstWin)
+  win-stuck f zero p lanes h t = absurd (not-suc-le-zero h)
+  win-stuck f (suc k) p lanes h t = rw (t, firstWin)
 
   -- more fuel than a size has binary digits changes nothing
   pub win-fuel : (f g k : ℕ) → k < 2 ^ f → k < 2 ^ g → firstWin n ps f k ≡ firstWin n ps g k
@@ -62,7 +62,7 @@ module _ (n : ℕ) (ps : List Pair) where
       go : (t : Tried) → try n ps (suc k) ≡ t → firstWin n ps f (suc k / 2) ≡ firstWin n ps g (suc k / 2)
           → firstWin n ps (suc f) (suc k) ≡ firstWin n ps (suc g) (suc k)
       go (all lanes) t r = win-all f (suc k) lanes (zero-lt-suc k) t ∙ sym (win-all g (suc k) lanes (zero-lt-suc k) t)
-      go (stuck lanes) t r = win-stuck f (suc k) lanes (zero-lt-suc k) t ∙ r ∙ sym (win-stuck g (suc k) lanes (zero-lt-suc k) t)
+      go (stuck p lanes) t r = win-stuck f (suc k) p lanes (zero-lt-suc k) t ∙ r ∙ sym (win-stuck g (suc k) p lanes (zero-lt-suc k) t)
 
   -- so fourteen is no bound of its own
   pub found-fuel : (f : ℕ) → length ps ≤ 8192 → 14 ≤ f → firstWin n ps f (length ps) ≡ foundOf n ps
@@ -72,7 +72,7 @@ module _ (n : ℕ) (ps : List Pair) where
 
   -- the try of size k ended without room
   abbrev pub Ended : ℕ → Type 0
-  Ended k = (lanes : List Lane) × (try n ps k ≡ stuck lanes)
+  Ended k = (p : Pair) × (lanes : List Lane) × (try n ps k ≡ stuck p lanes)
 
   -- size s, which is k / 2 ^ i, wins, with these lanes, and it is the first of k, k/2, k/4 .. that does
   pub record Won (k s : ℕ) (lanes : List Lane) : Type 0 where
@@ -103,8 +103,8 @@ module _ (n : ℕ) (ps : List Pair) where
             wins = rw (← z) (t ∙ ap all q);
             before = λ j h. absurd (not-suc-le-zero h);
           }
-      go (stuck ls) t r =
-          let w = r (sym (win-stuck f (suc k) ls (zero-lt-suc k) t) ∙ e) in
+      go (stuck p ls) t r =
+          let w = r (sym (win-stuck f (suc k) p ls (zero-lt-suc k) t) ∙ e) in
           record {
             i = suc (w .i);
             is = w .is ∙ half (suc k) (w .i);
@@ -114,7 +114,7 @@ module _ (n : ℕ) (ps : List Pair) where
           }
         where
           earlier : (w : Won (suc k / 2) s lanes) → ((j : ℕ) → j < w .i → Ended (suc k / 2 / 2 ^ j)) → (j : ℕ) → j < suc (w .i) → Ended (suc k / 2 ^ j)
-          earlier w b zero h = rw (div-one (suc k)) (ls, t)
+          earlier w b zero h = rw (div-one (suc k)) (p, ls, t)
           earlier w b (suc j) h = rw (← (half (suc k) j)) (b j (omega arith))
 
   -- none wins: each size ends without room
@@ -130,9 +130,9 @@ module _ (n : ℕ) (ps : List Pair) where
           let s : won (suc k) ls ≡ ended = sym (win-all f (suc k) ls (zero-lt-suc k) t) ∙ e in
           let z : _≡_ {A = ℕ} 0 1 = cc in
           absurd (omega arith)
-      go (stuck ls) t zero l r = rw (div-one (suc k)) (ls, t)
-      go (stuck ls) t (suc j) l r =
-          rw (← (half (suc k) j)) (r (sym (win-stuck f (suc k) ls (zero-lt-suc k) t) ∙ e) j (rw (half (suc k) j) l))
+      go (stuck p ls) t zero l r = rw (div-one (suc k)) (p, ls, t)
+      go (stuck p ls) t (suc j) l r =
+          rw (← (half (suc k) j)) (r (sym (win-stuck f (suc k) p ls (zero-lt-suc k) t) ∙ e) j (rw (half (suc k) j) l))
 
   -- and the other way round
   pub never-win : (f k : ℕ) → ((j : ℕ) → 0 < k / 2 ^ j → Ended (k / 2 ^ j)) → firstWin n ps f k ≡ ended
@@ -141,12 +141,26 @@ module _ (n : ℕ) (ps : List Pair) where
   never-win (suc f) zero h = refl
   never-win (suc f) (suc k) h =
       let here : Ended (suc k) = rw (div-one (suc k)) at (h 0 (omega arith)) in
-      win-stuck f (suc k) (here .0) (zero-lt-suc k) (here .1)
+      win-stuck f (suc k) (here .0) (here .1) (zero-lt-suc k) (here .2)
       ∙ never-win f (suc k / 2) (λ j l. rw (half (suc k) j) (h (suc j) (rw (← (half (suc k) j)) l)))
 
   -- Refusal 4, "every piece size ended without room", for the sets that get that far.
   pub found-none : length ps ≤ 8192 → (foundOf n ps ≡ ended) ↔ ((j : ℕ) → 0 < length ps / 2 ^ j → Ended (length ps / 2 ^ j))
   found-none h = (win-never 14 (length ps) (lt-of-le-of-lt h (lit< tt)), never-win 14 (length ps))
+
+  -- the last size is 1, and its try ends without room too
+  pub last-ended : (f k : ℕ) → k < 2 ^ f → 0 < k → firstWin n ps f k ≡ ended → Ended 1
+  last-ended zero k h l e = absurd (omega arith)
+  last-ended (suc f) zero h l e = absurd (not-suc-le-zero l)
+  last-ended (suc f) (suc k) h l e = go (try n ps (suc k)) refl k refl (last-ended f (suc k / 2) (omega arith))
+    where
+      go : (t : Tried) → try n ps (suc k) ≡ t → (i : ℕ) → i ≡ k → (0 < suc k / 2 → firstWin n ps f (suc k / 2) ≡ ended → Ended 1) → Ended 1
+      go (all ls) t i z r =
+          let s : won (suc k) ls ≡ ended = sym (win-all f (suc k) ls (zero-lt-suc k) t) ∙ e in
+          let y : _≡_ {A = ℕ} 0 1 = cc in
+          absurd (omega arith)
+      go (stuck p ls) t zero z r = let one : suc k ≡ 1 = omega arith in (p, ls, sym (ap (λ (x : ℕ). try n ps x) one) ∙ t)
+      go (stuck p ls) t (suc i) z r = r (omega arith) (sym (win-stuck f (suc k) p ls (zero-lt-suc k) t) ∙ e)
 
 -- ---- what is found, by its lanes
 
@@ -154,11 +168,6 @@ pub won-lanes : (t : Found) (lanes : List Lane) → lanesFound t ≡ some lanes 
 unfolding lanesFound sizeFound
 won-lanes (won k ls) lanes e = let q : ls ≡ lanes = cc in ap (won k) q
 won-lanes ended lanes e = let z : _≡_ {A = ℕ} 0 1 = cc in absurd (omega arith)
-
-pub ended-lanes : (t : Found) → lanesFound t ≡ none → t ≡ ended
-unfolding lanesFound
-ended-lanes (won k ls) e = let z : _≡_ {A = ℕ} 0 1 = cc in absurd (omega arith)
-ended-lanes ended e = refl
 
 -- Document 02, 2/13: the size that is told wins, and no larger one of n, n/2, n/4 .. does.
 pub size-won : (n : ℕ) (ps : List Pair) (lanes : List Lane) → lanesOf n ps ≡ some lanes → Won n ps (length ps) (sizeOf n ps) lanes

@@ -46,17 +46,17 @@ firstRoom n (suc f) lanes b j = elim (leb (total (getD lanes j []) + b) 32) [ tr
 abbrev pub push : List Lane → ℕ → Pair → List Lane
 push lanes i p = set lanes i (getD lanes i [] ++ p ∷ [])
 
--- How a try ends: all is placed, or no lane had room for the next pair. The lanes are as they then stand.
+-- How a try ends: all is placed, or no lane had room for this pair. The lanes are as they then stand.
 pub data Tried : Type 0 where
   all : List Lane → Tried
-  stuck : List Lane → Tried
+  stuck : Pair → List Lane → Tried
 
 -- "Each pair goes to [that lane]; the current lane becomes the next one round. If all lanes lack room the try ends at once."
 unfoldable pub tryFrom : ℕ → List Pair → List Lane → ℕ → Tried
 tryFrom n [] lanes j = all lanes
 tryFrom n (p ∷ ps) lanes j =
     elim (firstRoom n n lanes (bits p) j) [
-      | none ↦ stuck lanes
+      | none ↦ stuck p lanes
       | some i ↦ tryFrom n ps (push lanes i p) (next n i)
     ]
 
@@ -73,11 +73,19 @@ pub data Found : Type 0 where
 unfoldable pub firstWin : ℕ → List Pair → ℕ → ℕ → Found
 firstWin n ps zero k = ended
 firstWin n ps (suc f) zero = ended
-firstWin n ps (suc f) (suc k) = elim (try n ps (suc k)) [ all lanes ↦ won (suc k) lanes | stuck lanes ↦ firstWin n ps f (suc k / 2) ]
+firstWin n ps (suc f) (suc k) = elim (try n ps (suc k)) [ all lanes ↦ won (suc k) lanes | stuck p lanes ↦ firstWin n ps f (suc k / 2) ]
 
 -- fourteen sizes are enough for 8192 pairs
 abbrev pub foundOf : ℕ → List Pair → Found
 foundOf n ps = firstWin n ps 14 (length ps)
+
+-- Document 02, 4/13: "the word it stopped at in the try of size 1", bit 31 included. That try is the last one.
+unfoldable pub stopWord : Tried → ℕ
+stopWord (all lanes) = 0
+stopWord (stuck p lanes) = p .word
+
+abbrev pub lastWord : ℕ → List Pair → ℕ
+lastWord n ps = stopWord (try n ps 1)
 
 -- its lanes, and document 02, 2/13: "the piece size of the winning try", 0 where none won
 unfoldable pub lanesFound : Found → Option (List Lane)

@@ -1,5 +1,6 @@
 -- What a read set gets: rounds or a numbered refusal, and what the lent words then hold. Document 01, "Numbered refusals": "A read set: 1, 2,
--- 3, 4, 14", 32 before all others, 14 told at (0, 0). Refusals of a read set have part 0.
+-- 3, 4, 14", 32 before all others, 14 told at (0, 0). Document 02, 4/13: "3, then 21, 22, 4", 4 told at "that word". Refusals of a read set have
+-- part 0.
 -- Assumes nothing.
 use mathlib.Core.Bool.{true, false}
 use mathlib.Core.Option.{none, some}
@@ -9,8 +10,9 @@ use lib.Dec.{leb, ltb}
 use lib.ListN.{length, replicate}
 use lib.Seq.{sets}
 use Rattle.words.specs.Answer.{Answer, good, refused, atItem, nowhere}
-use Rattle.reads.specs.ReadSet.{Pair, pairsOf, broken}
-use Rattle.reads.specs.Search.{Lane, won, ended, foundOf, longest}
+use Rattle.reads.specs.ReadSet.{Pair, total, pairsOf, broken}
+use Rattle.reads.specs.Search.{Lane, won, ended, foundOf, lastWord, longest}
+use Rattle.reads.specs.Packing.{widePairs}
 use Rattle.reads.specs.ReadSection.{readSection}
 
 -- what a set that is placed gets: "the piece size of the winning try" (document 02, 2/13) and its lanes
@@ -18,12 +20,19 @@ pub record Packed : Type 0 where
   pub size : ℕ
   pub lanes : List Lane
 
--- what the search over a set's pairs gives: 3, 4 or the winning try
+-- what the search over a set's pairs gives: the winning try, or 4
+unfoldable pub searched : ℕ → List Pair → Answer Packed
+searched n ps = elim (foundOf n ps) [ ended ↦ refused (atItem 4 (lastWord n ps)) | won k lanes ↦ good (record { size = k; lanes = lanes }) ]
+
+-- "21 too many bits, 22 too many wide words, both placed as 3 is; 3, then 21, 22, 4"
 unfoldable pub packed : ℕ → List Pair → Answer Packed
 packed n ps =
     elim (ltb 0 (length ps)) [
       | false ↦ refused (nowhere 3)
-      | true ↦ elim (foundOf n ps) [ ended ↦ refused (nowhere 4) | won k lanes ↦ good (record { size = k; lanes = lanes }) ]
+      | true ↦ elim (leb (total ps) (32 * n)) [
+        | false ↦ refused (nowhere 21)
+        | true ↦ elim (leb (widePairs ps) n) [ false ↦ refused (nowhere 22) | true ↦ searched n ps ]
+      ]
     ]
 
 -- 1 and 2 come before that

@@ -1,7 +1,6 @@
 -- What is kept of the lanes in any try; what holds while a try runs, and that one pair more keeps it.
 -- Assumes nothing.
 use mathlib.Core.Path.{_≡_, refl, sym, ap, _∙_}
-use mathlib.Core.Bool.{Bool, true, false}
 use mathlib.Core.Option.{Option, none, some}
 use mathlib.Core.List.{List, [], _∷_, _++_}
 use Prim.Native.Nat.{ℕ, _+_, _*_, _/_, _%_, min, _≤_, _<_}
@@ -16,11 +15,13 @@ use Rattle.words.specs.Round.{next}
 use Rattle.reads.specs.Search.{Lane, firstRoom, push, Tried, stuck, tryFrom}
 use Rattle.words.proofs.RoundLaws.{next-lt}
 use Rattle.reads.proofs.SearchLaws.{room-found}
+use Rattle.reads_try.specs.declared.Ending.{Ending}
+use Rattle.reads_try.specs.declared.Ending.the-variants.{All, Stuck}
 use Rattle.reads_try.specs.declared.Search.{Search}
 use Rattle.reads_try.specs.declared.Search.the-variants.{Lane as LaneAt, Full}
 use Rattle.reads_try.specs.LaneTable.{tableOf, usedOf, heldOf, pieceOf, runOf}
 use Rattle.reads_try.specs.TableLanes.{pairAt, lanesAt, Each, Drawn, SoundLanes, LanesTabled, LanesLoaded}
-use Rattle.reads_try.specs.Tries.{laneFor, isAll, triedLanes, triedOf, PairPlaceable, TryReady}
+use Rattle.reads_try.specs.Tries.{laneFor, endingOf, triedLanes, triedOf, PairPlaceable, TryReady}
 use Rattle.reads_try.proofs.SetPairLaws.{pairs-length, pairs-at, slice-none, span-step, piece-slice}
 use Rattle.reads_try.proofs.LaneTableLaws.{each-append, each-of, each-take, each-drop, kept-push, kept-empty, table-length, table-empty, filled-lanes, filled-rest, filled-of}
 use Rattle.reads_try.proofs.LaneLoadLaws.{used-long, held-long, used-empty, held-empty}
@@ -75,9 +76,9 @@ pub record Held (ws : List ℕ) (n : ℕ) (rest : List ℕ) (goal : Tried) (run 
   pub ends : tryFrom n run (lanesAt ws room n) cur ≡ goal
 
 -- how a try ends
-abbrev pub Ended : Tried → List ℕ → Bool → (room used held : List ℕ) → Type 0
-Ended goal rest fits room used held =
-    (fits ≡ isAll goal) × ((room ≡ tableOf (triedLanes goal) ++ rest) × ((used ≡ usedOf (triedLanes goal)) × (held ≡ heldOf (triedLanes goal))))
+abbrev pub Ended : Tried → List ℕ → Ending → (room used held : List ℕ) → Type 0
+Ended goal rest r room used held =
+    (r ≡ endingOf goal) × ((room ≡ tableOf (triedLanes goal) ++ rest) × ((used ≡ usedOf (triedLanes goal)) × (held ≡ heldOf (triedLanes goal))))
 
 module _ {ws : List ℕ} {n : ℕ} {rest : List ℕ} {goal : Tried} where
   pub held-room : {run : List Pair} {room used held : List ℕ} {cur : ℕ} → Held ws n rest goal run room used held cur → room ≡ tableOf (lanesAt ws room n) ++ rest
@@ -94,7 +95,7 @@ module _ {ws : List ℕ} {n : ℕ} {rest : List ℕ} {goal : Tried} where
   held-held h = held-long (h .loaded) ∙ h .filled .kept .wide
 
   -- all is placed
-  pub held-all : {room used held : List ℕ} {cur : ℕ} → Held ws n rest goal [] room used held cur → Ended goal rest true room used held
+  pub held-all : {room used held : List ℕ} {cur : ℕ} → Held ws n rest goal [] room used held cur → Ended goal rest All room used held
   unfolding tryFrom
   held-all h = rw (← h .ends) (refl, (held-room h, (h .loaded .bits-are, h .loaded .pairs-are)))
 
@@ -126,13 +127,13 @@ module _ {ws : List ℕ} {n : ℕ} {rest : List ℕ} {goal : Tried} where
             }
 
     -- no lane has room
-    pub held-stop : r ≡ Full → Ended goal rest false room′ used′ held′
+    pub held-stop : r ≡ Full → Ended goal rest (Stuck (getD ws (2 * p) 0)) room′ used′ held′
     unfolding tryFrom
     held-stop f = go (laneFor ws room n cur p) refl
       where
-        go : (o : Option ℕ) → laneFor ws room n cur p ≡ o → Ended goal rest false room′ used′ held′
+        go : (o : Option ℕ) → laneFor ws room n cur p ≡ o → Ended goal rest (Stuck (getD ws (2 * p) 0)) room′ used′ held′
         go none e =
-            let s : stuck (lanesAt ws room n) ≡ goal = rw (e, tryFrom) at (h .ends) in
+            let s : stuck (pairAt ws p) (lanesAt ws room n) ≡ goal = rw (e, tryFrom) at (h .ends) in
             let tabled = (rw e at (placed .1 .0)) ∙ ap (λ (x : List ℕ). tableOf (lanesAt ws room n) ++ x) (h .rest-is) in
             rw (← s) (refl, (tabled, (rw e at (placed .1 .1 .0), rw e at (placed .1 .1 .1))))
         go (some i) e =
@@ -205,7 +206,7 @@ run-next {ws} p e tail h H = rw (slice-none p e (pairsOf ws) h) at H
 
 -- so are all
 pub run-ended : {ws : List ℕ} {n : ℕ} {rest : List ℕ} {goal : Tried} (k : ℕ) (keys : List ℕ) (t : ℕ) {room used held : List ℕ} {cur : ℕ} → length keys ≤ t
-    → Held ws n rest goal (runOf k (pairsOf ws) (drop t keys)) room used held cur → Ended goal rest true room used held
+    → Held ws n rest goal (runOf k (pairsOf ws) (drop t keys)) room used held cur → Ended goal rest All room used held
 unfolding runOf
 run-ended k keys t h H = held-all (rw (drop-of-length-le keys h) at H)
 

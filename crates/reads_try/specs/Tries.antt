@@ -1,7 +1,7 @@
 -- What the functions answer, and what they ask. n is the number of lanes.
 -- Assumes nothing.
 use mathlib.Core.Path.{_≡_}
-use mathlib.Core.Bool.{Bool, true, false}
+use mathlib.Core.Bool.{true, false}
 use mathlib.Core.Option.{Option, none, some}
 use mathlib.Core.List.{List, []}
 use Prim.Native.Nat.{ℕ, zero, suc, _+_, _*_, _/_, _%_, _≤_, _<_}
@@ -11,6 +11,8 @@ use Rattle.words.specs.Bit.{pop}
 use Rattle.reads.specs.ReadSet.{Pair, bits, pairsOf}
 use Rattle.words.specs.Round.{next}
 use Rattle.reads.specs.Search.{Lane, firstRoom, push, Tried, all, stuck, tryFrom}
+use Rattle.reads_try.specs.declared.Ending.{Ending}
+use Rattle.reads_try.specs.declared.Ending.the-variants.{All, Stuck}
 use Rattle.reads_try.specs.declared.Search.{Search}
 use Rattle.reads_try.specs.declared.Search.the-variants.{Lane as LaneAt, Full}
 use Rattle.reads_try.specs.LaneTable.{runOf}
@@ -40,14 +42,14 @@ abbrev pub lanesAfter : Option ℕ → List Lane → Pair → List Lane
 lanesAfter none lanes p = lanes
 lanesAfter (some i) lanes p = push lanes i p
 
--- how a try ended, and the lanes as they then stand
-abbrev pub isAll : Tried → Bool
-isAll (all lanes) = true
-isAll (stuck lanes) = false
+-- how a try ended, as the code says it, and the lanes as they then stand
+abbrev pub endingOf : Tried → Ending
+endingOf (all lanes) = All
+endingOf (stuck p lanes) = Stuck (p .word)
 
 abbrev pub triedLanes : Tried → List Lane
 triedLanes (all lanes) = lanes
-triedLanes (stuck lanes) = lanes
+triedLanes (stuck p lanes) = lanes
 
 -- the try of a set at piece size k, the pieces in the order of the keys, from empty lanes
 abbrev pub triedOf : ℕ → ℕ → List ℕ → List ℕ → Tried

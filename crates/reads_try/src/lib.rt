@@ -6,13 +6,19 @@ ghost use lib.ListN.{length, getD, set, drop};
 ghost use Rattle.reads.specs.ReadSet.{total};
 ghost use Rattle.reads_try.specs.LaneTable.{tableOf, usedOf, heldOf};
 ghost use Rattle.reads_try.specs.TableLanes.{pairAt, laneOf, rowAt, lanesAt, putInLane};
-ghost use Rattle.reads_try.specs.Tries.{laneFound, firstFree, laneFor, nextOf, lanesAfter, isAll, triedLanes, triedOf, RowNamed, LaneRowIn, LanesSearchable, PairPuttable, PairPlaceable, TryReady};
+ghost use Rattle.reads_try.specs.Tries.{laneFound, firstFree, laneFor, nextOf, lanesAfter, endingOf, triedLanes, triedOf, RowNamed, LaneRowIn, LanesSearchable, PairPuttable, PairPlaceable, TryReady};
 use words::round::next_of;
 
 // What a lane search finds.
 pub enum Search {
     Lane(usize),
     Full,
+}
+
+// How a try ends: all is placed, or no lane had room for a pair, told by its word.
+pub enum Ending {
+    All,
+    Stuck(u32),
 }
 
 // What a lane holds: bits, and pairs.
@@ -121,15 +127,15 @@ pub fn try_size(
     held: &mut [u32],
     lanes: usize,
     k: usize,
-) -> bool
+) -> Ending
     requires { ⌜ TryReady (now set) (now room) (now used) (now held) lanes k ⌝ }
-    ensures { λ r. ⌜ r ≡ isAll (triedOf lanes k (now (set .entry)) (now (keys .entry))) ⌝ }
+    ensures { λ r. ⌜ r ≡ endingOf (triedOf lanes k (now (set .entry)) (now (keys .entry))) ⌝ }
     ensures { λ r. ⌜ now (room .exit) ≡ tableOf (triedLanes (triedOf lanes k (now (set .entry)) (now (keys .entry)))) ++ drop (32 * lanes) (now (room .entry)) ⌝ }
     ensures { λ r. ⌜ now (used .exit) ≡ usedOf (triedLanes (triedOf lanes k (now (set .entry)) (now (keys .entry)))) ⌝ }
     ensures { λ r. ⌜ now (held .exit) ≡ heldOf (triedLanes (triedOf lanes k (now (set .entry)) (now (keys .entry)))) ⌝ }
 {
     let n = set.len() / 2;
-    let mut fits = true;
+    let mut ending = Ending::All;
     let mut cur = 0;
     let mut t = 0;
     'pieces: while t < keys.len() {
@@ -139,7 +145,7 @@ pub fn try_size(
         'pairs: while p < end {
             match place(set, room, used, held, lanes, cur, p) {
                 Search::Full => {
-                    fits = false;
+                    ending = Ending::Stuck(set[2 * p]);
                     break 'pieces;
                 }
                 Search::Lane(j) => {
@@ -150,5 +156,5 @@ pub fn try_size(
         }
         t += 1;
     }
-    fits
+    ending
 }

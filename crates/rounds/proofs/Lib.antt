@@ -1,2 +1,3 @@
 pub mod PieceSizeLaws
+pub mod BeforeLaws
 pub mod RoundsAnswerLaws

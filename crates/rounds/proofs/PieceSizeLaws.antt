@@ -1,25 +1,29 @@
 -- A try at a piece size in the code's terms, and one size more of the search.
 -- Assumes nothing.
-use mathlib.Core.Path.{_≡_, refl, sym, ap, subst, _∙_}
-use mathlib.Core.Bool.{Bool, true, false}
+use mathlib.Core.Path.{_≡_, refl, sym, ap, _∙_}
 use mathlib.Core.List.{List, [], _++_, append-nil}
 use Prim.Native.Nat.{ℕ, _*_, _/_, _%_, _≤_, _<_}
-use native.Mathlib.Nat.{le-refl, lt-of-le-of-lt}
+use native.Mathlib.Nat.{lt-of-le-of-lt}
 use native.Mathlib.Omega.{arith}
 use lib.Dec.{lit<}
 use lib.ListN.{length, drop, replicate, length-append, length-replicate, drop-of-length-le}
 use lib.Seq.{take-all}
 use Rattle.reads.specs.ReadSet.{Pair, pairsOf}
-use Rattle.reads.specs.Search.{Tried, all, stuck, tryFrom, try, won, ended, firstWin, foundOf, lanesFound, lanesOf}
+use Rattle.reads.specs.Search.{Tried, all, stuck, tryFrom, try, won, ended, firstWin, foundOf, stopWord, lastWord, lanesFound, lanesOf}
+use Rattle.reads.specs.SetAnswer.{searched}
 use Rattle.reads.proofs.SearchLaws.{win-none, win-all, win-stuck, win-fuel}
 use Rattle.reads_try.specs.LaneTable.{tableOf}
-use Rattle.reads_try.specs.Tries.{isAll, triedLanes, triedOf, TryReady}
+use Rattle.reads_try.specs.Tries.{endingOf, triedLanes, triedOf, TryReady}
+use Rattle.reads_try.specs.declared.Ending.{Ending}
+use Rattle.reads_try.specs.declared.Ending.the-variants.{All, Stuck}
+use Rattle.words.specs.Answer.{good, refused, atItem}
 use Rattle.reads_try.proofs.SetPairLaws.{pairs-length}
 use Rattle.reads_pieces.specs.Keys.{keysOf, pieceCount, Orderable}
 use Rattle.reads_pieces.proofs.PieceKeyLaws.{piece-count-le}
 use Rattle.reads_pieces.proofs.PieceOrderLaws.{run-is}
 use Rattle.rounds.specs.Rounds.{searchedOf, tableAfter, SetSearchable}
-use Rattle.rounds.specs.declared.Searched.the-variants.{Won, Ended}
+use Rattle.rounds.specs.declared.Searched.{Searched}
+use Rattle.rounds.specs.declared.Searched.the-variants.{Won}
 
 pub zeros-length : {t : List ℕ} {n : ℕ} → t ≡ replicate n 0 → length t ≡ n
 zeros-length {t} {n} e = ap length e ∙ length-replicate n 0
@@ -72,12 +76,9 @@ front-room keys rest m e = omega (arith, length-append keys rest)
 
 -- ---- one size more
 
--- from size k on the search ends as it does from the first
-abbrev pub Left : ℕ → List Pair → ℕ → Type 0
-Left n ps k = (k ≤ length ps) × (firstWin n ps 14 k ≡ foundOf n ps)
-
-pub left-start : (n : ℕ) (ps : List Pair) → Left n ps (length ps)
-left-start n ps = (le-refl (length ps), refl)
+-- from size k on the search ends as it does from the first; w is the word of the try before, the last one where no size is left
+abbrev pub Left : ℕ → List Pair → (k w : ℕ) → Type 0
+Left n ps k w = (k ≤ length ps) × (firstWin n ps 14 k ≡ foundOf n ps) × (k ≡ 0 → w ≡ lastWord n ps)
 
 pub pairs-whole : (ws : List ℕ) → length ws % 2 ≡ 0 → length (pairsOf ws) ≡ length ws / 2
 pairs-whole ws h = omega (arith, pairs-length 0 ws)
@@ -98,41 +99,51 @@ module _ {ws : List ℕ} {t K S n : ℕ} (s : SetSearchable ws t K S n) where
     scratch-room = rw eS (s .scratch-room);
   }
 
-  pub search-start : Left n (pairsOf ws) (length ws / 2)
-  search-start = subst (λ (k : ℕ). Left n (pairsOf ws) k) (pairs-whole ws (s .whole)) (left-start n (pairsOf ws))
+  pub search-start : 0 < length ws / 2 → Left n (pairsOf ws) (length ws / 2) 0
+  search-start h =
+      let same = pairs-whole ws (s .whole) in
+      (omega (arith, same), ap (λ (k : ℕ). firstWin n (pairsOf ws) 14 k) (sym same), λ z. absurd (omega arith))
 
 module _ (n : ℕ) (ps : List Pair) (few : length ps ≤ 8192) where
-  pub left-end : (k : ℕ) → k ≤ 0 → Left n ps k → (table : List ℕ) → table ≡ replicate (32 * n) 0
-      → (Ended ≡ searchedOf (foundOf n ps)) × (table ≡ tableAfter n (lanesOf n ps))
-  unfolding lanesFound
-  left-end k h l table et =
+  pub left-end : (k w : ℕ) → k ≤ 0 → Left n ps k w → (r : Searched) → r ≡ searchedOf (refused (atItem 4 w)) → (table : List ℕ) → table ≡ replicate (32 * n) 0
+      → (r ≡ searchedOf (searched n ps)) × (table ≡ tableAfter n (lanesOf n ps))
+  unfolding lanesFound searched
+  left-end k w h l r er table et =
       let z : k ≡ 0 = omega arith in
       let none-won : foundOf n ps ≡ ended = sym (l .1) ∙ rw z (win-none n ps 14) in
-      rw none-won (refl, et)
+      let answer : searched n ps ≡ refused (atItem 4 w) = rw (none-won, l .2 z, searched) in
+      (er ∙ ap searchedOf (sym answer), rw none-won et)
 
-  pub left-on : (k : ℕ) → 0 < k → Left n ps k → (r : Bool) → r ≡ isAll (try n ps k) → r ≡ false → Left n ps (k / 2)
-  left-on k h l r e f = go (try n ps k) refl
+  pub left-on : (k v : ℕ) → 0 < k → Left n ps k v → (r : Ending) → r ≡ endingOf (try n ps k) → (w : ℕ) → r ≡ Stuck w → Left n ps (k / 2) w
+  unfolding stopWord
+  left-on k v h l r e w f = go (try n ps k) refl
     where
-      go : (T : Tried) → try n ps k ≡ T → Left n ps (k / 2)
+      go : (T : Tried) → try n ps k ≡ T → Left n ps (k / 2) w
       go (all lanes) t =
-          let q : true ≡ false = sym (rw t at e) ∙ f in
+          let q : All ≡ Stuck w = sym (rw t at e) ∙ f in
           let z : _≡_ {A = ℕ} 0 1 = cc in
           absurd (omega arith)
-      go (stuck lanes) t =
+      go (stuck p lanes) t =
+          let q : Stuck (p .word) ≡ Stuck w = sym (rw t at e) ∙ f in
+          let is : p .word ≡ w = cc in
           let few-left : k / 2 ≤ 4096 = omega arith in
           let same = win-fuel n ps 13 14 (k / 2) (lt-of-le-of-lt few-left (lit< tt)) (lt-of-le-of-lt few-left (lit< tt)) in
-          (omega arith, sym (win-stuck n ps 13 k lanes h t ∙ same) ∙ l .1)
+          (omega arith, sym (win-stuck n ps 13 k p lanes h t ∙ same) ∙ l .1, λ z. sym is ∙ ap stopWord (sym t ∙ ap (λ (x : ℕ). try n ps x) (one z)))
+        where
+          one : k / 2 ≡ 0 → k ≡ 1
+          one z = omega arith
 
-  pub left-won : (k : ℕ) → 0 < k → Left n ps k → (r : Bool) → r ≡ isAll (try n ps k) → r ≡ true → (table : List ℕ) → table ≡ tableOf (triedLanes (try n ps k))
-      → (Won k ≡ searchedOf (foundOf n ps)) × (table ≡ tableAfter n (lanesOf n ps))
-  unfolding lanesFound
-  left-won k h l r e f table et = go (try n ps k) refl
+  pub left-won : (k v : ℕ) → 0 < k → Left n ps k v → (r : Ending) → r ≡ endingOf (try n ps k) → r ≡ All → (table : List ℕ) → table ≡ tableOf (triedLanes (try n ps k))
+      → (Won k ≡ searchedOf (searched n ps)) × (table ≡ tableAfter n (lanesOf n ps))
+  unfolding lanesFound searched
+  left-won k v h l r e f table et = go (try n ps k) refl
     where
-      go : (T : Tried) → try n ps k ≡ T → (Won k ≡ searchedOf (foundOf n ps)) × (table ≡ tableAfter n (lanesOf n ps))
-      go (stuck lanes) t =
-          let q : false ≡ true = sym (rw t at e) ∙ f in
+      go : (T : Tried) → try n ps k ≡ T → (Won k ≡ searchedOf (searched n ps)) × (table ≡ tableAfter n (lanesOf n ps))
+      go (stuck p lanes) t =
+          let q : Stuck (p .word) ≡ All = sym (rw t at e) ∙ f in
           let z : _≡_ {A = ℕ} 0 1 = cc in
           absurd (omega arith)
       go (all lanes) t =
           let wins : foundOf n ps ≡ won k lanes = sym (l .1) ∙ win-all n ps 13 k lanes h t in
-          rw wins (refl, rw t at et)
+          let answer : searched n ps ≡ good (record { size = k; lanes = lanes }) = rw (wins, searched) in
+          (ap searchedOf (sym answer), rw wins (rw t at et))

@@ -7,17 +7,18 @@ use mathlib.Core.List.{List, [], _++_, append-nil}
 use Prim.Native.Nat.{ℕ, _*_, _/_, _^_, _≤_, _<_}
 use native.Mathlib.Nat.{le-trans, mul-le-mul-left, div-le-self}
 use native.Mathlib.Omega.{arith}
-use borrow.Author.Tests.{le-leb, lt-leb, le-ltb}
+use borrow.Author.Tests.{le-leb, lt-leb}
 use lib.Dec.{leb}
 use lib.ListN.{length, getD, take, drop, replicate, length-append, length-drop}
 use lib.Seq.{sets, length-take-le}
 use Rattle.reads.specs.ReadSet.{pairsOf, broken}
-use Rattle.reads.specs.Search.{Lane, Tried, all, Found, won, ended, foundOf, lanesFound, sizeFound, lanesOf, sizeOf, longest}
+use Rattle.reads.specs.Search.{Lane, Tried, all, lanesOf, sizeOf, longest}
 use Rattle.reads.specs.ReadSection.{roundsFrom}
 use Rattle.words.specs.Answer.{Answer, good, refused, atItem, nowhere}
+use Rattle.words.specs.declared.refusals.Refusal.{Refusal}
 use Rattle.reads.specs.SetAnswer.{Packed, packed, readSet, setFitted, setAnswer, resultAfter, setRoomAfter}
-use Rattle.reads.proofs.SearchLaws.{size-won}
-use Rattle.reads.proofs.SetAnswerLaws.{found-packed, ended-packed}
+use Rattle.reads.proofs.SearchLaws.{win-first, size-won}
+use Rattle.reads.proofs.SetAnswerLaws.{packed-placed}
 use Rattle.reads_try.specs.LaneTable.{tableOf}
 use Rattle.reads_try.specs.Tries.{triedLanes, triedOf}
 use Rattle.reads_try.specs.TableLanes.{lanesAt, SoundLanes}
@@ -29,11 +30,11 @@ use Rattle.reads_section.specs.Readout.{TableReadable}
 use Rattle.reads_section.proofs.PairFormLaws.{form-whole, form-masks}
 use Rattle.rounds.specs.declared.Rounds.{Rounds}
 use Rattle.rounds.specs.declared.Rounds.the-variants.{Placed}
-use Rattle.rounds.specs.declared.Searched.the-variants.{Won, Ended}
+use Rattle.rounds.specs.declared.Searched.the-variants.{Won, Lost}
 use Rattle.rounds.specs.Rounds.{roundsOf, searchedOf, tableAfter, SetSearchable, Solvable}
 use Rattle.rounds.proofs.PieceSizeLaws.{tried-is}
 
--- ---- which outcome: 1, 2, 3, 4, 14, each after those before it
+-- ---- which outcome: 1, 2, those of the search, 14, each after those before it
 
 module _ (n : ℕ) (ws : List ℕ) (o : ℕ) where
   abbrev pub end : Answer Packed
@@ -52,41 +53,29 @@ module _ (n : ℕ) (ws : List ℕ) (o : ℕ) where
     is-bad i e = rw (pairs-few, e, readSet)
 
     module _ (form : broken (pairsOf ws) ≡ none) where
-      pub is-none : length ws ≡ 0 → end ≡ refused (nowhere 3)
-      unfolding readSet packed setFitted
-      is-none z = rw (pairs-few, form, le-ltb 0 (length (pairsOf ws)) (omega (arith, pairs-length 0 ws)), readSet, packed)
+      pub is-read : readSet n (pairsOf ws) ≡ packed n (pairsOf ws)
+      unfolding readSet
+      is-read = rw (pairs-few, form, readSet)
 
-      module _ (some-words : length ws ≡ 0 → ⊥) where
-        some-pairs : 0 < length (pairsOf ws)
-        some-pairs = omega (arith, pairs-length 0 ws)
+      pub is-lost : (q : Refusal) → packed n (pairsOf ws) ≡ refused q → end ≡ refused q
+      unfolding setFitted
+      is-lost q e = rw (is-read, e, setFitted)
 
-        pub is-stuck : lanesOf n (pairsOf ws) ≡ none → end ≡ refused (nowhere 4)
-        unfolding readSet setFitted
-        is-stuck e = rw (pairs-few, form, ended-packed n (pairsOf ws) some-pairs e, readSet)
+      module _ (x : Packed) (e : packed n (pairsOf ws) ≡ good x) where
+        pub is-short : o < 2 * n * longest (x .lanes) → end ≡ refused (nowhere 14)
+        unfolding setFitted
+        is-short l = rw (is-read, e, lt-leb (2 * n * longest (x .lanes)) o l, setFitted)
 
-        module _ (lanes : List Lane) (e : lanesOf n (pairsOf ws) ≡ some lanes) where
-          -- what the search found
-          abbrev pub placed : Packed
-          placed = record { size = sizeOf n (pairsOf ws); lanes = lanes }
-
-          pub is-packed : readSet n (pairsOf ws) ≡ good placed
-          unfolding readSet
-          is-packed = rw (pairs-few, form, readSet) (found-packed n (pairsOf ws) lanes some-pairs e)
-
-          pub is-short : o < 2 * n * longest lanes → end ≡ refused (nowhere 14)
-          unfolding setFitted
-          is-short l = rw (is-packed, lt-leb (2 * n * longest lanes) o l, setFitted)
-
-          pub is-placed : 2 * n * longest lanes ≤ o → end ≡ good placed
-          unfolding setFitted
-          is-placed l = rw (is-packed, le-leb (2 * n * longest lanes) o l, setFitted)
+        pub is-placed : 2 * n * longest (x .lanes) ≤ o → end ≡ good x
+        unfolding setFitted
+        is-placed l = rw (is-read, e, le-leb (2 * n * longest (x .lanes)) o l, setFitted)
 
 -- ---- the answer and the result, by the outcome
 
 module _ (D : Answer Packed) (r : Rounds) (out : List ℕ) where
-  pub refused-post : (n i : ℕ) → D ≡ refused (atItem n i) → r ≡ roundsOf (refused (atItem n i)) → (r ≡ roundsOf D) × (out ≡ resultAfter D out)
+  pub refused-post : (q : Refusal) → D ≡ refused q → r ≡ roundsOf (refused q) → (r ≡ roundsOf D) × (out ≡ resultAfter D out)
   unfolding resultAfter
-  refused-post n i e er = rw e (er, refl)
+  refused-post q e er = rw e (er, refl)
 
 pub placed-post : (D : Answer Packed) (x : Packed) (ls : List Lane) (n s : ℕ) (out out′ : List ℕ) → D ≡ good x → ls ≡ x .lanes → n ≡ longest ls → x .size ≡ s
     → out′ ≡ sets out 0 (roundsFrom ls n 0) → (Placed n s ≡ roundsOf D) × (out′ ≡ resultAfter D out)
@@ -110,19 +99,17 @@ searchable {ws} s few form small = record {
   scratch-room = omega (arith, s .scratch-room);
 }
 
--- ---- a size has won
+-- ---- a size has won, or none
 
-pub lost : (o : Found) → searchedOf o ≡ Ended → lanesFound o ≡ none
-unfolding lanesFound
-lost ended e = refl
-lost (won k lanes) e =
+pub lost-is : (D : Answer Packed) (q : Refusal) → searchedOf D ≡ Lost q → D ≡ refused q
+lost-is (good x) q e =
     let z : _≡_ {A = ℕ} 0 1 = cc in
     absurd (omega arith)
+lost-is (refused p) q e = let s : p ≡ q = cc in ap refused s
 
-pub size-told : (o : Found) (k : ℕ) → searchedOf o ≡ Won k → (sizeFound o ≡ k) × (lanes : List Lane) × (lanesFound o ≡ some lanes)
-unfolding sizeFound lanesFound
-size-told (won s lanes) k e = (cc, lanes, refl)
-size-told ended k e =
+pub won-is : (D : Answer Packed) (k : ℕ) → searchedOf D ≡ Won k → (x : Packed) × (D ≡ good x) × (x .size ≡ k)
+won-is (good x) k e = (x, refl, cc)
+won-is (refused q) k e =
     let z : _≡_ {A = ℕ} 0 1 = cc in
     absurd (omega arith)
 
@@ -141,31 +128,25 @@ module _ {ws : List ℕ} {t K S n : ℕ} (s : SetSearchable ws t K S n) where
       let tried : triedOf n k ws (keysOf k (pairsOf ws)) ≡ all lanes = tried-is s (w .size) (keysOf k (pairsOf ws)) refl ∙ w .wins in
       subst (λ (T : Tried). SoundLanes ws n (triedLanes T)) tried (tried-kept ws (s .whole) (s .masks) n k (keysOf k (pairsOf ws)) (s .some-lanes))
 
+  pub won-table : (lanes : List Lane) (table : List ℕ) → lanesOf n (pairsOf ws) ≡ some lanes → table ≡ tableAfter n (lanesOf n (pairsOf ws)) → length table ≡ 32 * n
+      → TableReadable ws table n × (lanesAt ws table n ≡ lanes)
+  won-table lanes table e et long =
+      let kept = won-kept lanes e in
+      let filled : table ≡ tableOf lanes ++ [] = (rw e at et) ∙ sym (append-nil (tableOf lanes)) in
+      (record { few = s .few-lanes; in-room = omega arith; filled = filled-of kept [] filled }, filled-lanes kept [] filled)
+
   pub win-of : (lanes : List Lane) (table : List ℕ) → lanesOf n (pairsOf ws) ≡ some lanes → table ≡ tableAfter n (lanesOf n (pairsOf ws)) → length table ≡ 32 * n
       → Win ws table n
   win-of lanes table e et long =
-      let kept = won-kept lanes e in
-      let filled : table ≡ tableOf lanes ++ [] = (rw e at et) ∙ sym (append-nil (tableOf lanes)) in
-      record {
-        lanes = lanes;
-        found = e;
-        readable = record { few = s .few-lanes; in-room = omega arith; filled = filled-of kept [] filled };
-        same = filled-lanes kept [] filled;
-      }
-
-  pub won-win : (k : ℕ) (table : List ℕ) → searchedOf (foundOf n (pairsOf ws)) ≡ Won k → table ≡ tableAfter n (lanesOf n (pairsOf ws)) → length table ≡ 32 * n
-      → Win ws table n
-  won-win k table e et long =
-      let told = size-told (foundOf n (pairsOf ws)) k e in
-      win-of (told .1) table (told .2) et long
+      let there = won-table lanes table e et long in
+      record { lanes = lanes; found = e; readable = there .0; same = there .1 }
 
   -- a size is at most the number of pairs
-  pub won-small : (k : ℕ) → searchedOf (foundOf n (pairsOf ws)) ≡ Won k → k ≤ 8192
-  won-small k e =
-      let told = size-told (foundOf n (pairsOf ws)) k e in
-      let w = size-won n (pairsOf ws) (told .1) (told .2) in
+  pub won-small : (x : Packed) → packed n (pairsOf ws) ≡ good x → x .size ≤ 8192
+  won-small x e =
+      let w = win-first n (pairsOf ws) 14 (length (pairsOf ws)) (x .size) (x .lanes) (packed-placed n (pairsOf ws) x e .1) in
       let few : length (pairsOf ws) / 2 ^ w .i ≤ length (pairsOf ws) = div-le-self (length (pairsOf ws)) (2 ^ w .i) in
-      omega (arith, few, w .is, told .0, pairs-length 0 ws, s .few)
+      omega (arith, few, w .is, pairs-length 0 ws, s .few)
 
 -- the words of 32 rounds of 256 lanes
 pub size-fits : (n r : ℕ) → n ≤ 256 → r ≤ 32 → 2 * n * r ≤ 16384

@@ -1,30 +1,43 @@
 -- The numbers of the answer, and what the search over the piece sizes asks and leaves. n is the number of lanes.
 -- Assumes nothing.
 use mathlib.Core.Path.{_≡_}
+use mathlib.Core.Bool.{true, false}
 use mathlib.Core.Option.{Option, none, some}
 use mathlib.Core.List.{List}
 use Prim.Native.Nat.{ℕ, _+_, _*_, _/_, _%_, _≤_, _<_}
+use lib.Dec.{leb, ltb}
 use lib.ListN.{length, getD, replicate}
 use Rattle.words.specs.Bit.{pop}
-use Rattle.reads.specs.Search.{Lane, Found, won, ended, longest}
+use Rattle.reads.specs.ReadSet.{Pair, total}
+use Rattle.reads.specs.Search.{Lane, longest}
+use Rattle.reads.specs.Packing.{widePairs}
 use Rattle.words.specs.Answer.{Answer, good, refused}
 use Rattle.reads.specs.SetAnswer.{Packed}
 use Rattle.reads_try.specs.LaneTable.{tableOf}
 use Rattle.rounds.specs.declared.Rounds.{Rounds}
 use Rattle.rounds.specs.declared.Rounds.the-variants.{Placed, Refused}
 use Rattle.rounds.specs.declared.Searched.{Searched}
-use Rattle.rounds.specs.declared.Searched.the-variants.{Won, Ended}
+use Rattle.rounds.specs.declared.Searched.the-variants.{Won, Lost}
 
 -- the number of rounds and the piece size that won, or the refusal
 abbrev pub roundsOf : Answer Packed → Rounds
 roundsOf (good x) = Placed (longest (x .lanes)) (x .size)
 roundsOf (refused q) = Refused q
 
--- the size that wins, if one does, and the table then: that of its lanes, or empty
-abbrev pub searchedOf : Found → Searched
-searchedOf (won k lanes) = Won k
-searchedOf ended = Ended
+-- the size that wins, or the refusal
+abbrev pub searchedOf : Answer Packed → Searched
+searchedOf (good x) = Won (x .size)
+searchedOf (refused q) = Lost q
 
+-- the refusal that a set gets before any search, or 0
+unfoldable pub numberBefore : ℕ → List Pair → ℕ
+numberBefore n ps =
+    elim (ltb 0 (length ps)) [
+      | false ↦ 3
+      | true ↦ elim (leb (total ps) (32 * n)) [ false ↦ 21 | true ↦ elim (leb (widePairs ps) n) [ false ↦ 22 | true ↦ 0 ] ]
+    ]
+
+-- the table of the lanes that won, or an empty one
 abbrev pub tableAfter : ℕ → Option (List Lane) → List ℕ
 tableAfter n none = replicate (32 * n) 0
 tableAfter n (some lanes) = tableOf lanes

@@ -1,14 +1,15 @@
 // Read rounds: document 01, "Read rounds". The Rust is `map_global_read_to_rounds`.
 ghost use mathlib.Core.Path.{_≡_};
-ghost use Prim.Native.Nat.{_*_, _/_, _≤_, _<_};
+ghost use Prim.Native.Nat.{_*_, _/_, _%_, _≤_, _<_};
 ghost use lib.ListN.{length, replicate};
 ghost use Rattle.reads.specs.ReadSet.{pairsOf};
-ghost use Rattle.reads.specs.Search.{try, foundOf, lanesOf};
+ghost use Rattle.reads.specs.Search.{try, lanesOf};
 ghost use Rattle.words.specs.Answer.{refused, atItem};
-ghost use Rattle.reads.specs.SetAnswer.{readSet, setFitted, setAnswer, resultAfter, setRoomAfter};
+ghost use Rattle.reads.specs.SetAnswer.{searched, packed, readSet, setFitted, setAnswer, resultAfter, setRoomAfter};
 ghost use Rattle.reads_try.specs.LaneTable.{tableOf};
-ghost use Rattle.reads_try.specs.Tries.{isAll, triedLanes};
-ghost use Rattle.rounds.specs.Rounds.{roundsOf, searchedOf, tableAfter, SetSearchable, Solvable};
+ghost use Rattle.reads_try.specs.Tries.{endingOf, triedLanes};
+ghost use Rattle.rounds.specs.Rounds.{roundsOf, searchedOf, numberBefore, tableAfter, SetSearchable, Solvable};
+use reads_try::Ending;
 use words::clear::clear;
 use words::edition::Edition;
 use words::found::Item;
@@ -20,10 +21,41 @@ pub enum Rounds {
     Refused(refusals::Refusal),
 }
 
-// The piece size that won, or that none did.
+// The piece size that won, or the refusal.
 pub enum Searched {
     Won(usize),
-    Ended,
+    Lost(refusals::Refusal),
+}
+
+// A refusal of the search: its part is 0.
+fn lost(number: u32, item: u32) -> Searched
+    ensures { λ r. ⌜ r ≡ searchedOf (refused (atItem number item)) ⌝ }
+{
+    Searched::Lost(refusals::Refusal {
+        number,
+        part: 0,
+        item: item as u64,
+    })
+}
+
+// 3, 21 or 22, which need no search; 0 where a set meets none of them.
+fn number_before(set: &[u32], lanes: usize) -> u32
+    requires { ⌜ (length (now set) % 2 ≡ 0) × (length (now set) ≤ 16384) × (lanes ≤ 256) ⌝ }
+    ensures { λ r. ⌜ r ≡ numberBefore lanes (pairsOf (now (set .entry))) ⌝ }
+{
+    let n = set.len() / 2;
+    if n == 0 {
+        return refusals::NOTHING_TO_READ;
+    }
+    let bits = reads_pieces::total_bits(set, 0, n) as usize;
+    if 32 * lanes < bits {
+        return refusals::MANY_BITS;
+    }
+    let wide = reads_pieces::wide_pairs(set);
+    if lanes < wide {
+        return refusals::MANY_WIDE;
+    }
+    0
 }
 
 // A try at piece size k: the pieces are put in order, and their pairs placed in the empty table.
@@ -36,9 +68,9 @@ fn try_pieces(
     scratch: &mut [u64],
     lanes: usize,
     k: usize,
-) -> bool
+) -> Ending
     requires { ⌜ SetSearchable (now set) (length (now table)) (length (now keys)) (length (now scratch)) lanes × (0 < k) × (k ≤ length (now set) / 2) × (now table ≡ replicate (32 * lanes) 0) × (length (now used) ≡ lanes) × (length (now held) ≡ lanes) ⌝ }
-    ensures { λ r. ⌜ r ≡ isAll (try lanes (pairsOf (now (set .entry))) k) ⌝ }
+    ensures { λ r. ⌜ r ≡ endingOf (try lanes (pairsOf (now (set .entry))) k) ⌝ }
     ensures { λ _. ⌜ now (table .exit) ≡ tableOf (triedLanes (try lanes (pairsOf (now (set .entry))) k)) ⌝ }
 {
     let count = (set.len() / 2 + k - 1) / k;
@@ -48,7 +80,8 @@ fn try_pieces(
     reads_try::try_size(set, &keys[..count], table, used, held, lanes, k)
 }
 
-// The search over the sizes, with the running numbers of the lanes lent: what they hold afterwards is left open.
+// The search over the sizes n, n/2, n/4 .. 1, up to the first that places all: then it, with its lanes in the table. Else 4, with the word
+// of the last try, and an empty table. The running numbers of the lanes are lent; what they hold afterwards is left open.
 fn sizes_over(
     set: &[u32],
     table: &mut [u32],
@@ -58,23 +91,29 @@ fn sizes_over(
     scratch: &mut [u64],
     lanes: usize,
 ) -> Searched
-    requires { ⌜ SetSearchable (now set) (length (now table)) (length (now keys)) (length (now scratch)) lanes × (length (now used) ≡ lanes) × (length (now held) ≡ lanes) ⌝ }
-    ensures { λ r. ⌜ r ≡ searchedOf (foundOf lanes (pairsOf (now (set .entry)))) ⌝ }
+    requires { ⌜ SetSearchable (now set) (length (now table)) (length (now keys)) (length (now scratch)) lanes × (length (now used) ≡ lanes) × (length (now held) ≡ lanes) × (0 < length (now set) / 2) ⌝ }
+    ensures { λ r. ⌜ r ≡ searchedOf (searched lanes (pairsOf (now (set .entry)))) ⌝ }
     ensures { λ _. ⌜ now (table .exit) ≡ tableAfter lanes (lanesOf lanes (pairsOf (now (set .entry)))) ⌝ }
 {
+    let mut word = 0;
     let mut k = set.len() / 2;
     clear(table);
     while 0 < k {
-        if try_pieces(set, table, used, held, keys, scratch, lanes, k) {
-            return Searched::Won(k);
+        match try_pieces(set, table, used, held, keys, scratch, lanes, k) {
+            Ending::All => {
+                return Searched::Won(k);
+            }
+            Ending::Stuck(w) => {
+                word = w;
+            }
         }
         clear(table);
         k /= 2;
     }
-    Searched::Ended
+    lost(refusals::NO_ROOM_FOUND, word)
 }
 
-// The sizes n, n/2, n/4 .. 1, up to the first that places all: then it, with its lanes in the table. Else the table is empty.
+// What a set gets: 3, 21, 22, and then the search. The table holds the lanes of the size that won, or is empty.
 pub fn search_sizes(
     set: &[u32],
     table: &mut [u32],
@@ -83,9 +122,14 @@ pub fn search_sizes(
     lanes: usize,
 ) -> Searched
     requires { ⌜ SetSearchable (now set) (length (now table)) (length (now keys)) (length (now scratch)) lanes ⌝ }
-    ensures { λ r. ⌜ r ≡ searchedOf (foundOf lanes (pairsOf (now (set .entry)))) ⌝ }
+    ensures { λ r. ⌜ r ≡ searchedOf (packed lanes (pairsOf (now (set .entry)))) ⌝ }
     ensures { λ _. ⌜ now (table .exit) ≡ tableAfter lanes (lanesOf lanes (pairsOf (now (set .entry)))) ⌝ }
 {
+    let number = number_before(set, lanes);
+    if 0 < number {
+        clear(table);
+        return lost(number, 0);
+    }
     let mut used = [0u32; 256];
     let mut held = [0u32; 256];
     sizes_over(
@@ -130,18 +174,17 @@ pub fn rounds_over(
     if let Item::At(i) = reads_section::check_form(set) {
         return refused(refusals::PAIR_FORM, i as u64);
     }
-    if set.len() == 0 {
-        return refused(refusals::NOTHING_TO_READ, 0);
-    }
-    if let Searched::Won(size) = search_sizes(set, table, keys, scratch, lanes) {
-        let rounds = reads_section::longest_row(set, table, lanes);
-        if out.len() < 2 * lanes * rounds {
-            return refused(refusals::RESULT_SHORT, 0);
+    match search_sizes(set, table, keys, scratch, lanes) {
+        Searched::Lost(q) => Rounds::Refused(q),
+        Searched::Won(size) => {
+            let rounds = reads_section::longest_row(set, table, lanes);
+            if out.len() < 2 * lanes * rounds {
+                return refused(refusals::RESULT_SHORT, 0);
+            }
+            reads_section::write_rounds(set, table, lanes, rounds, out);
+            Rounds::Placed(rounds as u32, size as u32)
         }
-        reads_section::write_rounds(set, table, lanes, rounds, out);
-        return Rounds::Placed(rounds as u32, size as u32);
     }
-    refused(refusals::NO_ROOM_FOUND, 0)
 }
 
 // The rounds of a read set at 256 lanes: word, mask, word, mask .. in; per round 512 words out. The answer, the lent result and the lent

@@ -1,9 +1,10 @@
 //! The reference of the comparisons: GEM's own Rust.
 
 use indexmap::{IndexMap, IndexSet};
+use model::rounds::Packing;
 use oracle::aig::{DriverType, RAMBlock, AIG, DFF};
 use oracle::flatten::OracleTables;
-use oracle::flatten_given::{oracle_build_given, OracleGiven};
+use oracle::flatten_given::{oracle_build_given, oracle_notes, OracleGiven};
 use oracle::one_bit::{oracle_place_bit, oracle_purge_bit, OracleLevels, OracleStage};
 use oracle::pe::{BoomerangStage, Partition};
 use oracle::staging::StagedAIG;
@@ -15,16 +16,30 @@ use std::time::{Duration, Instant};
 
 pub const NAME: &str = "GEM's Rust";
 
-/// What GEM's `map_global_read_to_rounds` panics with where no piece size has room (refusals 3 and 4).
+/// What GEM's `map_global_read_to_rounds` panics with where no piece size has room (refusals 3, 21, 22 and 4).
 const NO_ROOM: &str = "cannot map global init to any multiples of rounds.";
 
-/// The lanes that GEM makes, or none where it panics for want of room. Any other panic is passed on.
-pub fn lanes(pairs: &[(u32, u32)]) -> Option<Vec<Vec<(u32, u32)>>> {
+/// The lanes that GEM makes and the piece size that it noted, or the word that its try of size 1 stopped at where it panics for want
+/// of room. Any other panic is passed on.
+pub fn search(pairs: &[(u32, u32)]) -> Result<Packing, Option<u32>> {
     let set: BTreeMap<u32, u32> = pairs.iter().copied().collect();
-    lanes_of_map(&set)
+    let _ = oracle_notes();
+    let searched = catch_unwind(|| oracle::flatten_given::oracle_map_global_read_to_rounds(&set));
+    let notes = oracle_notes();
+    match searched {
+        Ok(lanes) => match notes.won[..] {
+            [size] => Ok(Packing { lanes, size }),
+            _ => panic!("one search noted {:?}", notes),
+        },
+        Err(panic) if is_no_room(&panic) => Err(notes.stopped.map(|(size, word)| {
+            assert_eq!(size, 1, "the last try is that of size 1");
+            word
+        })),
+        Err(panic) => std::panic::resume_unwind(panic),
+    }
 }
 
-/// The same for a map that is made already.
+/// The lanes of GEM's own text, for a map that is made already: what is timed.
 pub fn lanes_of_map(set: &BTreeMap<u32, u32>) -> Option<Vec<Vec<(u32, u32)>>> {
     match catch_unwind(|| oracle::flatten::oracle_map_global_read_to_rounds(set)) {
         Ok(lanes) => Some(lanes),
@@ -40,7 +55,8 @@ fn is_no_room(panic: &Box<dyn Any + Send>) -> bool {
 /// What GEM makes of a plan.
 pub enum Flattened {
     Script(Script),
-    Panicked,
+    /// With the word that its last try of size 1 stopped at, where the panic is for want of room.
+    Panicked(Option<u32>),
     /// GEM cannot be asked: it has a list by pin, and half words in its tables.
     NotAsked,
 }
@@ -55,7 +71,10 @@ pub fn flatten(plan: &Plan) -> Flattened {
     }
     match catch_unwind(|| script(plan)) {
         Ok((script, _)) => Flattened::Script(script),
-        Err(_) => Flattened::Panicked,
+        Err(panic) => {
+            let stopped = oracle_notes().stopped.filter(|&(size, _)| size == 1 && is_no_room(&panic));
+            Flattened::Panicked(stopped.map(|(_, word)| word))
+        }
     }
 }
 
@@ -101,15 +120,19 @@ fn script(plan: &Plan) -> (Script, Duration) {
         tables: tables.collect::<Vec<_>>().into_iter().rev().collect(),
     };
     let layout = plan.layout.iter().map(|&pin| oracle_pin(pin)).collect();
+    let _ = oracle_notes();
     let start = Instant::now();
     let made = oracle_build_given(&aig, &stageds, &slices, plan.blocks as usize, layout, given);
     let time = start.elapsed();
+    let notes = oracle_notes();
     let script = Script {
         blocks: plan.blocks as usize,
         starts: made.blocks_start.iter().map(|&start| start as u64).collect(),
         words: made.blocks_data.to_vec(),
         state_words: made.reg_io_state_size.into(),
         sram_words: made.sram_storage_size.into(),
+        // GEM goes through the parts in their order.
+        pieces: notes.won.iter().map(|&size| size as u32).collect(),
     };
     (script, time)
 }

@@ -6,19 +6,17 @@ use std::time::{Duration, Instant};
 
 pub const NAME: &str = "host/model";
 
-pub fn lanes(pairs: &[(u32, u32)]) -> Option<Vec<Vec<(u32, u32)>>> {
-    model::rounds::pack(pairs).map(|packing| packing.lanes)
-}
+pub use model::rounds::search;
 
 pub fn lanes_of_map(set: &BTreeMap<u32, u32>) -> Option<Vec<Vec<(u32, u32)>>> {
     let pairs: Vec<(u32, u32)> = set.iter().map(|(&word, &mask)| (word, mask)).collect();
-    lanes(&pairs)
+    search(&pairs).ok().map(|packing| packing.lanes)
 }
 
 /// What GEM makes of a plan, which is not known here: the comparisons use the model itself.
 pub enum Flattened {
     Script(Script),
-    Panicked,
+    Panicked(Option<u32>),
     NotAsked,
 }
 
@@ -34,9 +32,8 @@ pub fn flatten_timed(plan: &Plan) -> (Script, Duration) {
     let accepted = model::build::accept(record.len(), &words).expect("a plan in order");
     let model::build::Sizes { state_words, sram_words, .. } = accepted.sizes();
     let blocks = plan.blocks as usize;
-    let script =
-        Script { blocks, starts: accepted.starts(), words: accepted.words(), state_words, sram_words };
-    (script, start.elapsed())
+    let (starts, words, pieces) = (accepted.starts(), accepted.words(), accepted.pieces);
+    (Script { blocks, starts, words, state_words, sram_words, pieces }, start.elapsed())
 }
 
 /// GEM's `place_bit` and `purge_bit`, which are not known here.

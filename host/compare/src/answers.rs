@@ -12,7 +12,7 @@
 //!   r = 0:   once     the refusal's number, 3 or 4
 //! ```
 
-use model::rounds::{self, Lanes, Pair};
+use model::rounds::{self, Lanes, Packing, Pair};
 
 pub enum Stored {
     Packed { rounds: u32, places: Vec<u32> },
@@ -27,12 +27,11 @@ pub struct Case {
 impl Case {
     /// What the reference answers for these pairs.
     pub fn ask(pairs: Vec<Pair>) -> Case {
-        let answer = match reference::lanes(&pairs) {
-            Some(lanes) => {
+        let answer = match rounds::outcome(&pairs, reference::search) {
+            Ok(Packing { lanes, .. }) => {
                 Stored::Packed { rounds: rounds::rounds(&lanes) as u32, places: places(&pairs, &lanes) }
             }
-            None if pairs.is_empty() => Stored::Refused(3),
-            None => Stored::Refused(4),
+            Err((number, _)) => Stored::Refused(number),
         };
         Case { pairs, answer }
     }

@@ -1,14 +1,14 @@
 //! Both builders on one plan: ours and GEM's, or where GEM cannot be asked, the model.
 
-use crate::plan_checker::{difference, same_script, Expected, More, PlanChecker};
+use crate::plan_checker::{difference, same_pieces, same_script, Expected, More, PlanChecker};
 use model::{record, Refused};
 use plan::stored::Case;
-use plan::{Endpoint, Gate, Part, Plan, Position, Script, Stage, Tables, EMPTY};
+use plan::{Endpoint, FellBack, Gate, Part, Plan, Position, Script, Stage, Tables, EMPTY};
 use reference::Flattened;
 
 /// What became of a plan.
 pub enum Outcome {
-    /// Every word, start and size is the same.
+    /// Every word, start and size is the same, and every piece size that GEM told.
     Equal,
     /// We refuse it, and GEM does this.
     Refused(Refused, Gem),
@@ -38,13 +38,15 @@ impl Gem {
 pub struct Line {
     pub shape: String,
     pub outcome: Outcome,
+    /// The parts whose search fell back to a smaller piece size.
+    pub fell_back: Vec<FellBack>,
 }
 
-/// A plan and the script that GEM made of it.
+/// A plan and the script that GEM made of it. The script tells no piece sizes: GEM is asked for those of each part's read set.
 pub fn pair(checker: &mut PlanChecker, record: &[u8], script: &Script) -> Line {
     let expected = Expected::of(record);
     let outcome = match &expected.answer {
-        Ok(made) => same(made, script, record),
+        Ok(made) => same(made, &Script { pieces: searched(record), ..script.clone() }, record),
         Err(refused) => Outcome::Refused(*refused, Gem::Builds),
     };
     finish(checker, record, &expected, outcome)
@@ -65,17 +67,26 @@ pub fn record(checker: &mut PlanChecker, bytes: &[u8]) -> Line {
     };
     let outcome = match (&expected.answer, flattened) {
         (Ok(made), Flattened::Script(script)) => same(made, &script, bytes),
-        (Ok(_), Flattened::Panicked) => Outcome::Differs("GEM panicked".to_string()),
+        (Ok(_), Flattened::Panicked(_)) => Outcome::Differs("GEM panicked".to_string()),
         (Ok(_), Flattened::NotAsked) => Outcome::Equal,
         (Err(refused), Flattened::Script(_)) => Outcome::Refused(*refused, Gem::Builds),
-        (Err(refused), Flattened::Panicked) => Outcome::Refused(*refused, Gem::Panics),
+        (Err(refused), Flattened::Panicked(_)) => Outcome::Refused(*refused, Gem::Panics),
         (Err(refused), Flattened::NotAsked) => Outcome::Refused(*refused, Gem::NotAsked),
     };
     finish(checker, bytes, &expected, outcome)
 }
 
 fn same(made: &Script, gems: &Script, record: &[u8]) -> Outcome {
-    same_script(made, gems, record).map_or_else(Outcome::Differs, |()| Outcome::Equal)
+    let same = same_script(made, gems, record).and_then(|()| same_pieces(made, gems));
+    same.map_or_else(Outcome::Differs, |()| Outcome::Equal)
+}
+
+/// The piece sizes by GEM's search (or the model's, where GEM is missing) of the read sets of an accepted plan; 0 where it ends.
+fn searched(record: &[u8]) -> Vec<u32> {
+    let words = record::words(record);
+    let accepted = model::build::accept(record.len(), &words).expect("accepted before");
+    let size = |set: &Vec<_>| reference::search(set).map_or(0, |packing| packing.size as u32);
+    accepted.sets.iter().map(size).collect()
 }
 
 /// Where the model and GEM agree, our library is held to them.
@@ -90,7 +101,8 @@ fn finish(checker: &mut PlanChecker, record: &[u8], expected: &Expected, outcome
             Err(what) => Outcome::Differs(what),
         },
     };
-    Line { shape: shape(record, expected), outcome }
+    let fell_back = expected.answer.as_ref().map_or(Vec::new(), Script::fell_back);
+    Line { shape: shape(record, expected), outcome, fell_back }
 }
 
 /// Parts, words and rounds of a plan and its script.

@@ -3,7 +3,7 @@
 use crate::lent::{self, LentRead, Room};
 use crate::tally::Tally;
 use juolgesot::ffi::{self, Answer};
-use model::rounds::{self, Pair, ROUND_WORDS, SET_ROOM};
+use model::rounds::{self, Packing, Pair, ROUND_WORDS, SET_ROOM};
 use std::time::Instant;
 
 /// What working room and result room a call is lent.
@@ -35,7 +35,14 @@ pub struct Checker {
     pub answers: Tally,
     pub tries: Tally,
     pub rounds: Tally,
+    /// Sets that refusal 4 met.
+    pub ended: Tally,
 }
+
+/// Kinds of `Checker::ended`.
+pub const FULL: &str = "8192 bits";
+pub const STAGED_STOP: &str = "stopped at a staged word";
+pub const UNSTAGED_STOP: &str = "stopped at an unstaged word";
 
 impl Checker {
     pub fn new() -> Self {
@@ -44,6 +51,7 @@ impl Checker {
             answers: Tally::new("read sets by answer"),
             tries: Tally::new("packings by the try that won"),
             rounds: Tally::new("packings by number of rounds"),
+            ended: Tally::new("searches that ended"),
         }
     }
 
@@ -59,22 +67,21 @@ impl Checker {
 
     fn compare(&mut self, set: &[u32], lent: Lent) -> Result<(), String> {
         let mut trouble = Ok(());
-        let expected = rounds::answer(set, lent.room, usize::MAX, |pairs| match self.packing(pairs) {
-            Ok(lanes) => lanes,
-            Err(what) => {
+        let expected = rounds::answer(set, lent.room, usize::MAX, |pairs| {
+            self.packing(pairs).unwrap_or_else(|what| {
                 trouble = Err(what);
-                None
-            }
+                Err((0, 0))
+            })
         });
         trouble?;
-        let needed = expected.as_ref().map_or(ROUND_WORDS, |words| words.len());
+        let needed = expected.as_ref().map_or(ROUND_WORDS, |answer| answer.words.len());
         let out_length = match lent.out {
             OutLength::Spare(more) => needed + more,
             OutLength::Short(fewer) => needed.saturating_sub(fewer),
             OutLength::Exactly(length) => length,
         };
         let expected = match expected {
-            Ok(words) if words.len() > out_length => Err((14, 0)),
+            Ok(answer) if answer.words.len() > out_length => Err((14, 0)),
             other => other,
         };
         self.count_answer(&expected);
@@ -85,25 +92,40 @@ impl Checker {
         let mut out = lent::Lent::new(out_length, before, 0xC0DE_D00D);
         let answer = ffi::read_rounds(lent_set.slice(), room.slice(), out.slice());
         check_answer(answer, &expected)?;
-        out.check("result word", expected.as_ref().map_or(&[], |words| words), before)?;
+        out.check("result word", expected.as_ref().map_or(&[], |answer| &answer.words), before)?;
         room.check(answer.code)
     }
 
-    /// The reference's lanes; the model must agree with them.
-    fn packing(&mut self, pairs: &[Pair]) -> Result<Option<rounds::Lanes>, String> {
-        let lanes = reference::lanes(pairs);
-        let modelled = rounds::pack(pairs);
-        if modelled.as_ref().map(|packing| &packing.lanes) != lanes.as_ref() {
-            return Err(format!("host/model differs from {}", reference::NAME));
+    /// What the model and the reference's search say of a set. The reference is asked of every set: what is refused by 21 or 22 no
+    /// search may place.
+    fn packing(&mut self, pairs: &[Pair]) -> Result<Result<Packing, (u32, u64)>, String> {
+        let found = reference::search(pairs);
+        let modelled = rounds::search(pairs);
+        if modelled != found {
+            let what = format!("host/model differs from {}", reference::NAME);
+            return Err(format!("{}: {}, expected {}", what, told(&modelled), told(&found)));
         }
-        if let Some(packing) = modelled {
-            self.tries.count(&format!("try {:2}", packing.tries));
-            self.rounds.count(&format!("{:2} rounds", rounds::rounds(&packing.lanes)));
+        let outcome = rounds::outcome(pairs, |_| found.clone());
+        match (&outcome, &found) {
+            (Err((number, _)), Ok(_)) => return Err(format!("a set that {} refuses was placed", number)),
+            (Ok(packing), _) => {
+                self.tries.count(&format!("try {:2}", packing.tries()));
+                self.rounds.count(&format!("{:2} rounds", rounds::rounds(&packing.lanes)));
+            }
+            (Err((4, word)), _) => self.count_ended(pairs, *word),
+            (Err(_), Err(_)) => {}
         }
-        Ok(lanes)
+        Ok(outcome)
     }
 
-    fn count_answer(&mut self, expected: &Result<Vec<u32>, (u32, u64)>) {
+    /// By the bits of the set, and by the word that the search stopped at.
+    fn count_ended(&mut self, pairs: &[Pair], word: u64) {
+        let bits: u32 = pairs.iter().map(|(_, mask)| mask.count_ones()).sum();
+        self.ended.count(if bits == rounds::MOST_BITS { FULL } else { "fewer bits" });
+        self.ended.count(if word >> 31 == 1 { STAGED_STOP } else { UNSTAGED_STOP });
+    }
+
+    fn count_answer(&mut self, expected: &Result<rounds::Answer, (u32, u64)>) {
         match expected {
             Ok(_) => self.answers.count("packed"),
             Err((number, _)) => self.answers.count(&format!("refused {}", number)),
@@ -111,9 +133,18 @@ impl Checker {
     }
 }
 
-fn check_answer(answer: Answer, expected: &Result<Vec<u32>, (u32, u64)>) -> Result<(), String> {
+fn told(found: &Result<Packing, Option<u32>>) -> String {
+    match found {
+        Ok(packing) => format!("size {} won, lane 0 {:x?}", packing.size, packing.lanes[0]),
+        Err(word) => format!("ended at {:x?}", word),
+    }
+}
+
+fn check_answer(answer: Answer, expected: &Result<rounds::Answer, (u32, u64)>) -> Result<(), String> {
     let wanted = match expected {
-        Ok(words) => Answer { code: 0, first: (words.len() / ROUND_WORDS) as u64, second: 0 },
+        Ok(rounds::Answer { words, size }) => {
+            Answer { code: 0, first: (words.len() / ROUND_WORDS) as u64, second: *size as u64 }
+        }
         Err((number, item)) => Answer { code: *number, first: 0, second: *item },
     };
     if answer == wanted {

@@ -4,6 +4,7 @@ use crate::lent::{Lent, LentRead, Room};
 use crate::tally::Tally;
 use juolgesot::ffi::{self, Answer};
 use juolgesot::{LIST_ROOM, LIST_TEXT};
+use model::rounds;
 
 pub struct ListChecker {
     pub kinds: Tally,
@@ -32,7 +33,7 @@ impl ListChecker {
 
 /// One call: answer, text, room, and what lies behind the text. Gives the answer's name, or the first difference.
 fn difference(records: &[u8], room_length: usize, spare: isize) -> Result<String, String> {
-    let text = model::listing::text(records, reference::lanes);
+    let text = model::listing::text(records, |set| rounds::outcome(set, reference::search));
     if text.len() > LIST_TEXT {
         return Err("the text is longer than LIST_TEXT".to_string());
     }

@@ -13,8 +13,8 @@
 //!   q not 0: 2 words    part and item of the refusal
 //! ```
 
-use crate::{marked, plans};
-use model::build::{accept, Sizes};
+use crate::{marked, plan_checker, plans};
+use model::build::accept;
 use model::Refused;
 use plan::{Plan, Script, Tables, EMPTY, ENTRIES, LANES, LEVEL_0};
 use random::Random;
@@ -38,17 +38,13 @@ impl Case {
     /// What the reference builds of a plan; refusals are the model's: GEM has no numbers.
     fn ask(name: &'static str, plan: &Plan) -> Case {
         let words = plan.words();
-        let by_model = accept(4 * words.len(), &words).map(|accepted| {
-            let Sizes { state_words, sram_words, .. } = accepted.sizes();
-            let blocks = plan.blocks as usize;
-            Script { blocks, starts: accepted.starts(), words: accepted.words(), state_words, sram_words }
-        });
+        let by_model = accept(4 * words.len(), &words).map(plan_checker::script);
         let answer = by_model.map(|by_model| match reference::flatten(plan) {
             Flattened::Script(script) => {
                 assert!(script == by_model, "{}: the reference and the model differ", name);
                 script
             }
-            Flattened::Panicked => panic!("{}: the reference panicked", name),
+            Flattened::Panicked(_) => panic!("{}: the reference panicked", name),
             Flattened::NotAsked => by_model,
         });
         assert!(words.len() <= MOST_PLAN, "{}: a plan of {} words", name, words.len());

@@ -5,7 +5,7 @@ use crate::explain::word_place;
 use crate::lent::{Lent, LentRead, Room};
 use crate::tally::Tally;
 use juolgesot::ffi::{self, PlanAnswer};
-use model::build::{accept, Sizes};
+use model::build::{accept, Accepted, Sizes};
 use model::{record, Refused};
 use plan::{Plan, Script};
 use reference::Flattened;
@@ -18,11 +18,12 @@ pub struct More {
     pub room_is_zero: bool,
     pub starts: i64,
     pub words: i64,
+    pub pieces: i64,
 }
 
 impl Default for More {
     fn default() -> Self {
-        More { room: 0, room_is_zero: true, starts: 3, words: 37 }
+        More { room: 0, room_is_zero: true, starts: 3, words: 37, pieces: 2 }
     }
 }
 
@@ -38,11 +39,7 @@ pub struct Expected {
 impl Expected {
     pub fn of(record_bytes: &[u8]) -> Self {
         let words = record::words(record_bytes);
-        let answer = accept(record_bytes.len(), &words).map(|accepted| {
-            let Sizes { state_words, sram_words, .. } = accepted.sizes();
-            let blocks = words[0] as usize;
-            Script { blocks, starts: accepted.starts(), words: accepted.words(), state_words, sram_words }
-        });
+        let answer = accept(record_bytes.len(), &words).map(script);
         Expected { answer, room_words: record::room_words(&words) }
     }
 
@@ -52,11 +49,23 @@ impl Expected {
     }
 }
 
+/// The script that the model makes of a plan.
+pub fn script(accepted: Accepted<'_>) -> Script {
+    let Sizes { state_words, sram_words, .. } = accepted.sizes();
+    let (starts, words, blocks) = (accepted.starts(), accepted.words(), accepted.plan.blocks);
+    Script { blocks, starts, words, state_words, sram_words, pieces: accepted.pieces }
+}
+
 pub struct PlanChecker {
     pub kinds: Tally,
     pub answers: Tally,
     pub gem: Tally,
+    pub parts: Tally,
 }
+
+/// Kinds of `PlanChecker::parts`.
+pub const FELL_BACK: &str = "a smaller piece size won";
+const AT_ONCE: &str = "placed as one piece";
 
 impl PlanChecker {
     pub fn new() -> Self {
@@ -64,6 +73,7 @@ impl PlanChecker {
             kinds: Tally::new("plans by kind"),
             answers: Tally::new("plans by answer"),
             gem: Tally::new("plans given to GEM's Rust too"),
+            parts: Tally::new("parts that were built"),
         }
     }
 
@@ -82,6 +92,11 @@ impl PlanChecker {
             Ok(number) => self.count_answer(number),
             Err(what) => stop(kind, record, &format!("{:?}", more), &what),
         }
+        if let Ok(script) = &expected.answer {
+            let fell_back = script.fell_back().len();
+            self.parts.count_many(FELL_BACK, fell_back as u64);
+            self.parts.count_many(AT_ONCE, (script.pieces.len() - fell_back) as u64);
+        }
         expected.number()
     }
 
@@ -98,13 +113,20 @@ impl PlanChecker {
             (Flattened::NotAsked, _) => return,
             (Flattened::Script(script), Ok(expected)) => {
                 let record = plan.record();
-                same_script(&script, expected, &record).map(|()| "the same script".to_string())
+                let same =
+                    same_script(&script, expected, &record).and_then(|()| same_pieces(&script, expected));
+                same.map(|()| "the same script and piece sizes".to_string())
             }
-            (Flattened::Panicked, Ok(_)) => Err("GEM panicked".to_string()),
-            (Flattened::Panicked, Err(refused)) => {
+            (Flattened::Panicked(_), Ok(_)) => Err("GEM panicked".to_string()),
+            (Flattened::Panicked(word), Err(Refused { number: 4, item, .. }))
+                if word.map(u64::from) != Some(*item) =>
+            {
+                Err(format!("GEM stopped at {:?}, the model at word {}", word, item))
+            }
+            (Flattened::Panicked(_), Err(refused)) => {
                 Ok(format!("refused {:2}, and GEM panicked", refused.number))
             }
-            (Flattened::Script(_), Err(refused)) if matches!(refused.number, 3 | 4 | 9 | 10) => {
+            (Flattened::Script(_), Err(refused)) if matches!(refused.number, 3 | 4 | 9 | 10 | 21 | 22) => {
                 Err(format!("GEM went on where the model refuses by {}", refused.number))
             }
             (Flattened::Script(_), Err(refused)) => {
@@ -154,6 +176,14 @@ pub fn same_script(found: &Script, expected: &Script, record: &[u8]) -> Result<(
     }
 }
 
+/// The piece sizes of the parts.
+pub fn same_pieces(found: &Script, expected: &Script) -> Result<(), String> {
+    if found.pieces == expected.pieces {
+        return Ok(());
+    }
+    Err(format!("piece sizes {:?}, expected {:?}", found.pieces, expected.pieces))
+}
+
 /// Where two lists differ, as far as both go.
 fn differing<T: PartialEq>(found: &[T], expected: &[T]) -> Vec<usize> {
     (0..found.len().min(expected.len())).filter(|&at| found[at] != expected[at]).collect()
@@ -193,21 +223,27 @@ fn build_difference(
     more: More,
 ) -> Result<u32, String> {
     let made = expected.answer.as_ref().ok().filter(|_| refused.is_none());
-    let (needed_starts, needed_words) =
-        made.map_or((8, 300), |script| (script.starts.len(), script.words.len()));
-    let starts_length = (needed_starts as i64 + more.starts).max(0) as usize;
-    let words_length = (needed_words as i64 + more.words).max(0) as usize;
-    let is_short = starts_length < needed_starts || words_length < needed_words;
+    let needed =
+        made.map_or([8, 300, 4], |script| [script.starts.len(), script.words.len(), script.pieces.len()]);
+    let length = |needed: usize, more: i64| (needed as i64 + more).max(0) as usize;
+    let [starts_length, words_length, pieces_length] =
+        [length(needed[0], more.starts), length(needed[1], more.words), length(needed[2], more.pieces)];
+    let is_short = starts_length < needed[0] || words_length < needed[1] || pieces_length < needed[2];
     let refused = if made.is_some() && is_short { Some(Refused::plain(14)) } else { refused };
     let start_before = |index: usize| 0x9000_0000_0000_0000 + index as u64;
     let word_before = |index: usize| 0xA000_0000 + index as u32;
     let mut starts = Lent::new(starts_length, start_before, 0xC0DE_D00D);
+    let piece_before = |index: usize| 0xB000_0000 + index as u32;
     let mut words = Lent::new(words_length, word_before, 0xC0DE_D00D);
-    let answer = ffi::build(LentRead::new(record).slice(), room.slice(), starts.slice(), words.slice());
+    let mut pieces = Lent::new(pieces_length, piece_before, 0xC0DE_D00D);
+    let record_slice = LentRead::new(record);
+    let answer =
+        ffi::build(record_slice.slice(), room.slice(), starts.slice(), words.slice(), pieces.slice());
     same_answer("build", answer, wanted(expected, refused))?;
     room.check(answer.code)?;
     let written = made.filter(|_| refused.is_none());
     starts.check("start", written.map_or(&[], |script| &script.starts), start_before)?;
+    pieces.check("piece size", written.map_or(&[], |script| &script.pieces), piece_before)?;
     match words.difference(written.map_or(&[], |script| &script.words), word_before) {
         Some((at, found, expected)) => Err(word_difference(record, at, found, expected)),
         None => Ok(refused.map_or(0, |refused| refused.number)),

@@ -1,5 +1,6 @@
 //! Random plans that are in order: any legal placement, any tables.
 
+use crate::marked::plain_part;
 use model::blocks::Blocks;
 use model::plan::Counts;
 use plan::{Endpoint, Gate, Part, Plan, Position, Stage, Tables, EMPTY, ENTRIES, LANES, LEVEL_0};
@@ -381,16 +382,72 @@ pub fn relabel(plan: &mut Plan, number: impl Fn(u32) -> u32) {
     }
 }
 
+/// What a part is to read: the bits of each unstaged word, and of each staged one.
+#[derive(Debug, Clone, Default)]
+pub struct Reads {
+    pub unstaged: Vec<u32>,
+    pub staged: Vec<u32>,
+}
+
+impl Reads {
+    /// All of them, the first staged word being this one.
+    fn words(&self, staged_from: usize) -> impl Iterator<Item = (usize, u32)> + '_ {
+        let staged = self.staged.iter().enumerate().map(move |(word, &bits)| (staged_from + word, bits));
+        self.unstaged.iter().copied().enumerate().chain(staged)
+    }
+}
+
+/// A plan with a part for each of these, in its last major stage. Unstaged words are the state's first; staged ones are normal words
+/// that the parts of an earlier major stage store, where there are any.
+pub fn reading(random: &mut Random, parts: &[Reads]) -> Plan {
+    let most = |words: fn(&Reads) -> &Vec<u32>| parts.iter().map(|part| words(part).len()).max().unwrap_or(0);
+    // The state begins with the layout's words, and goes on with those that are stored.
+    let (unstaged, staged) = (most(|part| &part.unstaged).max(1), most(|part| &part.staged));
+    let mut bits = vec![0; unstaged + staged];
+    bits[0] = 1;
+    for (word, count) in parts.iter().flat_map(|part| part.words(unstaged)) {
+        bits[word] = bits[word].max(count);
+    }
+    let mut positions = Vec::new();
+    let mut first_pins = Vec::new();
+    for (word, &bits) in bits.iter().enumerate() {
+        let first = 1 + positions.len() as u32;
+        first_pins.push(first);
+        let staged = (word >= unstaged) as u32;
+        positions.extend((0..bits).map(|bit| Position {
+            pin: first + bit,
+            position: 32 * word as u32 + bit,
+            staged,
+        }));
+    }
+    let mut part = |part: &Reads| {
+        let pins: Vec<u32> =
+            part.words(unstaged).flat_map(|(word, bits)| first_pins[word]..first_pins[word] + bits).collect();
+        Part { endpoints: Vec::new(), stages: vec![anywhere(random, &pins)], tables: tables(random) }
+    };
+    let last: Vec<Part> = parts.iter().map(&mut part).collect();
+    let storing: Vec<Part> = (0..staged).step_by(256).map(|_| plain_part(&[&[0; 256]])).collect();
+    let stages = if storing.is_empty() { vec![last] } else { vec![storing, last] };
+    Plan { blocks: 1, layout: vec![EMPTY; 32 * unstaged], positions, stages, ..Plan::default() }
+}
+
+/// A stage that reads these pins, in slots of no order.
+fn anywhere(random: &mut Random, pins: &[u32]) -> Stage {
+    let mut slots: Vec<usize> = (LEVEL_0..LEVEL_0 + 8192).collect();
+    random.shuffle(&mut slots);
+    let mut stage = Stage::empty();
+    for (&slot, &pin) in slots.iter().zip(pins) {
+        stage.slots[slot] = pin;
+    }
+    stage
+}
+
 /// One part that reads so many words of 17 bits: from 257 on they have no packing.
 pub fn words_of_17(random: &mut Random, words: usize) -> Plan {
     let layout: Vec<u32> =
         (0..32 * words as u32).map(|index| if index % 32 < 17 { index } else { EMPTY }).collect();
-    let mut slots: Vec<usize> = (LEVEL_0..LEVEL_0 + 8192).collect();
-    random.shuffle(&mut slots);
-    let mut stage = Stage::empty();
-    for (&slot, &pin) in slots.iter().zip(layout.iter().filter(|&&pin| pin != EMPTY)) {
-        stage.slots[slot] = pin;
-    }
+    let pins: Vec<u32> = layout.iter().copied().filter(|&pin| pin != EMPTY).collect();
+    let stage = anywhere(random, &pins);
     let part = Part { endpoints: Vec::new(), stages: vec![stage], tables: tables(random) };
     Plan { blocks: 1, layout, stages: vec![vec![part]], ..Plan::default() }
 }

@@ -66,6 +66,13 @@ pub fn marked() -> Vec<Vec<u32>> {
     vec![vec![], vec![0, 3, 1, 1 << 5, STAGED, 1], even(256, 0x1_FFFF), even(257, 0x1_FFFF), m5]
 }
 
+/// 8192 bits with a packing (words 255 and 256 share a lane; 254, 257 and 258 another) that no piece size finds: the try of size 1
+/// stops at word 254.
+pub fn missed() -> Vec<u32> {
+    let bits = [vec![32; 254], vec![10, 16, 16, 11, 11]].concat();
+    (0..).zip(bits).flat_map(|(word, bits)| [word, u32::MAX >> (32 - bits)]).collect()
+}
+
 /// Every set of up to three words of a small family, each with every mask of another.
 pub fn every_small_set(mut see: impl FnMut(&[u32])) {
     const SOME_WORDS: [u32; 6] = [0, 1, WORDS - 1, STAGED, STAGED + 1, STAGED + WORDS - 1];
@@ -174,5 +181,37 @@ pub fn few_then_many(random: &mut Random) -> Vec<u32> {
     let few_count = random.between(few_most / 2, few_most);
     let mut bits = vec![few; few_count];
     bits.extend(vec![many; many_count]);
+    with_bits(random, &bits)
+}
+
+/// 8192 bits that fill the lanes exactly, so that there is a packing: lanes of one word, of two halves, and of 11, 11 and 10 bits. The
+/// search misses many of them.
+pub fn exactly_full(random: &mut Random) -> Vec<u32> {
+    let (halves, thirds) = (random.between(1, 6), random.between(1, 6));
+    let mut bits = vec![32; 256 - halves - thirds];
+    bits.extend([16, 16].repeat(halves));
+    bits.extend([11, 11, 10].repeat(thirds));
+    random.shuffle(&mut bits);
+    with_bits(random, &bits)
+}
+
+/// So many words of 17 bits or more, and words of fewer bits beside them: at most 8192 bits in all.
+pub fn so_many_wide(random: &mut Random, wide: usize) -> Vec<u32> {
+    let mut left = 8192 - 17 * wide as u32;
+    let mut bits: Vec<u32> = Vec::new();
+    for _ in 0..wide {
+        let any = random.below(16) as u32;
+        let more = random.pick(&[0, 0, 1, any]).min(left);
+        bits.push(17 + more);
+        left -= more;
+    }
+    for _ in 0..random.below(200) {
+        let few = (random.between(1, 16) as u32).min(left);
+        if few > 0 {
+            bits.push(few);
+            left -= few;
+        }
+    }
+    random.shuffle(&mut bits);
     with_bits(random, &bits)
 }

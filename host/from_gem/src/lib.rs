@@ -182,6 +182,7 @@ fn plain_script(script: &FlattenedScriptV1) -> Script {
         words: script.blocks_data.to_vec(),
         state_words: script.reg_io_state_size.into(),
         sram_words: script.sram_storage_size.into(),
+        pieces: Vec::new(),
     }
 }
 

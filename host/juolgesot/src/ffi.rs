@@ -50,6 +50,8 @@ extern "C" {
         starts_len: usize,
         words: *mut u32,
         words_len: usize,
+        pieces: *mut u32,
+        pieces_len: usize,
         first: *mut u64,
         second: *mut u64,
         third: *mut u64,
@@ -154,7 +156,7 @@ pub struct Answer {
     pub code: u32,
     /// The first result, or the refusal's part.
     pub first: u64,
-    /// 0, or the refusal's item.
+    /// The second result, or the refusal's item.
     pub second: u64,
 }
 
@@ -193,7 +195,7 @@ macro_rules! call {
     };
 }
 
-/// Code 0: `first` is the number of rounds, `second` 0.
+/// Code 0: `first` is the number of rounds, `second` the piece size that won.
 pub fn read_rounds(set: &[u32], room: &mut [u32], out: &mut [u32]) -> Answer {
     Answer::of(|first, second| {
         call!(juolgesot_read_rounds, [set.as_ptr, room.as_mut_ptr, out.as_mut_ptr], first, second)
@@ -214,12 +216,18 @@ pub fn plan_sizes(plan: &[u8], room: &mut [u32]) -> PlanAnswer {
     })
 }
 
-/// Code 0: the first starts and the first words of the lent slices are the script's.
-pub fn build(plan: &[u8], room: &mut [u32], starts: &mut [u64], words: &mut [u32]) -> PlanAnswer {
+/// Code 0: the first starts and the first words of the lent slices are the script's; `pieces` begins with a piece size for each part.
+pub fn build(
+    plan: &[u8],
+    room: &mut [u32],
+    starts: &mut [u64],
+    words: &mut [u32],
+    pieces: &mut [u32],
+) -> PlanAnswer {
     PlanAnswer::of(|[first, second, third, fourth]| {
         call!(
             juolgesot_build,
-            [plan.as_ptr, room.as_mut_ptr, starts.as_mut_ptr, words.as_mut_ptr],
+            [plan.as_ptr, room.as_mut_ptr, starts.as_mut_ptr, words.as_mut_ptr, pieces.as_mut_ptr],
             first,
             second,
             third,

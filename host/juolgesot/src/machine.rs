@@ -3,7 +3,7 @@
 use crate::plans::build;
 use crate::refusal::Refusal;
 use crate::run::{finishing_turns, run_into, BLOCK_ROOM};
-use plan::{part_heads, Part, PartHead, Pin, PinIv, Plan, Script, StatePosition, EMPTY};
+use plan::{Part, PartHead, Pin, PinIv, Plan, Script, StatePosition, EMPTY};
 use std::collections::HashMap;
 use std::fmt;
 
@@ -60,7 +60,7 @@ impl Machine {
         for entry in plan.positions.iter().filter(|entry| entry.staged == 0) {
             machine.read.insert(Pin(entry.pin), StatePosition(entry.position));
         }
-        for (part, head) in placed_parts(plan, &machine.script) {
+        for (part, head) in plan.parts().zip(machine.script.parts()) {
             for pin in
                 part.endpoints.iter().filter(|endpoint| endpoint.kind == 0).map(|endpoint| PinIv(endpoint.x))
             {
@@ -145,30 +145,6 @@ impl Machine {
         std::mem::swap(&mut self.state, &mut self.next);
         Ok(())
     }
-}
-
-/// Each part of the plan with its head in the script.
-fn placed_parts<'a>(plan: &'a Plan, script: &'a Script) -> impl Iterator<Item = (&'a Part, PartHead)> + 'a {
-    plan.stages.iter().zip(script.stages()).flat_map(move |(parts, starts)| {
-        let mut heads: Vec<_> =
-            starts.windows(2).map(|range| part_heads(&script.words, range[0], range[1])).collect();
-        // A block's parts are in their order: the next of a part's block is its own.
-        let blocks = blocks_of(parts, script.blocks);
-        parts.iter().zip(blocks).filter_map(move |(part, block)| Some((part, heads[block].next()?)))
-    })
-}
-
-/// The block of each part: one each for the first ones, then the block of least cost so far, the lowest on a tie. A part costs
-/// its stages and 3.
-fn blocks_of(parts: &[Part], blocks: usize) -> Vec<usize> {
-    let mut costs = vec![0; blocks];
-    let mut block_of = |(number, part): (usize, &Part)| {
-        let block =
-            if number < blocks { number } else { (0..blocks).min_by_key(|&block| costs[block]).unwrap_or(0) };
-        costs[block] += part.stages.len() + 3;
-        block
-    };
-    parts.iter().enumerate().map(&mut block_of).collect()
 }
 
 /// Where a part stores an output: a bit that captures its pin, always enabled, with the output's inversion.

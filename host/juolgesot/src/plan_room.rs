@@ -60,32 +60,42 @@ pub(crate) fn blocks(plan: &[u8]) -> usize {
     word(plan, 0) as usize
 }
 
-/// The starts of a plan's script, and how many words it has at most. Nothing for a record that is refused by its counts alone.
-pub(crate) fn most_starts_and_words(plan: &[u8]) -> (usize, usize) {
+/// How long the results of a plan are.
+#[derive(Default)]
+pub(crate) struct Most {
+    pub starts: usize,
+    /// Words of the script, at most.
+    pub words: usize,
+    pub parts: usize,
+}
+
+/// The lengths of a plan's results. Nothing for a record that is refused by its counts alone.
+pub(crate) fn most_results(plan: &[u8]) -> Most {
     let [blocks, stages, gates, layout, positions] =
         [0, 1, 2, 3, 4].map(|index| u64::from(word(plan, index)));
     if !(1..=1024).contains(&blocks) || !(1..=64).contains(&stages) {
-        return (0, 0);
+        return Most::default();
     }
     let parts: Vec<u64> = (0..stages).map(|stage| u64::from(word(plan, 5 + stage as usize))).collect();
     let heads_at = 5 + stages + 3 * gates + layout + 3 * positions;
-    let bodies_at = heads_at + 2 * parts.iter().sum::<u64>();
+    let all_parts = parts.iter().sum::<u64>();
+    let bodies_at = heads_at + 2 * all_parts;
     let record_words = plan.len() as u64 / 4;
     if bodies_at > record_words {
-        return (0, 0);
+        return Most::default();
     }
     let (mut read, mut made) = (bodies_at, TAIL);
     for head in (heads_at..bodies_at).step_by(2) {
         let [stages, endpoints] = [head, head + 1].map(|index| u64::from(word(plan, index as usize)));
         if stages > 255 || endpoints > 8192 {
-            return (0, 0);
+            return Most::default();
         }
         read += body_words(stages, endpoints);
         made += part_words(stages, MOST_ROUNDS as u64);
     }
     made += parts.iter().map(|&parts| EMPTY_BLOCK * blocks.saturating_sub(parts)).sum::<u64>();
     if read > record_words {
-        return (0, 0);
+        return Most::default();
     }
-    ((blocks * stages + 1) as usize, made as usize)
+    Most { starts: (blocks * stages + 1) as usize, words: made as usize, parts: all_parts as usize }
 }

@@ -1,7 +1,7 @@
 //! Plans to scripts.
 
 use crate::ffi::{self, PlanAnswer};
-use crate::plan_room::{blocks, most_starts_and_words, room_for};
+use crate::plan_room::{blocks, most_results, room_for, Most};
 use crate::refusal::Refusal;
 use plan::Script;
 
@@ -47,14 +47,14 @@ pub fn plan_sizes(plan: &[u8]) -> Result<Sizes, Refusal> {
 #[doc = "```"]
 pub fn build(plan: &[u8]) -> Result<Script, Refusal> {
     // Only the rounds are not known before: room for the most of them is asked for, and given back.
-    let (starts, words) = most_starts_and_words(plan);
-    let (mut starts, mut words) = (vec![0; starts], vec![0; words]);
-    let sizes = build_into(plan, &mut room_for(plan), &mut starts, &mut words)?;
+    let Most { starts, words, parts } = most_results(plan);
+    let (mut starts, mut words, mut pieces) = (vec![0; starts], vec![0; words], vec![0; parts]);
+    let sizes = build_into(plan, &mut room_for(plan), &mut starts, &mut words, &mut pieces)?;
     starts.truncate(sizes.starts);
     words.truncate(sizes.words);
     words.shrink_to_fit();
     let Sizes { state_words, sram_words, .. } = sizes;
-    Ok(Script { blocks: blocks(plan), starts, words, state_words, sram_words })
+    Ok(Script { blocks: blocks(plan), starts, words, state_words, sram_words, pieces })
 }
 
 /// `plan_sizes` with a lent room of `plan_room` words or more. It holds zeros afterwards, but for refusal 32, which
@@ -63,12 +63,14 @@ pub fn plan_sizes_into(plan: &[u8], room: &mut [u32]) -> Result<Sizes, Refusal> 
     sizes(ffi::plan_sizes(plan, room))
 }
 
-/// `build` with lent slices: starts and words are filled from their beginning, the rest is left as it is.
+/// `build` with lent slices: starts, words and pieces (the piece size that won, one a part) are filled from their beginning, the
+/// rest is left as it is.
 pub fn build_into(
     plan: &[u8],
     room: &mut [u32],
     starts: &mut [u64],
     words: &mut [u32],
+    pieces: &mut [u32],
 ) -> Result<Sizes, Refusal> {
-    sizes(ffi::build(plan, room, starts, words))
+    sizes(ffi::build(plan, room, starts, words, pieces))
 }

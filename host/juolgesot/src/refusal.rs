@@ -23,10 +23,12 @@ pub enum Refusal {
         /// The part of the plan; 0 for a read set.
         part: u64,
     },
-    /// 4: every piece size ended without room in the lanes.
+    /// 4: every piece size ended without room in the lanes. There may be a packing.
     NoLane {
         /// The part of the plan; 0 for a read set.
         part: u64,
+        /// The word that the try of size 1 stopped at, as a read set has it (bit 31: staged).
+        word: u64,
     },
     /// 5: a number of a plan, a gate list, a count list or a place is outside its range, or a list is not as long as its count.
     OutOfRange,
@@ -110,6 +112,16 @@ pub enum Refusal {
     AigerDifference,
     /// 20: an AIGER file ends within its gates.
     AigerEnd,
+    /// 21: more than 8192 bits are to be read: there is no packing.
+    TooManyBits {
+        /// The part of the plan; 0 for a read set.
+        part: u64,
+    },
+    /// 22: more than 256 words of 17 bits or more are to be read: there is no packing.
+    TooManyWideWords {
+        /// The part of the plan; 0 for a read set.
+        part: u64,
+    },
     /// 24: a slot where a node would be placed is not empty.
     Occupied,
     /// 25: a node that would be placed has no level that fits.
@@ -142,7 +154,7 @@ impl Refusal {
             1 => Refusal::TooManyPairs,
             2 => Refusal::BadPair { pair: item },
             3 => Refusal::NothingToRead { part },
-            4 => Refusal::NoLane { part },
+            4 => Refusal::NoLane { part, word: item },
             5 => Refusal::OutOfRange,
             6 => Refusal::BadGate { gate: item },
             7 => Refusal::BadLocation { part, location: item },
@@ -159,6 +171,8 @@ impl Refusal {
             18 => Refusal::AigerHead,
             19 => Refusal::AigerDifference,
             20 => Refusal::AigerEnd,
+            21 => Refusal::TooManyBits { part },
+            22 => Refusal::TooManyWideWords { part },
             24 => Refusal::Occupied,
             25 => Refusal::BadLevel,
             26 => Refusal::NoGate,
@@ -193,6 +207,8 @@ impl Refusal {
             Refusal::AigerHead => 18,
             Refusal::AigerDifference => 19,
             Refusal::AigerEnd => 20,
+            Refusal::TooManyBits { .. } => 21,
+            Refusal::TooManyWideWords { .. } => 22,
             Refusal::Occupied => 24,
             Refusal::BadLevel => 25,
             Refusal::NoGate => 26,
@@ -212,10 +228,12 @@ impl Refusal {
             | Refusal::BadWords { block: item }
             | Refusal::NoBlock { turn: item }
             | Refusal::BadRecord { byte: item } => (0, item),
-            Refusal::NothingToRead { part } | Refusal::NoLane { part } => (part, 0),
-            Refusal::BadLocation { part, location: item } | Refusal::BadEntry { part, entry: item } => {
-                (part, item)
-            }
+            Refusal::NothingToRead { part }
+            | Refusal::TooManyBits { part }
+            | Refusal::TooManyWideWords { part } => (part, 0),
+            Refusal::NoLane { part, word: item }
+            | Refusal::BadLocation { part, location: item }
+            | Refusal::BadEntry { part, entry: item } => (part, item),
             Refusal::BadSlot { part, stage, position: within }
             | Refusal::ReadAndComputed { part, stage, position: within }
             | Refusal::AbsentPin { part, stage, slot: within }
@@ -237,10 +255,12 @@ impl Refusal {
     #[must_use]
     pub fn meaning(&self) -> &'static str {
         match self {
-            Refusal::TooManyPairs => "the read set has more than 8192 pairs",
+            Refusal::TooManyPairs => "there are more than 8192 pairs",
             Refusal::BadPair { .. } => "its word is not above the one before, its word is 2^27 or more without the staged flag, or its mask is 0 or missing",
             Refusal::NothingToRead { .. } => "there is nothing to read",
-            Refusal::NoLane { .. } => "every piece size ended without room in the lanes",
+            Refusal::NoLane { .. } => "every piece size ended without room in the lanes, that of single words here; there may be a packing",
+            Refusal::TooManyBits { .. } => "more than 8192 bits are to be read: there is no packing",
+            Refusal::TooManyWideWords { .. } => "more than 256 words of 17 bits or more are to be read: there is no packing",
             Refusal::OutOfRange => "a number is outside its range, a kind is unknown, or a list is out of form or not as long as its count",
             Refusal::BadGate { .. } => "its pin is 0 or not above the gate before, or a fan-in pin is not below it",
             Refusal::BadLocation { .. } => "a write-out location is above 255, or the part has more than 256 write-out words",
@@ -272,9 +292,15 @@ impl Refusal {
     pub fn place(&self) -> Option<String> {
         Some(match *self {
             Refusal::BadPair { pair } => format!("pair {}", pair),
-            Refusal::NothingToRead { part } | Refusal::NoLane { part } if part > 0 => {
+            Refusal::NothingToRead { part }
+            | Refusal::TooManyBits { part }
+            | Refusal::TooManyWideWords { part }
+                if part > 0 =>
+            {
                 format!("part {}", part)
             }
+            Refusal::NoLane { part: 0, word } => read_word(word),
+            Refusal::NoLane { part, word } => format!("part {}, {}", part, read_word(word)),
             Refusal::BadGate { gate } => format!("gate {} of the gate list", gate),
             Refusal::BadLocation { part, location } => format!("part {}, location {}", part, location),
             Refusal::BadSlot { part, stage, position: at } => {
@@ -309,6 +335,12 @@ impl Refusal {
     }
 }
 
+/// A word of a read set: bit 31 is its staged flag.
+fn read_word(word: u64) -> String {
+    let staged = if word >> 31 & 1 == 1 { ", staged" } else { "" };
+    format!("word {}{}", word & !(1 << 31), staged)
+}
+
 /// Position 2^(13-h) + j is slot j of level h.
 fn position(position: u64) -> String {
     if position == 0 {
@@ -331,8 +363,9 @@ impl std::error::Error for Refusal {}
 mod tests {
     use super::*;
 
-    const NUMBERS: [u32; 26] =
-        [1, 2, 3, 4, 5, 6, 7, 8, 9, 10, 11, 12, 13, 14, 15, 16, 17, 18, 19, 20, 24, 25, 26, 32, 33, 34];
+    const NUMBERS: [u32; 28] = [
+        1, 2, 3, 4, 5, 6, 7, 8, 9, 10, 11, 12, 13, 14, 15, 16, 17, 18, 19, 20, 21, 22, 24, 25, 26, 32, 33, 34,
+    ];
 
     #[test]
     fn every_number_of_the_documents_is_known() {
@@ -347,13 +380,15 @@ mod tests {
     /// A refusal with a place gives the numbers back that it was made of.
     #[test]
     fn places_are_kept() {
-        for number in [7, 9, 10, 11, 12, 13] {
+        for number in [4, 7, 9, 10, 11, 12, 13] {
             assert_eq!(Refusal::of(number, 3, 8195).numbers(), (3, 8195), "{}", number);
         }
         for number in [2, 6, 15, 16, 17] {
             assert_eq!(Refusal::of(number, 0, 8195).numbers(), (0, 8195), "{}", number);
         }
-        assert_eq!(Refusal::of(4, 5, 0).numbers(), (5, 0));
+        for number in [3, 21, 22] {
+            assert_eq!(Refusal::of(number, 5, 0).numbers(), (5, 0), "{}", number);
+        }
     }
 
     #[test]
@@ -365,6 +400,14 @@ mod tests {
         assert_eq!(
             Refusal::of(11, 0, 4097).place().unwrap(),
             "part 0, stage 0, position 4097 (slot 1 of level 1)"
+        );
+        assert_eq!(Refusal::of(4, 0, 254).place().unwrap(), "word 254");
+        assert_eq!(Refusal::of(4, 0, (1 << 31) + 17).place().unwrap(), "word 17, staged");
+        assert_eq!(Refusal::of(4, 3, (1 << 31) + 17).place().unwrap(), "part 3, word 17, staged");
+        assert_eq!(Refusal::of(22, 0, 0).place(), None);
+        assert_eq!(
+            Refusal::of(22, 3, 0).to_string(),
+            "refused 22: part 3: more than 256 words of 17 bits or more are to be read: there is no packing"
         );
     }
 }

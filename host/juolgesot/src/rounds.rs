@@ -14,35 +14,37 @@ pub const MOST_ROUNDS: usize = 32;
 
 /// A packing of a read set into lanes and rounds.
 #[derive(Debug, Clone, PartialEq, Eq)]
-pub struct ReadRounds {
-    section: Vec<u32>,
+pub struct Rounds {
+    /// How many rounds there are, at most `MOST_ROUNDS`.
+    pub rounds: usize,
+    /// The piece size of the try that won: the number of pairs, or less where the search fell back.
+    pub size: usize,
+    /// The read section of a script: 512 words a round, word and mask of lane i at 2i and 2i + 1.
+    pub words: Vec<u32>,
 }
 
-impl ReadRounds {
-    /// How many rounds there are, at most `MOST_ROUNDS`.
-    #[must_use]
-    pub fn rounds(&self) -> usize {
-        self.section.len() / ROUND_WORDS
-    }
-
-    /// The read section of a script: 512 words a round, word and mask of lane i at 2i and 2i + 1.
-    #[must_use]
-    pub fn section(&self) -> &[u32] {
-        &self.section
-    }
-
+impl Rounds {
     /// The word and mask that a lane reads in a round.
     #[must_use]
     pub fn read(&self, lane: usize, round: usize) -> Option<(u32, u32)> {
-        if lane >= LANES || round >= self.rounds() {
+        if lane >= LANES || round >= self.rounds {
             return None;
         }
         let at = ROUND_WORDS * round + 2 * lane;
-        match self.section[at + 1] {
+        match self.words[at + 1] {
             0 => None,
-            mask => Some((self.section[at], mask)),
+            mask => Some((self.words[at], mask)),
         }
     }
+}
+
+/// What is told of a packing whose words are in a lent slice.
+#[derive(Debug, Clone, Copy, PartialEq, Eq)]
+pub struct Placed {
+    /// How many rounds there are.
+    pub rounds: usize,
+    /// The piece size of the try that won.
+    pub size: usize,
 }
 
 /// Packs a read set: pairs (word, mask), strictly ascending by word, masks nonzero.
@@ -51,17 +53,23 @@ impl ReadRounds {
 #[doc = "```"]
 #[doc = include_str!("../examples/read_rounds.rs")]
 #[doc = "```"]
-pub fn read_rounds(pairs: &[(u32, u32)]) -> Result<ReadRounds, Refusal> {
-    let set: Vec<u32> = pairs.iter().flat_map(|&(word, mask)| [word, mask]).collect();
+pub fn read_rounds(pairs: &[(u32, u32)]) -> Result<Rounds, Refusal> {
     let mut room = vec![0; SET_ROOM];
-    let mut section = vec![0; ROUND_WORDS * MOST_ROUNDS];
-    let rounds = read_rounds_into(&set, &mut room, &mut section)?;
-    section.truncate(ROUND_WORDS * rounds);
-    Ok(ReadRounds { section })
+    let mut words = vec![0; ROUND_WORDS * MOST_ROUNDS];
+    let Placed { rounds, size } = read_rounds_into(&set_words(pairs), &mut room, &mut words)?;
+    words.truncate(ROUND_WORDS * rounds);
+    Ok(Rounds { rounds, size, words })
 }
 
-/// The same over lent slices: word, mask, word, mask .. in, the read section out. Gives the number
-/// of rounds. The room holds zeros afterwards, but for refusal 32, which changes nothing.
-pub fn read_rounds_into(set: &[u32], room: &mut [u32], out: &mut [u32]) -> Result<usize, Refusal> {
-    Refusal::check(ffi::read_rounds(set, room, out)).map(|rounds| rounds as usize)
+/// A read set as it is lent: word, mask, word, mask ..
+pub(crate) fn set_words(pairs: &[(u32, u32)]) -> Vec<u32> {
+    pairs.iter().flat_map(|&(word, mask)| [word, mask]).collect()
+}
+
+/// The same over lent slices: word, mask, word, mask .. in, the read section out.
+/// The room holds zeros afterwards, but for refusal 32, which changes nothing.
+pub fn read_rounds_into(set: &[u32], room: &mut [u32], out: &mut [u32]) -> Result<Placed, Refusal> {
+    let answer = ffi::read_rounds(set, room, out);
+    let size = answer.second as usize;
+    Refusal::check(answer).map(|rounds| Placed { rounds: rounds as usize, size })
 }

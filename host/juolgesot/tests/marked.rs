@@ -41,6 +41,12 @@ fn m1_empty_read_set() {
     assert_eq!(read_rounds(&[]), Err(Refusal::NothingToRead { part: 0 }));
 }
 
+/// The listing's set is placed as one piece.
+#[test]
+fn m2_size() {
+    assert_eq!(read_rounds(&[(0, 3), (1, 0x20), (0x8000_0000, 1)]).unwrap().size, 3);
+}
+
 /// The listing's set has local positions 1, 0, 32 and 64: a stage that reads them has these entries.
 #[test]
 fn m2_local_positions() {
@@ -56,6 +62,7 @@ fn m2_local_positions() {
     }
     plan.major_stage(vec![Part::new(vec![reading])]);
     let script = build(&plan.record()).unwrap();
+    assert_eq!(script.pieces, [1, 3]);
     let section = stage_section(&script, heads(&script, 1)[0], 0);
     assert_eq!([0, 1, 2, 3].map(|slot| entry(section, slot)), [1, 0, 32, 64]);
 }
@@ -64,14 +71,30 @@ fn m2_local_positions() {
 fn m3_256_words_of_17_bits() {
     let pairs: Vec<_> = (0..256).map(|word| (word, 0x1_FFFF)).collect();
     let packed = read_rounds(&pairs).unwrap();
-    assert_eq!(packed.rounds(), 1);
+    assert_eq!((packed.rounds, packed.size), (1, 256));
     assert!((0..256).all(|lane| packed.read(lane, 0) == Some((lane as u32, 0x1_FFFF))));
 }
 
 #[test]
 fn m4_257_of_them() {
     let pairs: Vec<_> = (0..257).map(|word| (word, 0x1_FFFF)).collect();
-    assert_eq!(read_rounds(&pairs), Err(Refusal::NoLane { part: 0 }));
+    assert_eq!(read_rounds(&pairs), Err(Refusal::TooManyWideWords { part: 0 }));
+}
+
+/// 8192 bits of which 254 words of 32 bits, one of 10, two of 16 and two of 11 have a packing that no piece size finds.
+#[test]
+fn the_search_ended_at_word_254() {
+    let bits = [vec![32; 254], vec![10, 16, 16, 11, 11]].concat();
+    let pairs: Vec<_> = (0..).zip(bits.iter().map(|&bits| u32::MAX >> (32 - bits))).collect();
+    assert_eq!(read_rounds(&pairs), Err(Refusal::NoLane { part: 0, word: 254 }));
+}
+
+#[test]
+fn one_bit_too_many() {
+    let mut pairs: Vec<_> = (0..256).map(|word| (word, u32::MAX)).collect();
+    assert_eq!(read_rounds(&pairs).unwrap().size, 256);
+    pairs.push((256, 1));
+    assert_eq!(read_rounds(&pairs), Err(Refusal::TooManyBits { part: 0 }));
 }
 
 #[test]
@@ -79,7 +102,7 @@ fn m5_the_fifth_piece_size_wins() {
     let mut pairs: Vec<_> = (0..256).map(|word| (word, 1)).collect();
     pairs.push((256, u32::MAX));
     let packed = read_rounds(&pairs).unwrap();
-    assert_eq!(packed.rounds(), 2);
+    assert_eq!((packed.rounds, packed.size), (2, 16));
     assert_eq!(packed.read(0, 0), Some((256, u32::MAX)));
     assert_eq!(packed.read(1, 1), Some((255, 1)));
 }

@@ -3,7 +3,7 @@
 use crate::blocks::Blocks;
 use crate::plan::{self, Counts, Found, Gates};
 use crate::record::{self, Plan};
-use crate::rounds::{self, Lanes};
+use crate::rounds::{self, Lanes, Packing, Pair};
 use crate::script::{self, Facts};
 use crate::Refused;
 
@@ -27,11 +27,15 @@ pub struct Accepted<'a> {
     pub found: Found,
     pub counts: Vec<Counts>,
     pub blocks: Blocks,
-    /// The packing of each part's read set.
+    /// Each part's read set.
+    pub sets: Vec<Vec<Pair>>,
+    /// Its packing.
     pub lanes: Vec<Lanes>,
+    /// The piece size that won for it.
+    pub pieces: Vec<u32>,
 }
 
-/// Refusals 5 to 13, each over the whole plan before the next, then 3 and 4.
+/// Refusals 5 to 13, each over the whole plan before the next, then 3, 21, 22 and 4 likewise.
 pub fn accept(record_bytes: usize, words: &[u32]) -> Result<Accepted<'_>, Refused> {
     let refuse = |fault: Option<Refused>| fault.map_or(Ok(()), Err);
     let plan = record::plan(record_bytes, words).ok_or(Refused::plain(5))?;
@@ -48,12 +52,24 @@ pub fn accept(record_bytes: usize, words: &[u32]) -> Result<Accepted<'_>, Refuse
     refuse(plan::position_fault(&plan, &found, &counts, &blocks))?;
     refuse(plan::table_fault(&plan))?;
     let sets: Vec<_> = plan.parts.iter().map(|part| script::read_set(part, &found)).collect();
-    refuse(sets.iter().position(Vec::is_empty).map(|part| Refused::at(3, part, 0)))?;
-    let mut lanes = Vec::new();
-    for (part, set) in sets.iter().enumerate() {
-        lanes.push(rounds::pack(set).ok_or(Refused::at(4, part, 0))?.lanes);
+    let packed: Vec<_> = sets.iter().map(|set| rounds::pack(set)).collect();
+    for number in [3, 21, 22, 4] {
+        refuse(first_part(&packed, number))?;
     }
-    Ok(Accepted { plan, gates, found, counts, blocks, lanes })
+    let (mut lanes, mut pieces) = (Vec::new(), Vec::new());
+    for packing in packed.into_iter().flatten() {
+        lanes.push(packing.lanes);
+        pieces.push(packing.size as u32);
+    }
+    Ok(Accepted { plan, gates, found, counts, blocks, sets, lanes, pieces })
+}
+
+/// The first part whose read set is refused by this number.
+fn first_part(packed: &[Result<Packing, (u32, u64)>], number: u32) -> Option<Refused> {
+    packed.iter().enumerate().find_map(|(part, packing)| match packing {
+        Err((found, item)) if *found == number => Some(Refused { number, part: part as u64, item: *item }),
+        _ => None,
+    })
 }
 
 impl Accepted<'_> {

@@ -1,5 +1,5 @@
-//! A plain Rust model of document 01, and of document 02's requests as far as they have landed (5/13), written from
-//! their text and not from GEM's code.
+//! A plain Rust model of document 01, and of document 02's requests as far as they have landed (1, 2, 4, 5, 7 and 11/13),
+//! written from their text and not from GEM's code.
 //!
 //! It is the second opinion of the comparisons: held to GEM's Rust on every case where GEM's
 //! sources are at hand, and the reference where they are not.

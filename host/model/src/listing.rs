@@ -1,6 +1,6 @@
 //! "Listing program".
 
-use crate::rounds::{Lanes, Pair};
+use crate::rounds::{Lanes, Packing, Pair};
 use std::collections::BTreeMap;
 
 pub const MOST_POSITIONS: usize = 8192;
@@ -42,14 +42,13 @@ fn lines(lanes: &Lanes) -> String {
     text
 }
 
-/// What the program prints. `lanes` is asked for a packing of the set that the records make.
-pub fn text(records: &[u8], lanes: impl FnOnce(&[Pair]) -> Option<Lanes>) -> String {
+/// What the program prints. `pack` is asked for a packing of the set that the records make.
+pub fn text(records: &[u8], pack: impl FnOnce(&[Pair]) -> Result<Packing, (u32, u64)>) -> String {
     match read_set(records) {
         Err(offset) => format!("refused 17 at {}\n", offset),
-        Ok(set) => match lanes(&set) {
-            Some(found) => lines(&found),
-            None if set.is_empty() => "refused 3\n".to_string(),
-            None => "refused 4\n".to_string(),
+        Ok(set) => match pack(&set) {
+            Ok(packing) => lines(&packing.lanes),
+            Err((number, _)) => format!("refused {}\n", number),
         },
     }
 }

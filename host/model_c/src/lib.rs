@@ -10,8 +10,13 @@ use std::slice::{from_raw_parts, from_raw_parts_mut};
 
 /// Writes the result, or a refusal's place, and gives the code.
 fn tell(answer: Result<u64, Refused>, first: &mut u64, second: &mut u64) -> u32 {
+    tell_two(answer.map(|result| (result, 0)), first, second)
+}
+
+/// The same for two results.
+fn tell_two(answer: Result<(u64, u64), Refused>, first: &mut u64, second: &mut u64) -> u32 {
     let (code, results) = match answer {
-        Ok(result) => (0, (result, 0)),
+        Ok(results) => (0, results),
         Err(refused) => (refused.number, (refused.part, refused.item)),
     };
     *first = results.0;
@@ -35,16 +40,15 @@ pub unsafe extern "C" fn juolgesot_read_rounds(
     let (set, room, out) = unsafe {
         (from_raw_parts(set, set_len), from_raw_parts_mut(room, room_len), from_raw_parts_mut(out, out_len))
     };
-    let pack = |pairs: &[rounds::Pair]| rounds::pack(pairs).map(|packing| packing.lanes);
-    let answer = rounds::answer(set, room_len, out_len, pack);
+    let answer = rounds::answer(set, room_len, out_len, rounds::pack);
     if !matches!(answer, Err((32, _))) {
         room.fill(0);
     }
-    let answer = answer.map_err(|(number, item)| Refused { number, part: 0, item }).map(|words| {
-        out[..words.len()].copy_from_slice(&words);
-        (words.len() / rounds::ROUND_WORDS) as u64
+    let answer = answer.map_err(|(number, item)| Refused { number, part: 0, item }).map(|answer| {
+        out[..answer.words.len()].copy_from_slice(&answer.words);
+        ((answer.words.len() / rounds::ROUND_WORDS) as u64, answer.size as u64)
     });
-    tell(answer, first, second)
+    tell_two(answer, first, second)
 }
 
 /// # Safety
@@ -71,7 +75,7 @@ pub unsafe extern "C" fn juolgesot_list(
         return tell(Err(Refused::plain(32)), first, second);
     }
     room.fill(0);
-    let text = listing::text(records, |pairs| rounds::pack(pairs).map(|packing| packing.lanes));
+    let text = listing::text(records, rounds::pack);
     if out_len < text.len() {
         return tell(Err(Refused::plain(14)), first, second);
     }
@@ -137,20 +141,29 @@ pub unsafe extern "C" fn juolgesot_build(
     starts_len: usize,
     words: *mut u32,
     words_len: usize,
+    pieces: *mut u32,
+    pieces_len: usize,
     first: &mut u64,
     second: &mut u64,
     third: &mut u64,
     fourth: &mut u64,
 ) -> u32 {
     let (plan, room) = unsafe { (from_raw_parts(plan, plan_len), from_raw_parts_mut(room, room_len)) };
-    let (out_starts, out_words) =
-        unsafe { (from_raw_parts_mut(starts, starts_len), from_raw_parts_mut(words, words_len)) };
+    let (out_starts, out_words, out_pieces) = unsafe {
+        (
+            from_raw_parts_mut(starts, starts_len),
+            from_raw_parts_mut(words, words_len),
+            from_raw_parts_mut(pieces, pieces_len),
+        )
+    };
     let words = record::words(plan);
     let answer = accepted(plan, &words, room).and_then(|accepted| {
-        let sizes = accepted.sizes();
-        if (out_starts.len() as u64) < sizes.starts || (out_words.len() as u64) < sizes.words {
+        let (sizes, parts) = (accepted.sizes(), accepted.pieces.len());
+        let starts_and_words = (out_starts.len() as u64, out_words.len() as u64);
+        if starts_and_words.0 < sizes.starts || starts_and_words.1 < sizes.words || out_pieces.len() < parts {
             return Err(Refused::plain(14));
         }
+        out_pieces[..parts].copy_from_slice(&accepted.pieces);
         out_starts[..sizes.starts as usize].copy_from_slice(&accepted.starts());
         out_words[..sizes.words as usize].copy_from_slice(&accepted.words());
         Ok(sizes)

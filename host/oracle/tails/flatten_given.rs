@@ -1,7 +1,43 @@
 
 // Accessor tail of flatten_given.rs: GEM's flatten.rs again, its one call of `make_inputs_outputs` renamed to
-// `oracle_given` at build time. So tables and positions are what a plan gives, and all else is GEM's.
+// `oracle_given` at build time. So tables and positions are what a plan gives, and all else is GEM's. Where
+// `map_global_read_to_rounds` returns and where a try fails, it notes the piece size and the word; nothing else is changed.
 use std::cell::RefCell;
+
+/// What the searches of a build, or of one call, noted.
+#[derive(Debug, Clone, Default, PartialEq, Eq)]
+pub struct OracleNotes {
+    /// The piece size that won, search by search.
+    pub won: Vec<usize>,
+    /// Piece size and word of the last try that stopped.
+    pub stopped: Option<(usize, u32)>,
+}
+
+thread_local! {
+    static ORACLE_NOTES: RefCell<OracleNotes> = RefCell::new(OracleNotes::default());
+}
+
+/// Notes the size, and passes on what is returned.
+fn oracle_won<T>(chunk_size: usize, returned: T) -> T {
+    ORACLE_NOTES.with(|notes| notes.borrow_mut().won.push(chunk_size));
+    returned
+}
+
+fn oracle_stopped(chunk_size: usize, offset: u32) {
+    ORACLE_NOTES.with(|notes| notes.borrow_mut().stopped = Some((chunk_size, offset)));
+}
+
+/// What was noted since this was called last.
+pub fn oracle_notes() -> OracleNotes {
+    ORACLE_NOTES.with(|notes| notes.take())
+}
+
+/// The private function itself.
+pub fn oracle_map_global_read_to_rounds(
+    inputs_taken: &BTreeMap<u32, u32>
+) -> Vec<Vec<(u32, u32)>> {
+    map_global_read_to_rounds(inputs_taken)
+}
 
 pub struct OracleGiven {
     pub unstaged: Vec<(usize, u32)>,

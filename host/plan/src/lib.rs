@@ -10,7 +10,7 @@ pub mod script_file;
 pub mod stored;
 mod units;
 
-pub use script::{part_heads, part_words, PartHead, Script};
+pub use script::{part_heads, part_words, FellBack, PartHead, Script};
 pub use units::{Pin, PinIv, StatePosition};
 
 /// Positions 1..8191, then level 0 (slot j at 8192 + j); index 0 stands for nothing.

@@ -1,5 +1,7 @@
 //! A script in plain form, and how its words are followed.
 
+use std::fmt;
+
 /// A script: what is run.
 #[derive(Debug, Clone, PartialEq, Eq)]
 pub struct Script {
@@ -13,6 +15,26 @@ pub struct Script {
     pub state_words: u64,
     /// Words of SRAM.
     pub sram_words: u64,
+    /// The piece size that won for each part's read set, parts counted on through the major stages. A script that was read from a
+    /// file has none: it is no part of the script.
+    pub pieces: Vec<u32>,
+}
+
+/// A part whose read set no piece of all its pairs placed: a smaller size won.
+#[derive(Debug, Clone, Copy, PartialEq, Eq)]
+pub struct FellBack {
+    /// Which part, counted on through the major stages.
+    pub part: usize,
+    /// Pairs of its read section.
+    pub pairs: usize,
+    /// The piece size that won.
+    pub size: u32,
+}
+
+impl fmt::Display for FellBack {
+    fn fmt(&self, f: &mut fmt::Formatter<'_>) -> fmt::Result {
+        write!(f, "part {}: {} pairs, size {} won", self.part, self.pairs, self.size)
+    }
 }
 
 impl Script {
@@ -32,6 +54,46 @@ impl Script {
     pub fn stages(&self) -> impl Iterator<Item = &[u64]> {
         (0..self.major_stages()).map(move |stage| self.stage_starts(stage))
     }
+
+    /// The heads of the parts in the plan's order, through the major stages.
+    #[must_use]
+    pub fn parts(&self) -> Vec<PartHead> {
+        self.stages().flat_map(|starts| stage_parts(&self.words, starts)).collect()
+    }
+
+    /// The parts that fell back to a smaller piece size.
+    #[must_use]
+    pub fn fell_back(&self) -> Vec<FellBack> {
+        let parts = self.parts().into_iter().zip(&self.pieces).enumerate();
+        let told = parts.map(|(part, (head, &size))| FellBack { part, pairs: head.pairs(&self.words), size });
+        told.filter(|told| (told.size as usize) < told.pairs).collect()
+    }
+}
+
+/// The parts of a major stage in the plan's order. One each is in the first blocks, then the next is in the block of least cost so
+/// far, the lowest on a tie; a part costs its stages and 3. A block's parts are in their order.
+fn stage_parts(words: &[u32], starts: &[u64]) -> Vec<PartHead> {
+    let mut blocks: Vec<_> =
+        starts.windows(2).map(|range| part_heads(words, range[0], range[1]).peekable()).collect();
+    let mut costs = vec![0; blocks.len()];
+    let mut parts = Vec::new();
+    while blocks.iter_mut().any(|block| block.peek().is_some()) {
+        let next = parts.len();
+        let block = if next < blocks.len() {
+            Some(next)
+        } else {
+            (0..blocks.len()).min_by_key(|&block| costs[block])
+        };
+        // Of words that no plan made, only what can be followed.
+        match block.and_then(|block| Some((block, blocks[block].next()?))) {
+            Some((block, head)) => {
+                costs[block] += u64::from(head.stages) + 3;
+                parts.push(head);
+            }
+            None => break,
+        }
+    }
+    parts
 }
 
 /// Words of a part of so many boomerang stages and rounds.
@@ -64,6 +126,13 @@ impl PartHead {
     #[must_use]
     pub fn words(&self) -> u64 {
         part_words(self.stages.into(), self.rounds.into())
+    }
+
+    /// Pairs of its read section.
+    #[must_use]
+    pub fn pairs(&self, words: &[u32]) -> usize {
+        let section = words.iter().skip(self.at as usize + 256).take(512 * self.rounds as usize);
+        section.skip(1).step_by(2).filter(|&&mask| mask != 0).count()
     }
 
     /// Words that the run stores, from the state start on.

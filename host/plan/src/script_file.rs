@@ -67,6 +67,7 @@ pub fn read(bytes: &[u8]) -> Result<Script, String> {
         words: words_of(words),
         state_words: numbers[3],
         sram_words: numbers[4],
+        pieces: Vec::new(),
     })
 }
 

@@ -78,6 +78,7 @@ fn case(bytes: &mut &[u8]) -> Result<Case, String> {
         words: crate::script_file::words_of(words),
         state_words,
         sram_words,
+        pieces: Vec::new(),
     };
     Ok(Case { name, staged_duplicate, record, script })
 }

@@ -8,8 +8,9 @@ use crate::{why, Failure, Outcome};
 pub const HELP: &str = "
 usage: juolgesot build PLAN OUT
 
-Builds the script of the plan record in the file PLAN and writes it to OUT. A plan that is refused is told with the
-refusal's number and place. The files' forms are in host/README.md.
+Builds the script of the plan record in the file PLAN and writes it to OUT. A line is printed for each part whose reads were
+not placed as one piece, with the piece size that won. A plan that is refused is told with the refusal's number and place.
+The files' forms are in host/README.md.
 ";
 
 pub fn call(words: &[String]) -> Outcome {
@@ -31,5 +32,8 @@ pub fn call(words: &[String]) -> Outcome {
         many(script.state_words, "state word"),
         many(script.sram_words, "SRAM word")
     );
+    for told in script.fell_back() {
+        say!("{}", told);
+    }
     Ok(())
 }

@@ -17,7 +17,8 @@ partitioning first. PLAN is a plan record. SCRIPT, a file that begins with JUOLG
 host/gem/juolgesot_plan.rs writes both inside GEM. Of a plan without one GEM makes its script here, given the plan's tables
 and positions. --made: what make_plans wrote.
 Every lent word is looked at too. All differences of a plan are counted, and the first is told by major stage, block,
-part, section and lane; a refused plan is told with whether GEM builds it. Exit status: 0 where all scripts are equal, 1
+part, section and lane; a refused plan is told with whether GEM builds it. A line follows for each part whose reads were not
+placed as one piece, with the piece size that won, which is GEM's too. Exit status: 0 where all scripts are equal, 1
 where one differs, 3 where none differs but a plan is refused.
 ";
 
@@ -105,6 +106,8 @@ struct Table {
     /// How many were refused, by the refusal's number.
     refused: BTreeMap<u32, u64>,
     different: u64,
+    /// Parts whose search fell back to a smaller piece size.
+    fell_back: u64,
 }
 
 impl Table {
@@ -117,6 +120,7 @@ impl Table {
             equal: 0,
             refused: BTreeMap::new(),
             different: 0,
+            fell_back: 0,
         }
     }
 
@@ -137,6 +141,10 @@ impl Table {
             }
         };
         say!("  {:32} {}: {}", name, line.shape, verdict);
+        for told in line.fell_back {
+            self.fell_back += 1;
+            say!("    {}", told);
+        }
     }
 
     fn finish(self) -> Outcome {
@@ -153,6 +161,7 @@ impl Table {
             self.different,
             self.progress.seconds()
         );
+        say!("fell back to a smaller piece size: {}", many(self.fell_back, "part"));
         match (self.different, refused) {
             (0, 0) => Ok(()),
             (0, refused) => Err(Failure::Refused(format!("refused: {}", many(refused, "plan")))),

@@ -15,7 +15,7 @@ pub fn text(path: &str) -> Result<String, Failure> {
     String::from_utf8(read(path)?).map_err(|_| Failure::Failed(format!("{} is no text", path)))
 }
 
-/// The words of a file: a state, or a gate list.
+/// The words of a file: a state, a gate list, or a read set.
 pub fn words(path: &str) -> Result<Vec<u32>, Failure> {
     let bytes = read(path)?;
     if bytes.len() % 4 != 0 {

@@ -1,7 +1,6 @@
 -- `try_size`: what is still to be placed, from the lanes as they stand, ends as the try does. In a piece: as it did at the piece's begin.
 -- Assumes nothing.
 use mathlib.Core.Path.{_≡_, refl, ap, _∙_}
-use mathlib.Core.Bool.{true}
 use mathlib.Core.List.{List, _∷_, _++_}
 use Prim.Native.Nat.{ℕ, _+_, _*_, _-_, _/_, _%_, _≤_, _<_}
 use native.Mathlib.Omega.{arith}
@@ -9,6 +8,7 @@ use lib.ListN.{length, getD, drop, length-drop, length-replicate}
 use lib.Seq.{slice}
 use borrow.Author.Needs.{needs}
 use Rattle.reads.specs.ReadSet.{Pair, pairsOf}
+use Rattle.reads_try.specs.declared.Ending.the-variants.{All}
 use Rattle.reads_try.specs.LaneTable.{runOf}
 use Rattle.reads_try.specs.TableLanes.{pairAt}
 use Rattle.reads_try.specs.Tries.{triedOf}
@@ -18,19 +18,19 @@ use Rattle.reads_try.proofs.try_size.Statement.{statement}
 use Rattle.reads_try.proofs.try_size.Tie as tie
 
 abbrev Inv-pairs : tie.InvT-pairs
-Inv-pairs set keys room₀ used₀ held₀ lanes k n fits₀ cur₀ t i p₀ end room used held fits cur p =
-    (fits ≡ true) × Piece set lanes p₀ end room₀ used₀ held₀ cur₀ p room used held cur
+Inv-pairs set keys room₀ used₀ held₀ lanes k n ending₀ cur₀ t i p₀ end room used held ending cur p =
+    (ending ≡ All) × Piece set lanes p₀ end room₀ used₀ held₀ cur₀ p room used held cur
 
 abbrev μ-pairs : tie.MeasureT-pairs
-μ-pairs set keys room₀ used₀ held₀ lanes k n fits₀ cur₀ t i p₀ end room used held fits cur p = end - p
+μ-pairs set keys room₀ used₀ held₀ lanes k n ending₀ cur₀ t i p₀ end room used held ending cur p = end - p
 
 abbrev Inv-pieces : tie.InvT-pieces
-Inv-pieces set keys room₀ used₀ held₀ lanes k n fits₀ cur₀ t₀ room used held fits cur t =
-    (t ≤ length keys) × (fits ≡ true)
+Inv-pieces set keys room₀ used₀ held₀ lanes k n ending₀ cur₀ t₀ room used held ending cur t =
+    (t ≤ length keys) × (ending ≡ All)
     × Held set lanes (drop (32 * lanes) room₀) (triedOf lanes k set keys) (runOf k (pairsOf set) (drop t keys)) room used held cur
 
 abbrev μ-pieces : tie.MeasureT-pieces
-μ-pieces set keys room₀ used₀ held₀ lanes k n fits₀ cur₀ t₀ room used held fits cur t = length keys - t
+μ-pieces set keys room₀ used₀ held₀ lanes k n ending₀ cur₀ t₀ room used held ending cur t = length keys - t
 
 -- where a piece begins: what the function was called with, and the outer loop
 abbrev called : tie.After-least Inv-pairs μ-pairs Inv-pieces μ-pieces → tie.Start Inv-pairs μ-pairs Inv-pieces μ-pieces
@@ -155,29 +155,38 @@ stopped c =
 
 same-length-4 : tie.Need-same-length-4 Inv-pairs μ-pairs Inv-pieces μ-pieces
 same-length-4 c =
-    let at-place = stopped c in
+    let at-place = stopped (c .before) in
     let at-pair = pair-of at-place in
     at-place .place .kept .1 .0 ∙ same-room (called (at-pair .before .before)) (pair-in at-pair)
 
 same-length-5 : tie.Need-same-length-5 Inv-pairs μ-pairs Inv-pieces μ-pieces
 same-length-5 c =
-    let at-place = stopped c in
+    let at-place = stopped (c .before) in
     let at-pair = pair-of at-place in
     at-place .place .kept .1 .1 .0 ∙ same-used (called (at-pair .before .before)) (pair-in at-pair)
 
 same-length-6 : tie.Need-same-length-6 Inv-pairs μ-pairs Inv-pieces μ-pieces
 same-length-6 c =
-    let at-place = stopped c in
+    let at-place = stopped (c .before) in
     let at-pair = pair-of at-place in
     at-place .place .kept .1 .1 .1 .0 ∙ same-held (called (at-pair .before .before)) (pair-in at-pair)
 
 returns-2 : tie.Need-returns-2 Inv-pairs μ-pairs Inv-pieces μ-pieces
-returns-2 c = held-stop (pair-in (pair-of (stopped c))) _ _ _ _ (stopped c .place .ensures) (c .enum-told .given .1)
+returns-2 c =
+    let at-place = stopped (c .before) in
+    held-stop (pair-in (pair-of at-place)) _ _ _ _ (at-place .place .ensures) (c .before .enum-told .given .1)
+
+-- its word is in the set
+stopped-in : (c : tie.After-enum-told Inv-pairs μ-pairs Inv-pieces μ-pieces)
+    → let at-pair = pair-of (stopped c) in
+    2 * at-pair .before .pairs .p < length (called (at-pair .before .before) .args .set .now)
+stopped-in c = omega (arith, below (pair-of (stopped c)))
 
 pub try-size-spec : {M : Type 1} → statement M
 try-size-spec =
     tie.close
     (tie.spec Inv-pairs μ-pairs Inv-pieces μ-pieces pieces-holds (λ c. search needs) (λ c. search needs) mul-p add-least
-    (λ c κs. search needs) (λ c. search needs) place-requires (λ c. search needs) (λ c. search needs) (λ c. search needs)
+    (λ c κs. search needs) (λ c. search needs) place-requires (λ c. search needs) (λ c. omega (arith, stopped-in c)) (λ c. omega (arith, stopped-in c))
+    (λ c. omega (arith, stopped-in (c .before))) (λ c. search needs) (λ c. search needs)
     (λ c. search needs) pairs-again (λ c. search needs) (λ c. search needs) pieces-again same-length same-length-2 same-length-3 returns
     same-length-4 same-length-5 same-length-6 returns-2)

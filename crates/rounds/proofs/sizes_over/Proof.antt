@@ -11,12 +11,12 @@ use Rattle.rounds.proofs.sizes_over.Statement.{statement}
 use Rattle.rounds.proofs.sizes_over.Tie as tie
 
 abbrev Inv-loop : tie.InvT-loop
-Inv-loop set table₀ used₀ held₀ keys₀ scratch₀ lanes k₀ table used held keys scratch k =
-    (length keys ≡ length keys₀) × (length scratch ≡ length scratch₀) × (table ≡ replicate (32 * lanes) 0) × Left lanes (pairsOf set) k
+Inv-loop set table₀ used₀ held₀ keys₀ scratch₀ lanes word₀ k₀ table used held keys scratch word k =
+    (length keys ≡ length keys₀) × (length scratch ≡ length scratch₀) × (table ≡ replicate (32 * lanes) 0) × Left lanes (pairsOf set) k word
     × (length used ≡ lanes) × (length held ≡ lanes)
 
 abbrev μ-loop : tie.MeasureT-loop
-μ-loop set table₀ used₀ held₀ keys₀ scratch₀ lanes k₀ table used held keys scratch k = k
+μ-loop set table₀ used₀ held₀ keys₀ scratch₀ lanes word₀ k₀ table used held keys scratch word k = k
 
 -- in the loop: what the function was called with; a turn, and its try
 abbrev called : tie.At-loop Inv-loop μ-loop → tie.Start Inv-loop μ-loop
@@ -27,9 +27,9 @@ called c =
 abbrev turn : tie.After-try-pieces Inv-loop μ-loop → tie.In-loop Inv-loop μ-loop
 turn c = c .before .before .before .before .before .before
 
-abbrev tried : tie.Then1 Inv-loop μ-loop → tie.After-try-pieces Inv-loop μ-loop
+abbrev tried : tie.After-enum-told Inv-loop μ-loop → tie.After-try-pieces Inv-loop μ-loop
 tried c =
-    let way = c .before .before .before .before .before in
+    let way = c .before .before .before .before .before .before in
     way .before .before .before .before .before .before
 
 loop-holds : tie.Need-loop-holds Inv-loop μ-loop
@@ -37,7 +37,7 @@ loop-holds c =
     let way = c .before .before .before .before in
     let start = way .before .before .before .before .before .before in
     let s = start .pre .0 in
-    (refl, refl, table-cleared (start .args .table .now) _ (c .before .before .clear .ensures) (s .room), search-start s, start .pre .1, start .pre .2)
+    (refl, refl, table-cleared (start .args .table .now) _ (c .before .before .clear .ensures) (s .room), search-start s (start .pre .3), start .pre .1, start .pre .2)
 
 try-pieces-requires : tie.Need-try-pieces-requires Inv-loop μ-loop
 try-pieces-requires c κs =
@@ -73,12 +73,12 @@ returns c =
     let at-turn = turn (tried c) in
     let l = at-turn .before .loop in
     let e = tried c .try-pieces .ensures in
-    left-won _ _ (search-few (called (at-turn .before) .pre .0)) (l .k) (at-turn .loop-test .taken) (l .inv .3) _ (e .0) (c .if1 .taken) _ (e .1)
+    left-won _ _ (search-few (called (at-turn .before) .pre .0)) (l .k) (l .word) (at-turn .loop-test .taken) (l .inv .3) _ (e .0) (c .enum-told .given .1) _ (e .1)
 
 loop-again : tie.Need-loop-again Inv-loop μ-loop
 loop-again c =
-    let at-if1 = c .before .before .before .before in
-    let way = at-if1 .before .before .before .before .before in
+    let at-word = c .before .before .before .before .before in
+    let way = at-word .before .before .before .before .before .before in
     let at-try = way .before .before .before .before .before .before in
     let at-turn = turn at-try in
     let start = called (at-turn .before) in
@@ -87,27 +87,35 @@ loop-again c =
       t .kept .1 .1 .1 .1 .0 ∙ l .inv .0,
       t .kept .1 .1 .1 .1 .1 .0 ∙ l .inv .1,
       table-cleared (t .last .1 .0) (32 * start .args .lanes) (c .before .before .clear2 .ensures) (t .kept .1 .0 ∙ zeros-length (l .inv .2)),
-      left-on _ _ (search-few (start .pre .0)) (l .k) (at-turn .loop-test .taken) (l .inv .3) _ (t .ensures .0) (at-if1 .if1 .left),
+      left-on _ _ (search-few (start .pre .0)) (l .k) (l .word) (at-turn .loop-test .taken) (l .inv .3) _ (t .ensures .0) _ (at-word .w .given .1),
       t .kept .1 .1 .0 ∙ l .inv .4,
       t .kept .1 .1 .1 .0 ∙ l .inv .5,
     )
 
 same-length-6 : tie.Need-same-length-6 Inv-loop μ-loop
-same-length-6 c = zeros-length (c .before .loop .inv .2) ∙ sym (called (c .before) .pre .0 .room)
+same-length-6 c =
+    let at-loop = c .before .before in
+    zeros-length (at-loop .loop .inv .2) ∙ sym (called at-loop .pre .0 .room)
 
 same-length-7 : tie.Need-same-length-7 Inv-loop μ-loop
-same-length-7 c = c .before .loop .inv .4 ∙ sym (called (c .before) .pre .1)
+same-length-7 c =
+    let at-loop = c .before .before in
+    at-loop .loop .inv .4 ∙ sym (called at-loop .pre .1)
 
 same-length-8 : tie.Need-same-length-8 Inv-loop μ-loop
-same-length-8 c = c .before .loop .inv .5 ∙ sym (called (c .before) .pre .2)
+same-length-8 c =
+    let at-loop = c .before .before in
+    at-loop .loop .inv .5 ∙ sym (called at-loop .pre .2)
 
 returns-2 : tie.Need-returns-2 Inv-loop μ-loop
 returns-2 c =
-    let l = c .before .loop in
-    left-end _ _ (search-few (called (c .before) .pre .0)) (l .k) (c .loop-test .left) (l .inv .3) _ (l .inv .2)
+    let at-loop = c .before .before in
+    let l = at-loop .loop in
+    left-end _ _ (search-few (called at-loop .pre .0)) (l .k) (l .word) (c .before .loop-test .left) (l .inv .3) _ (c .lost .ensures) _ (l .inv .2)
 
 pub sizes-over-spec : {M : Type 1} → statement M
 sizes-over-spec =
     tie.close
-    (tie.spec Inv-loop μ-loop (λ c κs. search needs) loop-holds try-pieces-requires same-length same-length-2 same-length-3 (λ c. search needs) (λ c. search needs)
-    returns (λ c κs. search needs) (λ c. search needs) loop-again same-length-6 same-length-7 same-length-8 (λ c. search needs) (λ c. search needs) returns-2)
+    (tie.spec Inv-loop μ-loop (λ c κs. search needs) loop-holds try-pieces-requires (λ c. search needs) same-length same-length-2 same-length-3
+    (λ c. search needs) (λ c. search needs) returns (λ c. search needs) (λ c κs. search needs) (λ c. search needs) loop-again
+    (λ c κs. search needs) same-length-6 same-length-7 same-length-8 (λ c. search needs) (λ c. search needs) returns-2)

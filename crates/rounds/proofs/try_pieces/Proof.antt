@@ -4,7 +4,7 @@ use mathlib.Core.Path.{_≡_, refl, sym, ap, _∙_}
 use mathlib.Core.List.{_++_}
 use lib.ListN.{length}
 use lib.Seq.{take-at, length-take-le}
-use Rattle.reads_try.specs.Tries.{isAll}
+use Rattle.reads_try.specs.Tries.{endingOf}
 use Rattle.reads_pieces.specs.Keys.{pieceCount}
 use Prim.Native.Nat.{_/_}
 use Rattle.rounds.proofs.PieceSizeLaws.{table-cleared, count-few, orderable, ready, tried-is, tried-table, front-room}
@@ -74,7 +74,7 @@ returns c =
     let a = called at-order in
     let e = take-at (at-order .order .last .1 .0) _ _ (keys-long at-order) ∙ at-order .order .ensures .0 in
     let t = at-try-size .try-size .ensures in
-    (t .0 ∙ ap isAll (tried-is (a .pre .0) (a .pre .1) _ e), tried-table (a .pre .0) (a .pre .1) _ (a .args .table .now) _ e (a .pre .0 .room) (t .1 .0))
+    (t .0 ∙ ap endingOf (tried-is (a .pre .0) (a .pre .1) _ e), tried-table (a .pre .0) (a .pre .1) _ (a .args .table .now) _ e (a .pre .0 .room) (t .1 .0))
 
 pub try-pieces-spec : {M : Type 1} → statement M
 try-pieces-spec =

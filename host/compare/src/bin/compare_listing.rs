@@ -4,6 +4,7 @@
 
 use compare::comparison::Comparison;
 use compare::list_checker::ListChecker;
+use compare::sets;
 use juolgesot::LIST_ROOM;
 use random::Random;
 
@@ -22,6 +23,9 @@ fn main() {
     random_listings(&mut checker, &mut comparison.random);
     boundaries(&mut checker, &mut comparison.random);
     checker.answers.sort();
+    for refused in ["refused 3", "refused 4", "refused 17", "refused 22"] {
+        assert!(checker.answers.times(refused) > 0, "{} did not come", refused);
+    }
     comparison.finish("listings", &[&checker.kinds, &checker.answers]);
 }
 
@@ -50,6 +54,11 @@ fn boundaries(checker: &mut ListChecker, random: &mut Random) {
     for words in [256, 257, 300, 481] {
         checker.check("words of 17 bits", &seventeen_bits(words), LIST_ROOM, 0);
     }
+    checker.check("the set that the search misses", &requesting(random, &sets::missed()), LIST_ROOM, 0);
+    for _ in 0..20 {
+        let set = sets::exactly_full(random);
+        checker.check("lanes that could be filled exactly", &requesting(random, &set), LIST_ROOM, 0);
+    }
 }
 
 /// What document 01 prints for `example`.
@@ -67,6 +76,23 @@ fn example() -> Vec<u8> {
 fn push(records: &mut Vec<u8>, kind: u8, position: u32) {
     records.push(kind);
     records.extend(position.to_le_bytes());
+}
+
+/// A set's bits as positions, in no order.
+fn requesting(random: &mut Random, set: &[u32]) -> Vec<u8> {
+    let mut positions: Vec<(u8, u32)> = Vec::new();
+    for pair in set.chunks(2) {
+        let kind = 1 + (pair[0] >> 31) as u8;
+        positions
+            .extend((0..32).filter(|bit| pair[1] >> bit & 1 == 1).map(|bit| (kind, (pair[0] << 5) + bit)));
+    }
+    random.shuffle(&mut positions);
+    let mut records = Vec::new();
+    for (kind, position) in positions {
+        push(&mut records, kind, position);
+    }
+    records.push(0);
+    records
 }
 
 /// So many words, 17 positions of each: two don't fit a lane.

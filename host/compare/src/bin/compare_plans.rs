@@ -4,10 +4,12 @@
 
 use compare::came::Came;
 use compare::comparison::Comparison;
-use compare::marked::{m10, m6, m8, plain_part};
-use compare::plan_checker::{Expected, More, PlanChecker};
+use compare::marked::{m10, m6, m8, missed_reads, plain_part, reads_in_second_part, wide_reads};
+use compare::plan_checker::{Expected, More, PlanChecker, FELL_BACK};
 use compare::plan_damage::{self, Change};
-use compare::plans::{self, Size};
+use compare::plans::{self, Reads, Size};
+use compare::sets;
+use model::Refused;
 use plan::{Endpoint, Part, Plan, Position, Stage, EMPTY, LEVEL_0};
 use random::Random;
 use std::time::Instant;
@@ -24,6 +26,8 @@ fn main() {
     marked(&mut checker);
     random_plans(&mut checker, random);
     unpackable(&mut checker, random);
+    missed(&mut checker, random);
+    late_sizes(&mut checker, random);
     boundaries(&mut checker);
     short_results(&mut checker, random);
     short_rooms(&mut checker, random);
@@ -31,7 +35,13 @@ fn main() {
     large_sums(&mut checker);
 
     checker.answers.sort();
-    comparison.finish("plans", &[&checker.kinds, &checker.answers, &checker.gem]);
+    comparison.finish("plans", &[&checker.kinds, &checker.answers, &checker.gem, &checker.parts]);
+    for number in [3, 4, 22] {
+        let times = checker.answers.times(&format!("refused {:2}", number));
+        assert!(times >= TIMES.into(), "refusal {} came {} times", number, times);
+    }
+    let fell_back = checker.parts.times(FELL_BACK);
+    assert!(fell_back >= 10, "{} parts fell back", fell_back);
 }
 
 /// Plans of M6, M8 and M10.
@@ -72,7 +82,7 @@ fn unpackable(checker: &mut PlanChecker, random: &mut Random) {
     for words in [256, 257, 258, 300, 481] {
         let plan = plans::words_of_17(random, words);
         let number = check_both(checker, "words of 17 bits", &plan);
-        assert_eq!(number, if words == 256 { 0 } else { 4 });
+        assert_eq!(number, if words == 256 { 0 } else { 22 });
     }
     // The second part has no packing; then the third reads nothing, which comes first.
     let mut plan = plans::words_of_17(random, 257);
@@ -81,10 +91,76 @@ fn unpackable(checker: &mut PlanChecker, random: &mut Random) {
         good.stages[0].slots[slot] = EMPTY;
     }
     plan.stages[0].insert(0, good.clone());
-    assert_eq!(check_both(checker, "second part without packing", &plan), 4);
+    assert_eq!(check_both(checker, "second part without packing", &plan), 22);
     good.stages[0] = Stage::empty();
     plan.stages.push(vec![good]);
     assert_eq!(check_both(checker, "second without packing, third reads nothing", &plan), 3);
+}
+
+/// Refusal 4 with its word; 3 and 22 come before it, whatever the part.
+fn missed(checker: &mut PlanChecker, random: &mut Random) {
+    const STAGED: u64 = 1 << 31;
+    let sets = missed_reads();
+    let [of_first, of_second, of_third] = [254, STAGED + 258, STAGED + 1 + 253];
+    for (set, word) in sets.iter().zip([of_first, of_second, of_third]) {
+        // The parts that store the staged words come first.
+        let storing = (set.staged.len() + 255) / 256;
+        refused_at(checker, random, "a part that the search misses", &[set.clone()], (4, storing, word));
+    }
+    let [missed, staged, _] = sets;
+    let good = Reads { unstaged: vec![3; 40], staged: Vec::new() };
+    let wide = wide_reads();
+    let nothing = Reads::default();
+    let cases = [
+        (vec![good.clone(), missed.clone(), missed.clone()], (4, 1, of_first)),
+        // The last part's unstaged words are one more, and the staged one comes behind them.
+        (vec![good.clone(), staged.clone(), missed.clone()], (4, 2, of_second + 1)),
+        (vec![missed.clone(), wide.clone()], (22, 1, 0)),
+        (vec![wide.clone(), missed.clone()], (22, 0, 0)),
+        (vec![good.clone(), missed.clone(), wide.clone(), wide.clone()], (22, 2, 0)),
+        (vec![missed.clone(), wide, nothing.clone()], (3, 2, 0)),
+        (vec![good, missed, nothing], (3, 2, 0)),
+    ];
+    for (parts, place) in cases {
+        refused_at(checker, random, "parts of which one is missed", &parts, place);
+    }
+}
+
+/// A plan of these parts is refused by this number, at this part and item.
+fn refused_at(
+    checker: &mut PlanChecker,
+    random: &mut Random,
+    kind: &str,
+    parts: &[Reads],
+    place: (u32, usize, u64),
+) {
+    let plan = plans::reading(random, parts);
+    let (number, part, item) = place;
+    let refused = Refused { number, part: part as u64, item };
+    assert_eq!(Expected::of(&plan.record()).answer.err(), Some(refused), "{}", kind);
+    check_both(checker, kind, &plan);
+}
+
+/// Parts whose search falls back, beside parts whose search does not; M5's set among them.
+fn late_sizes(checker: &mut PlanChecker, random: &mut Random) {
+    let [(_, plan), ..] = reads_in_second_part();
+    let script = Expected::of(&plan.record()).answer.expect("both are placed");
+    assert_eq!(script.pieces, [9, 16]);
+    let told: Vec<String> = script.fell_back().iter().map(|told| told.to_string()).collect();
+    assert_eq!(told, ["part 1: 257 pairs, size 16 won"]);
+    check_both(checker, "M5's set in a part", &plan);
+    for _ in 0..12 {
+        let parts: Vec<Reads> = (0..random.between(1, 4)).map(|_| late_reads(random)).collect();
+        let mut plan = plans::reading(random, &parts);
+        plan.blocks = random.pick(&[1, 2, 3]);
+        check_both(checker, "parts that fall back", &plan);
+    }
+}
+
+/// The bits of a set that mostly takes several tries.
+fn late_reads(random: &mut Random) -> Reads {
+    let set = if random.chance(2) { sets::few_then_many(random) } else { sets::runs(random) };
+    Reads { unstaged: set.chunks(2).map(|pair| pair[1].count_ones()).collect(), staged: Vec::new() }
 }
 
 /// Lists as long as they may be, and one longer.
@@ -134,10 +210,20 @@ fn short_results(checker: &mut PlanChecker, random: &mut Random) {
         let plan = plans::any(random, SMALL);
         let record = plan.record();
         let expected = Expected::of(&record);
-        for (starts, words) in
-            [(0, 0), (-1, 0), (0, -1), (-1, -1), (-1, 5000), (5, -2048), (-1_000_000, 0), (0, -100_000_000)]
-        {
-            let more = More { starts, words, room_is_zero: random.chance(2), ..More::default() };
+        for (starts, words, pieces) in [
+            (0, 0, 0),
+            (-1, 0, 0),
+            (0, -1, 0),
+            (0, 0, -1),
+            (-1, -1, -1),
+            (-1, 5000, 7),
+            (5, -2048, 7),
+            (5, 5000, -1),
+            (-1_000_000, 0, 0),
+            (0, -100_000_000, 0),
+            (0, 0, -1_000),
+        ] {
+            let more = More { starts, words, pieces, room_is_zero: random.chance(2), ..More::default() };
             checker.check_expected("result room around what is needed", &record, &expected, more);
             checker.kinds.count("result room around what is needed");
         }

@@ -2,7 +2,7 @@
 //!
 //! compare_rounds [SEED]    stops at the first difference
 
-use compare::checker::{Checker, Lent, OutLength};
+use compare::checker::{Checker, Lent, OutLength, FULL, STAGED_STOP, UNSTAGED_STOP};
 use compare::comparison::Comparison;
 use compare::damage;
 use compare::sets;
@@ -18,9 +18,11 @@ fn main() {
     for set in sets::marked() {
         checker.check("M1 to M5", &set, Lent::default());
     }
+    checker.check("the set that the search misses", &sets::missed(), Lent::default());
     sets::every_small_set(|set| checker.check("every set of up to 3 words", set, Lent::default()));
     random_sets(&mut checker, random);
     boundary_sets(&mut checker, random);
+    no_packing(&mut checker, random);
     damaged_sets(&mut checker, random);
     short_results(&mut checker, random);
     short_rooms(&mut checker, random);
@@ -29,7 +31,31 @@ fn main() {
 
     checker.tries.sort();
     checker.rounds.sort();
-    comparison.finish("read sets", &[&checker.kinds, &checker.answers, &checker.tries, &checker.rounds]);
+    let tallies = [&checker.kinds, &checker.answers, &checker.tries, &checker.rounds, &checker.ended];
+    comparison.finish("read sets", &tallies);
+}
+
+/// Around the two bounds of "no packing exists", and sets within both that have one and are missed.
+fn no_packing(checker: &mut Checker, random: &mut Random) {
+    for wide in [255, 256, 257, 258, 400, 481] {
+        for _ in 0..60 {
+            let set = sets::so_many_wide(random, wide);
+            checker.check(&format!("{} words of 17 bits or more", wide), &set, any_lent(random));
+        }
+    }
+    // Both: 21 comes first.
+    for _ in 0..60 {
+        let bits: Vec<u32> = (0..random.between(257, 600)).map(|_| random.between(30, 32) as u32).collect();
+        let set = sets::with_bits(random, &bits);
+        checker.check("too many bits and too many wide words", &set, any_lent(random));
+    }
+    let ended = checker.ended.times(FULL);
+    for _ in 0..400 {
+        let set = sets::exactly_full(random);
+        checker.check("lanes that could be filled exactly", &set, any_lent(random));
+    }
+    let missed = checker.ended.times(FULL) - ended;
+    assert!(missed >= LATE, "{} sets that have a packing were missed", missed);
 }
 
 /// 4096 pairs of 1 bit and 3 bits in turn: pieces of two pairs or more have equal totals, so that their order stays, and a pair
@@ -52,9 +78,13 @@ fn all_came(checker: &Checker) {
         let times = checker.tries.times(&format!("try {:2}", tried));
         assert!(times >= LATE, "try {} won {} times", tried, times);
     }
-    for number in [1, 2, 3, 4, 14, 32] {
+    for number in [1, 2, 3, 4, 14, 21, 22, 32] {
         let times = checker.answers.times(&format!("refused {}", number));
         assert!(times >= REFUSED, "refusal {} came {} times", number, times);
+    }
+    for kind in [STAGED_STOP, UNSTAGED_STOP] {
+        let times = checker.ended.times(kind);
+        assert!(times >= LATE, "{}: {} times", kind, times);
     }
 }
 
@@ -144,13 +174,15 @@ fn damaged_sets(checker: &mut Checker, random: &mut Random) {
     }
 }
 
-/// Result rooms around the length that is needed; 3 and 4 come before 14.
+/// Result rooms around the length that is needed; 3, 21, 22 and 4 come before 14.
 fn short_results(checker: &mut Checker, random: &mut Random) {
     for round in 0..6_000 {
         let set = match round % 20 {
             0 => sets::of_total(random, 5_000),
             1 => sets::wide(random, 257),
             2 => Vec::new(),
+            3 => sets::exactly_full(random),
+            4 => sets::of_total(random, 8_193),
             _ => {
                 let pairs = random.between(1, 30);
                 sets::any(random, pairs)

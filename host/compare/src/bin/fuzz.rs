@@ -210,6 +210,7 @@ impl Fuzz {
             room_is_zero: random.chance(2),
             starts: random.pick(&[0, 0, 3, -1]),
             words: random.pick(&[0, 0, 9, -1]),
+            pieces: random.pick(&[0, 0, 5, -1]),
         };
         self.plans.check("fuzz", &record, more);
         "plan_sizes and build"

@@ -102,7 +102,8 @@ fn prepared(name: &str) -> Box<dyn FnOnce() + Send> {
             let (record, mut room) = with_room(any_plan());
             let sizes = juolgesot::plan_sizes(&record).expect("a plan in order");
             let (mut starts, mut words) = (vec![0; sizes.starts], vec![0; sizes.words]);
-            Box::new(move || good(ffi::build(&record, &mut room, &mut starts, &mut words).code))
+            let mut pieces = vec![0; 64];
+            Box::new(move || good(ffi::build(&record, &mut room, &mut starts, &mut words, &mut pieces).code))
         }
         "run" => {
             let script = juolgesot::build(&any_plan().record()).expect("a plan in order");

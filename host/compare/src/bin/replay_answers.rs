@@ -1,7 +1,7 @@
 //! Holds the library to stored answers: replay_answers FILE. Needs no GEM sources.
 
 use compare::answers::{self, Case, Stored};
-use juolgesot::{read_rounds, ReadRounds};
+use juolgesot::{read_rounds, Rounds};
 
 fn main() {
     let path = std::env::args().nth(1).expect("usage: replay_answers FILE");
@@ -26,9 +26,9 @@ fn check(case: &Case) -> Result<(), String> {
 }
 
 /// Every pair stands at its stored place, and nothing else is read.
-fn check_packing(case: &Case, rounds: u32, places: &[u32], found: &ReadRounds) -> Result<(), String> {
-    if found.rounds() as u32 != rounds {
-        return Err(format!("{} rounds, expected {}", found.rounds(), rounds));
+fn check_packing(case: &Case, rounds: u32, places: &[u32], found: &Rounds) -> Result<(), String> {
+    if found.rounds as u32 != rounds {
+        return Err(format!("{} rounds, expected {}", found.rounds, rounds));
     }
     for (pair, place) in case.pairs.iter().zip(places) {
         let (lane, round) = (place / 32, place % 32);
@@ -37,7 +37,7 @@ fn check_packing(case: &Case, rounds: u32, places: &[u32], found: &ReadRounds) -
             return Err(format!("lane {} round {} reads {:?}, expected {:?}", lane, round, read, pair));
         }
     }
-    let read_words = found.section().iter().filter(|word| **word != 0).count();
+    let read_words = found.words.iter().filter(|word| **word != 0).count();
     let asked_words =
         case.pairs.iter().flat_map(|(word, mask)| [word, mask]).filter(|word| **word != 0).count();
     if read_words != asked_words {

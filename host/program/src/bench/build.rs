@@ -33,16 +33,19 @@ fn times(input: &Input, time: Duration) -> Result<Times, Failure> {
     let record = plan.record();
     let mut room = vec![0; juolgesot::plan_room(&record) as usize];
     let (mut starts, mut words) = (vec![0; script.starts.len()], vec![0; script.words.len()]);
+    let mut pieces = vec![0; plan.parts().count()];
     let ours = || {
         starts.fill(0);
         words.fill(0);
-        let (sizes, took) = timed(|| juolgesot::build_into(&record, &mut room, &mut starts, &mut words));
+        let (sizes, took) =
+            timed(|| juolgesot::build_into(&record, &mut room, &mut starts, &mut words, &mut pieces));
         let made = sizes.ok().map(|sizes| Script {
             blocks: plan.blocks as usize,
             starts: starts.clone(),
             words: words.clone(),
             state_words: sizes.state_words,
             sram_words: sizes.sram_words,
+            pieces: pieces.clone(),
         });
         (made, took)
     };

@@ -37,8 +37,8 @@ fn times(set: &[u32], time: Duration) -> Result<Times, Failure> {
     let mut room = vec![0; juolgesot::SET_ROOM];
     let mut out = vec![0; 32 * juolgesot::ROUND_WORDS];
     let ours = || {
-        let (rounds, took) = timed(|| juolgesot::read_rounds_into(set, &mut room, &mut out));
-        (rounds.ok().map(|rounds| out[..juolgesot::ROUND_WORDS * rounds].to_vec()), took)
+        let (placed, took) = timed(|| juolgesot::read_rounds_into(set, &mut room, &mut out));
+        (placed.ok().map(|placed| out[..juolgesot::ROUND_WORDS * placed.rounds].to_vec()), took)
     };
     let theirs = || timed(|| reference::lanes_of_map(&map).map(|lanes| model::rounds::section(&lanes)));
     time_both(time, ours, theirs)

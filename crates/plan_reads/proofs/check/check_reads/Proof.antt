@@ -1,4 +1,4 @@
--- `plan_reads::check::check_reads` meets its contract. The loop's invariant: what the parts that are left say of 3 and 4 is what all say, and the
+-- `plan_reads::check::check_reads` meets its contract. The loop's invariant: what the parts that are left say of 3, 21, 22 and 4 is what all say, and the
 -- rows of those before them have their rounds and piece sizes.
 -- Assumes nothing.
 use mathlib.Core.Path.{_≡_, refl, sym, _∙_}
@@ -12,16 +12,16 @@ use Rattle.plan_winners.proofs.WinnerLaws.{listed}
 use Rattle.plan_reads.specs.PartReadAnswers.{readRows}
 use Rattle.plan_reads.proofs.ReadRowLaws.{read-none}
 use Rattle.plan_reads.proofs.FirstEntryLaws.{all-planned}
-use Rattle.plan_reads.proofs.CheckLaws.{Passing, passing-start, passing-place, passing-fault, passing-on, none-early, passed-fine, passed-full, rows-long, rows-clear, row-inside, rows-more, rows-fault, rows-all}
+use Rattle.plan_reads.proofs.CheckLaws.{Passing, passing-start, passing-place, passing-fault, passing-on, none-early, passed-told, rows-long, rows-clear, row-inside, rows-more, rows-fault, rows-all}
 use Rattle.plan_reads.proofs.check.check_reads.Statement.{statement}
 use Rattle.plan_reads.proofs.check.check_reads.Tie as tie
 
 abbrev Inv-loop : tie.InvT-loop
-Inv-loop d room₀ keys₀ scratch₀ set₀ parts at₀ full₀ p₀ room keys scratch set at full p =
-    Passing d parts at full p × (room ≡ readRows d room₀ p) × (length keys ≡ length keys₀) × (length scratch ≡ length scratch₀) × (length set ≡ length set₀)
+Inv-loop d room₀ keys₀ scratch₀ set₀ parts at₀ found₀ p₀ room keys scratch set at found p =
+    Passing d parts at found p × (room ≡ readRows d room₀ p) × (length keys ≡ length keys₀) × (length scratch ≡ length scratch₀) × (length set ≡ length set₀)
 
 abbrev μ-loop : tie.MeasureT-loop
-μ-loop d room₀ keys₀ scratch₀ set₀ parts at₀ full₀ p₀ room keys scratch set at full p = parts - p
+μ-loop d room₀ keys₀ scratch₀ set₀ parts at₀ found₀ p₀ room keys scratch set at found p = parts - p
 
 parts-of-requires : tie.Need-parts-of-requires Inv-loop μ-loop
 parts-of-requires c κs = formed _ (c .before .before .before .before .before .pre .0 .form) .head .majors
@@ -101,8 +101,8 @@ returns c =
     let s = start .args in
     let l = at-loop-test .before .loop in
     let k = at-check-part .check-part in
-    let there = passing-place (s .d .now) _ (l .at) (l .full) (l .p) (at-parts-of .parts-of .ensures .0) (at-loop-test .loop-test .taken) (l .inv .0) _ (k .ensures .0) _ (c .before .is-nothing .ensures) (c .if1 .taken) in (
-      passing-fault (s .d .now) _ (l .at) (l .full) (l .p) (at-parts-of .parts-of .ensures .0) (at-loop-test .loop-test .taken) (l .inv .0) _ (k .ensures .0) _ (c .before .is-nothing .ensures) (c .if1 .taken),
+    let there = passing-place (s .d .now) _ (l .at) (l .found) (l .p) (at-parts-of .parts-of .ensures .0) (at-loop-test .loop-test .taken) (l .inv .0) _ (k .ensures .0) _ (c .before .is-nothing .ensures) (c .if1 .taken) in (
+      passing-fault (s .d .now) _ (l .at) (l .found) (l .p) (at-parts-of .parts-of .ensures .0) (at-loop-test .loop-test .taken) (l .inv .0) _ (k .ensures .0) _ (c .before .is-nothing .ensures) (c .if1 .taken),
       rows-fault (s .d .now) (s .room .now) _ (l .p) (k .ensures .1 ∙ l .inv .1) there,
     )
 
@@ -131,8 +131,8 @@ loop-less c =
 
 loop-again : tie.Need-loop-again Inv-loop μ-loop
 loop-again c =
-    let at-full-after = c .before .before .before .before in
-    let way = at-full-after .before .before .before .before .before .before in
+    let at-firsts-after = c .before .before .before .before in
+    let way = at-firsts-after .before .before .before .before .before .before in
     let at-check-part = way .before .before .before .before .before in
     let at-body-at = at-check-part .before .before .before .before .before in
     let at-parts-of = at-body-at .before .before .before .before in
@@ -141,8 +141,8 @@ loop-again c =
     let l = at-body-at .before .before .loop in
     let q = at-check-part .check-part in
     let k = q .kept in (
-      passing-on (s .d .now) _ (l .at) (l .full) (l .p) (at-parts-of .parts-of .ensures .0) (at-body-at .before .loop-test .taken) (l .inv .0) _ (q .ensures .0) _
-          (at-full-after .before .before .is-nothing .ensures) (at-full-after .before .if1 .left) _ _ (at-full-after .full-after .ensures)
+      passing-on (s .d .now) _ (l .at) (l .found) (l .p) (at-parts-of .parts-of .ensures .0) (at-body-at .before .loop-test .taken) (l .inv .0) _ (q .ensures .0) _
+          (at-firsts-after .before .before .is-nothing .ensures) (at-firsts-after .before .if1 .left) _ _ (at-firsts-after .firsts-after .ensures)
           (at-body-at .body-at .ensures .end),
       c .before .before .put-reads .ensures ∙ rows-more (s .d .now) (s .room .now) _ (l .p) (q .ensures .1 ∙ l .inv .1) _ (q .ensures .0),
       k .1 .1 .1 .1 .0 ∙ l .inv .2,
@@ -169,41 +169,14 @@ same-length-8 c = c .before .before .loop .inv .4
 
 returns-2 : tie.Need-returns-2 Inv-loop μ-loop
 returns-2 c =
-    let at-parts-of = c .before .before .before .before in
+    let at-loop = c .before .before in
+    let at-parts-of = at-loop .before .before in
     let start = at-parts-of .before .before .before .before .before .before in
     let s = start .args in
-    let l = c .before .before .loop in
+    let l = at-loop .loop in
     let count = at-parts-of .parts-of .ensures .0 in (
-      passed-fine (s .d .now) _ (l .at) (l .full) (l .p) count (omega arith) (l .inv .0) (c .if2 .taken),
-      rows-all (s .d .now) (s .room .now) _ (l .p) (l .inv .1) (omega (arith, count, l .inv .0 .so-far)) (none-early (s .d .now) _ (l .at) (l .full) (l .p) count (omega arith) (l .inv .0)),
-    )
-
-same-length-9 : tie.Need-same-length-9 Inv-loop μ-loop
-same-length-9 c =
-    let way = c .before .before .before .before .before in
-    let start = way .before .before .before .before .before in
-    let s = start .args in
-    let l = c .before .before .loop in
-    rows-long (s .d .now) (s .room .now) _ (l .p) (l .inv .1)
-
-same-length-10 : tie.Need-same-length-10 Inv-loop μ-loop
-same-length-10 c = c .before .before .loop .inv .2
-
-same-length-11 : tie.Need-same-length-11 Inv-loop μ-loop
-same-length-11 c = c .before .before .loop .inv .3
-
-same-length-12 : tie.Need-same-length-12 Inv-loop μ-loop
-same-length-12 c = c .before .before .loop .inv .4
-
-returns-3 : tie.Need-returns-3 Inv-loop μ-loop
-returns-3 c =
-    let at-parts-of = c .before .before .before .before in
-    let start = at-parts-of .before .before .before .before .before .before in
-    let s = start .args in
-    let l = c .before .before .loop in
-    let count = at-parts-of .parts-of .ensures .0 in (
-      passed-full (s .d .now) _ (l .at) (l .full) (l .p) count (omega arith) (l .inv .0) (c .if2 .left),
-      rows-all (s .d .now) (s .room .now) _ (l .p) (l .inv .1) (omega (arith, count, l .inv .0 .so-far)) (none-early (s .d .now) _ (l .at) (l .full) (l .p) count (omega arith) (l .inv .0)),
+      c .tell-firsts .ensures ∙ passed-told (s .d .now) _ (l .at) (l .found) (l .p) count (omega arith) (l .inv .0),
+      rows-all (s .d .now) (s .room .now) _ (l .p) (l .inv .1) (omega (arith, count, l .inv .0 .so-far)) (none-early (s .d .now) _ (l .at) (l .found) (l .p) count (omega arith) (l .inv .0)),
     )
 
 pub check-reads-spec : {M : Type 1} → statement M
@@ -211,5 +184,4 @@ check-reads-spec =
     tie.close
     (tie.spec Inv-loop μ-loop parts-of-requires first-body-requires loop-holds body-at-requires check-part-requires (λ c κs. search needs)
     same-length same-length-2 same-length-3 same-length-4 returns (λ c κs. search needs) put-reads-requires (λ c. search needs) loop-less
-    loop-again same-length-5 same-length-6 same-length-7 same-length-8 returns-2 same-length-9 same-length-10 same-length-11 same-length-12
-    returns-3)
+    loop-again (λ c κs. search needs) same-length-5 same-length-6 same-length-7 same-length-8 returns-2)
