@@ -51,6 +51,7 @@ extern "C" {
 #define JUOLGESOT_WRITE_AIGER_STACK 32768
 #define JUOLGESOT_PLACE_BIT_STACK 212992
 #define JUOLGESOT_PURGE_BIT_STACK 147456
+#define JUOLGESOT_JOIN_STACK 32768
 
 /* The rounds of a read set: word, mask, word, mask ..
  * 0: *first is the number of rounds (at most 32), *second the piece size that won (1 to the number of pairs: below it, the packing
@@ -121,6 +122,13 @@ uint32_t juolgesot_place_bit(const uint32_t *gates, size_t gates_len, const uint
 uint32_t juolgesot_purge_bit(const uint32_t *counts, size_t counts_len, uint32_t *slots, size_t slots_len,
                              uint32_t *after, size_t after_len, uint32_t *room, size_t room_len,
                              uint32_t level, uint32_t slot, uint64_t *first, uint64_t *second);
+
+/* The join of two read sets, each word, mask, word, mask ..: the words of both, ascending, masks or'ed. a and b are only read,
+ * and may overlap or be the same; either may be empty.
+ * 0: *first is the number of pairs (at most 8192), and out begins with them, two words each. As many words as both sets have
+ * always are enough. Refused by 1, 2 (the first set, then the second), 1 (the join has over 8192 pairs), 14. */
+uint32_t juolgesot_join(const uint32_t *a, size_t a_len, const uint32_t *b, size_t b_len, uint32_t *out, size_t out_len,
+                        uint64_t *first, uint64_t *second);
 
 #ifdef __cplusplus
 }

@@ -35,6 +35,7 @@ bad_files() {
     { word 3; word 4; word 2; word 5; word 6; word 4; } >gap.gates
     head -c 8 gap.gates >cut.gates
     head -c 9 gap.gates >odd.gates
+    bad_sets
     echo 'insert 1 2 3 4' >form.traffic
     echo 'lookup 5 4000000000' >many.traffic
     echo 'in clock 2 0' >form.ports
@@ -49,6 +50,26 @@ bad_files() {
     echo 'a = 2' >wide.inputs
     echo 'wait' >form.inputs
     echo 'cycle 4000000000' >many.inputs
+}
+
+# Read sets, as join takes them.
+bad_sets() {
+    { word 0; word 3; word 7; word 128; } >good.set
+    head -c 9 good.set >odd.set
+    head -c 12 good.set >half.set
+    { word 3; word 1; word 3; word 2; } >twice.set
+    { word 134217728; word 1; } >far.set
+    { word 5; word 0; } >mask.set
+    # 8193 words of one bit, 8192 of them, and one that is none of these.
+    counted 8193 >long.set
+    head -c 65536 long.set >full.set
+    { word 9000; word 1; } >more.set
+}
+
+# counted COUNT: a read set of so many words, from 0 on, each with its first bit.
+counted() {
+    local zeros='\\0000\\0000'
+    printf '%b' "$(seq 0 $(($1 - 1)) | awk -v zeros="$zeros" '{ printf "\\0%03o\\0%03o" zeros "\\0001\\0000" zeros, $1 % 256, $1 / 256 }')"
 }
 
 bad_plans() {

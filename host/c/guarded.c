@@ -360,10 +360,45 @@ static void repair(void)
     calls += 10;
 }
 
+/* Two sets joined, either way, and one with itself; a word too few; damage in each set. */
+static void join(void)
+{
+    static const uint32_t one[] = {0, 3, 7, 0x80}, other[] = {0, 0x20, 3, 1, 0x80000000u, 1}, twice[] = {3, 1, 3, 2};
+    static const uint32_t both[] = {0, 0x23, 3, 1, 7, 0x80, 0x80000000u, 1};
+    uint32_t *a = between_pages(sizeof one, one), *b = between_pages(sizeof other, other);
+    uint32_t *bad = between_pages(sizeof twice, twice);
+    uint32_t *out = between_pages(sizeof both, NULL), *short_out = between_pages(4 * 7, NULL);
+    uint64_t *first = number(), *second = number();
+    for (int turned = 0; turned < 2; turned++) {
+        memset(out, 0, sizeof both);
+        is("join", turned ? juolgesot_join(b, 6, a, 4, out, 8, first, second) : juolgesot_join(a, 4, b, 6, out, 8, first, second), 0);
+        is("pairs", *first, 4);
+        is("second", *second, 0);
+        if (memcmp(out, both, sizeof both) != 0)
+            fail("the join");
+    }
+    is("with itself", juolgesot_join(a, 4, a, 4, out, 8, first, second), 0);
+    is("pairs", *first, 2);
+    if (memcmp(out, one, sizeof one) != 0 || out[4] != both[4])
+        fail("a set joined with itself");
+    is("two empty sets", juolgesot_join(a, 0, b, 0, out, 0, first, second), 0);
+    is("pairs", *first, 0);
+    is("short join", juolgesot_join(a, 4, b, 6, short_out, 7, first, second), 14);
+    is("a word twice", juolgesot_join(bad, 4, b, 5, out, 8, first, second), 2);
+    is("its pair", *second, 1);
+    is("half a pair in the second", juolgesot_join(a, 4, b, 5, out, 8, first, second), 2);
+    is("its pair", *second, 2);
+    is("8193 pairs", juolgesot_join(pairs(8192, 1, 1), 2 * 8193, b, 5, out, 8, first, second), 1);
+    is("a join of 8193 pairs", juolgesot_join(pairs(8191, 1, 1), 2 * 8192, b, 6, out, 8, first, second), 1);
+    is("its item", *second, 0);
+    calls += 9;
+}
+
 int main(void)
 {
     for (at_end = 0; at_end < 2; at_end++) {
         read_rounds();
+        sizes_and_bounds();
         list();
         make_m10();
         make_m10_script();
@@ -372,8 +407,8 @@ int main(void)
         value();
         aiger();
         repair();
+        join();
     }
     printf("C: %d calls between guard pages, no difference\n", calls);
     return 0;
 }
-        sizes_and_bounds();

@@ -17,8 +17,9 @@ use Rattle.repair_settle.specs.Settle.{repairedOf}
 use Rattle.aiger.specs.Reading.{Read}
 use Rattle.aiger_read.specs.ReadTold.{gatesReadOf as gatesOf}
 use Rattle.aiger_write.specs.WriteTold.{textWrittenOf as textOf}
-use Rattle.capi.specs.Exported.{roundsAndSize, textLength, ownBit, turnCount, planSize, entryCount, gateCounts}
-use Rattle.capi.specs.Numbers.{roundsNumbers, listedNumbers, valuedNumbers, ranNumbers, repairedNumbers, textNumbers, flattenedNumbers, gatesNumbers}
+use Rattle.joins.specs.Merge.{joinedOf}
+use Rattle.capi.specs.Exported.{roundsAndSize, textLength, ownBit, turnCount, planSize, entryCount, gateCounts, pairCount}
+use Rattle.capi.specs.Numbers.{roundsNumbers, listedNumbers, valuedNumbers, ranNumbers, repairedNumbers, textNumbers, flattenedNumbers, gatesNumbers, joinedNumbers}
 
 pub also : {x y : List ℕ} {l m : List (List ℕ)} → x ≡ y → l ≡ m → x ∷ l ≡ y ∷ m
 also e f = cc
@@ -54,3 +55,7 @@ gates-told (refused q) = refl
 pub text-told : (o : Answer (List ℕ)) → textNumbers (textOf o) ≡ handed 2 textLength o
 text-told (good x) = refl
 text-told (refused q) = refl
+
+pub joined-told : (o : Answer (List ℕ)) → joinedNumbers (joinedOf o) ≡ handed 2 pairCount o
+joined-told (good x) = refl
+joined-told (refused q) = refl

@@ -16,6 +16,8 @@ use Rattle.aiger.specs.Reading.{Read, readAiger}
 use Rattle.aiger.specs.Writing.{writeAiger}
 use Rattle.aiger.specs.AigerAnswer.{fitting, gateListAfter as gatesAfter, holding, fileAfter as aigerAfter}
 use Rattle.repair_nodes.specs.RepairAnswer.{Repair, placed, cleared, slotsAfter, countListAfter, repairRoomAfter}
+use Rattle.reads.specs.ReadSet.{pairsOf}
+use Rattle.joins.specs.Join.{joining, joinAfter}
 
 -- ---- the numbers of a good answer, after 0
 
@@ -46,6 +48,10 @@ entryCount x = length (x .counts) ∷ []
 -- of gates read gates, inputs, latches and outputs
 abbrev pub gateCounts : Read → List ℕ
 gateCounts x = x .header .gates ∷ x .header .inputs ∷ x .header .latches ∷ x .header .outputs ∷ []
+
+-- of a join its pairs
+abbrev pub pairCount : List ℕ → List ℕ
+pairCount s = length (pairsOf s) ∷ []
 
 -- ---- the functions
 
@@ -97,3 +103,8 @@ unfoldable pub afterWriteAiger : (gates out : List ℕ) → List (List ℕ)
 afterWriteAiger gates out =
     let o = holding (length out) (writeAiger gates) in
     handed 2 textLength o ∷ aigerAfter o out ∷ []
+
+unfoldable pub afterJoin : (a b out : List ℕ) → List (List ℕ)
+afterJoin a b out =
+    let o = joining a b (length out) in
+    handed 2 pairCount o ∷ joinAfter o out ∷ []

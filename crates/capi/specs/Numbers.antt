@@ -20,6 +20,8 @@ use Rattle.aiger_read.specs.declared.Gates.{Gates}
 use Rattle.aiger_read.specs.declared.Gates.the-variants as gates
 use Rattle.aiger_write.specs.declared.Text.{Text}
 use Rattle.aiger_write.specs.declared.Text.the-variants as text
+use Rattle.joins.specs.declared.Joined.{Joined}
+use Rattle.joins.specs.declared.Joined.the-variants as joined
 
 -- two numbers beside the one that is returned
 abbrev pub roundsNumbers : Rounds → List ℕ
@@ -45,6 +47,10 @@ repairedNumbers (repaired.Refused q) = refusalNumbers q
 abbrev pub textNumbers : Text → List ℕ
 textNumbers (text.Bytes n) = 0 ∷ n ∷ 0 ∷ []
 textNumbers (text.Refused q) = refusalNumbers q
+
+abbrev pub joinedNumbers : Joined → List ℕ
+joinedNumbers (joined.Pairs n) = 0 ∷ n ∷ 0 ∷ []
+joinedNumbers (joined.Refused q) = refusalNumbers q
 
 -- four
 abbrev pub four : Refusal → List ℕ

@@ -2,12 +2,13 @@
 // lent for them: what a good answer says, or the refusal's place. Each contract is one equation: the numbers, then every slice that is written.
 ghost use mathlib.Core.Path.{_≡_};
 ghost use mathlib.Core.List.{[], _∷_};
-ghost use Rattle.capi.specs.Exported.{afterReadRounds, afterList, afterValue, afterRun, afterPlanSizes, afterBuild, afterPlaceBit, afterPurgeBit, afterReadAiger, afterWriteAiger};
-ghost use Rattle.capi.specs.Numbers.{roundsNumbers, listedNumbers, valuedNumbers, ranNumbers, flattenedNumbers, repairedNumbers, gatesNumbers, textNumbers};
+ghost use Rattle.capi.specs.Exported.{afterReadRounds, afterList, afterValue, afterRun, afterPlanSizes, afterBuild, afterPlaceBit, afterPurgeBit, afterReadAiger, afterWriteAiger, afterJoin};
+ghost use Rattle.capi.specs.Numbers.{roundsNumbers, listedNumbers, valuedNumbers, ranNumbers, flattenedNumbers, repairedNumbers, gatesNumbers, textNumbers, joinedNumbers};
 ghost use Rattle.capi.specs.Promised.{Promised};
 use aiger_read::Gates;
 use aiger_write::Text;
 use flatten::Flattened;
+use joins::Joined;
 use listing::Listed;
 use repair_settle::Repaired;
 use rounds::Rounds;
@@ -331,4 +332,27 @@ pub extern "C" fn juolgesot_write_aiger(
     ensures { λ r. ⌜ ((r ∷ now (first .exit) ∷ now (second .exit) ∷ []) ∷ now (out .exit) ∷ []) ≡ afterWriteAiger (now (gates .entry)) (now (out .entry)) ⌝ }
 {
     tell_text(aiger_write::write_gates(gates, out), first, second)
+}
+
+fn tell_joined(answer: Joined, first: &mut u64, second: &mut u64) -> u32
+    ensures { λ r. ⌜ (r ∷ now (first .exit) ∷ now (second .exit) ∷ []) ≡ joinedNumbers answer ⌝ }
+{
+    match answer {
+        Joined::Pairs(n) => hand_good(n as u64, first, second),
+        Joined::Refused(refusal) => hand_refusal(refusal, first, second),
+    }
+}
+
+// The join of two read sets: `first` is its pairs, or the refusal's part; `second` is 0, or its item.
+#[no_mangle]
+pub extern "C" fn juolgesot_join(
+    a: &[u32],
+    b: &[u32],
+    out: &mut [u32],
+    first: &mut u64,
+    second: &mut u64,
+) -> u32
+    ensures { λ r. ⌜ ((r ∷ now (first .exit) ∷ now (second .exit) ∷ []) ∷ now (out .exit) ∷ []) ≡ afterJoin (now (a .entry)) (now (b .entry)) (now (out .entry)) ⌝ }
+{
+    tell_joined(joins::join_sets(a, b, out), first, second)
 }

@@ -13,6 +13,7 @@ pub mod comparison;
 pub mod damage;
 pub mod deep;
 pub mod explain;
+pub mod join_checker;
 pub mod lent;
 pub mod list_checker;
 pub mod marked;

@@ -146,6 +146,17 @@ extern "C" {
         first: *mut u64,
         second: *mut u64,
     ) -> u32;
+
+    fn juolgesot_join(
+        a: *const u32,
+        a_len: usize,
+        b: *const u32,
+        b_len: usize,
+        out: *mut u32,
+        out_len: usize,
+        first: *mut u64,
+        second: *mut u64,
+    ) -> u32;
 }
 
 /// What a call gives back: 0 and two results, or a refusal's number and its place (part, item).
@@ -333,4 +344,9 @@ pub fn purge_bit(
             second
         )
     })
+}
+
+/// Code 0: `first` is the number of pairs that `out` begins with, `second` 0. `a` and `b` may be the same slice.
+pub fn join(a: &[u32], b: &[u32], out: &mut [u32]) -> Answer {
+    Answer::of(|first, second| call!(juolgesot_join, [a.as_ptr, b.as_ptr, out.as_mut_ptr], first, second))
 }

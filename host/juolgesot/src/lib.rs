@@ -20,6 +20,7 @@
 
 mod aiger;
 pub mod ffi;
+mod joins;
 mod listing;
 mod machine;
 mod plan_room;
@@ -34,6 +35,7 @@ mod value;
 pub use aiger::{
     read_aiger, read_aiger_into, write_aiger, write_aiger_into, Aiger, AigerHeader, AIGER_GATE, AIGER_HEADER,
 };
+pub use joins::{join, join_into, join_words, JoinRefusal, JoinSet, MOST_PAIRS};
 pub use listing::{list, list_into, LIST_ROOM, LIST_TEXT};
 pub use machine::{Machine, Trouble};
 pub use plan::{

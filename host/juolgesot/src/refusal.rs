@@ -11,7 +11,7 @@ const SLOTS: u64 = 8192;
 #[derive(Debug, Clone, Copy, PartialEq, Eq, Hash)]
 #[non_exhaustive]
 pub enum Refusal {
-    /// 1: the read set has more than 8192 pairs.
+    /// 1: a read set, or the join of two, has more than 8192 pairs.
     TooManyPairs,
     /// 2: a pair of the read set is out of form.
     BadPair {

@@ -34,4 +34,6 @@ stacks! {
     PLACE_BIT = "place_bit", 208;
     /// `purge_bit_into`.
     PURGE_BIT = "purge_bit", 144;
+    /// `join_into`.
+    JOIN = "join", 32;
 }

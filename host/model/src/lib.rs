@@ -7,6 +7,7 @@
 pub mod aiger;
 pub mod blocks;
 pub mod build;
+pub mod joins;
 pub mod listing;
 pub mod plan;
 pub mod record;

@@ -5,7 +5,7 @@
 
 use model::build::{accept, Accepted, Sizes};
 use model::repair::{self, Netlist, Place, Repaired};
-use model::{aiger, listing, record, rounds, run, value, Refused};
+use model::{aiger, joins, listing, record, rounds, run, value, Refused};
 use std::slice::{from_raw_parts, from_raw_parts_mut};
 
 /// Writes the result, or a refusal's place, and gives the code.
@@ -290,6 +290,28 @@ pub unsafe extern "C" fn juolgesot_write_aiger(
             Ok(bytes.len() as u64)
         }
         None => Err(Refused::plain(14)),
+    });
+    tell(answer, first, second)
+}
+
+/// # Safety
+/// Each pointer is to its length of words. `a` and `b`, which are only read, may be shared.
+#[no_mangle]
+pub unsafe extern "C" fn juolgesot_join(
+    a: *const u32,
+    a_len: usize,
+    b: *const u32,
+    b_len: usize,
+    out: *mut u32,
+    out_len: usize,
+    first: &mut u64,
+    second: &mut u64,
+) -> u32 {
+    let (a, b) = unsafe { (from_raw_parts(a, a_len), from_raw_parts(b, b_len)) };
+    let out = unsafe { from_raw_parts_mut(out, out_len) };
+    let answer = joins::answer(a, b, out_len).map(|joined| {
+        out[..joined.len()].copy_from_slice(&joined);
+        joined.len() as u64 / 2
     });
     tell(answer, first, second)
 }

@@ -6,6 +6,7 @@ mod build;
 mod chart;
 mod compare;
 mod files;
+mod join;
 mod list;
 mod progress;
 mod repair;
@@ -37,7 +38,7 @@ struct Verb {
     call: fn(&[String]) -> Outcome,
 }
 
-const VERBS: [Verb; 8] = [
+const VERBS: [Verb; 9] = [
     Verb {
         name: "compare",
         summary: "both builders on the same plans, a line each",
@@ -52,6 +53,7 @@ const VERBS: [Verb; 8] = [
         help: list::HELP,
         call: list::call,
     },
+    Verb { name: "join", summary: "two read sets into one", help: join::HELP, call: join::call },
     Verb {
         name: "aiger",
         summary: "gate lists from binary AIGER, and back",

@@ -8,6 +8,7 @@
 use compare::aiger_checker::AigerChecker;
 use compare::aiger_files;
 use compare::checker::{Checker, Lent, OutLength};
+use compare::join_checker::JoinChecker;
 use compare::list_checker::ListChecker;
 use compare::plan_checker::{More, PlanChecker};
 use compare::plans::{self, Size};
@@ -57,6 +58,7 @@ struct Fuzz {
     values: ValueChecker,
     aiger: AigerChecker,
     repairs: RepairChecker,
+    joins: JoinChecker,
     records: Pool<Vec<u32>>,
     scripts: Pool<Case>,
     stages: Pool<repairs::Case>,
@@ -95,6 +97,7 @@ impl Fuzz {
             values: ValueChecker::new(),
             aiger: AigerChecker::new(),
             repairs: RepairChecker::new(),
+            joins: JoinChecker::new(),
             records: Pool::new(),
             scripts: Pool::new(),
             stages: Pool::new(),
@@ -109,6 +112,7 @@ impl Fuzz {
         self.values.answers.print();
         self.aiger.answers.print();
         self.repairs.answers.print();
+        self.joins.answers.print();
     }
 
     /// Read sets and listings are quick and come most often.
@@ -122,12 +126,14 @@ impl Fuzz {
             44..=53 => self.read_aiger(),
             54..=58 => self.write_aiger(),
             59..=61 => self.repair(),
+            62..=69 => self.join(),
             _ => self.read_rounds(),
         };
         self.functions.count_timed(name, start.elapsed());
     }
 
-    fn read_rounds(&mut self) -> &'static str {
+    /// A read set, mostly damaged.
+    fn set(&mut self) -> Vec<u32> {
         let random = &mut self.random;
         let pairs = if random.chance(200) { random.between(200, 8300) } else { random.between(0, 30) };
         let mut set = match random.below(4) {
@@ -138,6 +144,36 @@ impl Fuzz {
         if !random.chance(4) {
             damage_words(random, &mut set);
         }
+        set
+    }
+
+    /// Of two sets, one and itself damaged, or one slice twice. Half of those that are damaged are drawn again.
+    fn join(&mut self) -> &'static str {
+        let mut sets = [self.set(), self.set()];
+        let random = &mut self.random;
+        for set in &mut sets {
+            if random.chance(2) {
+                let pairs = random.between(0, 30);
+                *set = sets::any(random, pairs);
+            }
+        }
+        let [a, mut b] = sets;
+        let more = random.pick(&[0, 0, 0, 1, 50, -1, -3, -1000]);
+        match random.below(8) {
+            0 => self.joins.check_with_itself("fuzz", &a, more),
+            1 | 2 => {
+                b = a.clone();
+                damage_words(random, &mut b);
+                self.joins.check("fuzz", &a, &b, more)
+            }
+            _ => self.joins.check("fuzz", &a, &b, more),
+        };
+        "join"
+    }
+
+    fn read_rounds(&mut self) -> &'static str {
+        let set = self.set();
+        let random = &mut self.random;
         let room =
             if random.chance(12) { random.below(16_384) } else { 16_384 + random.pick(&[0, 0, 1, 77]) };
         let out = match random.below(4) {

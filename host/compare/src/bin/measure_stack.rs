@@ -147,6 +147,11 @@ fn prepared(name: &str) -> Box<dyn FnOnce() + Send> {
                 (vec![0; counts.len()], vec![0; juolgesot::repair_room(counts.len())]);
             Box::new(move || good(ffi::purge_bit(&counts, &mut slots, &mut after, &mut room, 13, 0).code))
         }
+        "join" => {
+            let set = |from: u32| -> Vec<u32> { (0..4096).flat_map(|word| [from + 2 * word, 1]).collect() };
+            let (even, odd, mut out) = (set(0), set(1), vec![0; 16384]);
+            Box::new(move || good(ffi::join(&even, &odd, &mut out).code))
+        }
         other => panic!("what is '{}'?", other),
     }
 }

@@ -1,0 +1,6 @@
+pub mod JoinPutLaws
+pub mod JoinMaskLaws
+pub mod JoinKeptLaws
+pub mod JoinLaws
+pub mod JoinAnswerLaws
+pub mod JoinPassLaws
