@@ -3,6 +3,8 @@
 mod aiger;
 mod build;
 mod inputs;
+mod joins;
+mod pins;
 mod repair;
 mod rounds;
 mod run;
@@ -19,9 +21,11 @@ usage: juolgesot bench [--seconds S] [--svg FILE]
 Times of our functions and of plain Rust on the same inputs, turn about in one process. What both made is compared each
 time. Prints Markdown tables; ratio is our time / their time: below 1 ours is faster.
 
-read rounds  beside GEM's Rust, small sets to large
+read rounds  beside GEM's Rust, small sets to large, sets that take many tries, and sets that are refused
 build        beside GEM's Rust, on three netlists (small, mid and large, by the words of their scripts) and on a random
-             part alone, twice, and so on to sixteen times; the time for each part too
+             part alone, twice, and so on to sixteen times; the time for each part too; and on a part that reads 8192 pins,
+             near each other, far apart, and chosen to collide in the pin map
+join         beside a merge in plain Rust and beside a BTreeMap
 run          beside host/model's run, in turns a second, on the scripts of the same plans
 repair       beside GEM's own functions, on a full stage; and what a count list costs
 AIGER        beside host/model's plain reader and writer, on a million gates
@@ -65,6 +69,8 @@ pub fn call(words: &[String]) -> Outcome {
     rounds::rows(&mut table, &mut random, time)?;
     let inputs = inputs::all(&mut random);
     build::rows(&mut table, &inputs, time)?;
+    pins::rows(&mut table, time)?;
+    joins::rows(&mut table, &mut random, time)?;
     run::rows(&mut table, &inputs, &mut random, time)?;
     aiger::rows(&mut table, &mut random, time)?;
     repair::rows(&mut table, time)?;

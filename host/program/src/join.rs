@@ -22,7 +22,6 @@ pub fn call(words: &[String]) -> Outcome {
     let joined =
         juolgesot::join_words(&of_a, &of_b).map_err(|refusal| Failure::Failed(refusal.to_string()))?;
     files::write(out, &plan::bytes(&joined))?;
-    let pairs = |set: &[u32]| many(set.len() as u64 / 2, "pair");
-    say!("{}: {} of {} and {}", out, pairs(&joined), pairs(&of_a), pairs(&of_b));
+    say!("{}: {}, of {} and {}", out, many(joined.len() as u64 / 2, "pair"), of_a.len() / 2, of_b.len() / 2);
     Ok(())
 }

@@ -3,6 +3,7 @@
 use super::{in_two_places, in_words, time_both, timed, Row, Table, Times};
 use crate::{Failure, Outcome};
 use ::compare::sets;
+use model::rounds;
 use random::Random;
 use std::collections::BTreeMap;
 use std::time::Duration;
@@ -28,6 +29,23 @@ fn read_sets(random: &mut Random) -> Vec<(String, Vec<u32>)> {
     }
     let bits = sets::bits_summing_to(random, 8192, |random| random.pick(&[1, 2, 4, 8, 16, 32]));
     read_sets.push((format!("8192 bits in {} pairs", bits.len()), sets::with_bits(random, &bits)));
+    // Pieces of 32 pairs and more have equal bits and keep their order, which leaves a pair of 3 bits without room; pieces of 16 do not.
+    let bits = [vec![1; 16], vec![3; 16]].concat().repeat(128);
+    let late = sets::with_bits(random, &bits);
+    assert_eq!(rounds::search(&rounds::pairs_of(&late)).map(|packing| packing.tries()), Ok(9));
+    read_sets.push(("8192 bits in 4096 pairs: the ninth size wins".to_string(), late));
+    let ends = |set: &[u32]| matches!(rounds::pack(&rounds::pairs_of(set)), Err((4, _)));
+    for (name, set) in [
+        ("8192 bits in 259 pairs: no size places them", sets::missed()),
+        ("2730 pairs of 3 bits: no size places them", sets::with_bits(random, &[3; 2730])),
+    ] {
+        assert!(ends(&set), "{}", name);
+        read_sets.push((name.to_string(), set));
+    }
+    for words in [257, 481] {
+        let set = sets::with_bits(random, &vec![17; words]);
+        read_sets.push((format!("{} words of 17 bits: refused without a try", words), set));
+    }
     read_sets
 }
 
@@ -40,6 +58,6 @@ fn times(set: &[u32], time: Duration) -> Result<Times, Failure> {
         let (placed, took) = timed(|| juolgesot::read_rounds_into(set, &mut room, &mut out));
         (placed.ok().map(|placed| out[..juolgesot::ROUND_WORDS * placed.rounds].to_vec()), took)
     };
-    let theirs = || timed(|| reference::lanes_of_map(&map).map(|lanes| model::rounds::section(&lanes)));
+    let theirs = || timed(|| reference::lanes_of_map(&map).map(|lanes| rounds::section(&lanes)));
     time_both(time, ours, theirs)
 }
