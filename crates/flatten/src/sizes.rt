@@ -21,6 +21,11 @@ use plan_rows::Column;
 use plan_rows::cell_at;
 use words::edition::Edition;
 
+// The words of an empty block, and the zero words that close a script.
+const EMPTY_BLOCK: u64 = Edition::LANES as u64;
+
+const CLOSING_ZEROS: u64 = 8 * EMPTY_BLOCK;
+
 // How much a plan's result takes: starts, words of the script, words of the state, words of SRAM.
 pub struct Sizes {
     pub starts: u64,
@@ -74,7 +79,7 @@ fn script_words(d: &[u8], room: &[u32]) -> u64
     requires { ⌜ AcceptedTabled (now d) (now room) ⌝ }
     ensures { λ r. ⌜ r ≡ length (scriptWords 256 (now (d .entry))) ⌝ }
 {
-    parts_words(d, room) + 256 * empty_blocks(d, room) + 2048
+    parts_words(d, room) + EMPTY_BLOCK * empty_blocks(d, room) + CLOSING_ZEROS
 }
 
 // The sizes of an accepted plan, whose part table stands in the room.

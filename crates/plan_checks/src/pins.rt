@@ -12,6 +12,7 @@ ghost use Rattle.plan_checks.specs.Verdicts.{verdictOf};
 use crate::Verdict;
 use crate::tell::is_refused;
 use crate::tell::of_lowest;
+use plan_positions::planned::PIN_TABLE;
 use plan_slot_tests::computed::refusal11;
 use plan_slot_tests::later::refusal10;
 use plan_slot_tests::standing::refusal9;
@@ -26,7 +27,7 @@ fn later_pins(plan: &[u8], room: &mut [u32]) -> Lowest
     ensures { λ r. ⌜ r ≡ lowestOf (refusal10 (now (plan .entry))) ⌝ }
     ensures { λ _. ⌜ now (room .exit) ≡ now (room .entry) ⌝ }
 {
-    refusal10(plan, &mut room[..32768])
+    refusal10(plan, &mut room[..PIN_TABLE])
 }
 
 // Refusal 11.
@@ -35,7 +36,7 @@ fn computed_pins(plan: &[u8], room: &mut [u32]) -> Lowest
     ensures { λ r. ⌜ r ≡ lowestOf (refusal11 (now (plan .entry))) ⌝ }
     ensures { λ _. ⌜ now (room .exit) ≡ now (room .entry) ⌝ }
 {
-    refusal11(plan, &mut room[..32768])
+    refusal11(plan, &mut room[..PIN_TABLE])
 }
 
 // Refusals 9, 10 and 11.

@@ -9,6 +9,10 @@ use crate::Verdict;
 use crate::tell::of_reads;
 use plan_reads::check::Checked;
 use plan_reads::check::check_reads;
+use words::edition::Edition;
+
+// A part asks for a bit a slot at most, and a pair has two words.
+const SET_WORDS: usize = 2 * Edition::SLOTS;
 
 // The search over all parts, with room for its keys and sets.
 fn search_parts(plan: &[u8], room: &mut [u32]) -> Checked
@@ -16,9 +20,9 @@ fn search_parts(plan: &[u8], room: &mut [u32]) -> Checked
     ensures { λ r. ⌜ r ≡ checkedOf (refusedReads 256 3 (now (plan .entry))) (refusedReads 256 21 (now (plan .entry))) (refusedReads 256 22 (now (plan .entry))) (refusedReads 256 4 (now (plan .entry))) ⌝ }
     ensures { λ _. ⌜ now (room .exit) ≡ searchedRoom (now (plan .entry)) (now (room .entry)) ⌝ }
 {
-    let mut keys = [0u64; 8192];
-    let mut scratch = [0u64; 8192];
-    let mut set = [0u32; 16384];
+    let mut keys = [0u64; Edition::SLOTS];
+    let mut scratch = [0u64; Edition::SLOTS];
+    let mut set = [0u32; SET_WORDS];
     check_reads(plan, room, &mut keys, &mut scratch, &mut set)
 }
 

@@ -12,6 +12,7 @@ ghost use Rattle.plan_reads.specs.PartReadAnswers.{readsOf, isNothing, e
 use crate::asked::part_set;
 use crate::searched::Reads;
 use crate::searched::search_set;
+use plan_positions::planned::PIN_TABLE;
 use plan_record::bodies::Body;
 use plan_record::bodies::body_at;
 use plan_record::bodies::first_body;
@@ -21,6 +22,9 @@ use plan_rows::put_cell;
 use words::clear::clear;
 use words::edition::Edition;
 use words::refusals;
+
+// The search's table: a row of 32 entries for each lane.
+const LANE_ROWS: usize = 32 * Edition::LANES;
 
 // The first part with nothing to read, else with too many bits, else with too many wide words, else without room, with the word.
 pub enum Checked {
@@ -53,7 +57,13 @@ fn search_part(
     ensures { λ r. ⌜ r ≡ readsOf (partReads 256 (now (d .entry)) p) ⌝ }
 {
     let n = part_set(d, p, body, room, keys, scratch, set);
-    search_set(&set[..n], &mut room[..8192], keys, scratch, Edition::LANES)
+    search_set(
+        &set[..n],
+        &mut room[..LANE_ROWS],
+        keys,
+        scratch,
+        Edition::LANES,
+    )
 }
 
 // The same with the first words of a room, which are clear before and after.
@@ -70,8 +80,8 @@ fn check_part(
     ensures { λ r. ⌜ r ≡ readsOf (partReads 256 (now (d .entry)) p) ⌝ }
     ensures { λ _. ⌜ now (room .exit) ≡ now (room .entry) ⌝ }
 {
-    let reads = search_part(d, p, body, &mut room[..32768], keys, scratch, set);
-    clear(&mut room[..32768]);
+    let reads = search_part(d, p, body, &mut room[..PIN_TABLE], keys, scratch, set);
+    clear(&mut room[..PIN_TABLE]);
     reads
 }
 

@@ -15,6 +15,13 @@ use words::edition::Edition;
 use words::found::Item;
 use words::refusals;
 
+// The most pairs of a read set, and its words; a row of 32 entries for each lane.
+const PAIRS: usize = 8192;
+
+const SET_WORDS: usize = 2 * PAIRS;
+
+const LANE_ROWS: usize = 32 * Edition::LANES;
+
 // The number of rounds that were written and the piece size that won, or the refusal.
 pub enum Rounds {
     Placed(u32, u32),
@@ -130,8 +137,8 @@ pub fn search_sizes(
         clear(table);
         return lost(number, 0);
     }
-    let mut used = [0u32; 256];
-    let mut held = [0u32; 256];
+    let mut used = [0u32; Edition::LANES];
+    let mut held = [0u32; Edition::LANES];
     sizes_over(
         set,
         table,
@@ -168,7 +175,7 @@ pub fn rounds_over(
     ensures { λ r. ⌜ r ≡ roundsOf (setFitted lanes (length (now (out .entry))) (readSet lanes (pairsOf (now (set .entry))))) ⌝ }
     ensures { λ _. ⌜ now (out .exit) ≡ resultAfter (setFitted lanes (length (now (out .entry))) (readSet lanes (pairsOf (now (set .entry))))) (now (out .entry)) ⌝ }
 {
-    if 16384 < set.len() {
+    if SET_WORDS < set.len() {
         return refused(refusals::MANY_PAIRS, 0);
     }
     if let Item::At(i) = reads_section::check_form(set) {
@@ -197,11 +204,11 @@ pub fn map_global_read_to_rounds(set: &[u32], room: &mut [u32], out: &mut [u32])
     if room.len() < 16384 {
         return refused(refusals::ROOM_SHORT, 0);
     }
-    let mut keys = [0u64; 8192];
-    let mut scratch = [0u64; 8192];
+    let mut keys = [0u64; PAIRS];
+    let mut scratch = [0u64; PAIRS];
     let answer = rounds_over(
         set,
-        &mut room[..8192],
+        &mut room[..LANE_ROWS],
         out,
         &mut keys,
         &mut scratch,

@@ -17,11 +17,12 @@ ghost use Rattle.run_form.specs.Well.{PartIn, Reads, EntriesIn, Captures};
 ghost use Rattle.run_turns.specs.Phases.{phaseIs};
 ghost use Rattle.run_turns.specs.Block.{roomRead, roomStaged};
 use words::clear::clear;
+use words::edition::Edition;
 
 // The words of a block's room: document 01, "1024 a block for a run".
 pub const BLOCK_ROOM: usize = 1024;
 // From word 0 on the positions, 32 to a word; then the bits that a stage gathers; then the captured words.
-const GATHERED: usize = 256;
+const GATHERED: usize = Edition::LANES;
 
 pub const CAPTURED: usize = 512;
 // Then the block's state: where its part begins, low 32 bits and high, its phase and its stage.

@@ -14,6 +14,10 @@ use placed::write_block;
 use plan_record::numbers::blocks_of;
 use plan_record::numbers::majors_of;
 use words::clear::clear;
+use words::edition::Edition;
+
+// The zero words that close a script: eight a lane.
+const CLOSING_ZEROS: usize = 8 * Edition::LANES;
 
 // Writes major stage s, and where its blocks begin, from start number `first` on. What comes next.
 fn write_stage(
@@ -71,5 +75,5 @@ pub fn write_plan(d: &[u8], room: &mut [u32], starts: &mut [u64], words: &mut [u
     let end = write_stages(d, room, starts, words);
     let last = blocks_of(d) as usize * (majors_of(d) as usize);
     starts[last] = end as u64;
-    clear(&mut words[end..end + 2048]);
+    clear(&mut words[end..end + CLOSING_ZEROS]);
 }

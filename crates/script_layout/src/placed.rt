@@ -11,6 +11,10 @@ use plan_record::places::parts_before;
 use plan_rows::Column;
 use plan_rows::cell_at;
 use words::clear::clear;
+use words::edition::Edition;
+
+// The words of an empty block: a header.
+const EMPTY_BLOCK: usize = Edition::LANES;
 
 // The rank of the next part, and where the next words begin.
 pub struct Next {
@@ -98,7 +102,7 @@ pub fn write_block(
         let next = write_parts(d, room, s, b, from, to, at, words);
         return Next { rank: to, at: next };
     }
-    let next = at + 256;
+    let next = at + EMPTY_BLOCK;
     write_empty(&mut words[at..next]);
     Next { rank: to, at: next }
 }
