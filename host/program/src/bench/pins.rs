@@ -22,7 +22,7 @@ pub fn rows(table: &mut Table, time: Duration) -> Outcome {
     ];
     let mut inputs = Vec::new();
     for (positions, name) in [(1 << 14, "2^14"), (1 << 20, "2^20")] {
-        let told = |pins: &str| format!("8192 pins read in one part, {} positions, {}", name, pins);
+        let told = |pins: &str| format!("8192 pins, {} positions, {}", name, pins);
         for distance in [1, 64, 4096, 16384] {
             inputs.push(input(
                 told(&format!("pins {} apart", distance)),
