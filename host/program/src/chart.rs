@@ -2,7 +2,7 @@
 
 use crate::bench::Row;
 
-const LEFT: f64 = 440.0;
+const LEFT: f64 = 500.0;
 const WIDTH: f64 = 420.0;
 const TOP: f64 = 40.0;
 const BAR: f64 = 22.0;

@@ -18,7 +18,7 @@ pub fn rows(table: &mut Table, time: Duration) -> Outcome {
     let chosen = [
         ("pins of one first home", of_one_home(|pin| scattered(pin) >> HIGH)),
         ("pins whose homes are taken", crowded()),
-        ("pins equal in the low bits that they are scattered to", of_one_home(|pin| scattered(pin) % SLOTS)),
+        ("pins scattered to equal low bits", of_one_home(|pin| scattered(pin) % SLOTS)),
     ];
     let mut inputs = Vec::new();
     for (positions, name) in [(1 << 14, "2^14"), (1 << 20, "2^20")] {
