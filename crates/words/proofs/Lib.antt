@@ -8,3 +8,4 @@ pub mod CountLaws
 pub mod TestLaws
 pub mod FoundLaws
 pub mod AnswerLaws
+pub mod EditionLaws

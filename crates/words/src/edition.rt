@@ -1,4 +1,5 @@
-// The script edition: document 01, "Numbers" and "The script of a part".
+// The script editions: document 01, "Numbers" and "The script of a part"; 10/13 of document 02. An edition is named by its number of lanes. Code
+// that serves both carries that number.
 ghost use mathlib.Core.Path.{_≡_};
 ghost use Rattle.words.specs.Edition.{partWords};
 
@@ -18,6 +19,24 @@ impl Edition {
         ensures { λ r. ⌜ r ≡ partWords 256 rounds stages ⌝ }
     {
         let n = Edition::LANES as u64;
+        n + 2 * n * rounds as u64 + 20 * n * stages as u64 + 40 * n
+    }
+}
+
+// The small edition.
+pub struct SmallEdition;
+
+impl SmallEdition {
+    pub const LANES: usize = 128;
+
+    pub const SLOTS: usize = 4096;
+
+    pub const LEVELS: u32 = 12;
+
+    pub fn part_words(rounds: u32, stages: u32) -> u64
+        ensures { λ r. ⌜ r ≡ partWords 128 rounds stages ⌝ }
+    {
+        let n = SmallEdition::LANES as u64;
         n + 2 * n * rounds as u64 + 20 * n * stages as u64 + 40 * n
     }
 }
