@@ -12,10 +12,15 @@ use lib.ListN.{length}
 use Rattle.words.specs.Bit.{pop}
 use Rattle.words.specs.Sum.{sumTo}
 use Rattle.words.specs.Tests.{allBelow}
+use Rattle.words.specs.Edition.{Known}
+use Rattle.words.proofs.EditionLaws.{known-least, known-most}
 use Rattle.words.proofs.TestLaws.{and-true, or-cases, all-at, not-both}
 use Rattle.run_machine.specs.Part.{stagesAt, lastAt, writeOutsAt, startAt, sramsAt, roundsAt, duplicatesAt, normalAt, endAt, locationIn, readWordAt, readMaskAt, entryAt}
 use Rattle.run_machine.specs.Run.{entriesForm, locationsForm, lanesForm, readsForm, storesForm, partForm, partsForm}
-use Rattle.run_form.specs.Well.{Reads, EntriesIn, PartWell}
+use Rattle.run_form.specs.Well.{Lanes, Reads, EntriesIn, PartWell}
+
+pub lanes-of : (n : ℕ) → Known n → Lanes n
+lanes-of n k = record { edition = k; least = known-least n k; most = known-most n k }
 
 module _ (n : ℕ) (W : List ℕ) (s t o : ℕ) where
   entries-in : entriesForm n W o ≡ true → EntriesIn n W o
@@ -113,7 +118,7 @@ module _ (n : ℕ) (W : List ℕ) (s t o : ℕ) where
 
 -- ---- the parts of a block, f at most
 
-module _ (n : ℕ) (W : List ℕ) (s t e : ℕ) (some : 0 < n) (within : e ≤ length W) where
+module _ (n : ℕ) (W : List ℕ) (s t e : ℕ) (lanes : Lanes n) (within : e ≤ length W) where
   -- the first of them, and those after it, where it is not the last
   record PartsIn (f o : ℕ) : Type 0 where
     pub left : ℕ
@@ -138,12 +143,12 @@ module _ (n : ℕ) (W : List ℕ) (s t e : ℕ) (some : 0 < n) (within : e ≤ l
       let a = parts-in f o h in
       let form = a .form in
       record {
-        part = record { inside = omega (arith, form .ends) };
+        part = record { lanes = lanes; inside = omega (arith, form .ends) };
         reads = form .reads;
         entries = form .entries;
         captures = record { exact = form .stores .exact; few = form .stores .few; places = λ l g. form .places l g .1 };
         stores = form .stores .inside;
-        next = λ d. omega (arith, parts-in (a .left) (endAt n W o) (a .rest (last-ends o form d)) .form .header);
+        next = λ d. omega (arith, lanes .least, parts-in (a .left) (endAt n W o) (a .rest (last-ends o form d)) .form .header);
       }
 
   -- after a part that is not the last its block goes on in form

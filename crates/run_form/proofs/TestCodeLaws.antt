@@ -16,11 +16,11 @@ pub or-then : (a b : Bool) → a ≡ true → a ≡ (a || b)
 or-then a b h = rw h
 
 -- a location of an existing stage, and of none
-pub location-good : (x y p q : ℕ) → x ≡ p → y ≡ q → x / 256 < y → ltb (x % 256) 256 ≡ (ltb (p / 256) q && ltb (p % 256) 256)
-location-good x y p q e f h = rw (← e, ← f, lt-ltb (x / 256) y h)
+pub location-good : (n x y p q : ℕ) → x ≡ p → y ≡ q → x / 256 < y → ltb (x % 256) n ≡ (ltb (p / 256) q && ltb (p % 256) n)
+location-good n x y p q e f h = rw (← e, ← f, lt-ltb (x / 256) y h)
 
-pub location-bad : (x y p q : ℕ) → x ≡ p → y ≡ q → y ≤ x / 256 → ltb (x / 256) y ≡ (ltb (p / 256) q && ltb (p % 256) 256)
-location-bad x y p q e f h = rw (← e, ← f, le-ltb (x / 256) y h)
+pub location-bad : (n x y p q : ℕ) → x ≡ p → y ≡ q → y ≤ x / 256 → ltb (x / 256) y ≡ (ltb (p / 256) q && ltb (p % 256) n)
+location-bad n x y p q e f h = rw (← e, ← f, le-ltb (x / 256) y h)
 
 -- a pair that reads inside the old state, and outside
 pub read-inside : (w m s t x : ℕ) → (m ≡ 0 → ⊥) → x ≡ w % 2 ^ 31 → x < s → ltb x t ≡ readForm w m s t

@@ -8,11 +8,18 @@ use lib.ListN.{length}
 use Rattle.words.specs.Sum.{sumTo}
 use Rattle.words.specs.Bit.{pop}
 use Rattle.words.specs.Section.{halfAt}
-use Rattle.words.specs.Edition.{partWords}
+use Rattle.words.specs.Edition.{Known, partWords}
 use Rattle.run_machine.specs.Part.{stagesAt, lastAt, writeOutsAt, startAt, sramsAt, roundsAt, duplicatesAt, normalAt, endAt, locationIn, readWordAt, readMaskAt, entryAt}
+
+-- the lanes of an edition, and between which numbers they are
+pub record Lanes (n : ℕ) : Type 0 where
+  pub edition : Known n
+  pub least : 128 ≤ n
+  pub most : n ≤ 256
 
 -- the part's words lie inside W
 pub record PartIn (n : ℕ) (W : List ℕ) (o : ℕ) : Type 0 where
+  pub lanes : Lanes n
   pub inside : o + partWords n (roundsAt W o) (stagesAt W o) ≤ length W
 
 -- "normal words (word 2 less words 4 and 7) 0..=256"

@@ -1,10 +1,9 @@
-// The form of a part: document 01, "Form for 15".
+// The form of a part of a script of n lanes: document 01, "Form for 15".
 use crate::part;
 use words::bits;
-use words::edition::Edition;
 ghost use mathlib.Core.Path.{_≡_};
 ghost use mathlib.Core.Bool.{true, false, _&&_};
-ghost use Prim.Native.Nat.{_+_, _%_, _/_, _^_, _<_, _≤_};
+ghost use Prim.Native.Nat.{_+_, _*_, _%_, _/_, _^_, _<_, _≤_};
 ghost use lib.Dec.{ltb, eqb};
 ghost use lib.ListN.{length, getD};
 ghost use Rattle.words.specs.Sum.{sumTo};
@@ -12,28 +11,27 @@ ghost use Rattle.words.specs.Bit.{pop};
 ghost use Rattle.words.specs.Tests.{allBelow};
 ghost use Rattle.run_machine.specs.Part.{stagesAt, roundsAt, locationIn, readWordAt, readMaskAt, entryAt};
 ghost use Rattle.run_machine.specs.Run.{entriesForm, locationsForm, lanesForm, readsForm, storesForm, partForm, partsForm, emptyBlock, blockForm};
-ghost use Rattle.run_form.specs.Well.{PartIn, NormalRange};
+ghost use Rattle.run_form.specs.Well.{Lanes, PartIn, NormalRange};
 ghost use Rattle.run_form.specs.PartForm.{readForm, partNumbersForm, bodyForm};
 
-// The positions of a stage, as a word is compared with them.
-const SLOTS: u32 = Edition::SLOTS as u32;
-
-// Both halves of a word of a permutation are positions.
-fn halves_form(x: u32) -> bool
-    ensures { λ r. ⌜ r ≡ (ltb (x % 2 ^ 16) 8192 && ltb (x / 2 ^ 16) 8192) ⌝ }
+// Both halves of a word of a permutation are positions, of which there are `slots`.
+fn halves_form(x: u32, slots: u32) -> bool
+    ensures { λ r. ⌜ r ≡ (ltb (x % 2 ^ 16) slots && ltb (x / 2 ^ 16) slots) ⌝ }
 {
-    x % 0x1_0000 < SLOTS && x / 0x1_0000 < SLOTS
+    x % 0x1_0000 < slots && x / 0x1_0000 < slots
 }
 
 // Every entry of section k is a position.
-fn section_form(words: &[u32], at: usize, k: usize) -> bool
-    requires { ⌜ PartIn 256 (now words) at × (k < stagesAt (now words) at + 2) ⌝ }
-    ensures { λ r. ⌜ r ≡ allBelow (λ i. ltb (entryAt 256 (now (words .entry)) at k i) 8192) 8192 ⌝ }
+fn section_form(words: &[u32], n: usize, at: usize, k: usize) -> bool
+    requires { ⌜ PartIn n (now words) at × (k < stagesAt (now words) at + 2) ⌝ }
+    ensures { λ r. ⌜ r ≡ allBelow (λ i. ltb (entryAt n (now (words .entry)) at k i) (32 * n)) (32 * n) ⌝ }
 {
-    let from = part::section(words, at, k);
+    let slots = (32 * n) as u32;
+    let entries = part::ENTRY_WORDS * n;
+    let from = part::section(words, n, at, k);
     let mut w = 0;
-    while w < part::ENTRY_WORDS {
-        if !halves_form(words[from + w]) {
+    while w < entries {
+        if !halves_form(words[from + w], slots) {
             return false;
         }
         w += 1;
@@ -42,14 +40,14 @@ fn section_form(words: &[u32], at: usize, k: usize) -> bool
 }
 
 // Every entry of every section.
-pub fn entries_form(words: &[u32], at: usize) -> bool
-    requires { ⌜ PartIn 256 (now words) at ⌝ }
-    ensures { λ r. ⌜ r ≡ entriesForm 256 (now (words .entry)) at ⌝ }
+pub fn entries_form(words: &[u32], n: usize, at: usize) -> bool
+    requires { ⌜ PartIn n (now words) at ⌝ }
+    ensures { λ r. ⌜ r ≡ entriesForm n (now (words .entry)) at ⌝ }
 {
     let sections = part::stages(words, at) + 2;
     let mut k = 0;
     while k < sections {
-        if !section_form(words, at, k) {
+        if !section_form(words, n, at, k) {
             return false;
         }
         k += 1;
@@ -58,23 +56,23 @@ pub fn entries_form(words: &[u32], at: usize) -> bool
 }
 
 // Location l is one of an existing stage.
-fn location_form(words: &[u32], at: usize, l: usize) -> bool
-    requires { ⌜ PartIn 256 (now words) at × (l < 256) ⌝ }
-    ensures { λ r. ⌜ r ≡ (ltb (locationIn 256 (now (words .entry)) at l / 256) (stagesAt (now (words .entry)) at) && ltb (locationIn 256 (now (words .entry)) at l % 256) 256) ⌝ }
+fn location_form(words: &[u32], n: usize, at: usize, l: usize) -> bool
+    requires { ⌜ PartIn n (now words) at × (l < n) ⌝ }
+    ensures { λ r. ⌜ r ≡ (ltb (locationIn n (now (words .entry)) at l / 256) (stagesAt (now (words .entry)) at) && ltb (locationIn n (now (words .entry)) at l % 256) n) ⌝ }
 {
-    let place = part::location(words, at, l) as usize;
-    place / 256 < part::stages(words, at) && place % 256 < Edition::LANES
+    let place = part::location(words, n, at, l) as usize;
+    place / 256 < part::stages(words, at) && place % 256 < n
 }
 
 // Every normal location.
-pub fn locations_form(words: &[u32], at: usize) -> bool
-    requires { ⌜ PartIn 256 (now words) at × NormalRange 256 (now words) at ⌝ }
-    ensures { λ r. ⌜ r ≡ locationsForm 256 (now (words .entry)) at ⌝ }
+pub fn locations_form(words: &[u32], n: usize, at: usize) -> bool
+    requires { ⌜ PartIn n (now words) at × NormalRange n (now words) at ⌝ }
+    ensures { λ r. ⌜ r ≡ locationsForm n (now (words .entry)) at ⌝ }
 {
     let normal = part::normal(words, at);
     let mut l = 0;
     while l < normal {
-        if !location_form(words, at, l) {
+        if !location_form(words, n, at, l) {
             return false;
         }
         l += 1;
@@ -83,27 +81,25 @@ pub fn locations_form(words: &[u32], at: usize) -> bool
 }
 
 // The bits that lane i reads.
-fn lane_bits(words: &[u32], at: usize, i: usize) -> usize
-    requires { ⌜ PartIn 256 (now words) at × (i < 256) ⌝ }
-    ensures { λ x. ⌜ x ≡ sumTo (λ r. pop (readMaskAt 256 (now (words .entry)) at r i)) (roundsAt (now (words .entry)) at) ⌝ }
+fn lane_bits(words: &[u32], n: usize, at: usize, i: usize) -> usize
+    requires { ⌜ PartIn n (now words) at × (i < n) ⌝ }
+    ensures { λ x. ⌜ x ≡ sumTo (λ r. pop (readMaskAt n (now (words .entry)) at r i)) (roundsAt (now (words .entry)) at) ⌝ }
 {
     let mut sum: usize = 0;
     for r in 0..part::rounds(words, at) {
-        sum += part::wide(bits::count(
-            words[at + part::HEAD_WORDS + part::ROUND_WORDS * r + 2 * i + 1],
-        ));
+        sum += part::wide(bits::count(words[part::pair(words, n, at, r, i) + 1]));
     }
     sum
 }
 
 // Every lane reads at most 32.
-pub fn lanes_form(words: &[u32], at: usize) -> bool
-    requires { ⌜ PartIn 256 (now words) at ⌝ }
-    ensures { λ r. ⌜ r ≡ lanesForm 256 (now (words .entry)) at ⌝ }
+pub fn lanes_form(words: &[u32], n: usize, at: usize) -> bool
+    requires { ⌜ PartIn n (now words) at ⌝ }
+    ensures { λ r. ⌜ r ≡ lanesForm n (now (words .entry)) at ⌝ }
 {
     let mut i = 0;
-    while i < Edition::LANES {
-        if 32 < lane_bits(words, at, i) {
+    while i < n {
+        if 32 < lane_bits(words, n, at, i) {
             return false;
         }
         i += 1;
@@ -121,18 +117,13 @@ fn pair_form(words: &[u32], pair: usize, s: usize, t: usize) -> bool
 }
 
 // Every pair of round r.
-fn round_form(words: &[u32], at: usize, r: usize, s: usize, t: usize) -> bool
-    requires { ⌜ PartIn 256 (now words) at × (r < roundsAt (now words) at) ⌝ }
-    ensures { λ x. ⌜ x ≡ allBelow (λ i. readForm (readWordAt 256 (now (words .entry)) at r i) (readMaskAt 256 (now (words .entry)) at r i) s t) 256 ⌝ }
+fn round_form(words: &[u32], n: usize, at: usize, r: usize, s: usize, t: usize) -> bool
+    requires { ⌜ PartIn n (now words) at × (r < roundsAt (now words) at) ⌝ }
+    ensures { λ x. ⌜ x ≡ allBelow (λ i. readForm (readWordAt n (now (words .entry)) at r i) (readMaskAt n (now (words .entry)) at r i) s t) n ⌝ }
 {
     let mut i = 0;
-    while i < Edition::LANES {
-        if !pair_form(
-            words,
-            at + part::HEAD_WORDS + part::ROUND_WORDS * r + 2 * i,
-            s,
-            t,
-        ) {
+    while i < n {
+        if !pair_form(words, part::pair(words, n, at, r, i), s, t) {
             return false;
         }
         i += 1;
@@ -141,14 +132,14 @@ fn round_form(words: &[u32], at: usize, r: usize, s: usize, t: usize) -> bool
 }
 
 // Every pair of every round; the states have s and t words.
-pub fn reads_form(words: &[u32], at: usize, s: usize, t: usize) -> bool
-    requires { ⌜ PartIn 256 (now words) at ⌝ }
-    ensures { λ x. ⌜ x ≡ readsForm 256 (now (words .entry)) s t at ⌝ }
+pub fn reads_form(words: &[u32], n: usize, at: usize, s: usize, t: usize) -> bool
+    requires { ⌜ PartIn n (now words) at ⌝ }
+    ensures { λ x. ⌜ x ≡ readsForm n (now (words .entry)) s t at ⌝ }
 {
     let rounds = part::rounds(words, at);
     let mut r = 0;
     while r < rounds {
-        if !round_form(words, at, r, s, t) {
+        if !round_form(words, n, at, r, s, t) {
             return false;
         }
         r += 1;
@@ -157,9 +148,9 @@ pub fn reads_form(words: &[u32], at: usize, s: usize, t: usize) -> bool
 }
 
 // The normal words, and where they are stored; the states have s and t words.
-pub fn stores_form(words: &[u32], at: usize, s: usize, t: usize) -> bool
-    requires { ⌜ PartIn 256 (now words) at ⌝ }
-    ensures { λ r. ⌜ r ≡ storesForm 256 (now (words .entry)) s t at ⌝ }
+pub fn stores_form(words: &[u32], n: usize, at: usize, s: usize, t: usize) -> bool
+    requires { ⌜ PartIn n (now words) at ⌝ }
+    ensures { λ r. ⌜ r ≡ storesForm n (now (words .entry)) s t at ⌝ }
 {
     let all = part::wide(words[at + 2]);
     let other = part::wide(words[at + 4]) + part::wide(words[at + 7]);
@@ -168,7 +159,7 @@ pub fn stores_form(words: &[u32], at: usize, s: usize, t: usize) -> bool
     }
     let normal = all - other;
     let end = part::start(words, at) + normal;
-    normal <= Edition::LANES && (normal == 0 || (end <= s && end <= t))
+    normal <= n && (normal == 0 || (end <= s && end <= t))
 }
 
 // Word 1 of a part that ends at word `end` of a block that ends at word e.
@@ -179,15 +170,15 @@ fn last_mark(end: usize, e: usize) -> u32
 }
 
 // The numbers of the part at word `at`, which ends by word e.
-fn head_form(words: &[u32], at: usize, e: usize) -> bool
-    requires { ⌜ (at ≤ e) × (e ≤ length (now words)) ⌝ }
-    ensures { λ r. ⌜ r ≡ partNumbersForm 256 (now (words .entry)) e at ⌝ }
+fn head_form(words: &[u32], n: usize, at: usize, e: usize) -> bool
+    requires { ⌜ Lanes n × (at ≤ e) × (e ≤ length (now words)) ⌝ }
+    ensures { λ r. ⌜ r ≡ partNumbersForm n (now (words .entry)) e at ⌝ }
 {
-    if e - at < part::HEAD_WORDS {
+    if e - at < n {
         return false;
     }
     let stages = part::stages(words, at);
-    let end = part::part_end(words, at);
+    let end = part::part_end(words, n, at);
     if stages < 1 {
         return false;
     }
@@ -198,44 +189,44 @@ fn head_form(words: &[u32], at: usize, e: usize) -> bool
 }
 
 // What follows from the numbers; the states have s and t words.
-fn body_form(words: &[u32], at: usize, s: usize, t: usize) -> bool
-    requires { ⌜ PartIn 256 (now words) at ⌝ }
-    ensures { λ r. ⌜ r ≡ bodyForm 256 (now (words .entry)) s t at ⌝ }
+fn body_form(words: &[u32], n: usize, at: usize, s: usize, t: usize) -> bool
+    requires { ⌜ PartIn n (now words) at ⌝ }
+    ensures { λ r. ⌜ r ≡ bodyForm n (now (words .entry)) s t at ⌝ }
 {
-    if !stores_form(words, at, s, t) {
+    if !stores_form(words, n, at, s, t) {
         return false;
     }
-    if !locations_form(words, at) {
+    if !locations_form(words, n, at) {
         return false;
     }
-    if !lanes_form(words, at) {
+    if !lanes_form(words, n, at) {
         return false;
     }
-    if !reads_form(words, at, s, t) {
+    if !reads_form(words, n, at, s, t) {
         return false;
     }
-    entries_form(words, at)
+    entries_form(words, n, at)
 }
 
 // A part that ends by word e.
-fn part_form(words: &[u32], at: usize, e: usize, s: usize, t: usize) -> bool
-    requires { ⌜ (at ≤ e) × (e ≤ length (now words)) ⌝ }
-    ensures { λ r. ⌜ r ≡ partForm 256 (now (words .entry)) s t e at ⌝ }
+fn part_form(words: &[u32], n: usize, at: usize, e: usize, s: usize, t: usize) -> bool
+    requires { ⌜ Lanes n × (at ≤ e) × (e ≤ length (now words)) ⌝ }
+    ensures { λ r. ⌜ r ≡ partForm n (now (words .entry)) s t e at ⌝ }
 {
-    if !head_form(words, at, e) {
+    if !head_form(words, n, at, e) {
         return false;
     }
-    body_form(words, at, s, t)
+    body_form(words, n, at, s, t)
 }
 
 // Parts end to end, from word `at` to word e.
-fn parts_form(words: &[u32], at: usize, e: usize, s: usize, t: usize) -> bool
-    requires { ⌜ (at ≤ e) × (e ≤ length (now words)) ⌝ }
-    ensures { λ r. ⌜ r ≡ partsForm 256 (now (words .entry)) s t e (length (now (words .entry))) at ⌝ }
+fn parts_form(words: &[u32], n: usize, at: usize, e: usize, s: usize, t: usize) -> bool
+    requires { ⌜ Lanes n × (at ≤ e) × (e ≤ length (now words)) ⌝ }
+    ensures { λ r. ⌜ r ≡ partsForm n (now (words .entry)) s t e (length (now (words .entry))) at ⌝ }
 {
     let mut o = at;
-    while part_form(words, o, e, s, t) {
-        o = part::part_end(words, o);
+    while part_form(words, n, o, e, s, t) {
+        o = part::part_end(words, n, o);
         if o == e {
             return true;
         }
@@ -243,16 +234,16 @@ fn parts_form(words: &[u32], at: usize, e: usize, s: usize, t: usize) -> bool
     false
 }
 
-// An empty block: 256 words, zero but word 1.
-fn empty_form(words: &[u32], at: usize, e: usize) -> bool
+// An empty block: n words, zero but word 1.
+fn empty_form(words: &[u32], n: usize, at: usize, e: usize) -> bool
     requires { ⌜ (at ≤ e) × (e ≤ length (now words)) ⌝ }
-    ensures { λ r. ⌜ r ≡ emptyBlock 256 (now (words .entry)) at e ⌝ }
+    ensures { λ r. ⌜ r ≡ emptyBlock n (now (words .entry)) at e ⌝ }
 {
-    if e - at != part::HEAD_WORDS {
+    if e - at != n {
         return false;
     }
     let mut i = 0;
-    while i < part::HEAD_WORDS {
+    while i < n {
         if words[at + i] != last_mark(i, 1) {
             return false;
         }
@@ -262,8 +253,9 @@ fn empty_form(words: &[u32], at: usize, e: usize) -> bool
 }
 
 // A block from word `at` to word e; the states have s and t words.
-pub fn block_form(words: &[u32], at: usize, e: usize, s: usize, t: usize) -> bool
-    ensures { λ r. ⌜ r ≡ blockForm 256 (now (words .entry)) s t at e ⌝ }
+pub fn block_form(words: &[u32], n: usize, at: usize, e: usize, s: usize, t: usize) -> bool
+    requires { ⌜ Lanes n ⌝ }
+    ensures { λ r. ⌜ r ≡ blockForm n (now (words .entry)) s t at e ⌝ }
 {
     if e <= at {
         return false;
@@ -271,8 +263,8 @@ pub fn block_form(words: &[u32], at: usize, e: usize, s: usize, t: usize) -> boo
     if words.len() < e {
         return false;
     }
-    if empty_form(words, at, e) {
+    if empty_form(words, n, at, e) {
         return true;
     }
-    parts_form(words, at, e, s, t)
+    parts_form(words, n, at, e, s, t)
 }

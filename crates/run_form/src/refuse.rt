@@ -4,6 +4,7 @@ ghost use mathlib.Core.Path.{_≡_};
 ghost use Prim.Native.Nat.{_-_};
 ghost use lib.ListN.{length};
 ghost use Rattle.run_machine.specs.Run.{badBlock, badTurn};
+ghost use Rattle.run_form.specs.Well.{Lanes};
 ghost use Rattle.words.specs.Found.{itemOf};
 use words::found::Item;
 
@@ -18,8 +19,9 @@ pub fn blocks_of(starts: &[u64]) -> usize
 }
 
 // The lowest block that is not well formed; the states have s and t words.
-pub fn bad_block(words: &[u32], starts: &[u64], s: usize, t: usize) -> Item
-    ensures { λ r. ⌜ r ≡ itemOf (badBlock 256 (now (words .entry)) (now (starts .entry)) s t) ⌝ }
+pub fn bad_block(words: &[u32], n: usize, starts: &[u64], s: usize, t: usize) -> Item
+    requires { ⌜ Lanes n ⌝ }
+    ensures { λ r. ⌜ r ≡ itemOf (badBlock n (now (words .entry)) (now (starts .entry)) s t) ⌝ }
 {
     if starts.len() < 2 {
         return Item::At(0);
@@ -27,7 +29,7 @@ pub fn bad_block(words: &[u32], starts: &[u64], s: usize, t: usize) -> Item
     let blocks = starts.len() - 1;
     let mut i = 0;
     while i < blocks {
-        if !form::block_form(words, starts[i] as usize, starts[i + 1] as usize, s, t) {
+        if !form::block_form(words, n, starts[i] as usize, starts[i + 1] as usize, s, t) {
             return Item::At(i);
         }
         i += 1;

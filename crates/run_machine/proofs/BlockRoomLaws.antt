@@ -7,7 +7,7 @@ use native.Mathlib.Omega.{arith}
 use lib.ListN.{length, getD, take, drop, set, length-drop, length-set}
 use lib.Seq.{sets, length-sets, length-take-le, getD-take, getD-drop, getD-set-same, getD-set-other, ext-getD}
 use Rattle.run_machine.specs.Turn.{Phase, toRead, toStage, toStore, finished}
-use Rattle.run_machine.specs.Room.{blockRoom, gatheredFrom, capturedFrom, partLow, partHigh, phaseWord, stageWord, phaseCode, phaseFrom, partOf, phaseOf, stageOf, blockStateWords}
+use Rattle.run_machine.specs.Room.{blockRoom, capturedFrom, partLow, partHigh, phaseWord, stageWord, phaseCode, phaseFrom, partOf, phaseOf, stageOf, blockStateWords}
 use Rattle.run_machine.proofs.SetsLaws.{take-sets, sets-under}
 
 -- ---- parts of lists
@@ -98,9 +98,9 @@ module _ (room : List ℕ) (p : ℕ) (f : Phase) (k : ℕ) (long : length room �
   pub state-stage : stageOf S ≡ k
   state-stage = at stageWord ∙ getD-set-same r₃ stageWord k 0 (omega (arith, long₃))
 
-  -- the positions and 256 captured words are kept
-  pub state-positions : take gatheredFrom S ≡ take gatheredFrom room
-  state-positions = take-sets gatheredFrom room partLow (blockStateWords p f k) (omega arith)
+  -- positions and captured words, up to 256, are kept
+  pub state-positions : (m : ℕ) → m ≤ 256 → take m S ≡ take m room
+  state-positions m few = take-sets m room partLow (blockStateWords p f k) (omega arith)
 
   pub state-captured : (m : ℕ) → m ≤ 256 → take m (drop capturedFrom S) ≡ take m (drop capturedFrom room)
   state-captured m few =

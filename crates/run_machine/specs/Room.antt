@@ -1,5 +1,5 @@
 -- A block's room: the words that a run lends to each block, document 01, "1024 a block for a run", and what each of them is for. No other definition has
--- these numbers.
+-- these numbers, and they are the same for every number of lanes n: 10/13, "working room .. stay".
 -- Assumes nothing.
 use mathlib.Core.List.{List, [], _∷_}
 use Prim.Native.Nat.{ℕ, zero, suc, _+_, _*_, _/_, _%_, _^_}
@@ -9,10 +9,7 @@ use Rattle.run_machine.specs.Turn.{Phase, toRead, toStage, toStore, fini
 abbrev pub blockRoom : ℕ
 blockRoom = 1024
 
--- from word 0 on the positions, 32 to a word; then the bits that a stage gathers; then the captured words
-abbrev pub gatheredFrom : ℕ
-gatheredFrom = 256
-
+-- from word 0 on the n words of the positions, from word n on those of the bits that a stage gathers; from here on the captured words
 abbrev pub capturedFrom : ℕ
 capturedFrom = 512
 

@@ -15,13 +15,13 @@ use Rattle.run_form.proofs.form.empty_form.Statement.{statement}
 use Rattle.run_form.proofs.form.empty_form.Tie as tie
 
 abbrev Inv-loop : tie.InvT-loop
-Inv-loop words at e i₀ i = (i ≤ 256) × (allBelow (λ q. eqb (getD words (at + q) 0) (elim (eqb q 1) [ true ↦ 1 | false ↦ 0 ])) i ≡ true)
+Inv-loop words n at e i₀ i = (i ≤ n) × (allBelow (λ q. eqb (getD words (at + q) 0) (elim (eqb q 1) [ true ↦ 1 | false ↦ 0 ])) i ≡ true)
 
 abbrev μ-loop : tie.MeasureT-loop
-μ-loop words at e i₀ i = 256 - i
+μ-loop words n at e i₀ i = n - i
 
 returns : tie.Need-returns Inv-loop μ-loop
-returns c = empty-other 256 _ 0 0 _ _ (λ q. c .if1 .taken (omega arith))
+returns c = empty-other _ _ 0 0 _ _ (λ q. c .if1 .taken (omega arith))
 
 loop-holds : tie.Need-loop-holds Inv-loop μ-loop
 unfolding allBelow
@@ -31,8 +31,8 @@ returns-2 : tie.Need-returns-2 Inv-loop μ-loop
 returns-2 c =
     let at-loop = c .before .before .before .before in
     let start = at-loop .before .before .before in
-    let long : start .args .e ≡ start .args .at + 256 = omega arith in
-    empty-as 256 _ 0 0 _ _ false long (all-fault _ 256 (at-loop .loop .i) (omega arith) (ne-eqb _ _ (λ q. c .if2 .taken (q ∙ sym (c .before .last-mark .ensures)))))
+    let long : start .args .e ≡ start .args .at + start .args .n = omega arith in
+    empty-as _ _ 0 0 _ _ false long (all-fault _ _ (at-loop .loop .i) (omega arith) (ne-eqb _ _ (λ q. c .if2 .taken (q ∙ sym (c .before .last-mark .ensures)))))
 
 loop-less : tie.Need-loop-less Inv-loop μ-loop
 loop-less c = omega arith
@@ -43,9 +43,9 @@ loop-again c = (omega arith, all-on _ _ (c .before .before .before .before .loop
 returns-3 : tie.Need-returns-3 Inv-loop μ-loop
 returns-3 c =
     let start = c .before .before .before .before in
-    let long : start .args .e ≡ start .args .at + 256 = omega arith in
+    let long : start .args .e ≡ start .args .at + start .args .n = omega arith in
     let all : c .before .loop .i ≡ 256 = omega arith in
-    empty-as 256 _ 0 0 _ _ true long (rw all at (c .before .loop .inv .1))
+    empty-as _ _ 0 0 _ _ true long (rw all at (c .before .loop .inv .1))
 
 pub empty-form-spec : {M : Type 1} → statement M
 empty-form-spec =

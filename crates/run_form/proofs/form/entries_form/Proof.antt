@@ -15,11 +15,11 @@ use Rattle.run_form.proofs.form.entries_form.Statement.{statement}
 use Rattle.run_form.proofs.form.entries_form.Tie as tie
 
 abbrev Inv-loop : tie.InvT-loop
-Inv-loop words at sections k₀ k =
-    (k ≤ sections) × (sections ≡ stagesAt words at + 2) × (allBelow (λ q. allBelow (λ i. ltb (entryAt 256 words at q i) 8192) 8192) k ≡ true)
+Inv-loop words n at sections k₀ k =
+    (k ≤ sections) × (sections ≡ stagesAt words at + 2) × (allBelow (λ q. allBelow (λ i. ltb (entryAt n words at q i) (32 * n)) (32 * n)) k ≡ true)
 
 abbrev μ-loop : tie.MeasureT-loop
-μ-loop words at sections k₀ k = sections - k
+μ-loop words n at sections k₀ k = sections - k
 
 loop-holds : tie.Need-loop-holds Inv-loop μ-loop
 unfolding allBelow

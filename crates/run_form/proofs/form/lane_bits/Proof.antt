@@ -14,11 +14,11 @@ use Rattle.run_form.proofs.form.lane_bits.Statement.{statement}
 use Rattle.run_form.proofs.form.lane_bits.Tie as tie
 
 abbrev Inv-loop : tie.InvT-loop
-Inv-loop words at i sum₀ r₀ r-end sum r =
-    (r ≤ r-end) × (r-end ≡ roundsAt words at) × (sum ≤ 32 * r) × (sum ≡ sumTo (λ q. pop (readMaskAt 256 words at q i)) r)
+Inv-loop words n at i sum₀ r₀ r-end sum r =
+    (r ≤ r-end) × (r-end ≡ roundsAt words at) × (sum ≤ 32 * r) × (sum ≡ sumTo (λ q. pop (readMaskAt n words at q i)) r)
 
 abbrev μ-loop : tie.MeasureT-loop
-μ-loop words at i sum₀ r₀ r-end sum r = r-end - r
+μ-loop words n at i sum₀ r₀ r-end sum r = r-end - r
 
 loop-holds : tie.Need-loop-holds Inv-loop μ-loop
 unfolding sumTo

@@ -17,10 +17,10 @@ use Rattle.run_form.proofs.form.lanes_form.Statement.{statement}
 use Rattle.run_form.proofs.form.lanes_form.Tie as tie
 
 abbrev Inv-loop : tie.InvT-loop
-Inv-loop words at i₀ i = (i ≤ 256) × (allBelow (λ q. leb (sumTo (λ r. pop (readMaskAt 256 words at r q)) (roundsAt words at)) 32) i ≡ true)
+Inv-loop words n at i₀ i = (i ≤ n) × (allBelow (λ q. leb (sumTo (λ r. pop (readMaskAt n words at r q)) (roundsAt words at)) 32) i ≡ true)
 
 abbrev μ-loop : tie.MeasureT-loop
-μ-loop words at i₀ i = 256 - i
+μ-loop words n at i₀ i = n - i
 
 loop-holds : tie.Need-loop-holds Inv-loop μ-loop
 unfolding allBelow
@@ -28,7 +28,7 @@ loop-holds c = (omega arith, refl)
 
 returns : tie.Need-returns Inv-loop μ-loop
 unfolding lanesForm
-returns c = sym (all-fault _ 256 _ (c .before .before .loop-test .taken) (rw (← c .before .lane-bits .ensures) (lt-leb _ _ (c .if1 .taken))))
+returns c = sym (all-fault _ _ _ (c .before .before .loop-test .taken) (rw (← c .before .lane-bits .ensures) (lt-leb _ _ (c .if1 .taken))))
 
 loop-again : tie.Need-loop-again Inv-loop μ-loop
 loop-again c = (omega arith, all-on _ _ (c .before .before .before .loop .inv .1) (rw (← c .before .lane-bits .ensures) (le-leb _ _ (c .if1 .left))))

@@ -6,10 +6,10 @@ use Rattle.run_form.proofs.form.location_form.Statement.{statement}
 use Rattle.run_form.proofs.form.location_form.Tie as tie
 
 returns : tie.Need-returns
-returns c = location-good _ _ _ _ (c .before .before .location .ensures) (c .before .stages .ensures) (c .if1 .taken)
+returns c = location-good _ _ _ _ _ (c .before .before .location .ensures) (c .before .stages .ensures) (c .if1 .taken)
 
 returns-2 : tie.Need-returns-2
-returns-2 c = location-bad _ _ _ _ (c .before .before .location .ensures) (c .before .stages .ensures) (c .if1 .left)
+returns-2 c = location-bad _ _ _ _ _ (c .before .before .location .ensures) (c .before .stages .ensures) (c .if1 .left)
 
 pub location-form-spec : {M : Type 1} → statement M
 location-form-spec =

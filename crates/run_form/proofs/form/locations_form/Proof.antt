@@ -16,11 +16,11 @@ use Rattle.run_form.proofs.form.locations_form.Statement.{statement}
 use Rattle.run_form.proofs.form.locations_form.Tie as tie
 
 abbrev Inv-loop : tie.InvT-loop
-Inv-loop words at normal l₀ l =
-    (l ≤ normal) × (normal ≡ normalAt words at) × (allBelow (λ q. ltb (locationIn 256 words at q / 256) (stagesAt words at) && ltb (locationIn 256 words at q % 256) 256) l ≡ true)
+Inv-loop words n at normal l₀ l =
+    (l ≤ normal) × (normal ≡ normalAt words at) × (allBelow (λ q. ltb (locationIn n words at q / 256) (stagesAt words at) && ltb (locationIn n words at q % 256) n) l ≡ true)
 
 abbrev μ-loop : tie.MeasureT-loop
-μ-loop words at normal l₀ l = normal - l
+μ-loop words n at normal l₀ l = normal - l
 
 loop-holds : tie.Need-loop-holds Inv-loop μ-loop
 unfolding allBelow

@@ -10,16 +10,16 @@ use Rattle.run_form.proofs.form.part_form.Statement.{statement}
 use Rattle.run_form.proofs.form.part_form.Tie as tie
 
 returns : tie.Need-returns
-returns c = part-bad 256 _ _ _ _ _ (sym (c .before .head-form .ensures) ∙ not-true _ (c .if1 .taken))
+returns c = part-bad _ _ _ _ _ _ (sym (c .before .head-form .ensures) ∙ not-true _ (c .if1 .taken))
 
 body-form-requires : tie.Need-body-form-requires
 unfolding endAt
 body-form-requires c κs =
-    let ends = head-ends 256 _ _ _ (sym (c .before .head-form .ensures) ∙ not-false _ (c .if1 .left)) in
-    record { inside = omega (arith, ends .1) }
+    let ends = head-ends _ _ _ _ (sym (c .before .head-form .ensures) ∙ not-false _ (c .if1 .left)) in
+    record { lanes = c .before .before .pre .0; inside = omega (arith, ends .1) }
 
 returns-2 : tie.Need-returns-2
-returns-2 c = part-rest 256 _ _ _ _ _ _ (sym (c .before .before .head-form .ensures) ∙ not-false _ (c .before .if1 .left)) (c .body-form .ensures)
+returns-2 c = part-rest _ _ _ _ _ _ _ (sym (c .before .before .head-form .ensures) ∙ not-false _ (c .before .if1 .left)) (c .body-form .ensures)
 
 pub part-form-spec : {M : Type 1} → statement M
 part-form-spec = tie.close

@@ -15,11 +15,11 @@ use Rattle.run_form.proofs.form.reads_form.Statement.{statement}
 use Rattle.run_form.proofs.form.reads_form.Tie as tie
 
 abbrev Inv-loop : tie.InvT-loop
-Inv-loop words at s t rounds r₀ r =
-    (r ≤ rounds) × (rounds ≡ roundsAt words at) × (allBelow (λ q. allBelow (λ i. readForm (readWordAt 256 words at q i) (readMaskAt 256 words at q i) s t) 256) r ≡ true)
+Inv-loop words n at s t rounds r₀ r =
+    (r ≤ rounds) × (rounds ≡ roundsAt words at) × (allBelow (λ q. allBelow (λ i. readForm (readWordAt n words at q i) (readMaskAt n words at q i) s t) n) r ≡ true)
 
 abbrev μ-loop : tie.MeasureT-loop
-μ-loop words at s t rounds r₀ r = rounds - r
+μ-loop words n at s t rounds r₀ r = rounds - r
 
 loop-holds : tie.Need-loop-holds Inv-loop μ-loop
 unfolding allBelow

@@ -15,10 +15,10 @@ use Rattle.run_form.proofs.form.round_form.Statement.{statement}
 use Rattle.run_form.proofs.form.round_form.Tie as tie
 
 abbrev Inv-loop : tie.InvT-loop
-Inv-loop words at r s t i₀ i = (i ≤ 256) × (allBelow (λ q. readForm (readWordAt 256 words at r q) (readMaskAt 256 words at r q) s t) i ≡ true)
+Inv-loop words n at r s t i₀ i = (i ≤ n) × (allBelow (λ q. readForm (readWordAt n words at r q) (readMaskAt n words at r q) s t) i ≡ true)
 
 abbrev μ-loop : tie.MeasureT-loop
-μ-loop words at r s t i₀ i = 256 - i
+μ-loop words n at r s t i₀ i = n - i
 
 loop-holds : tie.Need-loop-holds Inv-loop μ-loop
 unfolding allBelow
@@ -26,7 +26,7 @@ loop-holds c = (omega arith, refl)
 
 returns : tie.Need-returns Inv-loop μ-loop
 unfolding readWordAt readMaskAt
-returns c = sym (all-fault _ 256 _ (c .before .before .loop-test .taken) (sym (c .before .pair-form .ensures) ∙ not-true _ (c .if1 .taken)))
+returns c = sym (all-fault _ _ _ (c .before .before .loop-test .taken) (sym (c .before .pair-form .ensures) ∙ not-true _ (c .if1 .taken)))
 
 loop-again : tie.Need-loop-again Inv-loop μ-loop
 unfolding readWordAt readMaskAt

@@ -16,18 +16,18 @@ use Rattle.run_form.proofs.form.section_form.Statement.{statement}
 use Rattle.run_form.proofs.form.section_form.Tie as tie
 
 abbrev Inv-loop : tie.InvT-loop
-Inv-loop words at k from w₀ w =
-    (w ≤ 4096) × (from ≡ sectionAt 256 words at k)
-    × ((v : ℕ) → v < w → (ltb (getD words (from + v) 0 % 2 ^ 16) 8192 && ltb (getD words (from + v) 0 / 2 ^ 16) 8192) ≡ true)
+Inv-loop words n at k from w₀ w =
+    (w ≤ entries) × (from ≡ sectionAt n words at k)
+    × ((v : ℕ) → v < w → (ltb (getD words (from + v) 0 % 2 ^ 16) (32 * n) && ltb (getD words (from + v) 0 / 2 ^ 16) (32 * n)) ≡ true)
 
 abbrev μ-loop : tie.MeasureT-loop
-μ-loop words at k from w₀ w = 4096 - w
+μ-loop words n at k from w₀ w = entries - w
 
 loop-holds : tie.Need-loop-holds Inv-loop μ-loop
 loop-holds c = (omega arith, c .section .ensures .0, λ v h. absurd (omega arith))
 
 returns : tie.Need-returns Inv-loop μ-loop
-returns c = sym (entries-bad 256 _ _ _ _ (c .before .before .before .before .loop .inv .1) _ (c .before .before .before .loop-test .taken) (sym (c .before .halves-form .ensures) ∙ not-true _ (c .if1 .taken)))
+returns c = sym (entries-bad _ _ _ _ _ (c .before .before .before .before .loop .inv .1) _ (c .before .before .before .loop-test .taken) (sym (c .before .halves-form .ensures) ∙ not-true _ (c .if1 .taken)))
 
 loop-again : tie.Need-loop-again Inv-loop μ-loop
 loop-again c =
@@ -35,7 +35,7 @@ loop-again c =
     (omega arith, l .inv .1, below-more _ _ (l .inv .2) (sym (c .before .halves-form .ensures) ∙ not-false _ (c .if1 .left)))
 
 returns-2 : tie.Need-returns-2 Inv-loop μ-loop
-returns-2 c = sym (entries-good 256 _ _ _ _ (c .before .loop .inv .1) (λ w h. c .before .loop .inv .2 w (omega arith)))
+returns-2 c = sym (entries-good _ _ _ _ _ (c .before .loop .inv .1) (λ w h. c .before .loop .inv .2 w (omega arith)))
 
 pub section-form-spec : {M : Type 1} → statement M
 section-form-spec =

@@ -20,7 +20,7 @@ returns c =
     let at-wide2 = c .before .before .before in
     let at-wide = at-wide2 .before .before in
     let start = at-wide .before .before .before in
-    let same = stores-as 256 (start .args .s) (start .args .t) (start .args .words .now) (start .args .at) _ _ _ _ (at-wide .wide .ensures) (at-wide2 .wide2 .ensures) (c .before .wide3 .ensures) refl in
+    let same = stores-as _ (start .args .s) (start .args .t) (start .args .words .now) (start .args .at) _ _ _ _ (at-wide .wide .ensures) (at-wide2 .wide2 .ensures) (c .before .wide3 .ensures) refl in
     stores-short _ _ _ _ _ _ (c .if1 .taken) ∙ same
 
 add-end : tie.Need-add-end
@@ -36,7 +36,7 @@ returns-2 c =
     let at-wide2 = at-if1 .before .before .before in
     let at-wide = at-wide2 .before .before in
     let start = at-wide .before .before .before in
-    let same = stores-as 256 (start .args .s) (start .args .t) (start .args .words .now) (start .args .at) _ _ _ _ (at-wide .wide .ensures) (at-wide2 .wide2 .ensures) (at-if1 .before .wide3 .ensures) (c .before .before .start .ensures) in
+    let same = stores-as _ (start .args .s) (start .args .t) (start .args .words .now) (start .args .at) _ _ _ _ (at-wide .wide .ensures) (at-wide2 .wide2 .ensures) (at-if1 .before .wide3 .ensures) (c .before .before .start .ensures) in
     stores-none _ _ _ _ _ _ (at-if1 .if1 .left) (c .before .if2 .taken) (c .if3 .taken) ∙ same
 
 returns-3 : tie.Need-returns-3
@@ -46,7 +46,7 @@ returns-3 c =
     let at-wide2 = at-wide3 .before .before in
     let at-wide = at-wide2 .before .before in
     let start = at-wide .before .before .before in
-    let same = stores-as 256 (start .args .s) (start .args .t) (start .args .words .now) (start .args .at) _ _ _ _ (at-wide .wide .ensures) (at-wide2 .wide2 .ensures) (at-wide3 .wide3 .ensures) (at-start .start .ensures) in
+    let same = stores-as _ (start .args .s) (start .args .t) (start .args .words .now) (start .args .at) _ _ _ _ (at-wide .wide .ensures) (at-wide2 .wide2 .ensures) (at-wide3 .wide3 .ensures) (at-start .start .ensures) in
     stores-new _ _ _ _ _ _ (at-start .before .if1 .left) (c .before .before .if2 .taken) (c .before .if3 .left) (c .if4 .taken) ∙ same
 
 returns-4 : tie.Need-returns-4
@@ -56,7 +56,7 @@ returns-4 c =
     let at-wide2 = at-wide3 .before .before in
     let at-wide = at-wide2 .before .before in
     let start = at-wide .before .before .before in
-    let same = stores-as 256 (start .args .s) (start .args .t) (start .args .words .now) (start .args .at) _ _ _ _ (at-wide .wide .ensures) (at-wide2 .wide2 .ensures) (at-wide3 .wide3 .ensures) (at-start .start .ensures) in
+    let same = stores-as _ (start .args .s) (start .args .t) (start .args .words .now) (start .args .at) _ _ _ _ (at-wide .wide .ensures) (at-wide2 .wide2 .ensures) (at-wide3 .wide3 .ensures) (at-start .start .ensures) in
     stores-old _ _ _ _ _ _ (at-start .before .if1 .left) (c .before .before .if2 .taken) (c .before .if3 .left) (c .if4 .left) ∙ same
 
 returns-5 : tie.Need-returns-5
@@ -65,7 +65,7 @@ returns-5 c =
     let at-wide2 = at-wide3 .before .before in
     let at-wide = at-wide2 .before .before in
     let start = at-wide .before .before .before in
-    let same = stores-as 256 (start .args .s) (start .args .t) (start .args .words .now) (start .args .at) _ _ _ _ (at-wide .wide .ensures) (at-wide2 .wide2 .ensures) (at-wide3 .wide3 .ensures) (c .before .start .ensures) in
+    let same = stores-as _ (start .args .s) (start .args .t) (start .args .words .now) (start .args .at) _ _ _ _ (at-wide .wide .ensures) (at-wide2 .wide2 .ensures) (at-wide3 .wide3 .ensures) (c .before .start .ensures) in
     stores-many _ _ _ _ _ _ (c .before .before .if1 .left) (c .if2 .left) ∙ same
 
 pub stores-form-spec : {M : Type 1} → statement M

@@ -14,30 +14,30 @@ use Rattle.run_form.proofs.refuse.bad_block.Statement.{statement}
 use Rattle.run_form.proofs.refuse.bad_block.Tie as tie
 
 abbrev Inv-loop : tie.InvT-loop
-Inv-loop words starts s t blocks i₀ i =
-    (i ≤ blocks) × (blocks ≡ length starts - 1) × (2 ≤ length starts) × (firstFrom (blockGood 256 words starts s t) (blocks - i) i ≡ badBlock 256 words starts s t)
+Inv-loop words n starts s t blocks i₀ i =
+    (i ≤ blocks) × (blocks ≡ length starts - 1) × (2 ≤ length starts) × (firstFrom (blockGood n words starts s t) (blocks - i) i ≡ badBlock n words starts s t)
 
 abbrev μ-loop : tie.MeasureT-loop
-μ-loop words starts s t blocks i₀ i = blocks - i
+μ-loop words n starts s t blocks i₀ i = blocks - i
 
 returns : tie.Need-returns Inv-loop μ-loop
-returns c = few-starts 256 _ _ _ _ (c .if1 .taken)
+returns c = few-starts _ _ _ _ _ (c .if1 .taken)
 
 loop-holds : tie.Need-loop-holds Inv-loop μ-loop
-loop-holds c = (omega arith, refl, c .if1 .left, first-block 256 _ _ _ _ _ (c .if1 .left) refl)
+loop-holds c = (omega arith, refl, c .if1 .left, first-block _ _ _ _ _ _ (c .if1 .left) refl)
 
 returns-2 : tie.Need-returns-2 Inv-loop μ-loop
 returns-2 c =
     let l = c .before .before .before .before .before in
     let args = l .before .before .before .before .args in
-    let good = blockGood 256 (args .words .now) (args .starts .now) (args .s) (args .t) in
+    let good = blockGood (args .n) (args .words .now) (args .starts .now) (args .s) (args .t) in
     look-fault good (length (args .starts .now) - 1) (l .loop .i) _ (l .loop .inv .3) (omega arith) (sym (c .before .block-form .ensures) ∙ not-true _ (c .if2 .taken))
 
 loop-again : tie.Need-loop-again Inv-loop μ-loop
 loop-again c =
     let l = c .before .before .before .before .before in
     let args = l .before .before .before .before .args in
-    let good = blockGood 256 (args .words .now) (args .starts .now) (args .s) (args .t) in
+    let good = blockGood (args .n) (args .words .now) (args .starts .now) (args .s) (args .t) in
     let next = look-next good (length (args .starts .now) - 1) (l .loop .i) _ (l .loop .inv .3) (omega arith) (sym (c .before .block-form .ensures) ∙ not-false _ (c .if2 .left)) in
     (omega arith, refl, l .loop .inv .2, next)
 
