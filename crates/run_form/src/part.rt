@@ -60,12 +60,11 @@ pub fn part_end(words: &[u32], n: usize, at: usize) -> usize
     requires { ⌜ Lanes n × (at + n ≤ length (now words)) ⌝ }
     ensures { λ r. ⌜ r ≡ endAt n (now (words .entry)) at ⌝ }
 {
-    let section = SECTION_WORDS * n;
     at
         + n
-        + ROUND_WORDS * n * rounds(words, at)
-        + section * stages(words, at)
-        + 2 * section
+        + ROUND_WORDS * (n * rounds(words, at))
+        + SECTION_WORDS * (n * stages(words, at))
+        + 2 * SECTION_WORDS * n
 }
 
 // Location l: stage·256 + w.
@@ -82,7 +81,7 @@ pub fn pair(words: &[u32], n: usize, at: usize, r: usize, i: usize) -> usize
     requires { ⌜ PartIn n (now words) at × (r < roundsAt (now words) at) × (i < n) ⌝ }
     ensures { λ x. ⌜ (x ≡ at + n + 2 * n * r + 2 * i) × (x + 1 < length (now (words .entry))) ⌝ }
 {
-    at + n + ROUND_WORDS * n * r + 2 * i
+    at + n + ROUND_WORDS * (n * r) + 2 * i
 }
 
 // Where section k begins.
@@ -90,5 +89,5 @@ pub fn section(words: &[u32], n: usize, at: usize, k: usize) -> usize
     requires { ⌜ PartIn n (now words) at × (k < stagesAt (now words) at + 2) ⌝ }
     ensures { λ r. ⌜ (r ≡ sectionAt n (now (words .entry)) at k) × (r + 20 * n ≤ length (now (words .entry))) ⌝ }
 {
-    at + n + ROUND_WORDS * n * rounds(words, at) + SECTION_WORDS * n * k
+    at + n + ROUND_WORDS * (n * rounds(words, at)) + SECTION_WORDS * (n * k)
 }

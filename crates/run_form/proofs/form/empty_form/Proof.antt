@@ -44,7 +44,7 @@ returns-3 : tie.Need-returns-3 Inv-loop μ-loop
 returns-3 c =
     let start = c .before .before .before .before in
     let long : start .args .e ≡ start .args .at + start .args .n = omega arith in
-    let all : c .before .loop .i ≡ 256 = omega arith in
+    let all : c .before .loop .i ≡ start .args .n = omega arith in
     empty-as _ _ 0 0 _ _ true long (rw all at (c .before .loop .inv .1))
 
 pub empty-form-spec : {M : Type 1} → statement M

@@ -2,7 +2,7 @@
 -- Assumes nothing.
 use mathlib.Core.Path.{_≡_, refl, sym, _∙_}
 use mathlib.Core.Bool.{true}
-use Prim.Native.Nat.{_+_, _-_, _≤_, _<_}
+use Prim.Native.Nat.{_*_, _+_, _-_, _≤_, _<_}
 use native.Mathlib.Omega.{arith}
 use Rattle.words.specs.Tests.{allBelow}
 use Rattle.words.proofs.TestLaws.{all-on, all-fault}
@@ -21,6 +21,9 @@ Inv-loop words n at sections k₀ k =
 abbrev μ-loop : tie.MeasureT-loop
 μ-loop words n at sections k₀ k = sections - k
 
+add-sections : tie.Need-add-sections Inv-loop μ-loop
+add-sections c = omega (arith, c .before .shared-slice-known .given (c .before .before .args .at))
+
 loop-holds : tie.Need-loop-holds Inv-loop μ-loop
 unfolding allBelow
 loop-holds c = (omega arith, omega arith, refl)
@@ -32,6 +35,11 @@ returns c =
     let start = at-loop .before .before .before in
     let within : at-loop .loop .k < stagesAt (start .args .words .now) (start .args .at) + 2 = omega arith in
     sym (all-fault _ _ _ within (sym (c .before .section-form .ensures) ∙ not-true _ (c .if1 .taken)))
+
+add-k : tie.Need-add-k Inv-loop μ-loop
+add-k c =
+    let at-stages = c .before .before .before .before in
+    omega (arith, at-stages .before .shared-slice-known .given (at-stages .before .before .args .at))
 
 loop-again : tie.Need-loop-again Inv-loop μ-loop
 loop-again c =
@@ -48,5 +56,5 @@ returns-2 c =
 pub entries-form-spec : {M : Type 1} → statement M
 entries-form-spec =
     tie.close
-    (tie.spec Inv-loop μ-loop (λ c κs. search needs) (λ c. search needs) loop-holds (λ c κs. search needs) returns (λ c. search needs)
-    (λ c. search needs) loop-again returns-2)
+    (tie.spec Inv-loop μ-loop (λ c κs. search needs) add-sections loop-holds (λ c κs. search needs) returns add-k (λ c. search needs)
+    loop-again returns-2)

@@ -8,7 +8,7 @@ use Rattle.words.specs.Bit.{pop}
 use Rattle.words.proofs.SumLaws.{sum-more}
 use Rattle.run_machine.specs.Part.{roundsAt, readMaskAt}
 use mathlib.Core.Path.{ap₂, _∙_}
-use Rattle.run_form.proofs.TestCodeLaws.{mask-count-small}
+use Rattle.run_form.proofs.TestCodeLaws.{mask-count-small, pair-count}
 use borrow.Author.Needs.{needs}
 use Rattle.run_form.proofs.form.lane_bits.Statement.{statement}
 use Rattle.run_form.proofs.form.lane_bits.Tie as tie
@@ -25,14 +25,17 @@ unfolding sumTo
 loop-holds c = (omega arith, c .rounds .ensures, omega arith, refl)
 
 add-sum : tie.Need-add-sum Inv-loop μ-loop
-add-sum c = omega (arith, mask-count-small _ _ _ (c .wide .ensures) (c .before .count .ensures))
+add-sum c =
+    let at-rounds = c .before .before .before .before .before .before in
+    let few = at-rounds .before .shared-slice-known .given (at-rounds .before .before .args .at + 6) in
+    omega (arith, mask-count-small _ _ _ (c .wide .ensures) (c .before .count .ensures), few)
 
 loop-again : tie.Need-loop-again Inv-loop μ-loop
-unfolding readMaskAt
 loop-again c =
-    let l = c .before .before .before .before .loop in
+    let at-pair = c .before .before .before in
+    let l = at-pair .before .before .loop in
     let small = mask-count-small _ _ _ (c .wide .ensures) (c .before .count .ensures) in
-    (omega arith, l .inv .1, omega arith, rw sum-more (ap₂ _+_ (l .inv .3) (c .wide .ensures ∙ c .before .count .ensures)))
+    (omega arith, l .inv .1, omega arith, rw sum-more (ap₂ _+_ (l .inv .3) (pair-count _ _ _ _ _ _ _ (at-pair .pair .ensures .0) (c .wide .ensures ∙ c .before .count .ensures))))
 
 returns : tie.Need-returns Inv-loop μ-loop
 returns c =
@@ -43,6 +46,5 @@ returns c =
 pub lane-bits-spec : {M : Type 1} → statement M
 lane-bits-spec =
     tie.close
-    (tie.spec Inv-loop μ-loop (λ c κs. search needs) loop-holds (λ c. search needs) (λ c. search needs) (λ c. search needs)
-    (λ c. search needs) (λ c. search needs) (λ c. search needs) (λ c. search needs) (λ c. search needs) (λ c κs. search needs)
-    (λ c κs. search needs) add-sum (λ c. search needs) (λ c. search needs) loop-again returns)
+    (tie.spec Inv-loop μ-loop (λ c κs. search needs) loop-holds (λ c κs. search needs) (λ c. search needs) (λ c. search needs)
+    (λ c. search needs) (λ c κs. search needs) (λ c κs. search needs) add-sum (λ c. search needs) (λ c. search needs) loop-again returns)

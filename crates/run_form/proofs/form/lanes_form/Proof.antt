@@ -36,7 +36,7 @@ loop-again c = (omega arith, all-on _ _ (c .before .before .before .loop .inv .1
 returns-2 : tie.Need-returns-2 Inv-loop μ-loop
 unfolding lanesForm
 returns-2 c =
-    let e : c .before .loop .i ≡ 256 = omega arith in
+    let e : c .before .loop .i ≡ c .before .before .before .args .n = omega arith in
     sym (rw e at (c .before .loop .inv .1))
 
 pub lanes-form-spec : {M : Type 1} → statement M

@@ -16,7 +16,7 @@ body-form-requires : tie.Need-body-form-requires
 unfolding endAt
 body-form-requires c κs =
     let ends = head-ends _ _ _ _ (sym (c .before .head-form .ensures) ∙ not-false _ (c .if1 .left)) in
-    record { lanes = c .before .before .pre .0; inside = omega (arith, ends .1) }
+    record { lanes = c .before .before .before .pre .0; inside = omega (arith, ends .1) }
 
 returns-2 : tie.Need-returns-2
 returns-2 c = part-rest _ _ _ _ _ _ _ (sym (c .before .before .head-form .ensures) ∙ not-false _ (c .before .if1 .left)) (c .body-form .ensures)

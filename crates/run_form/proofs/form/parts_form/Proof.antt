@@ -21,7 +21,7 @@ loop-holds c = parts-start _ _ _ _ _ _ (c .before .pre .1) (c .before .pre .2)
 part-end-requires : tie.Need-part-end-requires Inv-loop μ-loop
 part-end-requires c κs =
     let fits = part-fits _ _ _ _ _ (omega arith) _ _ (c .before .before .loop .inv) (sym (c .before .part-form .ensures) ∙ c .if1 .taken) in
-    omega (arith, fits .0)
+    (c .before .before .before .before .pre .0, omega (arith, fits .0))
 
 returns : tie.Need-returns Inv-loop μ-loop
 returns c =

@@ -6,6 +6,7 @@ use Prim.Native.Nat.{_-_, _≤_}
 use native.Mathlib.Omega.{arith}
 use Rattle.words.specs.Tests.{allBelow}
 use Rattle.words.proofs.TestLaws.{all-on, all-fault}
+use Rattle.run_form.proofs.TestCodeLaws.{pair-read}
 use Rattle.run_machine.specs.Part.{readWordAt, readMaskAt}
 use Rattle.run_form.specs.PartForm.{readForm}
 use mathlib.Core.Path.{refl, sym, _∙_}
@@ -25,20 +26,23 @@ unfolding allBelow
 loop-holds c = (omega arith, refl)
 
 returns : tie.Need-returns Inv-loop μ-loop
-unfolding readWordAt readMaskAt
-returns c = sym (all-fault _ _ _ (c .before .before .loop-test .taken) (sym (c .before .pair-form .ensures) ∙ not-true _ (c .if1 .taken)))
+returns c =
+    let tested = c .before in
+    let good = pair-read _ _ _ _ _ _ _ _ _ (tested .before .pair .ensures .0) (tested .pair-form .ensures) in
+    sym (all-fault _ _ _ (tested .before .before .loop-test .taken) (sym good ∙ not-true _ (c .if1 .taken)))
 
 loop-again : tie.Need-loop-again Inv-loop μ-loop
-unfolding readWordAt readMaskAt
-loop-again c = (omega arith, all-on _ _ (c .before .before .before .loop .inv .1) (sym (c .before .pair-form .ensures) ∙ not-false _ (c .if1 .left)))
+loop-again c =
+    let tested = c .before in
+    let at-pair = tested .before in
+    (omega arith, all-on _ _ (at-pair .before .before .loop .inv .1) (sym (pair-read _ _ _ _ _ _ _ _ _ (at-pair .pair .ensures .0) (tested .pair-form .ensures)) ∙ not-false _ (c .if1 .left)))
 
 returns-2 : tie.Need-returns-2 Inv-loop μ-loop
 returns-2 c =
-    let e : c .before .loop .i ≡ 256 = omega arith in
+    let e : c .before .loop .i ≡ c .before .before .before .args .n = omega arith in
     sym (rw e at (c .before .loop .inv .1))
 
 pub round-form-spec : {M : Type 1} → statement M
 round-form-spec =
     tie.close
-    (tie.spec Inv-loop μ-loop loop-holds (λ c. search needs) (λ c. search needs) (λ c. search needs) (λ c. search needs) (λ c. search needs)
-    (λ c κs. search needs) returns (λ c. search needs) (λ c. search needs) loop-again returns-2)
+    (tie.spec Inv-loop μ-loop loop-holds (λ c κs. search needs) (λ c κs. search needs) returns (λ c. search needs) (λ c. search needs) loop-again returns-2)

@@ -2,7 +2,7 @@
 -- Assumes nothing.
 use mathlib.Core.Path.{_≡_}
 use mathlib.Core.Bool.{true, _&&_}
-use Prim.Native.Nat.{ℕ, _+_, _-_, _/_, _%_, _^_, _≤_, _<_}
+use Prim.Native.Nat.{_*_, ℕ, _+_, _-_, _/_, _%_, _^_, _≤_, _<_}
 use native.Mathlib.Omega.{arith}
 use borrow.Author.Count.{below-more}
 use lib.Dec.{ltb}
@@ -16,12 +16,12 @@ use Rattle.run_form.proofs.form.section_form.Statement.{statement}
 use Rattle.run_form.proofs.form.section_form.Tie as tie
 
 abbrev Inv-loop : tie.InvT-loop
-Inv-loop words n at k from w₀ w =
+Inv-loop words n at k slots entries from w₀ w =
     (w ≤ entries) × (from ≡ sectionAt n words at k)
     × ((v : ℕ) → v < w → (ltb (getD words (from + v) 0 % 2 ^ 16) (32 * n) && ltb (getD words (from + v) 0 / 2 ^ 16) (32 * n)) ≡ true)
 
 abbrev μ-loop : tie.MeasureT-loop
-μ-loop words n at k from w₀ w = entries - w
+μ-loop words n at k slots entries from w₀ w = entries - w
 
 loop-holds : tie.Need-loop-holds Inv-loop μ-loop
 loop-holds c = (omega arith, c .section .ensures .0, λ v h. absurd (omega arith))
@@ -40,5 +40,5 @@ returns-2 c = sym (entries-good _ _ _ _ _ (c .before .loop .inv .1) (λ w h. c .
 pub section-form-spec : {M : Type 1} → statement M
 section-form-spec =
     tie.close
-    (tie.spec Inv-loop μ-loop (λ c κs. search needs) loop-holds (λ c. search needs) (λ c. search needs) (λ c. search needs)
+    (tie.spec Inv-loop μ-loop (λ c. search needs) (λ c. search needs) (λ c. search needs) (λ c κs. search needs) loop-holds (λ c. search needs) (λ c. search needs) (λ c. search needs)
     (λ c κs. search needs) returns (λ c. search needs) (λ c. search needs) loop-again returns-2)
