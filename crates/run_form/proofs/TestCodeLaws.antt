@@ -1,15 +1,14 @@
 -- Tests as the code goes through them: `&&` and `||` look at their second part only where the first leaves it open.
 -- Assumes nothing.
-use mathlib.Core.Path.{_≡_, ap, _∙_}
+use mathlib.Core.Path.{_≡_}
 use mathlib.Core.Bool.{Bool, true, false, _&&_, _||_}
 use mathlib.Core.List.{List}
-use Prim.Native.Nat.{ℕ, _+_, _*_, _-_, _/_, _%_, _^_, _≤_, _<_}
+use Prim.Native.Nat.{ℕ, _+_, _-_, _/_, _%_, _^_, _≤_, _<_}
 use borrow.Author.Tests.{le-leb, lt-leb, lt-ltb, le-ltb, eq-eqb, ne-eqb}
 use lib.Dec.{leb, ltb, eqb}
-use lib.ListN.{getD}
 use Rattle.words.specs.Bit.{pop}
 use Rattle.words.proofs.PopLaws.{pop-le}
-use Rattle.run_machine.specs.Part.{writeOutsAt, startAt, sramsAt, duplicatesAt, normalAt, readWordAt, readMaskAt}
+use Rattle.run_machine.specs.Part.{writeOutsAt, startAt, sramsAt, duplicatesAt, normalAt}
 use Rattle.run_machine.specs.Run.{storesForm}
 use Rattle.run_form.specs.PartForm.{readForm}
 
@@ -29,16 +28,6 @@ read-inside w m s t x d e h = rw (ne-eqb m 0 d, ← e, lt-ltb x s h)
 
 pub read-outside : (w m s t x : ℕ) → (m ≡ 0 → ⊥) → x ≡ w % 2 ^ 31 → s ≤ x → ltb x s ≡ readForm w m s t
 read-outside w m s t x d e h = rw (ne-eqb m 0 d, ← e, le-ltb x s h)
-
--- the pair at word x is that of lane i in round r
-pub pair-read : (n : ℕ) (W : List ℕ) (o r i s t x : ℕ) (b : Bool) → x ≡ o + n + 2 * n * r + 2 * i → b ≡ readForm (getD W x 0) (getD W (x + 1) 0) s t
-    → b ≡ readForm (readWordAt n W o r i) (readMaskAt n W o r i) s t
-unfolding readWordAt readMaskAt
-pair-read n W o r i s t x b e h = h ∙ ap (λ (y : ℕ). readForm (getD W y 0) (getD W (y + 1) 0) s t) e
-
-pub pair-count : (n : ℕ) (W : List ℕ) (o r i x c : ℕ) → x ≡ o + n + 2 * n * r + 2 * i → c ≡ pop (getD W (x + 1) 0) → c ≡ pop (readMaskAt n W o r i)
-unfolding readMaskAt
-pair-count n W o r i x c e h = h ∙ ap (λ (y : ℕ). pop (getD W (y + 1) 0)) e
 
 pub mask-count-small : (r x m : ℕ) → r ≡ x → x ≡ pop m → r ≤ 32
 mask-count-small r x m e f = rw (e, f) (pop-le m)

@@ -1,8 +1,8 @@
 // The numbers of the part that begins at word `at`, of a script of n lanes. An index with a product of two numbers is worked out here alone.
 ghost use mathlib.Core.Path.{_≡_};
 ghost use Prim.Native.Nat.{_+_, _*_, _<_, _≤_};
-ghost use lib.ListN.{length};
-ghost use Rattle.run_machine.specs.Part.{stagesAt, lastAt, writeOutsAt, startAt, sramsAt, roundsAt, duplicatesAt, normalAt, endAt, locationIn, sectionAt};
+ghost use lib.ListN.{length, getD};
+ghost use Rattle.run_machine.specs.Part.{stagesAt, lastAt, writeOutsAt, startAt, sramsAt, roundsAt, duplicatesAt, normalAt, endAt, locationIn, readWordAt, readMaskAt, sectionAt};
 ghost use Rattle.run_form.specs.Well.{Lanes, PartIn};
 
 // Words for each lane: of a round, which word is read and its mask; of a section's permutation, 32 halves; of a section, that and four more.
@@ -79,7 +79,7 @@ pub fn location(words: &[u32], n: usize, at: usize, l: usize) -> u32
 // Where the pair of lane i in round r stands: the word that is read and, one on, its mask.
 pub fn pair(words: &[u32], n: usize, at: usize, r: usize, i: usize) -> usize
     requires { ⌜ PartIn n (now words) at × (r < roundsAt (now words) at) × (i < n) ⌝ }
-    ensures { λ x. ⌜ (x ≡ at + n + 2 * n * r + 2 * i) × (x + 1 < length (now (words .entry))) ⌝ }
+    ensures { λ x. ⌜ (getD (now (words .entry)) x 0 ≡ readWordAt n (now (words .entry)) at r i) × (getD (now (words .entry)) (x + 1) 0 ≡ readMaskAt n (now (words .entry)) at r i) × (x + 1 < length (now (words .entry))) ⌝ }
 {
     at + n + ROUND_WORDS * (n * r) + 2 * i
 }

@@ -1,6 +1,5 @@
 // The read turn: document 01, "In the read turn the one-word window comes from the old state or the new, by bit 31. Unused lane bits are 0."
 use run_form::part;
-use words::edition::Edition;
 ghost use mathlib.Core.Path.{_≡_};
 ghost use Prim.Native.Nat.{_+_, _*_, _^_, _<_, _≤_};
 ghost use lib.ListN.{length, getD};
@@ -63,29 +62,37 @@ fn read_round<'a>(acc: u32, words: &[u32], pair: usize, old: &'a [u32], new: &'a
 }
 
 // Lane i over all rounds.
-pub fn read_lane<'a>(words: &[u32], at: usize, old: &'a [u32], new: &'a [u32], i: usize) -> u32
-    requires { ⌜ PartIn 256 (now words) at × Reads 256 (now words) at (length (now old)) (length (now new)) × (i < 256) ⌝ }
-    ensures { λ x. ⌜ x ≡ laneWord (λ r. stateWord (now (old .entry)) (now (new .entry)) (readWordAt 256 (now (words .entry)) at r i)) (λ r. readMaskAt 256 (now (words .entry)) at r i) (roundsAt (now (words .entry)) at) ⌝ }
+pub fn read_lane<'a>(
+    words: &[u32],
+    n: usize,
+    at: usize,
+    old: &'a [u32],
+    new: &'a [u32],
+    i: usize,
+) -> u32
+    requires { ⌜ PartIn n (now words) at × Reads n (now words) at (length (now old)) (length (now new)) × (i < n) ⌝ }
+    ensures { λ x. ⌜ x ≡ laneWord (λ r. stateWord (now (old .entry)) (now (new .entry)) (readWordAt n (now (words .entry)) at r i)) (λ r. readMaskAt n (now (words .entry)) at r i) (roundsAt (now (words .entry)) at) ⌝ }
 {
     let mut acc = 0;
     for r in 0..part::rounds(words, at) {
-        acc = read_round(
-            acc,
-            words,
-            at + part::HEAD_WORDS + part::ROUND_WORDS * r + 2 * i,
-            old,
-            new,
-        );
+        acc = read_round(acc, words, part::pair(words, n, at, r, i), old, new);
     }
     acc
 }
 
-// All lanes.
-pub fn read_turn<'a>(words: &[u32], at: usize, old: &'a [u32], new: &'a [u32], row: &mut [u32])
-    requires { ⌜ PartIn 256 (now words) at × Reads 256 (now words) at (length (now old)) (length (now new)) × (length (now row) ≡ 256) ⌝ }
-    ensures { λ _. ⌜ now (row .exit) ≡ readRow 256 (now (words .entry)) at (now (old .entry)) (now (new .entry)) ⌝ }
+// All n lanes.
+pub fn read_turn<'a>(
+    words: &[u32],
+    n: usize,
+    at: usize,
+    old: &'a [u32],
+    new: &'a [u32],
+    row: &mut [u32],
+)
+    requires { ⌜ PartIn n (now words) at × Reads n (now words) at (length (now old)) (length (now new)) × (length (now row) ≡ n) ⌝ }
+    ensures { λ _. ⌜ now (row .exit) ≡ readRow n (now (words .entry)) at (now (old .entry)) (now (new .entry)) ⌝ }
 {
-    for i in 0..Edition::LANES {
-        row[i] = read_lane(words, at, old, new, i);
+    for i in 0..n {
+        row[i] = read_lane(words, n, at, old, new, i);
     }
 }

@@ -1,7 +1,7 @@
 -- What gathering and the levels leave is the stage of the definition: the section's two parts are cut out of the script's words, and the bits keep
 -- the levels' rule. Argued over n = 2^j lanes.
 -- Assumes nothing.
-use mathlib.Core.Path.{_≡_, sym, ap, ap₂, _∙_}
+use mathlib.Core.Path.{_≡_, refl, sym, ap, ap₂, _∙_}
 use mathlib.Core.List.{List, _++_}
 use Prim.Native.Nat.{ℕ, suc, _+_, _-_, _*_, _/_, _%_, _^_, _≤_, _<_}
 use native.Mathlib.Nat.{add-zero, mul-comm}
@@ -10,6 +10,8 @@ use lib.ListN.{length, getD, take, drop, length-drop, take-append-drop}
 use lib.Pow.{pow-add, pow-mono}
 use lib.Seq.{getD-take, getD-drop, length-take-le}
 use Rattle.words.specs.Bit.{bit, bitAt}
+use Rattle.words.specs.Edition.{Known, levelsFor}
+use Rattle.words.proofs.EditionLaws.{by-edition}
 use Rattle.words.specs.Section.{wordOfEntry, halfOf, halfAt}
 use Rattle.words.proofs.SectionLaws.{place-lt}
 use Rattle.run_machine.specs.Part.{stagesAt, sectionAt, entryAt, laneWordAt}
@@ -18,6 +20,11 @@ use Rattle.run_machine.proofs.StageBitLaws.{at-word, words-of, StageBits, stage
 use Rattle.run_form.specs.Well.{EntriesIn, Entries}
 use Rattle.run_stage.specs.Gather.{Gathered, gatheredRow}
 use Rattle.run_stage.specs.Level.{laneGate, Staged}
+
+-- the lanes of an edition are a power of two, and so many levels are above those inside one word
+pub lane-power : (n : ℕ) → Known n → (j : ℕ) × (n ≡ 2 ^ j) × (j + 5 ≡ levelsFor n)
+unfolding levelsFor
+lane-power = by-edition (λ n. (j : ℕ) × (n ≡ 2 ^ j) × (j + 5 ≡ levelsFor n)) (8, refl, refl) (7, refl, refl)
 
 -- ---- a part of the words
 
@@ -87,9 +94,9 @@ module _ (n : ℕ) (W : List ℕ) (o k : ℕ) where
     all-long : length l′ ≡ 2 * n
     all-long = st .long ∙ g .long ∙ long
 
-    pub stage-end : ((i : ℕ) → getD l′ i 0 < 2 ^ 32) → l′ ≡ stageRow n (j + 5) W o k (take n l₀) ++ gatheredRow n W o k (take n l₀)
+    pub stage-end : (H : ℕ) → j + 5 ≡ H → ((i : ℕ) → getD l′ i 0 < 2 ^ 32) → l′ ≡ stageRow n H W o k (take n l₀) ++ gatheredRow n W o k (take n l₀)
     unfolding gatheredRow
-    stage-end small = sym (take-append-drop n l′) ∙ ap₂ _++_ low high
+    stage-end H top small = sym (take-append-drop n l′) ∙ ap₂ _++_ (low ∙ ap (λ (h : ℕ). stageRow n h W o k (take n l₀)) top) high
       where
         low : take n l′ ≡ stageRow n (j + 5) W o k (take n l₀)
         low =

@@ -2,12 +2,12 @@
 // The bits of n lanes stand in 2n words: words 0 .. n - 1 hold the positions before and after, words n .. 2n - 1 take the gathered bits.
 use run_form::part;
 use words::bits;
-use words::edition::Edition;
 ghost use mathlib.Core.Path.{_≡_};
 ghost use mathlib.Core.List.{_++_};
 ghost use Prim.Native.Nat.{ℕ, _+_, _*_, _-_, _/_, _%_, _^_, _<_, _≤_};
 ghost use lib.ListN.{length, take};
 ghost use Rattle.words.specs.Bit.{bit, bitAt};
+ghost use Rattle.words.specs.Edition.{levelsFor};
 ghost use Rattle.words.specs.Section.{halfAt};
 ghost use Rattle.run_machine.specs.Part.{stagesAt, entryAt};
 ghost use Rattle.run_machine.specs.Turn.{stageRow};
@@ -45,14 +45,14 @@ fn gather_word(l: &[u32], p: &[u32], n: usize, j: usize) -> u32
     x
 }
 
-// Word w of the bits that section k gathers from 256 words.
-pub fn section_word(words: &[u32], at: usize, k: usize, l: &[u32], w: usize) -> u32
-    requires { ⌜ PartIn 256 (now words) at × (k < stagesAt (now words) at + 2) × EntriesIn 256 (now words) at × (length (now l) ≡ 256) × (w < 256) ⌝ }
-    ensures { λ r. ⌜ ((b : ℕ) → b < 32 → bit r b ≡ bitAt (now (l .entry)) (entryAt 256 (now (words .entry)) at k (32 * w + b))) ⌝ }
+// Word w of the bits that section k gathers from the words l.
+pub fn section_word(words: &[u32], n: usize, at: usize, k: usize, l: &[u32], w: usize) -> u32
+    requires { ⌜ PartIn n (now words) at × (k < stagesAt (now words) at + 2) × EntriesIn n (now words) at × (n ≤ length (now l)) × (w < n) ⌝ }
+    ensures { λ r. ⌜ ((b : ℕ) → b < 32 → bit r b ≡ bitAt (now (l .entry)) (entryAt n (now (words .entry)) at k (32 * w + b))) ⌝ }
 {
-    let from = part::section(words, at, k);
-    let to = from + part::ENTRY_WORDS;
-    gather_word(l, &words[from..to], Edition::LANES, w)
+    let from = part::section(words, n, at, k);
+    let to = from + part::ENTRY_WORDS * n;
+    gather_word(l, &words[from..to], n, w)
 }
 
 // Gathers n words.
@@ -129,14 +129,14 @@ fn levels(l: &mut [u32], t: &[u32], n: usize)
     l[0] = low_word(l[1], t[0], t[1], t[2]);
 }
 
-// Stage k of the part: 512 words of bits.
-pub fn stage_turn(words: &[u32], at: usize, k: usize, l: &mut [u32])
-    requires { ⌜ PartIn 256 (now words) at × (k < stagesAt (now words) at) × EntriesIn 256 (now words) at × (length (now l) ≡ 512) ⌝ }
-    ensures { λ _. ⌜ now (l .exit) ≡ stageRow 256 13 (now (words .entry)) at k (take 256 (now (l .entry))) ++ gatheredRow 256 (now (words .entry)) at k (take 256 (now (l .entry))) ⌝ }
+// Stage k of the part: 2n words of bits.
+pub fn stage_turn(words: &[u32], n: usize, at: usize, k: usize, l: &mut [u32])
+    requires { ⌜ PartIn n (now words) at × (k < stagesAt (now words) at) × EntriesIn n (now words) at × (length (now l) ≡ 2 * n) ⌝ }
+    ensures { λ _. ⌜ now (l .exit) ≡ stageRow n (levelsFor n) (now (words .entry)) at k (take n (now (l .entry))) ++ gatheredRow n (now (words .entry)) at k (take n (now (l .entry))) ⌝ }
 {
-    let from = part::section(words, at, k);
-    let lanes = from + part::ENTRY_WORDS;
-    let to = from + part::SECTION_WORDS;
-    gather(l, &words[from..lanes], Edition::LANES);
-    levels(l, &words[lanes..to], Edition::LANES);
+    let from = part::section(words, n, at, k);
+    let lanes = from + part::ENTRY_WORDS * n;
+    let to = from + part::SECTION_WORDS * n;
+    gather(l, &words[from..lanes], n);
+    levels(l, &words[lanes..to], n);
 }

@@ -111,29 +111,29 @@ cleared-all b v h = let one : bit 0xFFFFFFFF b ≡ 1 = ones b h in omega (arith,
     ones b h = ap (λ (x : ℕ). bit x b) (sym full) ∙ bit-wordOf (λ k. 1) 32 (λ k l. omega arith) b h
 
 -- as the code has it: section k at word s, state start a
-pub stored-code : (W : List ℕ) (o : ℕ) (old caps : List ℕ) (l k s a g r : ℕ) → k ≡ stagesAt W o + 1 → s ≡ sectionAt 256 W o k → a ≡ startAt W o → r < 2 ^ 32
-    → r ≡ chosenWord (getD caps l 0) (getD old (a + l) 0) g (getD W (s + 4096 + 4 * l) 0) (getD W (s + 4096 + 4 * l + 1) 0) (getD W (s + 4096 + 4 * l + 2) 0)
-    → ((b : ℕ) → b < 32 → min (bit g b) (1 - bit (getD W (s + 4096 + 4 * l + 1) 0) b) ≡ min (bitAt caps (entryAt 256 W o k (32 * l + b))) (1 - bit (getD W (s + 4096 + 4 * l + 1) 0) b))
-    → r ≡ storedWord 256 W o old caps l
+pub stored-code : (n : ℕ) (W : List ℕ) (o : ℕ) (old caps : List ℕ) (l k s a g r : ℕ) → k ≡ stagesAt W o + 1 → s ≡ sectionAt n W o k → a ≡ startAt W o → r < 2 ^ 32
+    → r ≡ chosenWord (getD caps l 0) (getD old (a + l) 0) g (getD W (s + 16 * n + 4 * l) 0) (getD W (s + 16 * n + 4 * l + 1) 0) (getD W (s + 16 * n + 4 * l + 2) 0)
+    → ((b : ℕ) → b < 32 → min (bit g b) (1 - bit (getD W (s + 16 * n + 4 * l + 1) 0) b) ≡ min (bitAt caps (entryAt n W o k (32 * l + b))) (1 - bit (getD W (s + 16 * n + 4 * l + 1) 0) b))
+    → r ≡ storedWord n W o old caps l
 unfolding laneWordAt
-stored-code W o old caps l k s a g r stages section start small e each =
-    let zeroth : s + 4096 + 4 * l ≡ sectionAt 256 W o (stagesAt W o + 1) + 16 * 256 + 4 * l + 0 = omega (arith, at) in
-    let first : s + 4096 + 4 * l + 1 ≡ sectionAt 256 W o (stagesAt W o + 1) + 16 * 256 + 4 * l + 1 = omega (arith, at) in
-    let second : s + 4096 + 4 * l + 2 ≡ sectionAt 256 W o (stagesAt W o + 1) + 16 * 256 + 4 * l + 2 = omega (arith, at) in
+stored-code n W o old caps l k s a g r stages section start small e each =
+    let zeroth : s + 16 * n + 4 * l ≡ sectionAt n W o (stagesAt W o + 1) + 16 * n + 4 * l + 0 = omega (arith, at) in
+    let first : s + 16 * n + 4 * l + 1 ≡ sectionAt n W o (stagesAt W o + 1) + 16 * n + 4 * l + 1 = omega (arith, at) in
+    let second : s + 16 * n + 4 * l + 2 ≡ sectionAt n W o (stagesAt W o + 1) + 16 * n + 4 * l + 2 = omega (arith, at) in
     let cap : ℕ = getD caps l 0 in
     let held : ℕ = getD old (startAt W o + l) 0 in
-    let one : ℕ = getD W (s + 4096 + 4 * l + 1) 0 in
-    let two : ℕ = getD W (s + 4096 + 4 * l + 2) 0 in
-    let is : r ≡ chosenWord cap held g (lane 256 W o old l 0) (lane 256 W o old l 1) (lane 256 W o old l 2) =
+    let one : ℕ = getD W (s + 16 * n + 4 * l + 1) 0 in
+    let two : ℕ = getD W (s + 16 * n + 4 * l + 2) 0 in
+    let is : r ≡ chosenWord cap held g (lane n W o old l 0) (lane n W o old l 1) (lane n W o old l 2) =
     e
-    ∙ ap (λ (x : ℕ). chosenWord cap (getD old (x + l) 0) g (getD W (s + 4096 + 4 * l) 0) one two) start
+    ∙ ap (λ (x : ℕ). chosenWord cap (getD old (x + l) 0) g (getD W (s + 16 * n + 4 * l) 0) one two) start
     ∙ ap (λ (x : ℕ). chosenWord cap held g (getD W x 0) one two) zeroth
-    ∙ ap (λ (x : ℕ). chosenWord cap held g (lane 256 W o old l 0) (getD W x 0) two) first
-    ∙ ap (λ (x : ℕ). chosenWord cap held g (lane 256 W o old l 0) (lane 256 W o old l 1) (getD W x 0)) second in
-    stored-is 256 W o old caps l r g small is (λ b h. rw (first, stages) at (each b h))
+    ∙ ap (λ (x : ℕ). chosenWord cap held g (lane n W o old l 0) (getD W x 0) two) first
+    ∙ ap (λ (x : ℕ). chosenWord cap held g (lane n W o old l 0) (lane n W o old l 1) (getD W x 0)) second in
+    stored-is n W o old caps l r g small is (λ b h. rw (first, stages) at (each b h))
   where
-    at : s ≡ sectionAt 256 W o (stagesAt W o + 1)
-    at = section ∙ ap (sectionAt 256 W o) stages
+    at : s ≡ sectionAt n W o (stagesAt W o + 1)
+    at = section ∙ ap (sectionAt n W o) stages
 
 -- ---- the first m words, and zeros behind them
 
@@ -165,7 +165,7 @@ padded caps m few long i = ⊎-elim
 pub padded-length : (normal vs : List ℕ) → normal ≡ sets (replicate 256 0) 0 vs → length normal ≡ 256
 padded-length normal vs e = ap length e ∙ length-sets (replicate 256 0) 0 vs ∙ length-replicate {A = ℕ} 256 0
 
-pub stored-padded : (W : List ℕ) (o : ℕ) (old caps normal : List ℕ) (m : ℕ) → m ≤ 256 → m ≤ length caps → normal ≡ sets (replicate 256 0) 0 (listOf (λ i. getD caps i 0) m)
-    → listOf (storedWord 256 W o old normal) m ≡ listOf (storedWord 256 W o old (take m caps)) m
-stored-padded W o old caps normal m few long e =
-    listOf-ext _ _ m (λ l h. stored-ext 256 W o old normal (take m caps) l (λ i. ap (λ (x : List ℕ). getD x i 0) e ∙ padded caps m few long i))
+pub stored-padded : (n : ℕ) (W : List ℕ) (o : ℕ) (old caps normal : List ℕ) (m : ℕ) → m ≤ 256 → m ≤ length caps → normal ≡ sets (replicate 256 0) 0 (listOf (λ i. getD caps i 0) m)
+    → listOf (storedWord n W o old normal) m ≡ listOf (storedWord n W o old (take m caps)) m
+stored-padded n W o old caps normal m few long e =
+    listOf-ext _ _ m (λ l h. stored-ext n W o old normal (take m caps) l (λ i. ap (λ (x : List ℕ). getD x i 0) e ∙ padded caps m few long i))

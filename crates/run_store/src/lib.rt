@@ -21,27 +21,27 @@ fn chosen_word(cap: u32, held: u32, gathered: u32, inv: u32, set0: u32, data_inv
     held ^ (((cap ^ data_inv) ^ held) & enable)
 }
 
-// Word l of the bits that section k gathers from 256 words, but for those that set0 clears: they may be anything, and where it clears all, none is gathered.
-fn kept_word(words: &[u32], at: usize, k: usize, caps: &[u32], l: usize, set0: u32) -> u32
-    requires { ⌜ PartIn 256 (now words) at × (k < stagesAt (now words) at + 2) × EntriesIn 256 (now words) at × (length (now caps) ≡ 256) × (l < 256) ⌝ }
-    ensures { λ r. ⌜ ((b : ℕ) → b < 32 → min (bit r b) (1 - bit set0 b) ≡ min (bitAt (now (caps .entry)) (entryAt 256 (now (words .entry)) at k (32 * l + b))) (1 - bit set0 b)) ⌝ }
+// Word l of the bits that section k gathers from the captured words, but for those that set0 clears: they may be anything, and where it clears all, none is gathered.
+fn kept_word(words: &[u32], n: usize, at: usize, k: usize, caps: &[u32], l: usize, set0: u32) -> u32
+    requires { ⌜ PartIn n (now words) at × (k < stagesAt (now words) at + 2) × EntriesIn n (now words) at × (n ≤ length (now caps)) × (l < n) ⌝ }
+    ensures { λ r. ⌜ ((b : ℕ) → b < 32 → min (bit r b) (1 - bit set0 b) ≡ min (bitAt (now (caps .entry)) (entryAt n (now (words .entry)) at k (32 * l + b))) (1 - bit set0 b)) ⌝ }
 {
     if set0 == 0xFFFFFFFF {
         return 0;
     }
-    section_word(words, at, k, caps, l)
+    section_word(words, n, at, k, caps, l)
 }
 
 // The word that is stored for captured word l; captured words past the normal ones are 0.
-fn store_word(words: &[u32], at: usize, caps: &[u32], old: &[u32], l: usize) -> u32
-    requires { ⌜ Storing 256 (now words) at (now caps) (length (now old)) × (l < normalAt (now words) at) × (startAt (now words) at + l < length (now old)) ⌝ }
-    ensures { λ r. ⌜ r ≡ storedWord 256 (now (words .entry)) at (now (old .entry)) (now (caps .entry)) l ⌝ }
+fn store_word(words: &[u32], n: usize, at: usize, caps: &[u32], old: &[u32], l: usize) -> u32
+    requires { ⌜ Storing n (now words) at (now caps) (length (now old)) × (l < normalAt (now words) at) × (startAt (now words) at + l < length (now old)) ⌝ }
+    ensures { λ r. ⌜ r ≡ storedWord n (now (words .entry)) at (now (old .entry)) (now (caps .entry)) l ⌝ }
 {
     let k = part::stages(words, at) + 1;
-    let lane = part::section(words, at, k) + part::ENTRY_WORDS + 4 * l;
+    let lane = part::section(words, n, at, k) + part::ENTRY_WORDS * n + 4 * l;
     let start = part::start(words, at);
     let set0 = words[lane + 1];
-    let gathered = kept_word(words, at, k, caps, l, set0);
+    let gathered = kept_word(words, n, at, k, caps, l, set0);
     chosen_word(
         caps[l],
         old[start + l],
@@ -53,13 +53,13 @@ fn store_word(words: &[u32], at: usize, caps: &[u32], old: &[u32], l: usize) -> 
 }
 
 // All normal words.
-fn store_words(words: &[u32], at: usize, caps: &[u32], old: &[u32], new: &mut [u32])
-    requires { ⌜ Storing 256 (now words) at (now caps) (length (now old)) × (0 < normalAt (now words) at → startAt (now words) at + normalAt (now words) at ≤ length (now new)) ⌝ }
-    ensures { λ _. ⌜ now (new .exit) ≡ sets (now (new .entry)) (startAt (now (words .entry)) at) (listOf (storedWord 256 (now (words .entry)) at (now (old .entry)) (now (caps .entry))) (normalAt (now (words .entry)) at)) ⌝ }
+fn store_words(words: &[u32], n: usize, at: usize, caps: &[u32], old: &[u32], new: &mut [u32])
+    requires { ⌜ Storing n (now words) at (now caps) (length (now old)) × (0 < normalAt (now words) at → startAt (now words) at + normalAt (now words) at ≤ length (now new)) ⌝ }
+    ensures { λ _. ⌜ now (new .exit) ≡ sets (now (new .entry)) (startAt (now (words .entry)) at) (listOf (storedWord n (now (words .entry)) at (now (old .entry)) (now (caps .entry))) (normalAt (now (words .entry)) at)) ⌝ }
 {
     let start = part::start(words, at);
     for l in 0..part::normal(words, at) {
-        new[start + l] = store_word(words, at, caps, old, l);
+        new[start + l] = store_word(words, n, at, caps, old, l);
     }
 }
 
@@ -74,11 +74,11 @@ fn copy_front(out: &mut [u32], from: &[u32], m: usize)
 }
 
 // The store turn.
-pub fn store(words: &[u32], at: usize, caps: &[u32], old: &[u32], new: &mut [u32])
-    requires { ⌜ PartIn 256 (now words) at × Captures 256 (now words) at × EntriesIn 256 (now words) at × (length (now caps) ≡ 256) × (0 < normalAt (now words) at → (startAt (now words) at + normalAt (now words) at ≤ length (now old)) × (startAt (now words) at + normalAt (now words) at ≤ length (now new))) ⌝ }
-    ensures { λ _. ⌜ now (new .exit) ≡ sets (now (new .entry)) (startAt (now (words .entry)) at) (listOf (storedWord 256 (now (words .entry)) at (now (old .entry)) (take (normalAt (now (words .entry)) at) (now (caps .entry)))) (normalAt (now (words .entry)) at)) ⌝ }
+pub fn store(words: &[u32], n: usize, at: usize, caps: &[u32], old: &[u32], new: &mut [u32])
+    requires { ⌜ PartIn n (now words) at × Captures n (now words) at × EntriesIn n (now words) at × (n ≤ length (now caps)) × (0 < normalAt (now words) at → (startAt (now words) at + normalAt (now words) at ≤ length (now old)) × (startAt (now words) at + normalAt (now words) at ≤ length (now new))) ⌝ }
+    ensures { λ _. ⌜ now (new .exit) ≡ sets (now (new .entry)) (startAt (now (words .entry)) at) (listOf (storedWord n (now (words .entry)) at (now (old .entry)) (take (normalAt (now (words .entry)) at) (now (caps .entry)))) (normalAt (now (words .entry)) at)) ⌝ }
 {
     let mut front = [0u32; Edition::LANES];
     copy_front(&mut front, caps, part::normal(words, at));
-    store_words(words, at, &front, old, new);
+    store_words(words, n, at, &front, old, new);
 }

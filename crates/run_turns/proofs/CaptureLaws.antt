@@ -63,7 +63,9 @@ module _ (n : ℕ) (W : List ℕ) (o k : ℕ) where
   capture-end row caps l e = rw e
 
   -- captured words are those of the same positions and the same captured words before
-  pub capture-ext : (row row′ caps caps′ : List ℕ) → ((i : ℕ) → i < 256 → getD row i 0 ≡ getD row′ i 0) → ((l : ℕ) → l < normalAt W o → getD caps l 0 ≡ getD caps′ l 0)
+  pub capture-ext : (row row′ caps caps′ : List ℕ) → ((l : ℕ) → l < normalAt W o → locationIn n W o l % 256 < n) → ((i : ℕ) → i < n → getD row i 0 ≡ getD row′ i 0) → ((l : ℕ) → l < normalAt W o → getD caps l 0 ≡ getD caps′ l 0)
       → captured n W o k row caps ≡ captured n W o k row′ caps′
   unfolding captured capturedWord
-  capture-ext row row′ caps caps′ p q = listOf-ext (capturedWord n W o k row caps) (capturedWord n W o k row′ caps′) (normalAt W o) (λ l h. word-same row row′ caps caps′ l (p (locationIn n W o l % 256) (omega arith)) (q l h))
+  capture-ext row row′ caps caps′ inside p q =
+      listOf-ext (capturedWord n W o k row caps) (capturedWord n W o k row′ caps′) (normalAt W o)
+      (λ l h. word-same row row′ caps caps′ l (p (locationIn n W o l % 256) (inside l h)) (q l h))

@@ -6,6 +6,7 @@ use run_form::part;
 ghost use mathlib.Core.Path.{_≡_};
 ghost use Prim.Native.Nat.{_<_};
 ghost use lib.ListN.{length};
+ghost use Rattle.words.specs.Edition.{levelsFor};
 ghost use Rattle.run_machine.specs.Turn.{begins, turned, written};
 ghost use Rattle.run_machine.specs.Room.{blockRoom};
 ghost use Rattle.run_turns.specs.Phases.{phaseIs};
@@ -50,22 +51,23 @@ impl BlockState {
     pub fn turn(
         mut self,
         words: &[u32],
+        n: usize,
         old: &[u32],
         new: &mut [u32],
         room: &mut [u32],
     ) -> BlockState
-        requires { ⌜ BlockWell 256 (now words) (length (now old)) (length (now new)) (self .part) (phaseIs (self .phase)) (self .stage) × (length (now room) ≡ blockRoom) ⌝ }
-        ensures block { λ r. ⌜ stateBlock 256 (now (words .entry)) (r .part) (phaseIs (r .phase)) (r .stage) (now (room .exit))
-            ≡ turned 256 13 (now (words .entry)) (now (old .entry)) (phaseIs (self .phase)) (stateBlock 256 (now (words .entry)) (self .part) (phaseIs (self .phase)) (self .stage) (now (room .entry))) (now (new .entry)) ⌝ }
-        ensures state { λ r. ⌜ now (new .exit) ≡ written 256 (now (words .entry)) (now (old .entry)) (phaseIs (self .phase)) (stateBlock 256 (now (words .entry)) (self .part) (phaseIs (self .phase)) (self .stage) (now (room .entry))) (now (new .entry)) ⌝ }
-        ensures room { λ r. ⌜ now (room .exit) ≡ roomTurned 256 13 (now (words .entry)) (self .part) (self .stage) (now (old .entry)) (now (new .entry)) (phaseIs (self .phase)) (now (room .entry)) ⌝ }
+        requires { ⌜ BlockWell n (now words) (length (now old)) (length (now new)) (self .part) (phaseIs (self .phase)) (self .stage) × (length (now room) ≡ blockRoom) ⌝ }
+        ensures block { λ r. ⌜ stateBlock n (now (words .entry)) (r .part) (phaseIs (r .phase)) (r .stage) (now (room .exit))
+            ≡ turned n (levelsFor n) (now (words .entry)) (now (old .entry)) (phaseIs (self .phase)) (stateBlock n (now (words .entry)) (self .part) (phaseIs (self .phase)) (self .stage) (now (room .entry))) (now (new .entry)) ⌝ }
+        ensures state { λ r. ⌜ now (new .exit) ≡ written n (now (words .entry)) (now (old .entry)) (phaseIs (self .phase)) (stateBlock n (now (words .entry)) (self .part) (phaseIs (self .phase)) (self .stage) (now (room .entry))) (now (new .entry)) ⌝ }
+        ensures room { λ r. ⌜ now (room .exit) ≡ roomTurned n (levelsFor n) (now (words .entry)) (self .part) (self .stage) (now (old .entry)) (now (new .entry)) (phaseIs (self .phase)) (now (room .entry)) ⌝ }
     {
         let at = self.part;
         let phase = self.phase;
         let k = self.stage;
         match phase {
             Phase::Read => {
-                read_room(words, at, old, new, room);
+                read_room(words, n, at, old, new, room);
                 BlockState {
                     part: at,
                     phase: Phase::Stage,
@@ -73,7 +75,7 @@ impl BlockState {
                 }
             }
             Phase::Stage => {
-                stage_room(words, at, k, room);
+                stage_room(words, n, at, k, room);
                 if k + 1 == part::stages(words, at) {
                     return BlockState {
                         part: at,
@@ -85,7 +87,7 @@ impl BlockState {
                 self
             }
             Phase::Store => {
-                store_room(words, at, room, old, new);
+                store_room(words, n, at, room, old, new);
                 if part::last(words, at) == 1 {
                     return BlockState {
                         part: at,
@@ -93,7 +95,7 @@ impl BlockState {
                         stage: 0,
                     };
                 }
-                BlockState::begins(words, part::part_end(words, at))
+                BlockState::begins(words, part::part_end(words, n, at))
             }
             Phase::Finished => self,
         }

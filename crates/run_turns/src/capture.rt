@@ -12,11 +12,11 @@ ghost use Rattle.run_turns.specs.Capture.{capturedWord};
 ghost use Rattle.run_form.specs.Well.{PartIn, Captures};
 
 // Captured word l after stage k.
-fn capture_word(words: &[u32], at: usize, k: usize, room: &[u32], l: usize) -> u32
-    requires { ⌜ PartIn 256 (now words) at × Captures 256 (now words) at × (length (now room) ≡ blockRoom) × (l < normalAt (now words) at) ⌝ }
-    ensures { λ r. ⌜ r ≡ capturedWord 256 (now (words .entry)) at k (now (room .entry)) (drop capturedFrom (now (room .entry))) l ⌝ }
+fn capture_word(words: &[u32], n: usize, at: usize, k: usize, room: &[u32], l: usize) -> u32
+    requires { ⌜ PartIn n (now words) at × Captures n (now words) at × (length (now room) ≡ blockRoom) × (l < normalAt (now words) at) ⌝ }
+    ensures { λ r. ⌜ r ≡ capturedWord n (now (words .entry)) at k (now (room .entry)) (drop capturedFrom (now (room .entry))) l ⌝ }
 {
-    let place = part::location(words, at, l) as usize;
+    let place = part::location(words, n, at, l) as usize;
     if place / 256 == k {
         room[place % 256]
     } else {
@@ -25,11 +25,11 @@ fn capture_word(words: &[u32], at: usize, k: usize, room: &[u32], l: usize) -> u
 }
 
 // The captured words after stage k.
-pub fn capture(words: &[u32], at: usize, k: usize, room: &mut [u32])
-    requires { ⌜ PartIn 256 (now words) at × Captures 256 (now words) at × (length (now room) ≡ blockRoom) ⌝ }
-    ensures { λ _. ⌜ now (room .exit) ≡ sets (now (room .entry)) capturedFrom (captured 256 (now (words .entry)) at k (now (room .entry)) (drop capturedFrom (now (room .entry)))) ⌝ }
+pub fn capture(words: &[u32], n: usize, at: usize, k: usize, room: &mut [u32])
+    requires { ⌜ PartIn n (now words) at × Captures n (now words) at × (length (now room) ≡ blockRoom) ⌝ }
+    ensures { λ _. ⌜ now (room .exit) ≡ sets (now (room .entry)) capturedFrom (captured n (now (words .entry)) at k (now (room .entry)) (drop capturedFrom (now (room .entry)))) ⌝ }
 {
     for l in 0..part::normal(words, at) {
-        room[CAPTURED + l] = capture_word(words, at, k, room, l);
+        room[CAPTURED + l] = capture_word(words, n, at, k, room, l);
     }
 }

@@ -9,6 +9,7 @@ ghost use mathlib.Core.Path.{_≡_};
 ghost use Prim.Native.Nat.{_+_, _<_, _≤_};
 ghost use lib.ListN.{length, take, drop};
 ghost use lib.Seq.{sets};
+ghost use Rattle.words.specs.Edition.{levelsFor};
 ghost use Rattle.words.specs.Section.{listOf};
 ghost use Rattle.run_machine.specs.Part.{stagesAt, startAt, normalAt};
 ghost use Rattle.run_machine.specs.Turn.{storedWord};
@@ -17,13 +18,10 @@ ghost use Rattle.run_form.specs.Well.{PartIn, Reads, EntriesIn, Captures};
 ghost use Rattle.run_turns.specs.Phases.{phaseIs};
 ghost use Rattle.run_turns.specs.Block.{roomRead, roomStaged};
 use words::clear::clear;
-use words::edition::Edition;
 
 // The words of a block's room: document 01, "1024 a block for a run".
 pub const BLOCK_ROOM: usize = 1024;
-// From word 0 on the positions, 32 to a word; then the bits that a stage gathers; then the captured words.
-const GATHERED: usize = Edition::LANES;
-
+// From word 0 on the n words of the positions, from word n on those of the bits that a stage gathers; from here on the captured words.
 pub const CAPTURED: usize = 512;
 // Then the block's state: where its part begins, low 32 bits and high, its phase and its stage.
 const PART_LOW: usize = 768;
@@ -88,27 +86,35 @@ pub fn store_state(room: &mut [u32], state: BlockState)
 }
 
 // The read turn of the part at word `at`: it is lent the positions, and no word is captured yet.
-pub fn read_room<'a>(words: &[u32], at: usize, old: &'a [u32], new: &'a [u32], room: &mut [u32])
-    requires { ⌜ PartIn 256 (now words) at × Reads 256 (now words) at (length (now old)) (length (now new)) × (length (now room) ≡ blockRoom) ⌝ }
-    ensures { λ _. ⌜ now (room .exit) ≡ roomRead 256 (now (words .entry)) at (now (old .entry)) (now (new .entry)) (now (room .entry)) ⌝ }
+pub fn read_room<'a>(
+    words: &[u32],
+    n: usize,
+    at: usize,
+    old: &'a [u32],
+    new: &'a [u32],
+    room: &mut [u32],
+)
+    requires { ⌜ PartIn n (now words) at × Reads n (now words) at (length (now old)) (length (now new)) × (length (now room) ≡ blockRoom) ⌝ }
+    ensures { λ _. ⌜ now (room .exit) ≡ roomRead n (now (words .entry)) at (now (old .entry)) (now (new .entry)) (now (room .entry)) ⌝ }
 {
-    read_turn(words, at, old, new, &mut room[0..GATHERED]);
+    read_turn(words, n, at, old, new, &mut room[..n]);
     clear(&mut room[CAPTURED..PART_LOW]);
 }
 
 // Stage k: it is lent the positions and the gathered bits; then words are captured.
-pub fn stage_room(words: &[u32], at: usize, k: usize, room: &mut [u32])
-    requires { ⌜ PartIn 256 (now words) at × EntriesIn 256 (now words) at × Captures 256 (now words) at × (k < stagesAt (now words) at) × (length (now room) ≡ blockRoom) ⌝ }
-    ensures { λ _. ⌜ now (room .exit) ≡ roomStaged 256 13 (now (words .entry)) at k (now (room .entry)) ⌝ }
+pub fn stage_room(words: &[u32], n: usize, at: usize, k: usize, room: &mut [u32])
+    requires { ⌜ PartIn n (now words) at × EntriesIn n (now words) at × Captures n (now words) at × (k < stagesAt (now words) at) × (length (now room) ≡ blockRoom) ⌝ }
+    ensures { λ _. ⌜ now (room .exit) ≡ roomStaged n (levelsFor n) (now (words .entry)) at k (now (room .entry)) ⌝ }
 {
-    stage_turn(words, at, k, &mut room[0..CAPTURED]);
-    capture(words, at, k, room);
+    let bits = 2 * n;
+    stage_turn(words, n, at, k, &mut room[..bits]);
+    capture(words, n, at, k, room);
 }
 
 // The store turn: it is lent the captured words.
-pub fn store_room(words: &[u32], at: usize, room: &[u32], old: &[u32], new: &mut [u32])
-    requires { ⌜ PartIn 256 (now words) at × Captures 256 (now words) at × EntriesIn 256 (now words) at × (length (now room) ≡ blockRoom) × (0 < normalAt (now words) at → (startAt (now words) at + normalAt (now words) at ≤ length (now old)) × (startAt (now words) at + normalAt (now words) at ≤ length (now new))) ⌝ }
-    ensures { λ _. ⌜ now (new .exit) ≡ sets (now (new .entry)) (startAt (now (words .entry)) at) (listOf (storedWord 256 (now (words .entry)) at (now (old .entry)) (take (normalAt (now (words .entry)) at) (drop capturedFrom (now (room .entry))))) (normalAt (now (words .entry)) at)) ⌝ }
+pub fn store_room(words: &[u32], n: usize, at: usize, room: &[u32], old: &[u32], new: &mut [u32])
+    requires { ⌜ PartIn n (now words) at × Captures n (now words) at × EntriesIn n (now words) at × (length (now room) ≡ blockRoom) × (0 < normalAt (now words) at → (startAt (now words) at + normalAt (now words) at ≤ length (now old)) × (startAt (now words) at + normalAt (now words) at ≤ length (now new))) ⌝ }
+    ensures { λ _. ⌜ now (new .exit) ≡ sets (now (new .entry)) (startAt (now (words .entry)) at) (listOf (storedWord n (now (words .entry)) at (now (old .entry)) (take (normalAt (now (words .entry)) at) (drop capturedFrom (now (room .entry))))) (normalAt (now (words .entry)) at)) ⌝ }
 {
-    store(words, at, &room[CAPTURED..PART_LOW], old, new);
+    store(words, n, at, &room[CAPTURED..PART_LOW], old, new);
 }

@@ -14,11 +14,11 @@ use Rattle.run_read.proofs.read_turn.Statement.{statement}
 use Rattle.run_read.proofs.read_turn.Tie as tie
 
 abbrev Inv-loop : tie.InvT-loop
-Inv-loop words at old new row₀ i₀ row i =
-    (i ≤ 256) × Filled (λ w x. x ≡ laneWord (λ q. stateWord old new (readWordAt 256 words at q w)) (λ q. readMaskAt 256 words at q w) (roundsAt words at)) 0 i row₀ row
+Inv-loop words n at old new row₀ i₀ row i =
+    (i ≤ n) × Filled (λ w x. x ≡ laneWord (λ q. stateWord old new (readWordAt n words at q w)) (λ q. readMaskAt n words at q w) (roundsAt words at)) 0 i row₀ row
 
 abbrev μ-loop : tie.MeasureT-loop
-μ-loop words at old new row₀ i₀ row i = 256 - i
+μ-loop words n at old new row₀ i₀ row i = n - i
 
 loop-holds : tie.Need-loop-holds Inv-loop μ-loop
 loop-holds c = (omega arith, filled-none _ _ _)
@@ -34,7 +34,7 @@ returns : tie.Need-returns Inv-loop μ-loop
 unfolding readRow
 returns c =
     let l = c .before .loop in
-    listOf-is _ 256 (l .row) (omega arith) (λ i h. l .inv .1 .done i (omega arith) (omega arith))
+    listOf-is _ _ (l .row) (omega arith) (λ i h. l .inv .1 .done i (omega arith) (omega arith))
 
 pub read-turn-spec : {M : Type 1} → statement M
 read-turn-spec =

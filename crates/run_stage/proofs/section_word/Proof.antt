@@ -14,21 +14,23 @@ gather-word-requires c κs =
     let known = c .before in
     let start = known .before .before .before in
     let W = start .args .words .now in
+    let n = start .args .n in
     let from = known .section .result in
-    let p = cut W from (from + 4096) _ 4096 (known .section .ensures .0) refl (omega arith) in
-    (omega arith, omega arith, omega (arith, p .long), omega arith, entries-cut 256 W _ _ _ p (start .pre .1) (start .pre .2))
+    let p = cut W from (from + 16 * n) _ (16 * n) (known .section .ensures .0) refl (omega arith) in
+    (omega arith, omega arith, omega (arith, p .long), omega arith, entries-cut n W _ _ _ p (start .pre .1) (start .pre .2))
 
 returns : tie.Need-returns
 returns c = λ b h.
     let known = c .before .before in
     let start = known .before .before .before in
     let W = start .args .words .now in
+    let n = start .args .n in
     let from = known .section .result in
-    let p = cut W from (from + 4096) _ 4096 (known .section .ensures .0) refl (omega arith) in
-    c .gather-word .ensures .each b (omega arith) ∙ ap (bitAt (start .args .l .now)) (entry-cut 256 W _ _ _ p (32 * start .args .w + b) (omega arith))
+    let p = cut W from (from + 16 * n) _ (16 * n) (known .section .ensures .0) refl (omega arith) in
+    c .gather-word .ensures .each b (omega arith) ∙ ap (bitAt (start .args .l .now)) (entry-cut n W _ _ _ p (32 * start .args .w + b) (omega arith))
 
 pub section-word-spec : {M : Type 1} → statement M
 section-word-spec =
     tie.close
-    (tie.spec (λ c κs. search needs) (λ c. search needs) (λ c. search needs) (λ c. search needs) (λ c. search needs) (λ c. search needs)
+    (tie.spec (λ c κs. search needs) (λ c. search needs) (λ c. search needs) (λ c. search needs) (λ c. search needs) (λ c. search needs) (λ c. search needs)
     gather-word-requires returns)

@@ -22,7 +22,7 @@ store-words-requires c κs =
         part = start .pre .0;
         captures = start .pre .1;
         entries = start .pre .2;
-        room = padded-length _ (listOf (λ i. getD (start .args .caps .now) i 0) (at-normal .normal .result)) (at-copy-front .copy-front .ensures);
+        room = omega (arith, padded-length _ (listOf (λ i. getD (start .args .caps .now) i 0) (at-normal .normal .result)) (at-copy-front .copy-front .ensures));
         held = λ any. start .pre .4 any .0;
       },
       λ any. start .pre .4 any .1,
@@ -36,10 +36,10 @@ returns c =
     let W = start .args .words .now in
     let o = start .args .at in
     let caps = start .args .caps .now in
-    let few : normalAt W o ≤ 256 = start .pre .1 .few in
+    let few : normalAt W o ≤ 256 = omega (arith, start .pre .1 .few) in
     let copied = at-copy-front .copy-front .ensures ∙ ap (λ (x : ℕ). sets (replicate 256 0) 0 (listOf (λ i. getD caps i 0) x)) (at-normal .normal .ensures) in
     c .before .before .store-words .ensures
-    ∙ ap (λ (x : List ℕ). sets (start .args .new .now) (startAt W o) x) (stored-padded W o (start .args .old .now) caps _ (normalAt W o) few (omega arith) copied)
+    ∙ ap (λ (x : List ℕ). sets (start .args .new .now) (startAt W o) x) (stored-padded (start .args .n) W o (start .args .old .now) caps _ (normalAt W o) few (omega arith) copied)
 
 pub store-spec : {M : Type 1} → statement M
 store-spec =

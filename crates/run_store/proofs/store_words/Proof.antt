@@ -14,12 +14,12 @@ use Rattle.run_store.proofs.store_words.Statement.{statement}
 use Rattle.run_store.proofs.store_words.Tie as tie
 
 abbrev Inv-loop : tie.InvT-loop
-Inv-loop words at caps old new₀ start l₀ l-end new l =
+Inv-loop words n at caps old new₀ start l₀ l-end new l =
     (l ≤ l-end) × (l-end ≡ normalAt words at) × (start ≡ startAt words at) × (length new ≡ length new₀)
-    × (new ≡ sets new₀ start (listOf (storedWord 256 words at old caps) l)) × (0 < l-end → (start + l-end ≤ length old) × (start + l-end ≤ length new))
+    × (new ≡ sets new₀ start (listOf (storedWord n words at old caps) l)) × (0 < l-end → (start + l-end ≤ length old) × (start + l-end ≤ length new))
 
 abbrev μ-loop : tie.MeasureT-loop
-μ-loop words at caps old new₀ start l₀ l-end new l = l-end - l
+μ-loop words n at caps old new₀ start l₀ l-end new l = l-end - l
 
 loop-holds : tie.Need-loop-holds Inv-loop μ-loop
 unfolding listOf

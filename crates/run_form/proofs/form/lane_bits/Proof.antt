@@ -7,8 +7,8 @@ use Rattle.words.specs.Sum.{sumTo}
 use Rattle.words.specs.Bit.{pop}
 use Rattle.words.proofs.SumLaws.{sum-more}
 use Rattle.run_machine.specs.Part.{roundsAt, readMaskAt}
-use mathlib.Core.Path.{ap₂, _∙_}
-use Rattle.run_form.proofs.TestCodeLaws.{mask-count-small, pair-count}
+use mathlib.Core.Path.{ap, ap₂, _∙_}
+use Rattle.run_form.proofs.TestCodeLaws.{mask-count-small}
 use borrow.Author.Needs.{needs}
 use Rattle.run_form.proofs.form.lane_bits.Statement.{statement}
 use Rattle.run_form.proofs.form.lane_bits.Tie as tie
@@ -35,7 +35,7 @@ loop-again c =
     let at-pair = c .before .before .before in
     let l = at-pair .before .before .loop in
     let small = mask-count-small _ _ _ (c .wide .ensures) (c .before .count .ensures) in
-    (omega arith, l .inv .1, omega arith, rw sum-more (ap₂ _+_ (l .inv .3) (pair-count _ _ _ _ _ _ _ (at-pair .pair .ensures .0) (c .wide .ensures ∙ c .before .count .ensures))))
+    (omega arith, l .inv .1, omega arith, rw sum-more (ap₂ _+_ (l .inv .3) (c .wide .ensures ∙ c .before .count .ensures ∙ ap pop (at-pair .pair .ensures .1))))
 
 returns : tie.Need-returns Inv-loop μ-loop
 returns c =

@@ -2,14 +2,13 @@
 -- Assumes nothing.
 use mathlib.Core.Path.{_≡_}
 use mathlib.Core.Bool.{true}
-use Prim.Native.Nat.{_-_, _≤_}
+use Prim.Native.Nat.{ℕ, _-_, _≤_}
 use native.Mathlib.Omega.{arith}
 use Rattle.words.specs.Tests.{allBelow}
 use Rattle.words.proofs.TestLaws.{all-on, all-fault}
-use Rattle.run_form.proofs.TestCodeLaws.{pair-read}
 use Rattle.run_machine.specs.Part.{readWordAt, readMaskAt}
 use Rattle.run_form.specs.PartForm.{readForm}
-use mathlib.Core.Path.{refl, sym, _∙_}
+use mathlib.Core.Path.{refl, sym, ap₂, _∙_}
 use borrow.Author.Tests.{not-true, not-false}
 use borrow.Author.Needs.{needs}
 use Rattle.run_form.proofs.form.round_form.Statement.{statement}
@@ -28,14 +27,19 @@ loop-holds c = (omega arith, refl)
 returns : tie.Need-returns Inv-loop μ-loop
 returns c =
     let tested = c .before in
-    let good = pair-read _ _ _ _ _ _ _ _ _ (tested .before .pair .ensures .0) (tested .pair-form .ensures) in
+    let args = tested .before .before .before .before .before .args in
+    let pair = tested .before .pair .ensures in
+    let good = tested .pair-form .ensures ∙ ap₂ (λ (w m : ℕ). readForm w m (args .s) (args .t)) (pair .0) (pair .1) in
     sym (all-fault _ _ _ (tested .before .before .loop-test .taken) (sym good ∙ not-true _ (c .if1 .taken)))
 
 loop-again : tie.Need-loop-again Inv-loop μ-loop
 loop-again c =
     let tested = c .before in
-    let at-pair = tested .before in
-    (omega arith, all-on _ _ (at-pair .before .before .loop .inv .1) (sym (pair-read _ _ _ _ _ _ _ _ _ (at-pair .pair .ensures .0) (tested .pair-form .ensures)) ∙ not-false _ (c .if1 .left)))
+    let at-loop = tested .before .before .before in
+    let args = at-loop .before .before .args in
+    let pair = tested .before .pair .ensures in
+    let good = tested .pair-form .ensures ∙ ap₂ (λ (w m : ℕ). readForm w m (args .s) (args .t)) (pair .0) (pair .1) in
+    (omega arith, all-on _ _ (at-loop .loop .inv .1) (sym good ∙ not-false _ (c .if1 .left)))
 
 returns-2 : tie.Need-returns-2 Inv-loop μ-loop
 returns-2 c =

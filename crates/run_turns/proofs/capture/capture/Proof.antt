@@ -15,11 +15,11 @@ use Rattle.run_turns.proofs.capture.capture.Statement.{statement}
 use Rattle.run_turns.proofs.capture.capture.Tie as tie
 
 abbrev Inv-loop : tie.InvT-loop
-Inv-loop words at k room₀ l₀ l-end room l =
-    (l ≤ l-end) × (l-end ≡ normalAt words at) × (length room ≡ blockRoom) × (room ≡ sets room₀ capturedFrom (listOf (capturedWord 256 words at k room₀ (drop capturedFrom room₀)) l))
+Inv-loop words n at k room₀ l₀ l-end room l =
+    (l ≤ l-end) × (l-end ≡ normalAt words at) × (length room ≡ blockRoom) × (room ≡ sets room₀ capturedFrom (listOf (capturedWord n words at k room₀ (drop capturedFrom room₀)) l))
 
 abbrev μ-loop : tie.MeasureT-loop
-μ-loop words at k room₀ l₀ l-end room l = l-end - l
+μ-loop words n at k room₀ l₀ l-end room l = l-end - l
 
 loop-holds : tie.Need-loop-holds Inv-loop μ-loop
 unfolding listOf
@@ -30,14 +30,14 @@ loop-again c =
     let at-loop = c .before .before .before in
     let start = at-loop .before .before .before .before in
     let l = at-loop .loop in
-    (omega arith, l .inv .1, simp length-set (l .inv .2), capture-more 256 _ _ _ (start .args .room .now) _ _ _ (l .inv .3) (omega arith) (c .capture-word .ensures))
+    (omega arith, l .inv .1, simp length-set (l .inv .2), capture-more _ _ _ _ (start .args .room .now) _ _ _ (l .inv .3) (omega arith) (c .capture-word .ensures))
 
 returns : tie.Need-returns Inv-loop μ-loop
 returns c =
     let l = c .before .loop in
     let start = c .before .before .before .before .before in
     let e : l .l ≡ normalAt (start .args .words .now) (start .args .at) = omega arith in
-    l .inv .3 ∙ ap (sets (start .args .room .now) capturedFrom) (capture-end 256 _ _ _ _ _ _ e)
+    l .inv .3 ∙ ap (sets (start .args .room .now) capturedFrom) (capture-end _ _ _ _ _ _ _ e)
 
 pub capture-spec : {M : Type 1} → statement M
 capture-spec =

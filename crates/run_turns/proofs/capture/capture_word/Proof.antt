@@ -6,10 +6,10 @@ use Rattle.run_turns.proofs.capture.capture_word.Statement.{statement}
 use Rattle.run_turns.proofs.capture.capture_word.Tie as tie
 
 returns : tie.Need-returns
-returns c = word-here 256 _ _ _ _ _ _ _ (c .before .before .location .ensures) (c .before .if1 .taken)
+returns c = word-here _ _ _ _ _ _ _ _ (c .before .before .location .ensures) (c .before .if1 .taken)
 
 returns-2 : tie.Need-returns-2
-returns-2 c = word-kept 256 _ _ _ _ _ _ (c .before .before .location .ensures) (c .before .if1 .left)
+returns-2 c = word-kept _ _ _ _ _ _ _ (c .before .before .location .ensures) (c .before .if1 .left)
 
 pub capture-word-spec : {M : Type 1} → statement M
 capture-word-spec =

@@ -9,7 +9,7 @@ returns : tie.Need-returns
 returns c =
     let at-read-turn = c .before .before .before .before .before .before in
     let start = at-read-turn .before .before .before .before .before .before in
-    read-room-is _ _ (start .args .room .now) (start .pre .2) _ _ _ _ (at-read-turn .read-turn .ensures) (c .before .before .clear .ensures)
+    read-room-is _ (start .pre .0 .lanes) _ _ (start .args .room .now) (start .pre .2) _ _ _ _ (at-read-turn .read-turn .ensures) (c .before .before .clear .ensures)
 
 pub read-room-spec : {M : Type 1} → statement M
 read-room-spec =

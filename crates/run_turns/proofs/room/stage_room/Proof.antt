@@ -9,7 +9,7 @@ returns : tie.Need-returns
 returns c =
     let at-stage-turn = c .before .before .before .before .before .before in
     let start = at-stage-turn .before .before .before .before in
-    stage-room-is _ _ (start .args .room .now) (start .pre .4) _ _ _ (at-stage-turn .stage-turn .ensures) (c .before .before .capture .ensures)
+    stage-room-is _ (start .pre .0 .lanes) _ _ (start .args .room .now) (start .pre .4) _ _ _ (start .pre .2 .places) (at-stage-turn .stage-turn .ensures) (c .before .before .capture .ensures)
 
 pub stage-room-spec : {M : Type 1} → statement M
 stage-room-spec =

@@ -47,7 +47,7 @@ returns c =
     let start = told .before .before .before .before .before .before in
     let phase = ap phaseIs (told .enum-told2 .given .1) in
     let well = start .pre .0 .well (stage-going _ phase) in
-    stage-done-last _ _ _ _ _ _ _ (start .pre .1) (well .captures .few) _ phase (stage .stage-room .ensures) (c .if1 .taken ∙ c .before .stages .ensures)
+    stage-done-last _ (well .part .lanes) _ _ _ _ _ _ _ (start .pre .1) (well .captures) _ phase (stage .stage-room .ensures) (c .if1 .taken ∙ c .before .stages .ensures)
 
 add-self : tie.Need-add-self
 add-self c =
@@ -77,7 +77,7 @@ returns-2 c =
     let start = told .before .before .before .before .before .before in
     let phase = ap phaseIs (told .enum-told3 .given .1) in
     let well = start .pre .0 .well (store-going _ phase) in
-    store-done-last _ _ _ _ _ _ _ (start .pre .1) (well .captures .few) _ phase (store .store-room .ensures) (sym (c .before .last .ensures) ∙ c .if2 .taken)
+    store-done-last _ (well .part .lanes) _ _ _ _ _ _ _ (start .pre .1) (well .captures) _ phase (store .store-room .ensures) (sym (c .before .last .ensures) ∙ c .if2 .taken)
 
 part-end-requires : tie.Need-part-end-requires
 part-end-requires c κs =
@@ -102,7 +102,7 @@ returns-3 c =
     let start = told .before .before .before .before .before .before in
     let phase = ap phaseIs (told .enum-told .given .1) in
     let well = start .pre .0 .well (read-going _ phase) in
-    read-done _ _ _ _ _ _ _ (start .pre .1) (well .captures .few) _ phase (c .before .before .read-room .ensures)
+    read-done _ (well .part .lanes) _ _ _ _ _ _ _ (start .pre .1) (well .captures) _ phase (c .before .before .read-room .ensures)
 
 returns-4 : tie.Need-returns-4
 returns-4 c =
@@ -111,7 +111,7 @@ returns-4 c =
     let start = told .before .before .before .before .before .before in
     let phase = ap phaseIs (told .enum-told2 .given .1) in
     let well = start .pre .0 .well (stage-going _ phase) in
-    stage-done-more _ _ _ _ _ _ _ (start .pre .1) (well .captures .few) _ phase (stage .stage-room .ensures) (λ q. c .if1 .left (q ∙ sym (c .before .stages .ensures)))
+    stage-done-more _ (well .part .lanes) _ _ _ _ _ _ _ (start .pre .1) (well .captures) _ phase (stage .stage-room .ensures) (λ q. c .if1 .left (q ∙ sym (c .before .stages .ensures)))
 
 returns-5 : tie.Need-returns-5
 returns-5 c =
@@ -122,11 +122,11 @@ returns-5 c =
     let phase = ap phaseIs (told .enum-told3 .given .1) in
     let well = start .pre .0 .well (store-going _ phase) in
     let next = c .begins .ensures in
-    store-done-next _ _ _ _ _ _ _ (start .pre .1) (well .captures .few) _ _ _ _ phase (store .store-room .ensures) (λ q. c .before .before .if2 .left (at-last .last .ensures ∙ q)) (next .0 ∙ c .before .part-end .ensures)
+    store-done-next _ (well .part .lanes) _ _ _ _ _ _ _ (start .pre .1) (well .captures) _ _ _ _ phase (store .store-room .ensures) (λ q. c .before .before .if2 .left (at-last .last .ensures ∙ q)) (next .0 ∙ c .before .part-end .ensures)
     (next .1 ∙ ap (λ (o : ℕ). begins (start .args .words .now) o .phase) (sym (next .0))) (next .2)
 
 returns-6 : tie.Need-returns-6
-returns-6 c = idle-done _ _ _ _ _ _ _ (ap phaseIs (c .enum-told4 .given .1))
+returns-6 c = idle-done _ _ _ _ _ _ _ _ (ap phaseIs (c .enum-told4 .given .1))
 
 pub turn-spec : {M : Type 1} → statement M
 turn-spec =
