@@ -68,7 +68,8 @@ last-requires : tie.Need-last-requires
 last-requires c κs =
     let told = c .before .before .before .before .before in
     let start = told .before .before .before .before .before .before in
-    start .pre .0 .well (store-going _ (ap phaseIs (told .enum-told3 .given .1))) .part
+    let part = start .pre .0 .well (store-going _ (ap phaseIs (told .enum-told3 .given .1))) .part in
+    omega arith
 
 returns-2 : tie.Need-returns-2
 returns-2 c =
@@ -85,7 +86,7 @@ part-end-requires c κs =
     let told = store .before .before .before in
     let start = told .before .before .before .before .before .before in
     let part = start .pre .0 .well (store-going _ (ap phaseIs (told .enum-told3 .given .1))) .part in
-    omega arith
+    (part .lanes, omega arith)
 
 begins-requires : tie.Need-begins-requires
 begins-requires c κs =
