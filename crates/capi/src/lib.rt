@@ -16,6 +16,7 @@ use run::Ran;
 use values::Valued;
 use words::answer::hand_good;
 use words::answer::hand_refusal;
+use words::edition::Edition;
 use words::units::Pin;
 
 fn tell_rounds(answer: Rounds, first: &mut u64, second: &mut u64) -> u32
@@ -129,7 +130,7 @@ pub extern "C" fn juolgesot_run(
     ensures promise { λ r. ⌜ Promised (now (words .entry)) (now (starts .entry)) (now (old .entry)) (now (new .entry)) r (now (first .exit)) (now (new .exit)) ⌝ }
 {
     tell_ran(
-        run::run(words, starts, turns, old, new, room),
+        run::run(words, Edition::LANES, starts, turns, old, new, room),
         first,
         second,
     )

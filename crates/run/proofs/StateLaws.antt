@@ -83,21 +83,21 @@ kept toStage l l′ e = e refl
 kept toStore l l′ e = e refl
 kept finished l l′ e = refl
 
-pub stored-block : (W room : List ℕ) (p : ℕ) (f : Phase) (k : ℕ) → length room ≡ blockRoom → (holds f ≡ true → normalAt W p ≤ 256)
-    → roomBlock W (sets room partLow (blockStateWords p f k)) ≡ stateBlock 256 W p f k room
+pub stored-block : (n : ℕ) (W room : List ℕ) (p : ℕ) (f : Phase) (k : ℕ) → length room ≡ blockRoom → (holds f ≡ true → (n ≤ 256) × (normalAt W p ≤ 256))
+    → roomBlock n W (sets room partLow (blockStateWords p f k)) ≡ stateBlock n W p f k room
 unfolding roomBlock stateBlock
-stored-block W room p f k long few =
-    ap₃ (λ (x : ℕ) (y : Phase) (z : ℕ). stateBlock 256 W x y z S) (state-part room p f k long) (state-phase room p f k long) (state-stage room p f k long)
+stored-block n W room p f k long few =
+    ap₃ (λ (x : ℕ) (y : Phase) (z : ℕ). stateBlock n W x y z S) (state-part room p f k long) (state-phase room p f k long) (state-stage room p f k long)
     ∙ ap₂ (block p f k)
-    (kept f (take 256 S) (take 256 room) (λ h. state-positions room p f k long))
-    (kept f (take (normalAt W p) (drop capturedFrom S)) (take (normalAt W p) (drop capturedFrom room)) (λ h. state-captured room p f k long (normalAt W p) (few h)))
+    (kept f (take n S) (take n room) (λ h. state-positions room p f k long n (few h .0)))
+    (kept f (take (normalAt W p) (drop capturedFrom S)) (take (normalAt W p) (drop capturedFrom room)) (λ h. state-captured room p f k long (normalAt W p) (few h .1)))
   where
     S : List ℕ
     S = sets room partLow (blockStateWords p f k)
 
 -- ---- a block that begins needs nothing of its room
 
-module _ (W : List ℕ) (o : ℕ) (room : List ℕ) where
+module _ (n : ℕ) (W : List ℕ) (o : ℕ) (room : List ℕ) where
   abbrev first : Bool → Phase
   first t = elim t [ true ↦ finished | false ↦ toRead ]
 
@@ -106,67 +106,67 @@ module _ (W : List ℕ) (o : ℕ) (room : List ℕ) where
   first-free true h = not-both false h refl
   first-free false h = not-both false h refl
 
-  begun : (t : Bool) → block o (first t) 0 (held (first t) (take 256 room)) (held (first t) (take (normalAt W o) (drop capturedFrom room))) ≡ block o (first t) 0 [] []
+  begun : (t : Bool) → block o (first t) 0 (held (first t) (take n room)) (held (first t) (take (normalAt W o) (drop capturedFrom room))) ≡ block o (first t) 0 [] []
   unfolding held holds
   begun true = refl
   begun false = refl
 
   pub stored-begins : (p : ℕ) (f : Phase) (k : ℕ) → length room ≡ blockRoom → p ≡ o → f ≡ begins W o .phase → k ≡ 0
-      → roomBlock W (sets room partLow (blockStateWords p f k)) ≡ begins W o
+      → roomBlock n W (sets room partLow (blockStateWords p f k)) ≡ begins W o
   unfolding stateBlock begins
   stored-begins p f k long e g h =
-      ap₃ (λ (p : ℕ) (f : Phase) (k : ℕ). roomBlock W (sets room partLow (blockStateWords p f k))) e g h
-      ∙ stored-block W room o (begins W o .phase) 0 long (λ a. absurd (first-free (eqb (stagesAt W o) 0) a))
+      ap₃ (λ (p : ℕ) (f : Phase) (k : ℕ). roomBlock n W (sets room partLow (blockStateWords p f k))) e g h
+      ∙ stored-block n W room o (begins W o .phase) 0 long (λ a. absurd (first-free (eqb (stagesAt W o) 0) a))
       ∙ begun (eqb (stagesAt W o) 0)
 
 -- ---- the blocks
 
-module _ (W room room′ : List ℕ) where
-  pub blocks-same : (m i : ℕ) → ((b : ℕ) → i ≤ b → b < i + m → roomOf room′ b ≡ roomOf room b) → blocksIn W room′ m i ≡ blocksIn W room m i
+module _ (n : ℕ) (W room room′ : List ℕ) where
+  pub blocks-same : (m i : ℕ) → ((b : ℕ) → i ≤ b → b < i + m → roomOf room′ b ≡ roomOf room b) → blocksIn n W room′ m i ≡ blocksIn n W room m i
   unfolding blocksIn
   blocks-same zero i h = refl
-  blocks-same (suc m) i h = ap₂ _∷_ (ap (roomBlock W) (h i (omega arith) (omega arith))) (blocks-same m (i + 1) (λ b l u. h b (omega arith) (omega arith)))
+  blocks-same (suc m) i h = ap₂ _∷_ (ap (roomBlock n W) (h i (omega arith) (omega arith))) (blocks-same m (i + 1) (λ b l u. h b (omega arith) (omega arith)))
 
   -- block i + t is another one
-  pub blocks-set : (m i t : ℕ) (x : Block) → t < m → ((b : ℕ) → i ≤ b → b < i + m → (b ≡ i + t → ⊥) → roomOf room′ b ≡ roomOf room b) → roomBlock W (roomOf room′ (i + t)) ≡ x
-      → blocksIn W room′ m i ≡ set (blocksIn W room m i) t x
+  pub blocks-set : (m i t : ℕ) (x : Block) → t < m → ((b : ℕ) → i ≤ b → b < i + m → (b ≡ i + t → ⊥) → roomOf room′ b ≡ roomOf room b) → roomBlock n W (roomOf room′ (i + t)) ≡ x
+      → blocksIn n W room′ m i ≡ set (blocksIn n W room m i) t x
   unfolding blocksIn
   blocks-set zero i t x l h e = absurd (omega arith)
   blocks-set (suc m) i zero x l h e =
-      ap₂ _∷_ (ap (λ (b : ℕ). roomBlock W (roomOf room′ b)) (sym (add-zero i)) ∙ e)
+      ap₂ _∷_ (ap (λ (b : ℕ). roomBlock n W (roomOf room′ b)) (sym (add-zero i)) ∙ e)
       (blocks-same m (i + 1) (λ b k u. h b (omega arith) (omega arith) (λ (q : b ≡ i + 0). omega arith)))
   blocks-set (suc m) i (suc t) x l h e =
       let there : i + 1 + t ≡ i + suc t = omega arith in
-      ap₂ _∷_ (ap (roomBlock W) (h i (omega arith) (omega arith) (λ (q : i ≡ i + suc t). omega arith)))
-      (blocks-set m (i + 1) t x (omega arith) (λ b k u n. h b (omega arith) (omega arith) (λ (q : b ≡ i + suc t). n (omega arith))) (ap (λ (b : ℕ). roomBlock W (roomOf room′ b)) there ∙ e))
+      ap₂ _∷_ (ap (roomBlock n W) (h i (omega arith) (omega arith) (λ (q : i ≡ i + suc t). omega arith)))
+      (blocks-set m (i + 1) t x (omega arith) (λ b k u n. h b (omega arith) (omega arith) (λ (q : b ≡ i + suc t). n (omega arith))) (ap (λ (b : ℕ). roomBlock n W (roomOf room′ b)) there ∙ e))
 
-pub blocks-at : (W room : List ℕ) (m i t : ℕ) (d : Block) → t < m → getD (blocksIn W room m i) t d ≡ roomBlock W (roomOf room (i + t))
+pub blocks-at : (n : ℕ) (W room : List ℕ) (m i t : ℕ) (d : Block) → t < m → getD (blocksIn n W room m i) t d ≡ roomBlock n W (roomOf room (i + t))
 unfolding blocksIn
-blocks-at W room zero i t d l = absurd (omega arith)
-blocks-at W room (suc m) i zero d l = ap (λ (b : ℕ). roomBlock W (roomOf room b)) (sym (add-zero i))
-blocks-at W room (suc m) i (suc t) d l =
+blocks-at n W room zero i t d l = absurd (omega arith)
+blocks-at n W room (suc m) i zero d l = ap (λ (b : ℕ). roomBlock n W (roomOf room b)) (sym (add-zero i))
+blocks-at n W room (suc m) i (suc t) d l =
     let there : i + 1 + t ≡ i + suc t = omega arith in
-    blocks-at W room m (i + 1) t d (omega arith) ∙ ap (λ (b : ℕ). roomBlock W (roomOf room b)) there
+    blocks-at n W room m (i + 1) t d (omega arith) ∙ ap (λ (b : ℕ). roomBlock n W (roomOf room b)) there
 
 -- ---- all blocks begun, as the code begins them
 
 -- the first b blocks
 abbrev pub Begun : List ℕ → List ℕ → List ℕ → ℕ → Type 0
-Begun W starts room b = (a : ℕ) → a < b → roomBlock W (roomOf room a) ≡ begins W (getD starts a 0)
+Begun W starts room b = (n a : ℕ) → a < b → roomBlock n W (roomOf room a) ≡ begins W (getD starts a 0)
 
 pub begun-more : (W starts room : List ℕ) (b : ℕ) (r : List ℕ) → Begun W starts room b → blockRoom * b + blockRoom ≤ length room → length r ≡ blockRoom
-    → roomBlock W r ≡ begins W (getD starts b 0) → Begun W starts (lent room b r) (b + 1)
-begun-more W starts room b r h fits long e a l =
+    → ((n : ℕ) → roomBlock n W r ≡ begins W (getD starts b 0)) → Begun W starts (lent room b r) (b + 1)
+begun-more W starts room b r h fits long e n a l =
     ⊎-elim
-    (λ under. ap (roomBlock W) (lent-other room b r fits long a (omega arith) (λ (q : a ≡ b). omega arith)) ∙ h a under)
-    (λ over. let q : a ≡ b = omega arith in rw q (ap (roomBlock W) (lent-same room b r fits long) ∙ e))
+    (λ under. ap (roomBlock n W) (lent-other room b r fits long a (omega arith) (λ (q : a ≡ b). omega arith)) ∙ h n a under)
+    (λ over. let q : a ≡ b = omega arith in rw q (ap (roomBlock n W) (lent-same room b r fits long) ∙ e n))
     (lt-or-ge a b)
 
 -- block b begun in its room
 pub begun-next : (W starts room : List ℕ) (b p : ℕ) (f : Phase) (k : ℕ) (r : List ℕ) → Begun W starts room b → blockRoom * b + blockRoom ≤ length room
     → p ≡ getD starts b 0 → f ≡ begins W (getD starts b 0) .phase → k ≡ 0 → r ≡ sets (take (size b) (drop (blockRoom * b) room)) partLow (blockStateWords p f k)
     → (length (lent room b r) ≡ length room) × Begun W starts (lent room b r) (b + 1)
-begun-next W starts room b p f k r h fits e g z is = (lent-long room b r fits long, begun-more W starts room b r h fits long (ap (roomBlock W) is′ ∙ stored-begins W (getD starts b 0) (roomOf room b) p f k (room-long room b fits) e g z))
+begun-next W starts room b p f k r h fits e g z is = (lent-long room b r fits long, begun-more W starts room b r h fits long (λ n. ap (roomBlock n W) is′ ∙ stored-begins n W (getD starts b 0) (roomOf room b) p f k (room-long room b fits) e g z))
   where
     is′ : r ≡ sets (roomOf room b) partLow (blockStateWords p f k)
     is′ = is ∙ ap (λ (l : List ℕ). sets l partLow (blockStateWords p f k)) (lent-room room b)
@@ -174,11 +174,11 @@ begun-next W starts room b p f k r h fits e g z is = (lent-long room b r fits lo
     long : length r ≡ blockRoom
     long = ap length is′ ∙ length-sets (roomOf room b) partLow (blockStateWords p f k) ∙ room-long room b fits
 
-pub begun-all : (W starts room : List ℕ) (m i : ℕ) → ((b : ℕ) → i ≤ b → b < i + m → roomBlock W (roomOf room b) ≡ begins W (getD starts b 0))
-    → blocksIn W room m i ≡ blocksFrom W starts m i
+pub begun-all : (n : ℕ) (W starts room : List ℕ) (m i : ℕ) → ((b : ℕ) → i ≤ b → b < i + m → roomBlock n W (roomOf room b) ≡ begins W (getD starts b 0))
+    → blocksIn n W room m i ≡ blocksFrom W starts m i
 unfolding blocksIn blocksFrom
-begun-all W starts room zero i h = refl
-begun-all W starts room (suc m) i h = ap₂ _∷_ (h i (omega arith) (omega arith)) (begun-all W starts room m (i + 1) (λ b l u. h b (omega arith) (omega arith)))
+begun-all n W starts room zero i h = refl
+begun-all n W starts room (suc m) i h = ap₂ _∷_ (h i (omega arith) (omega arith)) (begun-all n W starts room m (i + 1) (λ b l u. h b (omega arith) (omega arith)))
 
 -- the same read back
 from-at : (W starts : List ℕ) (m i t : ℕ) (d : Block) → t < m → getD (blocksFrom W starts m i) t d ≡ begins W (getD starts (i + t) 0)
@@ -189,7 +189,7 @@ from-at W starts (suc m) i (suc t) d l =
     let there : i + 1 + t ≡ i + suc t = omega arith in
     from-at W starts m (i + 1) t d (omega arith) ∙ ap (λ (b : ℕ). begins W (getD starts b 0)) there
 
-pub begun-at : (W starts room : List ℕ) (m : ℕ) → blocksIn W room m 0 ≡ blocksFrom W starts m 0 → (b : ℕ) → b < m → roomBlock W (roomOf room b) ≡ begins W (getD starts b 0)
-begun-at W starts room m e b l =
-    ap (λ (a : ℕ). roomBlock W (roomOf room a)) (sym (zero-add b)) ∙ sym (blocks-at W room m 0 b (ended 0) l) ∙ ap (λ (bs : List Block). getD bs b (ended 0)) e
+pub begun-at : (n : ℕ) (W starts room : List ℕ) (m : ℕ) → blocksIn n W room m 0 ≡ blocksFrom W starts m 0 → (b : ℕ) → b < m → roomBlock n W (roomOf room b) ≡ begins W (getD starts b 0)
+begun-at n W starts room m e b l =
+    ap (λ (a : ℕ). roomBlock n W (roomOf room a)) (sym (zero-add b)) ∙ sym (blocks-at n W room m 0 b (ended 0) l) ∙ ap (λ (bs : List Block). getD bs b (ended 0)) e
     ∙ from-at W starts m 0 b (ended 0) l ∙ ap (λ (a : ℕ). begins W (getD starts a 0)) (zero-add b)

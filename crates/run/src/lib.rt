@@ -6,6 +6,7 @@ pub mod taking;
 ghost use mathlib.Core.Path.{_≡_};
 ghost use lib.ListN.{length, replicate};
 ghost use Rattle.words.specs.Answer.{refused, atItem};
+ghost use Rattle.words.specs.Edition.{Known, levelsFor};
 ghost use Rattle.run_machine.specs.Run.{runTurns, allLeft, runAnswer, newAfter, runRoomAfter};
 ghost use Rattle.run.specs.LeftInForm.{RunAccepted};
 ghost use Rattle.run.specs.RanAnswer.{ranOf};
@@ -32,21 +33,22 @@ pub enum Ran {
 // A run that is not refused; how many turns are left. The blocks' rooms are clear after it.
 fn run_well(
     words: &[u32],
+    n: usize,
     starts: &[u64],
     turns: &[u32],
     old: &[u32],
     new: &mut [u32],
     rooms: &mut [u32],
 ) -> u64
-    requires { ⌜ RunAccepted (now words) (now starts) (now turns) (length (now old)) (length (now new)) (now rooms) ⌝ }
-    ensures left { λ r. ⌜ r ≡ allLeft 256 (now (words .entry)) (runTurns 256 13 (now (words .entry)) (now (starts .entry)) (now (turns .entry)) (now (old .entry)) (now (new .entry)) .blocks) ⌝ }
-    ensures state { λ _. ⌜ now (new .exit) ≡ runTurns 256 13 (now (words .entry)) (now (starts .entry)) (now (turns .entry)) (now (old .entry)) (now (new .entry)) .new ⌝ }
+    requires { ⌜ RunAccepted n (now words) (now starts) (now turns) (length (now old)) (length (now new)) (now rooms) ⌝ }
+    ensures left { λ r. ⌜ r ≡ allLeft n (now (words .entry)) (runTurns n (levelsFor n) (now (words .entry)) (now (starts .entry)) (now (turns .entry)) (now (old .entry)) (now (new .entry)) .blocks) ⌝ }
+    ensures state { λ _. ⌜ now (new .exit) ≡ runTurns n (levelsFor n) (now (words .entry)) (now (starts .entry)) (now (turns .entry)) (now (old .entry)) (now (new .entry)) .new ⌝ }
     ensures room { λ _. ⌜ now (rooms .exit) ≡ replicate (length (now (rooms .entry))) 0 ⌝ }
 {
     let blocks = blocks_of(starts);
     begin_blocks(words, starts, blocks, rooms);
-    take_turns(words, turns, old, new, rooms);
-    let left = turns_left(words, blocks, rooms);
+    take_turns(words, n, turns, old, new, rooms);
+    let left = turns_left(words, n, blocks, rooms);
     clear(rooms);
     left as u64
 }
@@ -62,28 +64,30 @@ fn refuse(number: u32, item: usize) -> Ran
     })
 }
 
-// Each block at its first turn, then the turns in their order: the number of each is that of the block that takes it.
+// Each block of a script of n lanes at its first turn, then the turns in their order: the number of each is that of the block that takes it.
 pub fn run(
     words: &[u32],
+    n: usize,
     starts: &[u64],
     turns: &[u32],
     old: &[u32],
     new: &mut [u32],
     room: &mut [u32],
 ) -> Ran
-    ensures answer { λ r. ⌜ r ≡ ranOf (runAnswer 256 13 (now (words .entry)) (now (starts .entry)) (now (turns .entry)) (now (old .entry)) (now (new .entry)) (length (now (room .entry)))) ⌝ }
-    ensures state { λ _. ⌜ now (new .exit) ≡ newAfter (runAnswer 256 13 (now (words .entry)) (now (starts .entry)) (now (turns .entry)) (now (old .entry)) (now (new .entry)) (length (now (room .entry)))) (now (new .entry)) ⌝ }
+    requires { ⌜ Known n ⌝ }
+    ensures answer { λ r. ⌜ r ≡ ranOf (runAnswer n (levelsFor n) (now (words .entry)) (now (starts .entry)) (now (turns .entry)) (now (old .entry)) (now (new .entry)) (length (now (room .entry)))) ⌝ }
+    ensures state { λ _. ⌜ now (new .exit) ≡ newAfter (runAnswer n (levelsFor n) (now (words .entry)) (now (starts .entry)) (now (turns .entry)) (now (old .entry)) (now (new .entry)) (length (now (room .entry)))) (now (new .entry)) ⌝ }
     ensures room { λ _. ⌜ now (room .exit) ≡ runRoomAfter (now (starts .entry)) (now (room .entry)) ⌝ }
 {
     if room.len() / BLOCK_ROOM < blocks_of(starts) {
         return refuse(ROOM_SHORT, 0);
     }
     clear(room);
-    match bad_block(words, starts, old.len(), new.len()) {
+    match bad_block(words, n, starts, old.len(), new.len()) {
         Item::At(i) => refuse(SCRIPT_FORM, i),
         Item::Fine => match bad_turn(starts, turns) {
             Item::At(i) => refuse(TURN, i),
-            Item::Fine => Ran::Left(run_well(words, starts, turns, old, new, room)),
+            Item::Fine => Ran::Left(run_well(words, n, starts, turns, old, new, room)),
         },
     }
 }

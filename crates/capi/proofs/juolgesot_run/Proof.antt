@@ -1,8 +1,10 @@
 -- The numbers are those of the answer, and each slice is left as the function behind says.
 -- Assumes nothing.
 use mathlib.Core.Path.{refl, ap, _∙_}
+use mathlib.Core.Logic.{inl}
 use lib.ListN.{length}
 use borrow.Author.Needs.{needs}
+use Rattle.words.specs.Edition.{levelsFor}
 use Rattle.run_machine.specs.Run.{runAnswer}
 use Rattle.capi.specs.Exported.{afterRun}
 use Rattle.capi.specs.Numbers.{ranNumbers}
@@ -12,7 +14,7 @@ use Rattle.capi.proofs.juolgesot_run.Statement.{statement}
 use Rattle.capi.proofs.juolgesot_run.Tie as tie
 
 returns : tie.Need-returns
-unfolding afterRun
+unfolding afterRun levelsFor
 returns c =
     let lent = c .before .before .before in
     let m = lent .before .before .before .before in
@@ -26,4 +28,4 @@ returns c =
 
 pub juolgesot-run-spec : {M : Type 1} → statement M
 juolgesot-run-spec = tie.close
-    (tie.spec (λ c κs. search needs) (λ c κs. search needs) (λ c. search needs) (λ c. search needs) returns)
+    (tie.spec (λ c κs. inl refl) (λ c κs. search needs) (λ c. search needs) (λ c. search needs) returns)

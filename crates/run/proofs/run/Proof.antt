@@ -3,6 +3,7 @@
 use mathlib.Core.Path.{sym, _∙_}
 use lib.ListN.{length}
 use Rattle.words.proofs.FoundLaws.{item-some, item-none}
+use Rattle.run_form.proofs.PartWellLaws.{lanes-of}
 use Rattle.run.proofs.RunAnswerLaws.{again, told-short, told-block, told-turn, told-run, accepted}
 use borrow.Author.Needs.{needs}
 use Rattle.run.proofs.run.Statement.{statement}
@@ -13,7 +14,13 @@ returns c =
     let at-blocks-of = c .before .before in
     let way = at-blocks-of .before .before .before .before .before .before in
     let start = way .before in
-    told-short (start .args .words .now) (start .args .starts .now) (start .args .turns .now) (start .args .old .now) (start .args .new .now) (start .args .room .now) _ (at-blocks-of .blocks-of .ensures) (c .before .if1 .taken) _ (c .refuse .ensures)
+    told-short _ (start .args .words .now) (start .args .starts .now) (start .args .turns .now) (start .args .old .now) (start .args .new .now) (start .args .room .now) _ (at-blocks-of .blocks-of .ensures) (c .before .if1 .taken) _ (c .refuse .ensures)
+
+bad-block-requires : tie.Need-bad-block-requires
+bad-block-requires c κs =
+    let at-blocks-of = c .before .before .before .before .before in
+    let way = at-blocks-of .before .before .before .before .before .before in
+    lanes-of _ (way .before .pre)
 
 run-well-requires : tie.Need-run-well-requires
 run-well-requires c κs =
@@ -25,9 +32,9 @@ run-well-requires c κs =
     let at-blocks-of = at-if1 .before in
     let way = at-blocks-of .before .before .before .before .before .before in
     let start = way .before in
-    accepted (start .args .words .now) (start .args .starts .now) (start .args .turns .now) (start .args .old .now) (start .args .new .now) (start .args .room .now) _
+    accepted _ (start .args .words .now) (start .args .starts .now) (start .args .turns .now) (start .args .old .now) (start .args .new .now) (start .args .room .now) _
     (at-blocks-of .blocks-of .ensures) (at-if1 .if1 .left) _ (at-clear .clear .ensures) (item-none _ (sym (at-bad-block .bad-block .ensures) ∙ at-enum-told .enum-told .given .1))
-    (item-none _ (sym (at-bad-turn .bad-turn .ensures) ∙ c .before .before .enum-told2 .given .1)) _ (search needs)
+    (item-none _ (sym (at-bad-turn .bad-turn .ensures) ∙ c .before .before .enum-told2 .given .1)) (start .pre) _ (search needs)
 
 returns-2 : tie.Need-returns-2
 returns-2 c =
@@ -37,7 +44,7 @@ returns-2 c =
     let at-blocks-of = at-if1 .before in
     let way = at-blocks-of .before .before .before .before .before .before in
     let start = way .before in
-    told-block (start .args .words .now) (start .args .starts .now) (start .args .turns .now) (start .args .old .now) (start .args .new .now) (start .args .room .now) _
+    told-block _ (start .args .words .now) (start .args .starts .now) (start .args .turns .now) (start .args .old .now) (start .args .new .now) (start .args .room .now) _
     (at-blocks-of .blocks-of .ensures) (at-if1 .if1 .left) _ (at-clear .clear .ensures) _ (item-some _ _ (sym (at-bad-block .bad-block .ensures) ∙ c .before .before .i .given .1)) _
     (c .refuse2 .ensures)
 
@@ -51,7 +58,7 @@ returns-3 c =
     let at-blocks-of = at-if1 .before in
     let way = at-blocks-of .before .before .before .before .before .before in
     let start = way .before in
-    told-turn (start .args .words .now) (start .args .starts .now) (start .args .turns .now) (start .args .old .now) (start .args .new .now) (start .args .room .now) _
+    told-turn _ (start .args .words .now) (start .args .starts .now) (start .args .turns .now) (start .args .old .now) (start .args .new .now) (start .args .room .now) _
     (at-blocks-of .blocks-of .ensures) (at-if1 .if1 .left) _ (at-clear .clear .ensures) (item-none _ (sym (at-bad-block .bad-block .ensures) ∙ at-enum-told .enum-told .given .1)) _
     (item-some _ _ (sym (at-bad-turn .bad-turn .ensures) ∙ c .before .before .i2 .given .1)) _ (c .refuse3 .ensures)
 
@@ -69,13 +76,13 @@ returns-4 c =
     let start = way .before in
     let room = start .args .room .now in
     let done = at-run-well .run-well .ensures in
-    told-run (start .args .words .now) (start .args .starts .now) (start .args .turns .now) (start .args .old .now) (start .args .new .now) room _ (at-blocks-of .blocks-of .ensures)
+    told-run _ (start .args .words .now) (start .args .starts .now) (start .args .turns .now) (start .args .old .now) (start .args .new .now) room _ (at-blocks-of .blocks-of .ensures)
     (at-if1 .if1 .left) _ (again (length room) (at-clear .clear .last .0) _ (done .1 .1) (search needs)) (item-none _ (sym (at-bad-block .bad-block .ensures) ∙ at-enum-told .enum-told .given .1))
     (item-none _ (sym (at-bad-turn .bad-turn .ensures) ∙ at-enum-told2 .enum-told2 .given .1)) _ _ (done .0) (done .1 .0)
 
 pub run-spec : {M : Type 1} → statement M
 run-spec =
     tie.close
-    (tie.spec (λ c κs. search needs) (λ c κs. search needs) returns (λ c κs. search needs) (λ c κs. search needs) (λ c. search needs)
+    (tie.spec (λ c κs. search needs) (λ c κs. search needs) returns (λ c κs. search needs) bad-block-requires (λ c. search needs)
     (λ c κs. search needs) (λ c. search needs) (λ c κs. search needs) (λ c. search needs) (λ c κs. search needs) (λ c. search needs)
     run-well-requires (λ c. search needs) returns-2 (λ c. search needs) returns-3 (λ c. search needs) (λ c. search needs) returns-4)

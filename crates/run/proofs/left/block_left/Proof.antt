@@ -17,7 +17,7 @@ stages-requires c κs =
     let room = start .args .room .now in
     let state = load .load-state .ensures in
     let phase = ap phaseIs (c .enum-told .given .1) in
-    let ready = ahead words _ _ room (start .pre .2) _ _ _ (state .0) (state .1) (state .2) (read-going _ phase) in
+    let ready = ahead _ words _ _ room (start .pre .2) _ _ _ (state .0) (state .1) (state .2) (read-going _ phase) in
     ready .inside
 
 add-result : tie.Need-add-result
@@ -28,7 +28,7 @@ add-result c =
     let room = start .args .room .now in
     let state = load .load-state .ensures in
     let phase = ap phaseIs (c .before .enum-told .given .1) in
-    let ready = ahead words _ _ room (start .pre .2) _ _ _ (state .0) (state .1) (state .2) (read-going _ phase) in
+    let ready = ahead _ words _ _ room (start .pre .2) _ _ _ (state .0) (state .1) (state .2) (read-going _ phase) in
     omega (arith, ready .fits, c .stages .ensures)
 
 turns-after-requires : tie.Need-turns-after-requires
@@ -39,7 +39,7 @@ turns-after-requires c κs =
     let room = start .args .room .now in
     let state = load .load-state .ensures in
     let phase = ap phaseIs (c .before .enum-told .given .1) in
-    let ready = ahead words _ _ room (start .pre .2) _ _ _ (state .0) (state .1) (state .2) (read-going _ phase) in
+    let ready = ahead _ words _ _ room (start .pre .2) _ _ _ (state .0) (state .1) (state .2) (read-going _ phase) in
     ready .parts
 
 add-result-2 : tie.Need-add-result-2
@@ -50,7 +50,7 @@ add-result-2 c =
     let room = start .args .room .now in
     let state = load .load-state .ensures in
     let phase = ap phaseIs (c .before .before .enum-told .given .1) in
-    let ready = ahead words _ _ room (start .pre .2) _ _ _ (state .0) (state .1) (state .2) (read-going _ phase) in
+    let ready = ahead _ words _ _ room (start .pre .2) _ _ _ (state .0) (state .1) (state .2) (read-going _ phase) in
     omega (arith, ready .fits, c .before .stages .ensures, c .turns-after .ensures)
 
 stages-requires-2 : tie.Need-stages-requires-2
@@ -61,7 +61,7 @@ stages-requires-2 c κs =
     let room = start .args .room .now in
     let state = load .load-state .ensures in
     let phase = ap phaseIs (c .enum-told2 .given .1) in
-    let ready = ahead words _ _ room (start .pre .2) _ _ _ (state .0) (state .1) (state .2) (stage-going _ phase) in
+    let ready = ahead _ words _ _ room (start .pre .2) _ _ _ (state .0) (state .1) (state .2) (stage-going _ phase) in
     ready .inside
 
 sub-result : tie.Need-sub-result
@@ -72,7 +72,7 @@ sub-result c =
     let room = start .args .room .now in
     let state = load .load-state .ensures in
     let phase = ap phaseIs (c .before .before .enum-told2 .given .1) in
-    let inside = stage-inside words _ _ room (start .pre .2) _ _ _ (state .0) (state .1) (state .2) (stage-going _ phase) phase in
+    let inside = stage-inside _ words _ _ room (start .pre .2) _ _ _ (state .0) (state .1) (state .2) (stage-going _ phase) phase in
     omega (arith, inside, c .before .stages2 .ensures)
 
 add-result-3 : tie.Need-add-result-3
@@ -83,7 +83,7 @@ add-result-3 c =
     let room = start .args .room .now in
     let state = load .load-state .ensures in
     let phase = ap phaseIs (c .before .before .enum-told2 .given .1) in
-    let ready = ahead words _ _ room (start .pre .2) _ _ _ (state .0) (state .1) (state .2) (stage-going _ phase) in
+    let ready = ahead _ words _ _ room (start .pre .2) _ _ _ (state .0) (state .1) (state .2) (stage-going _ phase) in
     omega (arith, ready .fits, c .before .stages2 .ensures)
 
 turns-after-requires-2 : tie.Need-turns-after-requires-2
@@ -94,7 +94,7 @@ turns-after-requires-2 c κs =
     let room = start .args .room .now in
     let state = load .load-state .ensures in
     let phase = ap phaseIs (c .before .before .enum-told2 .given .1) in
-    let ready = ahead words _ _ room (start .pre .2) _ _ _ (state .0) (state .1) (state .2) (stage-going _ phase) in
+    let ready = ahead _ words _ _ room (start .pre .2) _ _ _ (state .0) (state .1) (state .2) (stage-going _ phase) in
     ready .parts
 
 add-result-4 : tie.Need-add-result-4
@@ -106,7 +106,7 @@ add-result-4 c =
     let room = start .args .room .now in
     let state = load .load-state .ensures in
     let phase = ap phaseIs (at-enum-told2 .enum-told2 .given .1) in
-    let ready = ahead words _ _ room (start .pre .2) _ _ _ (state .0) (state .1) (state .2) (stage-going _ phase) in
+    let ready = ahead _ words _ _ room (start .pre .2) _ _ _ (state .0) (state .1) (state .2) (stage-going _ phase) in
     omega (arith, ready .fits, c .before .before .stages2 .ensures, c .turns-after2 .ensures)
 
 turns-after-requires-3 : tie.Need-turns-after-requires-3
@@ -117,7 +117,7 @@ turns-after-requires-3 c κs =
     let room = start .args .room .now in
     let state = load .load-state .ensures in
     let phase = ap phaseIs (c .enum-told3 .given .1) in
-    let ready = ahead words _ _ room (start .pre .2) _ _ _ (state .0) (state .1) (state .2) (store-going _ phase) in
+    let ready = ahead _ words _ _ room (start .pre .2) _ _ _ (state .0) (state .1) (state .2) (store-going _ phase) in
     ready .parts
 
 add-result-5 : tie.Need-add-result-5
@@ -128,7 +128,7 @@ add-result-5 c =
     let room = start .args .room .now in
     let state = load .load-state .ensures in
     let phase = ap phaseIs (c .before .enum-told3 .given .1) in
-    let ready = ahead words _ _ room (start .pre .2) _ _ _ (state .0) (state .1) (state .2) (store-going _ phase) in
+    let ready = ahead _ words _ _ room (start .pre .2) _ _ _ (state .0) (state .1) (state .2) (store-going _ phase) in
     omega (arith, ready .fits, c .turns-after3 .ensures)
 
 returns : tie.Need-returns
@@ -139,7 +139,7 @@ returns c =
     let room = start .args .room .now in
     let state = load .load-state .ensures in
     let phase = ap phaseIs (c .before .before .enum-told .given .1) in
-    left-read words room _ _ _ (state .0) (state .1) (state .2) _ (c .turns-after .ensures) _ (c .before .stages .ensures) phase
+    left-read _ words room _ _ _ (state .0) (state .1) (state .2) _ (c .turns-after .ensures) _ (c .before .stages .ensures) phase
 
 returns-2 : tie.Need-returns-2
 returns-2 c =
@@ -150,7 +150,7 @@ returns-2 c =
     let room = start .args .room .now in
     let state = load .load-state .ensures in
     let phase = ap phaseIs (at-enum-told2 .enum-told2 .given .1) in
-    left-stage words room _ _ _ (state .0) (state .1) (state .2) _ (c .turns-after2 .ensures) _ (c .before .before .stages2 .ensures) phase
+    left-stage _ words room _ _ _ (state .0) (state .1) (state .2) _ (c .turns-after2 .ensures) _ (c .before .before .stages2 .ensures) phase
 
 returns-3 : tie.Need-returns-3
 returns-3 c =
@@ -160,7 +160,7 @@ returns-3 c =
     let room = start .args .room .now in
     let state = load .load-state .ensures in
     let phase = ap phaseIs (c .before .enum-told3 .given .1) in
-    left-store words room _ _ _ (state .0) (state .1) (state .2) _ (c .turns-after3 .ensures) phase
+    left-store _ words room _ _ _ (state .0) (state .1) (state .2) _ (c .turns-after3 .ensures) phase
 
 returns-4 : tie.Need-returns-4
 returns-4 c =
@@ -170,7 +170,7 @@ returns-4 c =
     let room = start .args .room .now in
     let state = load .load-state .ensures in
     let phase = ap phaseIs (c .enum-told4 .given .1) in
-    left-done words room _ _ _ (state .0) (state .1) (state .2) phase
+    left-done _ words room _ _ _ (state .0) (state .1) (state .2) phase
 
 pub block-left-spec : {M : Type 1} → statement M
 block-left-spec =

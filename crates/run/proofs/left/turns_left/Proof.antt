@@ -14,40 +14,41 @@ use Rattle.run.proofs.left.turns_left.Statement.{statement}
 use Rattle.run.proofs.left.turns_left.Tie as tie
 
 abbrev Inv-loop : tie.InvT-loop
-Inv-loop words blocks room sum₀ b₀ sum b = (b ≤ blocks) × (sum + allLeft 256 words (blocksIn words room (blocks - b) b) ≡ allLeft 256 words (blocksIn words room blocks 0))
+Inv-loop words n blocks room sum₀ b₀ sum b = (b ≤ blocks) × (sum + allLeft n words (blocksIn n words room (blocks - b) b) ≡ allLeft n words (blocksIn n words room blocks 0))
 
 abbrev μ-loop : tie.MeasureT-loop
-μ-loop words blocks room sum₀ b₀ sum b = blocks - b
+μ-loop words n blocks room sum₀ b₀ sum b = blocks - b
 
 loop-holds : tie.Need-loop-holds Inv-loop μ-loop
 loop-holds c =
     let W = c .before .before .args .words .now in
-    (omega arith, zero-add _ ∙ ap (λ (m : ℕ). allLeft 256 W (blocksIn W (c .before .before .args .room .now) m 0)) (sub-zero (c .before .before .args .blocks)))
+    let n = c .before .before .args .n in
+    (omega arith, zero-add _ ∙ ap (λ (m : ℕ). allLeft n W (blocksIn n W (c .before .before .args .room .now) m 0)) (sub-zero (c .before .before .args .blocks)))
 
 block-left-requires : tie.Need-block-left-requires Inv-loop μ-loop
 block-left-requires c κs =
     let start = c .before .before .before .before .before in
     let b = c .before .before .loop .b in
-    (start .pre .1, start .pre .2, rw (lent-room (start .args .room .now) b) (room-good (start .args .words .now) (start .pre .0) (start .pre .1) (start .pre .2) (start .args .room .now) (start .pre .4) b (omega (arith, start .pre .3))))
+    (start .pre .1, start .pre .2, rw (lent-room (start .args .room .now) b) (room-good _ (start .args .words .now) (start .pre .0) (start .pre .1) (start .pre .2) (start .args .room .now) (start .pre .4) b (omega (arith, start .pre .3))))
 
 add-sum : tie.Need-add-sum Inv-loop μ-loop
 add-sum c =
     let start = c .before .before .before .before .before .before in
     let l = c .before .before .before .loop in
-    let next = left-next (start .args .words .now) (start .args .room .now) (start .args .blocks) (l .b) (l .sum) _ _ (omega arith) (rw (lent-room (start .args .room .now) (l .b)) at (c .block-left .ensures)) (l .inv .1) in
-    omega (arith, next, all-bound (start .args .words .now) (start .args .room .now) (start .pre .0) (start .pre .1) (start .pre .2) (start .pre .4), ap (λ (m : ℕ). allLeft 256 (start .args .words .now) (blocksIn (start .args .words .now) (start .args .room .now) m 0)) (start .pre .3))
+    let next = left-next _ (start .args .words .now) (start .args .room .now) (start .args .blocks) (l .b) (l .sum) _ _ (omega arith) (rw (lent-room (start .args .room .now) (l .b)) at (c .block-left .ensures)) (l .inv .1) in
+    omega (arith, next, all-bound _ (start .args .words .now) (start .args .room .now) (start .pre .0) (start .pre .1) (start .pre .2) (start .pre .4), ap (λ (m : ℕ). allLeft (start .args .n) (start .args .words .now) (blocksIn (start .args .n) (start .args .words .now) (start .args .room .now) m 0)) (start .pre .3))
 
 loop-again : tie.Need-loop-again Inv-loop μ-loop
 loop-again c =
     let start = c .before .before .before .before .before .before in
     let l = c .before .before .before .loop in
-    (omega arith, left-next (start .args .words .now) (start .args .room .now) (start .args .blocks) (l .b) (l .sum) _ _ (omega arith) (rw (lent-room (start .args .room .now) (l .b)) at (c .block-left .ensures)) (l .inv .1))
+    (omega arith, left-next _ (start .args .words .now) (start .args .room .now) (start .args .blocks) (l .b) (l .sum) _ _ (omega arith) (rw (lent-room (start .args .room .now) (l .b)) at (c .block-left .ensures)) (l .inv .1))
 
 returns : tie.Need-returns Inv-loop μ-loop
 returns c =
     let start = c .before .before .before .before in
     let l = c .before .loop in
-    left-all (start .args .words .now) (start .args .room .now) (start .args .blocks) (l .b) (l .sum) _ (omega arith) (l .inv .1)
+    left-all _ (start .args .words .now) (start .args .room .now) (start .args .blocks) (l .b) (l .sum) _ (omega arith) (l .inv .1)
 
 pub turns-left-spec : {M : Type 1} → statement M
 turns-left-spec =

@@ -16,7 +16,7 @@ abbrev μ-loop : tie.MeasureT-loop
 μ-loop words starts blocks room₀ b₀ room b = blocks - b
 
 loop-holds : tie.Need-loop-holds Inv-loop μ-loop
-loop-holds c = (omega arith, refl, λ a l. absurd (omega arith))
+loop-holds c = (omega arith, refl, λ n a l. absurd (omega arith))
 
 begins-requires : tie.Need-begins-requires Inv-loop μ-loop
 begins-requires c κs = c .before .before .before .before .before .before .pre .inside (c .before .before .loop .b) (omega arith)
@@ -42,7 +42,7 @@ returns c =
     let l = c .before .loop in
     let start = c .before .before .before .before .before in
     let e : l .b ≡ start .args .blocks = omega arith in
-    begun-all (start .args .words .now) (start .args .starts .now) (l .room) (start .args .blocks) 0 (λ b g h. l .inv .2 b (omega arith))
+    λ n. begun-all n (start .args .words .now) (start .args .starts .now) (l .room) (start .args .blocks) 0 (λ b g h. l .inv .2 n b (omega arith))
 
 pub begin-blocks-spec : {M : Type 1} → statement M
 begin-blocks-spec =

@@ -10,7 +10,7 @@ turn-requires c κs =
     let at-load-state = c .before .before in
     let start = at-load-state .before .before .before .before .before .before in
     let state = at-load-state .load-state .ensures in
-    (turn-ready (start .args .words .now) _ _ (start .args .room .now) (start .pre) _ _ _ (state .0) (state .1) (state .2), start .pre .long)
+    (turn-ready _ (start .args .words .now) _ _ (start .args .room .now) (start .pre) _ _ _ (state .0) (state .1) (state .2), start .pre .long)
 
 store-state-requires : tie.Need-store-state-requires
 store-state-requires c κs =
@@ -18,7 +18,7 @@ store-state-requires c κs =
     let at-load-state = at-turn .before .before .before in
     let start = at-load-state .before .before .before .before .before .before in
     let state = at-load-state .load-state .ensures in
-    (search needs, stage-small (start .args .words .now) _ _ (start .args .room .now) (start .pre) _ _ _ (state .0) (state .1) (state .2) (start .args .old .now) (start .args .new .now) _ _ _ _ (at-turn .turn .ensures .0))
+    (search needs, stage-small _ (start .args .words .now) _ _ (start .args .room .now) (start .pre) _ _ _ (state .0) (state .1) (state .2) (start .args .old .now) (start .args .new .now) _ _ _ _ (at-turn .turn .ensures .0))
 
 returns : tie.Need-returns
 returns c =
@@ -32,8 +32,8 @@ returns c =
     let new = start .args .new .now in
     let state = at-load-state .load-state .ensures in
     let turn = at-turn .turn .ensures in (
-      turn-kept words _ _ room (start .pre) _ _ _ (state .0) (state .1) (state .2) old new _ _ _ _ (turn .0) _ (search needs) (at-store-state .store-state .ensures),
-      turn-wrote words _ _ room (start .pre) _ _ _ (state .0) (state .1) (state .2) old new _ _ _ _ (turn .0) _ (turn .1 .0),
+      turn-kept _ words _ _ room (start .pre) _ _ _ (state .0) (state .1) (state .2) old new _ _ _ _ (turn .0) _ (search needs) (at-store-state .store-state .ensures),
+      turn-wrote _ words _ _ room (start .pre) _ _ _ (state .0) (state .1) (state .2) old new _ _ _ _ (turn .0) _ (turn .1 .0),
     )
 
 pub one-turn-spec : {M : Type 1} → statement M
