@@ -31,7 +31,7 @@ use Rattle.reads_section.proofs.PairFormLaws.{form-whole, form-masks}
 use Rattle.rounds.specs.declared.Rounds.{Rounds}
 use Rattle.rounds.specs.declared.Rounds.the-variants.{Placed}
 use Rattle.rounds.specs.declared.Searched.the-variants.{Won, Lost}
-use Rattle.rounds.specs.Rounds.{roundsOf, searchedOf, tableAfter, SetSearchable, Solvable}
+use Rattle.rounds.specs.Rounds.{roundsOf, searchedOf, tableAfter, SetSearchable, Solvable, RoundsReady}
 use Rattle.rounds.proofs.PieceSizeLaws.{tried-is}
 
 -- ---- which outcome: 1, 2, those of the search, 14, each after those before it
@@ -97,6 +97,19 @@ searchable {ws} s few form small = record {
   few-lanes = s .few-lanes;
   keys-room = omega (arith, s .keys-room);
   scratch-room = omega (arith, s .scratch-room);
+}
+
+pub searchable-set : {ws : List ℕ} {t K S n : ℕ} → RoundsReady (length ws) t K S n → length ws ≤ 16384 → broken (pairsOf ws) ≡ none
+    → ((x : ℕ) → getD ws x 0 < 2 ^ 32) → SetSearchable ws t K S n
+searchable-set {ws} s few form small = record {
+  whole = form-whole ws form;
+  few = few;
+  masks = form-masks ws form small;
+  room = s .room;
+  some-lanes = s .some-lanes;
+  few-lanes = s .few-lanes;
+  keys-room = s .keys-room few;
+  scratch-room = s .scratch-room few;
 }
 
 -- ---- a size has won, or none

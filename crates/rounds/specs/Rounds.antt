@@ -60,3 +60,11 @@ pub record Solvable (table keys scratch n : ℕ) : Type 0 where
   pub few-lanes : n ≤ 256
   pub keys-room : 8192 ≤ keys
   pub scratch-room : 8192 ≤ scratch
+
+-- what a set's rounds ask: keys and scratch for each of its pairs, unless it is refused by 1
+pub record RoundsReady (set table keys scratch n : ℕ) : Type 0 where
+  pub room : table ≡ 32 * n
+  pub some-lanes : 0 < n
+  pub few-lanes : n ≤ 256
+  pub keys-room : set ≤ 16384 → set / 2 ≤ keys
+  pub scratch-room : set ≤ 16384 → set / 2 ≤ scratch

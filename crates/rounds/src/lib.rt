@@ -8,7 +8,7 @@ ghost use Rattle.words.specs.Answer.{refused, atItem};
 ghost use Rattle.reads.specs.SetAnswer.{searched, packed, readSet, setFitted, setAnswer, resultAfter, setRoomAfter};
 ghost use Rattle.reads_try.specs.LaneTable.{tableOf};
 ghost use Rattle.reads_try.specs.Tries.{endingOf, triedLanes};
-ghost use Rattle.rounds.specs.Rounds.{roundsOf, searchedOf, numberBefore, tableAfter, SetSearchable, Solvable};
+ghost use Rattle.rounds.specs.Rounds.{roundsOf, searchedOf, numberBefore, tableAfter, SetSearchable, RoundsReady};
 use reads_try::Ending;
 use words::clear::clear;
 use words::edition::Edition;
@@ -19,6 +19,9 @@ use words::refusals;
 const PAIRS: usize = 8192;
 
 const SET_WORDS: usize = 2 * PAIRS;
+
+// A set of few pairs: its search has shorter keys and scratch, because to clear long ones takes longer than it does.
+const FEW_PAIRS: usize = 1024;
 
 const LANE_ROWS: usize = 32 * Edition::LANES;
 
@@ -45,7 +48,8 @@ fn lost(number: u32, item: u32) -> Searched
     })
 }
 
-// 3, 21 or 22, which need no search; 0 where a set meets none of them.
+// 3, 21 or 22, which need no search; 0 where a set meets none of them. No more pairs than lanes have no more than 32 bits a lane, and no more
+// than 17 bits a lane are of no more wide pairs than lanes: then nothing more is counted.
 fn number_before(set: &[u32], lanes: usize) -> u32
     requires { ⌜ (length (now set) % 2 ≡ 0) × (length (now set) ≤ 16384) × (lanes ≤ 256) ⌝ }
     ensures { λ r. ⌜ r ≡ numberBefore lanes (pairsOf (now (set .entry))) ⌝ }
@@ -54,9 +58,15 @@ fn number_before(set: &[u32], lanes: usize) -> u32
     if n == 0 {
         return refusals::NOTHING_TO_READ;
     }
+    if n <= lanes {
+        return 0;
+    }
     let bits = reads_pieces::total_bits(set, 0, n) as usize;
     if 32 * lanes < bits {
         return refusals::MANY_BITS;
+    }
+    if bits <= 17 * lanes {
+        return 0;
     }
     let wide = reads_pieces::wide_pairs(set);
     if lanes < wide {
@@ -171,7 +181,7 @@ pub fn rounds_over(
     scratch: &mut [u64],
     lanes: usize,
 ) -> Rounds
-    requires { ⌜ Solvable (length (now table)) (length (now keys)) (length (now scratch)) lanes ⌝ }
+    requires { ⌜ RoundsReady (length (now set)) (length (now table)) (length (now keys)) (length (now scratch)) lanes ⌝ }
     ensures { λ r. ⌜ r ≡ roundsOf (setFitted lanes (length (now (out .entry))) (readSet lanes (pairsOf (now (set .entry))))) ⌝ }
     ensures { λ _. ⌜ now (out .exit) ≡ resultAfter (setFitted lanes (length (now (out .entry))) (readSet lanes (pairsOf (now (set .entry))))) (now (out .entry)) ⌝ }
 {
@@ -194,6 +204,31 @@ pub fn rounds_over(
     }
 }
 
+// The same at 256 lanes, for a set of few pairs.
+fn rounds_of_few(set: &[u32], table: &mut [u32], out: &mut [u32]) -> Rounds
+    requires { ⌜ (length (now set) ≤ 2048) × (length (now table) ≡ 8192) ⌝ }
+    ensures { λ r. ⌜ r ≡ roundsOf (setFitted 256 (length (now (out .entry))) (readSet 256 (pairsOf (now (set .entry))))) ⌝ }
+    ensures { λ _. ⌜ now (out .exit) ≡ resultAfter (setFitted 256 (length (now (out .entry))) (readSet 256 (pairsOf (now (set .entry))))) (now (out .entry)) ⌝ }
+{
+    let mut keys = [0u64; FEW_PAIRS];
+    let mut scratch = [0u64; FEW_PAIRS];
+    rounds_over(set, table, out, &mut keys, &mut scratch, Edition::LANES)
+}
+
+// The same at 256 lanes, for any set.
+fn rounds_of_any(set: &[u32], table: &mut [u32], out: &mut [u32]) -> Rounds
+    requires { ⌜ length (now table) ≡ 8192 ⌝ }
+    ensures { λ r. ⌜ r ≡ roundsOf (setFitted 256 (length (now (out .entry))) (readSet 256 (pairsOf (now (set .entry))))) ⌝ }
+    ensures { λ _. ⌜ now (out .exit) ≡ resultAfter (setFitted 256 (length (now (out .entry))) (readSet 256 (pairsOf (now (set .entry))))) (now (out .entry)) ⌝ }
+{
+    if set.len() <= 2 * FEW_PAIRS {
+        return rounds_of_few(set, table, out);
+    }
+    let mut keys = [0u64; PAIRS];
+    let mut scratch = [0u64; PAIRS];
+    rounds_over(set, table, out, &mut keys, &mut scratch, Edition::LANES)
+}
+
 // The rounds of a read set at 256 lanes: word, mask, word, mask .. in; per round 512 words out. The answer, the lent result and the lent
 // room are as document 01 says.
 pub fn map_global_read_to_rounds(set: &[u32], room: &mut [u32], out: &mut [u32]) -> Rounds
@@ -204,16 +239,7 @@ pub fn map_global_read_to_rounds(set: &[u32], room: &mut [u32], out: &mut [u32])
     if room.len() < 16384 {
         return refused(refusals::ROOM_SHORT, 0);
     }
-    let mut keys = [0u64; PAIRS];
-    let mut scratch = [0u64; PAIRS];
-    let answer = rounds_over(
-        set,
-        &mut room[..LANE_ROWS],
-        out,
-        &mut keys,
-        &mut scratch,
-        Edition::LANES,
-    );
+    let answer = rounds_of_any(set, &mut room[..LANE_ROWS], out);
     clear(room);
     answer
 }
