@@ -138,7 +138,7 @@ module _ {ws : List ℕ} {t K S n : ℕ} (s : SetSearchable ws t K S n) where
   won-kept lanes e =
       let w = size-won n (pairsOf ws) lanes e in
       let k = sizeOf n (pairsOf ws) in
-      let tried : triedOf n k ws (keysOf k (pairsOf ws)) ≡ all lanes = tried-is s (w .size) (keysOf k (pairsOf ws)) refl ∙ w .wins in
+      let tried : triedOf n k ws (keysOf k (pairsOf ws)) ≡ all lanes = tried-is ws n k (s .few) (w .size) (keysOf k (pairsOf ws)) refl ∙ w .wins in
       subst (λ (T : Tried). SoundLanes ws n (triedLanes T)) tried (tried-kept ws (s .whole) (s .masks) n k (keysOf k (pairsOf ws)) (s .some-lanes))
 
   pub won-table : (lanes : List Lane) (table : List ℕ) → lanesOf n (pairsOf ws) ≡ some lanes → table ≡ tableAfter n (lanesOf n (pairsOf ws)) → length table ≡ 32 * n

@@ -1,14 +1,17 @@
 // Read rounds: document 01, "Read rounds". The Rust is `map_global_read_to_rounds`.
 ghost use mathlib.Core.Path.{_≡_};
+ghost use mathlib.Core.Bool.{_&&_};
 ghost use Prim.Native.Nat.{_*_, _/_, _%_, _≤_, _<_};
+ghost use lib.Dec.{ltb};
 ghost use lib.ListN.{length, replicate};
 ghost use Rattle.reads.specs.ReadSet.{pairsOf};
 ghost use Rattle.reads.specs.Search.{try, lanesOf};
 ghost use Rattle.words.specs.Answer.{refused, atItem};
 ghost use Rattle.reads.specs.SetAnswer.{searched, packed, readSet, setFitted, setAnswer, resultAfter, setRoomAfter};
-ghost use Rattle.reads_try.specs.LaneTable.{tableOf};
-ghost use Rattle.reads_try.specs.Tries.{endingOf, triedLanes};
-ghost use Rattle.rounds.specs.Rounds.{roundsOf, searchedOf, numberBefore, tableAfter, SetSearchable, RoundsReady};
+ghost use Rattle.reads_try.specs.declared.Ending.the-variants.{Stuck};
+ghost use Rattle.reads_try.specs.Late.{lateFull};
+ghost use Rattle.reads_pieces.specs.Keys.{keysOf};
+ghost use Rattle.rounds.specs.Rounds.{roundsOf, searchedOf, numberBefore, wordTold, toldOf, wonLanes, tableAfter, TrySet, SetSearchable, RoundsReady};
 use reads_try::Ending;
 use words::clear::clear;
 use words::edition::Edition;
@@ -75,7 +78,58 @@ fn number_before(set: &[u32], lanes: usize) -> u32
     0
 }
 
-// A try at piece size k: the pieces are put in order, and their pairs placed in the empty table.
+// What is told of a try that ended without room, at piece size k: its word, for the last size alone.
+fn told(k: usize, word: u32) -> Ending
+    ensures { λ r. ⌜ r ≡ Stuck (wordTold k word) ⌝ }
+{
+    if 1 < k {
+        Ending::Stuck(0)
+    } else {
+        Ending::Stuck(word)
+    }
+}
+
+// A try at piece size k, its pieces in the order of the keys: their pairs are placed in the empty table, which is empty again if it ends
+// without room.
+fn try_ordered(
+    set: &[u32],
+    keys: &[u64],
+    table: &mut [u32],
+    used: &mut [u32],
+    held: &mut [u32],
+    lanes: usize,
+    k: usize,
+) -> Ending
+    requires { ⌜ TrySet (now set) lanes k × (now keys ≡ keysOf k (pairsOf (now set))) × (now table ≡ replicate (32 * lanes) 0) × (length (now used) ≡ lanes) × (length (now held) ≡ lanes) ⌝ }
+    ensures { λ r. ⌜ r ≡ toldOf k (try lanes (pairsOf (now (set .entry))) k) ⌝ }
+    ensures { λ _. ⌜ now (table .exit) ≡ tableAfter lanes (wonLanes (try lanes (pairsOf (now (set .entry))) k)) ⌝ }
+{
+    clear(used);
+    clear(held);
+    match reads_try::try_size(set, keys, table, used, held, lanes, k) {
+        Ending::All => Ending::All,
+        Ending::Stuck(word) => {
+            clear(table);
+            told(k, word)
+        }
+    }
+}
+
+// Whether a size but the last may be passed over, where it is worth a look: its try would end without room.
+fn passed_over(set: &[u32], keys: &[u64], lanes: usize, k: usize, look: bool) -> bool
+    requires { ⌜ TrySet (now set) lanes k ⌝ }
+    ensures { λ r. ⌜ r ≡ (look && (ltb 1 k && lateFull lanes k (now (set .entry)) (now (keys .entry)))) ⌝ }
+{
+    if !look {
+        return false;
+    }
+    if k <= 1 {
+        return false;
+    }
+    reads_try::late_full(set, keys, lanes, k)
+}
+
+// A try at piece size k, in the empty table: the pieces are put in order, and their pairs placed, unless that is known to end without room.
 fn try_pieces(
     set: &[u32],
     table: &mut [u32],
@@ -85,20 +139,22 @@ fn try_pieces(
     scratch: &mut [u64],
     lanes: usize,
     k: usize,
+    look: bool,
 ) -> Ending
     requires { ⌜ SetSearchable (now set) (length (now table)) (length (now keys)) (length (now scratch)) lanes × (0 < k) × (k ≤ length (now set) / 2) × (now table ≡ replicate (32 * lanes) 0) × (length (now used) ≡ lanes) × (length (now held) ≡ lanes) ⌝ }
-    ensures { λ r. ⌜ r ≡ endingOf (try lanes (pairsOf (now (set .entry))) k) ⌝ }
-    ensures { λ _. ⌜ now (table .exit) ≡ tableOf (triedLanes (try lanes (pairsOf (now (set .entry))) k)) ⌝ }
+    ensures { λ r. ⌜ r ≡ toldOf k (try lanes (pairsOf (now (set .entry))) k) ⌝ }
+    ensures { λ _. ⌜ now (table .exit) ≡ tableAfter lanes (wonLanes (try lanes (pairsOf (now (set .entry))) k)) ⌝ }
 {
     let count = (set.len() / 2 + k - 1) / k;
     reads_pieces::order(set, &mut keys[..count], scratch, k);
-    clear(used);
-    clear(held);
-    reads_try::try_size(set, &keys[..count], table, used, held, lanes, k)
+    if passed_over(set, &keys[..count], lanes, k, look) {
+        return Ending::Stuck(0);
+    }
+    try_ordered(set, &keys[..count], table, used, held, lanes, k)
 }
 
 // The search over the sizes n, n/2, n/4 .. 1, up to the first that places all: then it, with its lanes in the table. Else 4, with the word
-// of the last try, and an empty table. The running numbers of the lanes are lent; what they hold afterwards is left open.
+// of the last try, and an empty table. Sizes are passed over only where the set has a pair of 32 bits. The running numbers of the lanes are lent; what they hold afterwards is left open.
 fn sizes_over(
     set: &[u32],
     table: &mut [u32],
@@ -114,9 +170,10 @@ fn sizes_over(
 {
     let mut word = 0;
     let mut k = set.len() / 2;
+    let look = reads_try::full_in(set, 0, k);
     clear(table);
     while 0 < k {
-        match try_pieces(set, table, used, held, keys, scratch, lanes, k) {
+        match try_pieces(set, table, used, held, keys, scratch, lanes, k, look) {
             Ending::All => {
                 return Searched::Won(k);
             }
@@ -124,7 +181,6 @@ fn sizes_over(
                 word = w;
             }
         }
-        clear(table);
         k /= 2;
     }
     lost(refusals::NO_ROOM_FOUND, word)
