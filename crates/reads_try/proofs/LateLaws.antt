@@ -10,7 +10,7 @@ use native.Mathlib.Numerals.{add-one}
 use native.Mathlib.Omega.{arith}
 use borrow.Author.Tests.{eqb-true, eqb-false, leb-true, leb-false, eq-eqb, ne-eqb, le-leb, lt-leb}
 use lib.Dec.{eqb, leb}
-use lib.ListN.{length, getD, set, take, drop, replicate, length-set, length-replicate, drop-of-length-le, List·getD-eq-default}
+use lib.ListN.{length, getD, drop, replicate, length-set, length-replicate, drop-of-length-le, List·getD-eq-default}
 use lib.Seq.{slice, drop-cons, drop-nil, drop-drop, length-slice, getD-set-same, getD-set-other}
 use Rattle.words.specs.Bit.{pop, popIn}
 use Rattle.words.specs.Round.{next}

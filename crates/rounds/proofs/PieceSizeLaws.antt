@@ -136,8 +136,8 @@ module _ {ws : List ℕ} {n k : ℕ} (s : TrySet ws n k) where
 
 -- the look at the keys, test by test
 
-pub look-none : (look late : Bool) → look ≡ false → false ≡ (look && late)
-look-none look late e = rw e
+pub not-looked : (look late : Bool) → look ≡ false → false ≡ (look && late)
+not-looked look late e = rw e
 
 pub look-last : (look : Bool) (k : ℕ) (late : Bool) → look ≡ true → k ≤ 1 → false ≡ (look && (ltb 1 k && late))
 look-last look k late e h = rw (e, le-ltb 1 k h)

@@ -1,9 +1,7 @@
 -- `full_in`: a pair of 32 bits is among those that are left as it is among all.
 -- Assumes nothing.
 use mathlib.Core.Path.{_≡_, sym, _∙_}
-use Prim.Native.Nat.{_+_, _*_, _-_, _/_, _≤_}
-use native.Mathlib.Omega.{arith}
-use lib.ListN.{length}
+use Prim.Native.Nat.{_-_}
 use lib.Seq.{slice}
 use borrow.Author.Needs.{needs}
 use Rattle.reads.specs.ReadSet.{pairsOf}

@@ -2,7 +2,7 @@
 -- Assumes nothing.
 use native.Mathlib.Omega.{arith}
 use borrow.Author.Tests.{not-true, not-false}
-use Rattle.rounds.proofs.PieceSizeLaws.{look-none, look-last, look-late}
+use Rattle.rounds.proofs.PieceSizeLaws.{not-looked, look-last, look-late}
 use Rattle.rounds.proofs.passed_over.Statement.{statement}
 use Rattle.rounds.proofs.passed_over.Tie as tie
 
@@ -11,7 +11,7 @@ abbrev called : tie.Else1 → tie.Start
 called c = c .before .before .before
 
 returns : tie.Need-returns
-returns c = look-none (c .before .before .before .args .look) _ (not-true _ (c .if1 .taken))
+returns c = not-looked (c .before .before .before .args .look) _ (not-true _ (c .if1 .taken))
 
 returns-2 : tie.Need-returns-2
 returns-2 c = look-last (called (c .before) .args .look) (called (c .before) .args .k) _ (not-false _ (c .before .if1 .left)) (c .if2 .taken)

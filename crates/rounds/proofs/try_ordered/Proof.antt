@@ -1,6 +1,6 @@
 -- `try_ordered`: the running numbers begin at 0, and the two ends of a try are those of the definition's.
 -- Assumes nothing.
-use mathlib.Core.Path.{_≡_, _∙_}
+use mathlib.Core.Path.{_∙_}
 use Prim.Native.Nat.{_*_}
 use Rattle.rounds.proofs.PieceSizeLaws.{zeros-length, table-cleared, ready, ordered-won, ordered-lost}
 use borrow.Author.Needs.{needs}
