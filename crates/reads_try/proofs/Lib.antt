@@ -3,3 +3,4 @@ pub mod LaneTableLaws
 pub mod LaneLoadLaws
 pub mod PairPlacedLaws
 pub mod TryLaws
+pub mod LateLaws

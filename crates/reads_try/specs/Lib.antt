@@ -1,3 +1,4 @@
 pub mod LaneTable
+pub mod Late
 pub mod TableLanes
 pub mod Tries

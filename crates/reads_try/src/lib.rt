@@ -1,10 +1,12 @@
 // The lanes: the search for room, and one try.
 ghost use mathlib.Core.Path.{_≡_};
 ghost use mathlib.Core.List.{_++_};
-ghost use Prim.Native.Nat.{_+_, _*_, min};
+ghost use Prim.Native.Nat.{_+_, _*_, _-_, _/_, _%_, _≤_, min};
 ghost use lib.ListN.{length, getD, set, drop};
-ghost use Rattle.reads.specs.ReadSet.{total};
+ghost use lib.Seq.{slice};
+ghost use Rattle.reads.specs.ReadSet.{total, pairsOf};
 ghost use Rattle.reads_try.specs.LaneTable.{tableOf, usedOf, heldOf};
+ghost use Rattle.reads_try.specs.Late.{anyFull, lateFull};
 ghost use Rattle.reads_try.specs.TableLanes.{pairAt, laneOf, rowAt, lanesAt, putInLane};
 ghost use Rattle.reads_try.specs.Tries.{laneFound, firstFree, laneFor, nextOf, lanesAfter, endingOf, triedLanes, triedOf, RowNamed, LaneRowIn, LanesSearchable, PairPuttable, PairPlaceable, TryReady};
 use words::round::next_of;
@@ -157,4 +159,48 @@ pub fn try_size(
         t += 1;
     }
     ending
+}
+
+// Whether a pair from a to e has all 32 bits.
+pub fn full_in(set: &[u32], a: usize, e: usize) -> bool
+    requires { ⌜ e ≤ length (now set) / 2 ⌝ }
+    ensures { λ r. ⌜ r ≡ anyFull (slice a e (pairsOf (now (set .entry)))) ⌝ }
+{
+    let mut p = a;
+    while p < e {
+        if set[2 * p + 1] == 0xFFFF_FFFF {
+            return true;
+        }
+        p += 1;
+    }
+    false
+}
+
+// x less y, or 0.
+fn left_of(x: usize, y: usize) -> usize
+    ensures { λ r. ⌜ r ≡ x - y ⌝ }
+{
+    if x < y { 0 } else { x - y }
+}
+
+// Whether a pair of 32 bits comes after as many pairs as there are lanes, the pieces in the order of the keys: then the try of that order ends
+// without room.
+pub fn late_full(set: &[u32], keys: &[u64], lanes: usize, k: usize) -> bool
+    requires { ⌜ (length (now set) % 2 ≡ 0) × (length (now set) ≤ 16384) × (lanes ≤ 256) × (k ≤ 8192) ⌝ }
+    ensures { λ r. ⌜ r ≡ lateFull lanes k (now (set .entry)) (now (keys .entry)) ⌝ }
+{
+    let n = set.len() / 2;
+    let mut left = lanes;
+    let mut t = 0;
+    while t < keys.len() {
+        let i = (keys[t] % 8192) as usize;
+        let a = least(i * k, n);
+        let e = least(a + k, n);
+        if full_in(set, a + left, e) {
+            return true;
+        }
+        left = left_of(left, e - a);
+        t += 1;
+    }
+    false
 }

@@ -3,25 +3,46 @@
 use mathlib.Core.Path.{_≡_, refl, sym, ap, _∙_}
 use mathlib.Core.Bool.{Bool, true, false}
 use mathlib.Core.Option.{Option, none, some}
-use mathlib.Core.List.{List}
-use Prim.Native.Nat.{ℕ, _*_, _/_, _%_, _≤_, _<_}
+use mathlib.Core.List.{List, [], _∷_}
+use Prim.Native.Nat.{ℕ, _*_, _/_, _%_, _≤_, _<_, zero-le}
 use native.Mathlib.Omega.{arith}
-use borrow.Author.Tests.{leb-false, le-leb, lt-leb, ltb-true, ltb-false, lt-ltb, le-ltb}
+use borrow.Author.Tests.{leb-true, leb-false, le-leb, lt-leb, ltb-true, ltb-false, lt-ltb, le-ltb}
 use lib.Dec.{leb, ltb}
 use lib.ListN.{length, replicate}
 use lib.Seq.{slice}
+use Rattle.words.specs.Bit.{pop}
 use Rattle.words.specs.Answer.{refused, nowhere}
 use Rattle.reads.specs.ReadSet.{Pair, total, pairsOf}
 use Rattle.reads.specs.Search.{Lane, firstWin, lanesFound, lanesOf}
-use Rattle.reads.specs.Packing.{Packing, widePairs}
+use Rattle.reads.specs.Packing.{Packing, weigh, wideMask, widePairs}
 use Rattle.reads.specs.SetAnswer.{searched, packed}
 use Rattle.reads.proofs.SearchLaws.{win-none}
 use Rattle.reads.proofs.PackingLaws.{lanes-packing}
 use Rattle.reads.proofs.BoundLaws.{too-many-bits, too-many-wide}
-use Rattle.reads_try.proofs.SetPairLaws.{pairs-length}
-use Rattle.reads_pieces.proofs.PieceKeyLaws.{slice-whole}
+use Rattle.reads_try.proofs.SetPairLaws.{pairs-length, total-le}
+use Rattle.reads_pieces.proofs.PieceKeyLaws.{slice-whole, wide-le}
 use Rattle.rounds.specs.declared.Searched.{Searched}
 use Rattle.rounds.specs.Rounds.{searchedOf, numberBefore, tableAfter}
+
+-- ---- few pairs, or few bits, have few wide pairs
+
+pub wide-pairs-few : (ps : List Pair) → widePairs ps ≤ length ps
+unfolding weigh
+wide-pairs-few [] = omega arith
+wide-pairs-few (p ∷ ps) = omega (arith, wide-le (p .mask), wide-pairs-few ps)
+
+wide-bits : (m : ℕ) → 17 * wideMask m ≤ pop m
+unfolding wideMask
+wide-bits m = go (leb 17 (pop m)) refl
+  where
+    go : (t : Bool) → leb 17 (pop m) ≡ t → 17 * wideMask m ≤ pop m
+    go true e = rw (e, wideMask) (leb-true 17 (pop m) e)
+    go false e = rw (e, wideMask) zero-le
+
+pub wide-pairs-bits : (ps : List Pair) → 17 * widePairs ps ≤ total ps
+unfolding weigh total
+wide-pairs-bits [] = omega arith
+wide-pairs-bits (p ∷ ps) = omega (arith, wide-bits (p .mask), wide-pairs-bits ps)
 
 -- ---- the number, as the code comes to it: b bits, w wide pairs
 
@@ -29,6 +50,17 @@ module _ (n : ℕ) (ws : List ℕ) (whole : length ws % 2 ≡ 0) where
   pub before-none : length ws / 2 ≡ 0 → 3 ≡ numberBefore n (pairsOf ws)
   unfolding numberBefore
   before-none z = rw (le-ltb 0 (length (pairsOf ws)) (omega (arith, pairs-length 0 ws)), numberBefore)
+
+  -- no more pairs than lanes
+  pub before-small : (length ws / 2 ≡ 0 → ⊥) → length ws / 2 ≤ n → 0 ≡ numberBefore n (pairsOf ws)
+  unfolding numberBefore
+  before-small some-pairs h =
+      let ps = pairsOf ws in
+      let long : length ps ≡ length ws / 2 = omega (arith, pairs-length 0 ws) in
+      let there : ltb 0 (length ps) ≡ true = lt-ltb 0 (length ps) (omega arith) in
+      let few-bits : leb (total ps) (32 * n) ≡ true = le-leb (total ps) (32 * n) (omega (arith, total-le ps)) in
+      let few-wide : leb (widePairs ps) n ≡ true = le-leb (widePairs ps) n (omega (arith, wide-pairs-few ps)) in
+      rw (there, few-bits, few-wide, numberBefore)
 
   module _ (some-pairs : length ws / 2 ≡ 0 → ⊥) (b : ℕ) (eb : b ≡ total (slice 0 (length ws / 2) (pairsOf ws))) where
     there : ltb 0 (length (pairsOf ws)) ≡ true
@@ -52,6 +84,10 @@ module _ (n : ℕ) (ws : List ℕ) (whole : length ws % 2 ≡ 0) where
       pub before-fine : w ≤ n → 0 ≡ numberBefore n (pairsOf ws)
       unfolding numberBefore
       before-fine h = rw (there, few-bits, le-leb (widePairs (pairsOf ws)) n (omega (arith, ew)), numberBefore)
+
+    -- no more than 17 bits a lane
+    pub before-narrow : b ≤ 17 * n → 0 ≡ numberBefore n (pairsOf ws)
+    before-narrow h = before-fine (omega arith) (widePairs (pairsOf ws)) refl (omega (arith, bits-are, wide-pairs-bits (pairsOf ws)))
 
 -- ---- what it says of the set
 

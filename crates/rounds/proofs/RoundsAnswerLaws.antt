@@ -31,7 +31,7 @@ use Rattle.reads_section.proofs.PairFormLaws.{form-whole, form-masks}
 use Rattle.rounds.specs.declared.Rounds.{Rounds}
 use Rattle.rounds.specs.declared.Rounds.the-variants.{Placed}
 use Rattle.rounds.specs.declared.Searched.the-variants.{Won, Lost}
-use Rattle.rounds.specs.Rounds.{roundsOf, searchedOf, tableAfter, SetSearchable, Solvable}
+use Rattle.rounds.specs.Rounds.{roundsOf, searchedOf, tableAfter, SetSearchable, Solvable, RoundsReady}
 use Rattle.rounds.proofs.PieceSizeLaws.{tried-is}
 
 -- ---- which outcome: 1, 2, those of the search, 14, each after those before it
@@ -99,6 +99,19 @@ searchable {ws} s few form small = record {
   scratch-room = omega (arith, s .scratch-room);
 }
 
+pub searchable-set : {ws : List ℕ} {t K S n : ℕ} → RoundsReady (length ws) t K S n → length ws ≤ 16384 → broken (pairsOf ws) ≡ none
+    → ((x : ℕ) → getD ws x 0 < 2 ^ 32) → SetSearchable ws t K S n
+searchable-set {ws} s few form small = record {
+  whole = form-whole ws form;
+  few = few;
+  masks = form-masks ws form small;
+  room = s .room;
+  some-lanes = s .some-lanes;
+  few-lanes = s .few-lanes;
+  keys-room = s .keys-room few;
+  scratch-room = s .scratch-room few;
+}
+
 -- ---- a size has won, or none
 
 pub lost-is : (D : Answer Packed) (q : Refusal) → searchedOf D ≡ Lost q → D ≡ refused q
@@ -125,7 +138,7 @@ module _ {ws : List ℕ} {t K S n : ℕ} (s : SetSearchable ws t K S n) where
   won-kept lanes e =
       let w = size-won n (pairsOf ws) lanes e in
       let k = sizeOf n (pairsOf ws) in
-      let tried : triedOf n k ws (keysOf k (pairsOf ws)) ≡ all lanes = tried-is s (w .size) (keysOf k (pairsOf ws)) refl ∙ w .wins in
+      let tried : triedOf n k ws (keysOf k (pairsOf ws)) ≡ all lanes = tried-is ws n k (s .few) (w .size) (keysOf k (pairsOf ws)) refl ∙ w .wins in
       subst (λ (T : Tried). SoundLanes ws n (triedLanes T)) tried (tried-kept ws (s .whole) (s .masks) n k (keysOf k (pairsOf ws)) (s .some-lanes))
 
   pub won-table : (lanes : List Lane) (table : List ℕ) → lanesOf n (pairsOf ws) ≡ some lanes → table ≡ tableAfter n (lanesOf n (pairsOf ws)) → length table ≡ 32 * n

@@ -1,14 +1,17 @@
 // Read rounds: document 01, "Read rounds". The Rust is `map_global_read_to_rounds`.
 ghost use mathlib.Core.Path.{_≡_};
+ghost use mathlib.Core.Bool.{_&&_};
 ghost use Prim.Native.Nat.{_*_, _/_, _%_, _≤_, _<_};
+ghost use lib.Dec.{ltb};
 ghost use lib.ListN.{length, replicate};
 ghost use Rattle.reads.specs.ReadSet.{pairsOf};
 ghost use Rattle.reads.specs.Search.{try, lanesOf};
 ghost use Rattle.words.specs.Answer.{refused, atItem};
 ghost use Rattle.reads.specs.SetAnswer.{searched, packed, readSet, setFitted, setAnswer, resultAfter, setRoomAfter};
-ghost use Rattle.reads_try.specs.LaneTable.{tableOf};
-ghost use Rattle.reads_try.specs.Tries.{endingOf, triedLanes};
-ghost use Rattle.rounds.specs.Rounds.{roundsOf, searchedOf, numberBefore, tableAfter, SetSearchable, Solvable};
+ghost use Rattle.reads_try.specs.declared.Ending.the-variants.{Stuck};
+ghost use Rattle.reads_try.specs.Late.{lateFull};
+ghost use Rattle.reads_pieces.specs.Keys.{keysOf};
+ghost use Rattle.rounds.specs.Rounds.{roundsOf, searchedOf, numberBefore, wordTold, toldOf, wonLanes, tableAfter, TrySet, SetSearchable, RoundsReady};
 use reads_try::Ending;
 use words::clear::clear;
 use words::edition::Edition;
@@ -19,6 +22,9 @@ use words::refusals;
 const PAIRS: usize = 8192;
 
 const SET_WORDS: usize = 2 * PAIRS;
+
+// A set of few pairs: its search has shorter keys and scratch, because to clear long ones takes longer than it does.
+const FEW_PAIRS: usize = 1024;
 
 const LANE_ROWS: usize = 32 * Edition::LANES;
 
@@ -45,7 +51,8 @@ fn lost(number: u32, item: u32) -> Searched
     })
 }
 
-// 3, 21 or 22, which need no search; 0 where a set meets none of them.
+// 3, 21 or 22, which need no search; 0 where a set meets none of them. No more pairs than lanes have no more than 32 bits a lane, and no more
+// than 17 bits a lane are of no more wide pairs than lanes: then nothing more is counted.
 fn number_before(set: &[u32], lanes: usize) -> u32
     requires { ⌜ (length (now set) % 2 ≡ 0) × (length (now set) ≤ 16384) × (lanes ≤ 256) ⌝ }
     ensures { λ r. ⌜ r ≡ numberBefore lanes (pairsOf (now (set .entry))) ⌝ }
@@ -54,9 +61,15 @@ fn number_before(set: &[u32], lanes: usize) -> u32
     if n == 0 {
         return refusals::NOTHING_TO_READ;
     }
+    if n <= lanes {
+        return 0;
+    }
     let bits = reads_pieces::total_bits(set, 0, n) as usize;
     if 32 * lanes < bits {
         return refusals::MANY_BITS;
+    }
+    if bits <= 17 * lanes {
+        return 0;
     }
     let wide = reads_pieces::wide_pairs(set);
     if lanes < wide {
@@ -65,7 +78,58 @@ fn number_before(set: &[u32], lanes: usize) -> u32
     0
 }
 
-// A try at piece size k: the pieces are put in order, and their pairs placed in the empty table.
+// What is told of a try that ended without room, at piece size k: its word, for the last size alone.
+fn told(k: usize, word: u32) -> Ending
+    ensures { λ r. ⌜ r ≡ Stuck (wordTold k word) ⌝ }
+{
+    if 1 < k {
+        Ending::Stuck(0)
+    } else {
+        Ending::Stuck(word)
+    }
+}
+
+// A try at piece size k, its pieces in the order of the keys: their pairs are placed in the empty table, which is empty again if it ends
+// without room.
+fn try_ordered(
+    set: &[u32],
+    keys: &[u64],
+    table: &mut [u32],
+    used: &mut [u32],
+    held: &mut [u32],
+    lanes: usize,
+    k: usize,
+) -> Ending
+    requires { ⌜ TrySet (now set) lanes k × (now keys ≡ keysOf k (pairsOf (now set))) × (now table ≡ replicate (32 * lanes) 0) × (length (now used) ≡ lanes) × (length (now held) ≡ lanes) ⌝ }
+    ensures { λ r. ⌜ r ≡ toldOf k (try lanes (pairsOf (now (set .entry))) k) ⌝ }
+    ensures { λ _. ⌜ now (table .exit) ≡ tableAfter lanes (wonLanes (try lanes (pairsOf (now (set .entry))) k)) ⌝ }
+{
+    clear(used);
+    clear(held);
+    match reads_try::try_size(set, keys, table, used, held, lanes, k) {
+        Ending::All => Ending::All,
+        Ending::Stuck(word) => {
+            clear(table);
+            told(k, word)
+        }
+    }
+}
+
+// Whether a size but the last may be passed over, where it is worth a look: its try would end without room.
+fn passed_over(set: &[u32], keys: &[u64], lanes: usize, k: usize, look: bool) -> bool
+    requires { ⌜ TrySet (now set) lanes k ⌝ }
+    ensures { λ r. ⌜ r ≡ (look && (ltb 1 k && lateFull lanes k (now (set .entry)) (now (keys .entry)))) ⌝ }
+{
+    if !look {
+        return false;
+    }
+    if k <= 1 {
+        return false;
+    }
+    reads_try::late_full(set, keys, lanes, k)
+}
+
+// A try at piece size k, in the empty table: the pieces are put in order, and their pairs placed, unless that is known to end without room.
 fn try_pieces(
     set: &[u32],
     table: &mut [u32],
@@ -75,20 +139,22 @@ fn try_pieces(
     scratch: &mut [u64],
     lanes: usize,
     k: usize,
+    look: bool,
 ) -> Ending
     requires { ⌜ SetSearchable (now set) (length (now table)) (length (now keys)) (length (now scratch)) lanes × (0 < k) × (k ≤ length (now set) / 2) × (now table ≡ replicate (32 * lanes) 0) × (length (now used) ≡ lanes) × (length (now held) ≡ lanes) ⌝ }
-    ensures { λ r. ⌜ r ≡ endingOf (try lanes (pairsOf (now (set .entry))) k) ⌝ }
-    ensures { λ _. ⌜ now (table .exit) ≡ tableOf (triedLanes (try lanes (pairsOf (now (set .entry))) k)) ⌝ }
+    ensures { λ r. ⌜ r ≡ toldOf k (try lanes (pairsOf (now (set .entry))) k) ⌝ }
+    ensures { λ _. ⌜ now (table .exit) ≡ tableAfter lanes (wonLanes (try lanes (pairsOf (now (set .entry))) k)) ⌝ }
 {
     let count = (set.len() / 2 + k - 1) / k;
     reads_pieces::order(set, &mut keys[..count], scratch, k);
-    clear(used);
-    clear(held);
-    reads_try::try_size(set, &keys[..count], table, used, held, lanes, k)
+    if passed_over(set, &keys[..count], lanes, k, look) {
+        return Ending::Stuck(0);
+    }
+    try_ordered(set, &keys[..count], table, used, held, lanes, k)
 }
 
 // The search over the sizes n, n/2, n/4 .. 1, up to the first that places all: then it, with its lanes in the table. Else 4, with the word
-// of the last try, and an empty table. The running numbers of the lanes are lent; what they hold afterwards is left open.
+// of the last try, and an empty table. Sizes are passed over only where the set has a pair of 32 bits. The running numbers of the lanes are lent; what they hold afterwards is left open.
 fn sizes_over(
     set: &[u32],
     table: &mut [u32],
@@ -104,9 +170,10 @@ fn sizes_over(
 {
     let mut word = 0;
     let mut k = set.len() / 2;
+    let look = reads_try::full_in(set, 0, k);
     clear(table);
     while 0 < k {
-        match try_pieces(set, table, used, held, keys, scratch, lanes, k) {
+        match try_pieces(set, table, used, held, keys, scratch, lanes, k, look) {
             Ending::All => {
                 return Searched::Won(k);
             }
@@ -114,7 +181,6 @@ fn sizes_over(
                 word = w;
             }
         }
-        clear(table);
         k /= 2;
     }
     lost(refusals::NO_ROOM_FOUND, word)
@@ -171,7 +237,7 @@ pub fn rounds_over(
     scratch: &mut [u64],
     lanes: usize,
 ) -> Rounds
-    requires { ⌜ Solvable (length (now table)) (length (now keys)) (length (now scratch)) lanes ⌝ }
+    requires { ⌜ RoundsReady (length (now set)) (length (now table)) (length (now keys)) (length (now scratch)) lanes ⌝ }
     ensures { λ r. ⌜ r ≡ roundsOf (setFitted lanes (length (now (out .entry))) (readSet lanes (pairsOf (now (set .entry))))) ⌝ }
     ensures { λ _. ⌜ now (out .exit) ≡ resultAfter (setFitted lanes (length (now (out .entry))) (readSet lanes (pairsOf (now (set .entry))))) (now (out .entry)) ⌝ }
 {
@@ -194,6 +260,31 @@ pub fn rounds_over(
     }
 }
 
+// The same at 256 lanes, for a set of few pairs.
+fn rounds_of_few(set: &[u32], table: &mut [u32], out: &mut [u32]) -> Rounds
+    requires { ⌜ (length (now set) ≤ 2048) × (length (now table) ≡ 8192) ⌝ }
+    ensures { λ r. ⌜ r ≡ roundsOf (setFitted 256 (length (now (out .entry))) (readSet 256 (pairsOf (now (set .entry))))) ⌝ }
+    ensures { λ _. ⌜ now (out .exit) ≡ resultAfter (setFitted 256 (length (now (out .entry))) (readSet 256 (pairsOf (now (set .entry))))) (now (out .entry)) ⌝ }
+{
+    let mut keys = [0u64; FEW_PAIRS];
+    let mut scratch = [0u64; FEW_PAIRS];
+    rounds_over(set, table, out, &mut keys, &mut scratch, Edition::LANES)
+}
+
+// The same at 256 lanes, for any set.
+fn rounds_of_any(set: &[u32], table: &mut [u32], out: &mut [u32]) -> Rounds
+    requires { ⌜ length (now table) ≡ 8192 ⌝ }
+    ensures { λ r. ⌜ r ≡ roundsOf (setFitted 256 (length (now (out .entry))) (readSet 256 (pairsOf (now (set .entry))))) ⌝ }
+    ensures { λ _. ⌜ now (out .exit) ≡ resultAfter (setFitted 256 (length (now (out .entry))) (readSet 256 (pairsOf (now (set .entry))))) (now (out .entry)) ⌝ }
+{
+    if set.len() <= 2 * FEW_PAIRS {
+        return rounds_of_few(set, table, out);
+    }
+    let mut keys = [0u64; PAIRS];
+    let mut scratch = [0u64; PAIRS];
+    rounds_over(set, table, out, &mut keys, &mut scratch, Edition::LANES)
+}
+
 // The rounds of a read set at 256 lanes: word, mask, word, mask .. in; per round 512 words out. The answer, the lent result and the lent
 // room are as document 01 says.
 pub fn map_global_read_to_rounds(set: &[u32], room: &mut [u32], out: &mut [u32]) -> Rounds
@@ -204,16 +295,7 @@ pub fn map_global_read_to_rounds(set: &[u32], room: &mut [u32], out: &mut [u32])
     if room.len() < 16384 {
         return refused(refusals::ROOM_SHORT, 0);
     }
-    let mut keys = [0u64; PAIRS];
-    let mut scratch = [0u64; PAIRS];
-    let answer = rounds_over(
-        set,
-        &mut room[..LANE_ROWS],
-        out,
-        &mut keys,
-        &mut scratch,
-        Edition::LANES,
-    );
+    let answer = rounds_of_any(set, &mut room[..LANE_ROWS], out);
     clear(room);
     answer
 }

@@ -14,7 +14,7 @@ use Rattle.reads.proofs.SetAnswerLaws.{placed-lanes, placed-sound}
 use Rattle.reads_try.specs.TableLanes.{lanesAt}
 use Rattle.reads_section.specs.Readout.{TableReadable}
 use Rattle.rounds.specs.Rounds.{SetSearchable}
-use Rattle.rounds.proofs.RoundsAnswerLaws.{is-many, is-bad, is-read, is-lost, is-short, is-placed, refused-post, placed-post, searchable, lost-is, won-is, won-table, won-small, size-fits}
+use Rattle.rounds.proofs.RoundsAnswerLaws.{is-many, is-bad, is-read, is-lost, is-short, is-placed, refused-post, placed-post, searchable-set, lost-is, won-is, won-table, won-small, size-fits}
 use borrow.Author.Needs.{needs}
 use Rattle.rounds.proofs.rounds_over.Statement.{statement}
 use Rattle.rounds.proofs.rounds_over.Tie as tie
@@ -37,7 +37,7 @@ search-in : (c : tie.After-enum-told)
 search-in c =
     let at-if1 = c .before .before .before in
     let at-known = at-if1 .before .before .before .before .before in
-    searchable (called c .pre) (few-in c) (form-in c) (λ x. at-known .shared-slice-known .given x .fits)
+    searchable-set (called c .pre) (few-in c) (form-in c) (λ x. at-known .shared-slice-known .given x .fits)
 
 -- after the search
 abbrev formed : tie.After-search-sizes → tie.After-enum-told

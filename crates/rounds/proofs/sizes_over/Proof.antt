@@ -5,23 +5,23 @@ use Prim.Native.Nat.{_*_}
 use native.Mathlib.Omega.{arith}
 use lib.ListN.{length, replicate}
 use Rattle.reads.specs.ReadSet.{pairsOf}
-use Rattle.rounds.proofs.PieceSizeLaws.{zeros-length, table-cleared, Left, pairs-whole, search-few, search-still, search-start, left-end, left-on, left-won}
+use Rattle.rounds.proofs.PieceSizeLaws.{zeros-length, table-cleared, Left, pairs-whole, search-few, search-still, search-start, left-end, left-empty, left-on, left-won}
 use borrow.Author.Needs.{needs}
 use Rattle.rounds.proofs.sizes_over.Statement.{statement}
 use Rattle.rounds.proofs.sizes_over.Tie as tie
 
 abbrev Inv-loop : tie.InvT-loop
-Inv-loop set table₀ used₀ held₀ keys₀ scratch₀ lanes word₀ k₀ table used held keys scratch word k =
+Inv-loop set table₀ used₀ held₀ keys₀ scratch₀ lanes word₀ k₀ look table used held keys scratch word k =
     (length keys ≡ length keys₀) × (length scratch ≡ length scratch₀) × (table ≡ replicate (32 * lanes) 0) × Left lanes (pairsOf set) k word
     × (length used ≡ lanes) × (length held ≡ lanes)
 
 abbrev μ-loop : tie.MeasureT-loop
-μ-loop set table₀ used₀ held₀ keys₀ scratch₀ lanes word₀ k₀ table used held keys scratch word k = k
+μ-loop set table₀ used₀ held₀ keys₀ scratch₀ lanes word₀ k₀ look table used held keys scratch word k = k
 
 -- in the loop: what the function was called with; a turn, and its try
 abbrev called : tie.At-loop Inv-loop μ-loop → tie.Start Inv-loop μ-loop
 called c =
-    let way = c .before .before .before .before .before in
+    let way = c .before .before .before .before .before .before in
     way .before .before .before .before .before .before
 
 abbrev turn : tie.After-try-pieces Inv-loop μ-loop → tie.In-loop Inv-loop μ-loop
@@ -34,7 +34,7 @@ tried c =
 
 loop-holds : tie.Need-loop-holds Inv-loop μ-loop
 loop-holds c =
-    let way = c .before .before .before .before in
+    let way = c .before .before .before .before .before in
     let start = way .before .before .before .before .before .before in
     let s = start .pre .0 in
     (refl, refl, table-cleared (start .args .table .now) _ (c .before .before .clear .ensures) (s .room), search-start s (start .pre .3), start .pre .1, start .pre .2)
@@ -77,7 +77,7 @@ returns c =
 
 loop-again : tie.Need-loop-again Inv-loop μ-loop
 loop-again c =
-    let at-word = c .before .before .before .before .before in
+    let at-word = c .before in
     let way = at-word .before .before .before .before .before .before in
     let at-try = way .before .before .before .before .before .before in
     let at-turn = turn at-try in
@@ -86,7 +86,7 @@ loop-again c =
     let t = at-try .try-pieces in (
       t .kept .1 .1 .1 .1 .0 ∙ l .inv .0,
       t .kept .1 .1 .1 .1 .1 .0 ∙ l .inv .1,
-      table-cleared (t .last .1 .0) (32 * start .args .lanes) (c .before .before .clear2 .ensures) (t .kept .1 .0 ∙ zeros-length (l .inv .2)),
+      left-empty (start .args .lanes) (pairsOf (start .args .set .now)) (search-few (start .pre .0)) (l .k) _ (t .ensures .0) _ (at-word .w .given .1) _ (t .ensures .1),
       left-on _ _ (search-few (start .pre .0)) (l .k) (l .word) (at-turn .loop-test .taken) (l .inv .3) _ (t .ensures .0) _ (at-word .w .given .1),
       t .kept .1 .1 .0 ∙ l .inv .4,
       t .kept .1 .1 .1 .0 ∙ l .inv .5,
@@ -116,6 +116,6 @@ returns-2 c =
 pub sizes-over-spec : {M : Type 1} → statement M
 sizes-over-spec =
     tie.close
-    (tie.spec Inv-loop μ-loop (λ c κs. search needs) loop-holds try-pieces-requires (λ c. search needs) same-length same-length-2 same-length-3
-    (λ c. search needs) (λ c. search needs) returns (λ c. search needs) (λ c κs. search needs) (λ c. search needs) loop-again
+    (tie.spec Inv-loop μ-loop (λ c κs. search needs) (λ c κs. search needs) loop-holds try-pieces-requires (λ c. search needs) same-length
+    same-length-2 same-length-3 (λ c. search needs) (λ c. search needs) returns (λ c. search needs) (λ c. search needs) loop-again
     (λ c κs. search needs) same-length-6 same-length-7 same-length-8 (λ c. search needs) (λ c. search needs) returns-2)
