@@ -33,7 +33,7 @@ slice-aggregate-bad-pin c =
     let way = c .before .before .before .before in
     let k = way .before .before .before in
     let s = k .before .before .before .before .before .before in
-    list-size (s .args .d .now) (s .args .p) (s .args .list .now) _ _ (s .pre .1) (k .list-planned .ensures .0) (k .list-planned .ensures .1 .1 .0)
+    list-size (s .args .d .now) (s .args .p) (s .args .keys .now) _ _ (s .pre .1) (k .list-planned .ensures .0) (k .list-planned .ensures .1 .1 .0)
 
 bad-pin-requires : tie.Need-bad-pin-requires
 bad-pin-requires c κs =
@@ -42,11 +42,11 @@ bad-pin-requires c κs =
     let s = k .before .before .before .before .before .before in
     let d = s .args .d .now in
     let p = s .args .p in
-    let list = s .args .list .now in
+    let keys = s .args .keys .now in
     let e = k .list-planned .ensures in (
       part-slots d p (s .args .body) (s .args .room .now) (s .args .state) (s .pre .0) _ _ (e .1 .0) refl _ (c .before .parts-earlier .ensures),
-      list-front d p list _ _ (s .pre .1) (e .0) (e .1 .1 .0),
-      list-small d p list _ _ (s .pre .1) (e .0) (e .1 .1 .0) (e .1 .1 .1),
+      list-front d p keys _ _ (s .pre .1) (e .0) (e .1 .1 .0),
+      list-small d p keys _ _ (s .pre .1) (e .0) (e .1 .1 .0) (e .1 .1 .1),
     )
 
 slice-aggregate-clear : tie.Need-slice-aggregate-clear
