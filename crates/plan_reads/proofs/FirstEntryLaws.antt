@@ -31,11 +31,11 @@ use Rattle.plan_positions.specs.Positions.{positionRight, twelveRight, refusal1
 use Rattle.plan_winners.specs.Planned.{Planned, planned}
 use Rattle.plan_reads.specs.PartReads.{bitNumber, orZero, askedBy, askedTo, readWords, partReads, packedIn, partLanes, localPosition}
 use Rattle.plan_reads.specs.ReadsReady.{plannedNumber, AllNarrow, AllPlanned, SetInForm}
-use Rattle.plan_reads.specs.Bases.{storeLanes, localBy}
+use Rattle.reads_local.specs.Bases.{storeLanes, localBy}
 use Rattle.plan_reads.specs.Entries.{firstEntry, NumberedAt, AllNumbered}
 use Rattle.plan_reads.proofs.AskedLaws.{slotAsks, asked-to-few}
 use Rattle.plan_reads.proofs.SearchedLaws.{in-search, won-sound}
-use Rattle.plan_reads.proofs.LocalPositionLaws.{local-is}
+use Rattle.reads_local.proofs.LocalPositionLaws.{local-is}
 
 -- ---- the set of a part is in form
 
@@ -112,7 +112,7 @@ module _ (d : List ℕ) (p : ℕ) (narrow : AllNarrow (askedTo d p 8192)) {K S n
       let same : at ≡ partLanes n d p = part-lanes table e long in
       record {
         placeable = rw is (here .placeable);
-        is = rw is (here .is ∙ ap (λ (ls : List Lane). orZero (localOf ls (bitNumber y / 32) (bitNumber y % 32))) same);
+        is = rw is (ap orZero (sym (here .is)) ∙ ap (λ (ls : List Lane). orZero (localOf ls (bitNumber y / 32) (bitNumber y % 32))) same);
         below = rw is (here .below);
       }
 

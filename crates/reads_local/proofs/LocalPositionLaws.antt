@@ -29,9 +29,8 @@ use Rattle.sort.proofs.HalfSearchLaws.{least-between, search-found}
 use Rattle.reads_try.specs.TableLanes as decoded
 use Rattle.reads_try.specs.TableLanes.{pairAt, Each, Drawn, SoundLanes}
 use Rattle.reads_try.proofs.LaneTableLaws.{each-at, each-append}
-use Rattle.plan_reads.specs.PartReads.{orZero}
-use Rattle.plan_reads.specs.Bases.{storeLane, storeLanes, pairWordOf, pairOf, localBy, Locatable}
-use Rattle.plan_reads.proofs.BaseLaws.{lane-length, lanes-length}
+use Rattle.reads_local.specs.Bases.{storeLane, storeLanes, pairWordOf, pairOf, localBy, Locatable}
+use Rattle.reads_local.proofs.BaseLaws.{lane-length, lanes-length}
 
 -- ---- how often a pair's number stands in a list of pairs
 
@@ -183,7 +182,7 @@ mask-in (p ∷ l) (suc r) z h = mask-in l r z (omega arith)
 -- what is said of bit q
 pub record LocalAt (n : ℕ) (ws : List ℕ) (lanes : List Lane) (bases : List ℕ) (q : ℕ) : Type 0 where
   pub placeable : Locatable ws bases q
-  pub is : localBy ws bases q ≡ orZero (localOf lanes (q / 32) (q % 32))
+  pub is : localOf lanes (q / 32) (q % 32) ≡ some (localBy ws bases q)
   pub below : localBy ws bases q < 32 * n
 
 module _ (n : ℕ) (ws : List ℕ) (lanes : List Lane) (few : n ≤ 256) (rising : Rising 0 ws) {k : ℕ} (sound : Sound n (pairsOf ws) (record { size = k; lanes = lanes })) (kept : SoundLanes ws n lanes) (bases : List ℕ) (room : length ws / 2 ≤ length bases) where
@@ -212,7 +211,8 @@ module _ (n : ℕ) (ws : List ℕ) (lanes : List Lane) (few : n ≤ 256) (rising
       let above : pop (getD ws (2 * e + 1) 0 / 2 ^ (q % 32 + 1)) ≡ pop (maskIn lane r / 2 ^ (q % 32 + 1)) = ap (λ (m : ℕ). pop (m / 2 ^ (q % 32 + 1))) mask in
       let (p, at′, low) = sound .positions .below (q / 32) (q % 32) asked in
       let whole : localBy ws (storeLanes 0 lanes bases) q ≡ localAt lanes i r (q % 32) = rw (found) (omega (arith, base, above)) in
-      let here : localAt lanes i r (q % 32) ≡ p = ap orZero (sym at ∙ at′) in
+      let same : some (localAt lanes i r (q % 32)) ≡ some p = sym at ∙ at′ in
+      let here : localAt lanes i r (q % 32) ≡ p = cc in
       record {
         placeable = record {
           order = rising-monotone ws rising;
@@ -220,7 +220,7 @@ module _ (n : ℕ) (ws : List ℕ) (lanes : List Lane) (few : n ≤ 256) (rising
           room = omega (arith, lanes-length 0 lanes bases);
           small = rw found (omega (arith, whole, here, base, above));
         };
-        is = whole ∙ ap orZero (sym at);
+        is = at ∙ ap some (sym whole);
         below = omega (arith, whole, here);
       }
 

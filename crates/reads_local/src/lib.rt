@@ -6,7 +6,7 @@ ghost use Rattle.sort.specs.HalfSearch.{Monotone, least};
 ghost use Rattle.reads_try.specs.TableLanes.{laneOf, rowAt, lanesAt};
 ghost use Rattle.reads_try.specs.Tries.{LaneRowIn};
 ghost use Rattle.reads_section.specs.Readout.{TableReadable};
-ghost use Rattle.plan_reads.specs.Bases.{storeLane, storeLanes, pairWordOf, localBy, Locatable};
+ghost use Rattle.reads_local.specs.Bases.{storeLane, storeLanes, pairWordOf, localBy, Locatable};
 use words::units::AskedBit;
 use words::units::LocalPosition;
 
