@@ -19,7 +19,7 @@ use Rattle.reads.specs.SetAnswer.{Packed}
 use Rattle.reads.specs.Local.{localOf}
 use Rattle.reads.proofs.LocalLaws.{Requested}
 use Rattle.reads.proofs.SetAnswerLaws.{placed-lanes, Sound}
-use Rattle.reads_asked.proofs.AskedFormLaws.{set-rising, set-form, set-small, set-length-le}
+use Rattle.reads_asked.proofs.AskedFormLaws.{set-form, set-small, set-length-le}
 use Rattle.reads_asked.proofs.RequestLaws.{set-requests}
 use Rattle.reads_try.specs.TableLanes.{lanesAt}
 use Rattle.rounds.specs.Rounds.{tableAfter, Solvable}
@@ -108,7 +108,7 @@ module _ (d : List ℕ) (p : ℕ) (narrow : AllNarrow (askedTo d p 8192)) {K S n
       let (y, is) = is-planned (planned d (slotAt d p 0 (8192 + j))) (all j l full) in
       let (i, k, g) = asked-in d p 8192 j y l full is in
       let asked : Requested (pairsOf ws) (bitNumber y / 32) (bitNumber y % 32) = rw g at (set-requests (askedTo d p 8192) i k) in
-      let here = local-is n ws at (s .few-lanes) (set-rising (askedTo d p 8192)) sound (w .readable .filled .kept) bases room (bitNumber y) asked in
+      let here = local-is n ws at (s .few-lanes) sound (w .readable .filled .kept) bases room (bitNumber y) asked in
       let same : at ≡ partLanes n d p = part-lanes table e long in
       record {
         placeable = rw is (here .placeable);

@@ -40,7 +40,7 @@ pub fn fill_bases(set: &[u32], table: &[u32], lanes: usize, bases: &mut [u32])
 }
 
 // The first pair whose word is w or above.
-fn find_pair(set: &[u32], w: u32) -> usize
+pub fn find_pair(set: &[u32], w: u32) -> usize
     requires { ⌜ Monotone (pairWordOf (now set)) (length (now set) / 2) ⌝ }
     ensures { λ r. ⌜ (r ≡ least (pairWordOf (now (set .entry))) (length (now (set .entry)) / 2) w) × (r ≤ length (now (set .entry)) / 2) ⌝ }
 {
