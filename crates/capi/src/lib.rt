@@ -76,11 +76,7 @@ pub extern "C" fn juolgesot_local_position(
 ) -> u32
     ensures { λ r. ⌜ ((r ∷ now (first .exit) ∷ now (second .exit) ∷ []) ∷ now (room .exit) ∷ []) ≡ afterLocalPosition (now (set .entry)) (now (room .entry)) word bit ⌝ }
 {
-    tell_brought(
-        locals::local_position(set, room, word, bit),
-        first,
-        second,
-    )
+    tell_brought(locals::local_position(set, room, word, bit), first, second)
 }
 
 fn tell_listed(answer: Listed, first: &mut u64, second: &mut u64) -> u32

@@ -7,7 +7,7 @@ use mathlib.Core.List.{List, [], _∷_}
 use mathlib.Core.Logic.{⊎-elim}
 use Prim.Native.Nat.{ℕ, zero, suc, _+_, _*_, _/_, _^_, _≤_, _<_}
 use native.Mathlib.Omega.{arith}
-use borrow.Author.Tests.{eq-eqb, ne-eqb, eqb-true}
+use borrow.Author.Tests.{eq-eqb, eqb-true}
 use lib.Bits.{bitAnd, and-mask}
 use lib.Dec.{eqb}
 use lib.ListN.{length, getD}
@@ -82,8 +82,8 @@ asked-requested ws w k a =
     record { mask = getD ws (2 * a .e + 1) 0; stands = rw (a .word) at there; set = a .set }
 
 -- a bit that is asked for is one of 32
-pub asked-small : (ws : List ℕ) (w k : ℕ) → ((i : ℕ) → getD ws i 0 < 2 ^ 32) → asksFor (pairsOf ws) w k ≡ true → k < 32
-asked-small ws w k fits h =
+pub asks-low : (ws : List ℕ) (w k : ℕ) → ((i : ℕ) → getD ws i 0 < 2 ^ 32) → asksFor (pairsOf ws) w k ≡ true → k < 32
+asks-low ws w k fits h =
     let a = asked-at 0 ws w k h in
     ⊎-elim (λ l. l) (λ l. absurd (omega (arith, a .set, bit-above 32 k (fits (2 * a .e + 1)) l))) (lt-or-ge k 32)
 
@@ -121,4 +121,4 @@ module _ (ws : List ℕ) (form : broken (pairsOf ws) ≡ none) (w k e : ℕ) (fo
 
 -- a bit above 31
 pub too-high : (ws : List ℕ) (w k : ℕ) → ((i : ℕ) → getD ws i 0 < 2 ^ 32) → 31 < k → false ≡ asksFor (pairsOf ws) w k
-too-high ws w k fits h = untrue (asksFor (pairsOf ws) w k) (λ t. omega (arith, asked-small ws w k fits t))
+too-high ws w k fits h = untrue (asksFor (pairsOf ws) w k) (λ t. omega (arith, asks-low ws w k fits t))

@@ -1,8 +1,8 @@
 -- Which answer each way through the code has; and a bit that is asked for stands where the table's lanes say it.
 -- Assumes nothing.
-use mathlib.Core.Path.{_≡_, refl, sym, ap, _∙_}
+use mathlib.Core.Path.{_≡_, sym, ap, _∙_}
 use mathlib.Core.Bool.{true, false}
-use mathlib.Core.Option.{Option, none, some}
+use mathlib.Core.Option.{some}
 use mathlib.Core.List.{List}
 use Prim.Native.Nat.{ℕ, _+_, _*_, _/_, _%_, _^_, _≤_, _<_}
 use native.Mathlib.Omega.{arith}
@@ -28,8 +28,8 @@ use Rattle.rounds.proofs.RoundsAnswerLaws.{searchable, is-read, won-table}
 use Rattle.locals.specs.declared.Brought.{Brought}
 use Rattle.locals.specs.declared.Brought.the-variants.{To, Unasked, Refused}
 use Rattle.locals.specs.LocalAnswer.{asksFor, broughtBy, broughtIn, localAnswer}
-use Rattle.locals.specs.Bring.{broughtOf, Formed, beginnings, Findable}
-use Rattle.locals.proofs.AsksLaws.{asked-at, asked-requested, asked-small}
+use Rattle.locals.specs.Bring.{broughtOf, Formed, beginnings, BitFindable}
+use Rattle.locals.proofs.AsksLaws.{asked-at, asked-requested, asks-low}
 
 -- ---- a set in form
 
@@ -51,7 +51,7 @@ module _ (ws : List ℕ) (formed : Formed ws) (fits : (i : ℕ) → getD ws i 0 
     -- it asks for bit k of word w
     module _ (w k : ℕ) (asks : asksFor (pairsOf ws) w k ≡ true) where
       small : k < 32
-      small = asked-small ws w k fits asks
+      small = asks-low ws w k fits asks
 
       word-is : (32 * w + k) / 32 ≡ w
       word-is = omega (arith, small)
@@ -65,7 +65,7 @@ module _ (ws : List ℕ) (formed : Formed ws) (fits : (i : ℕ) → getD ws i 0 
           let room : length ws / 2 ≤ length (replicate {A = ℕ} 8192 0) = omega (arith, length-replicate {A = ℕ} 8192 0, formed .few) in
           local-is 256 ws (lanesAt ws table 256) (omega arith) sound (readable .0 .filled .kept) (replicate 8192 0) room (32 * w + k) requested
 
-      pub findable : Findable ws table (32 * w + k)
+      pub findable : BitFindable ws table (32 * w + k)
       findable = record { few = formed .few; readable = readable .0; there = here .placeable }
 
       position : localOf (x .lanes) w k ≡ some (localBy ws (beginnings ws table) (32 * w + k))
@@ -81,6 +81,28 @@ pub unasked-told : (ws : List ℕ) (x : Packed) (w k : ℕ) → packed 256 (pair
     → Unasked ≡ broughtOf (broughtIn (pairsOf ws) w k (packed 256 (pairsOf ws)))
 unfolding broughtIn broughtBy
 unasked-told ws x w k placed not = rw (placed, broughtIn, not, broughtBy)
+
+-- ---- what is told of a placed set: each bit that it asks for has a position of its own, below 8192
+
+module _ (ws : List ℕ) (x : Packed) (fits : (i : ℕ) → getD ws i 0 < 2 ^ 32) (placed : readSet 256 (pairsOf ws) ≡ good x) where
+  requests : (w k : ℕ) → asksFor (pairsOf ws) w k ≡ true → Requested (pairsOf ws) w k
+  requests w k asks = asked-requested ws w k (asked-at 0 ws w k asks)
+
+  told-is : (w k : ℕ) → asksFor (pairsOf ws) w k ≡ true → broughtBy (pairsOf ws) w k x ≡ localOf (x .lanes) w k
+  unfolding broughtBy
+  told-is w k asks = rw (asks, broughtBy)
+
+  pub told-below : (w k : ℕ) → asksFor (pairsOf ws) w k ≡ true → (p : ℕ) × (broughtBy (pairsOf ws) w k x ≡ some p) × (p < 8192)
+  told-below w k asks =
+      let sound = placed-sound 256 ws x (omega arith) fits placed in
+      let (p, is, low) = sound .positions .below w k (requests w k asks) in
+      (p, told-is w k asks ∙ is, omega (arith, low))
+
+  pub told-own : (w k v j : ℕ) → asksFor (pairsOf ws) w k ≡ true → asksFor (pairsOf ws) v j ≡ true
+      → broughtBy (pairsOf ws) w k x ≡ broughtBy (pairsOf ws) v j x → (w ≡ v) × (k ≡ j)
+  told-own w k v j asks also same =
+      let sound = placed-sound 256 ws x (omega arith) fits placed in
+      sound .positions .own w k v j (requests w k asks) (requests v j also) (sym (told-is w k asks) ∙ same ∙ told-is v j also)
 
 -- ---- a set that is refused
 

@@ -29,7 +29,7 @@ abbrev pub beginnings : List ℕ → List ℕ → List ℕ
 beginnings ws table = storeLanes 0 (lanesAt ws table 256) (replicate 8192 0)
 
 -- a table of lanes, and a bit that is found in one of their pairs
-pub record Findable (ws table : List ℕ) (q : ℕ) : Type 0 where
+pub record BitFindable (ws table : List ℕ) (q : ℕ) : Type 0 where
   pub few : length ws ≤ 16384
   pub readable : TableReadable ws table 256
   pub there : Locatable ws (beginnings ws table) q

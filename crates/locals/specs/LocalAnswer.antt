@@ -2,7 +2,7 @@
 -- its rounds are: 32, 1, 2, 3, 21, 22, 4. Nothing but the room is lent to be written, so 14 is not given. n is the number of lanes.
 -- Assumes nothing.
 use mathlib.Core.Bool.{Bool, true, false, _&&_}
-use mathlib.Core.Option.{Option, none, some}
+use mathlib.Core.Option.{Option, none}
 use mathlib.Core.List.{List, [], _∷_}
 use Prim.Native.Nat.{ℕ}
 use lib.Dec.{leb, eqb}

@@ -1,6 +1,6 @@
 // The local position of one bit of a read set, as the search packs it.
 ghost use mathlib.Core.Path.{_≡_};
-ghost use Prim.Native.Nat.{_+_, _*_, _/_, _<_};
+ghost use Prim.Native.Nat.{_+_, _*_, _<_};
 ghost use lib.ListN.{length};
 ghost use Rattle.words.specs.Answer.{refused, atItem};
 ghost use Rattle.reads.specs.ReadSet.{pairsOf};
@@ -9,7 +9,7 @@ ghost use Rattle.reads.specs.SetAnswer.{packed, readSet, setRoomAfter};
 ghost use Rattle.reads_local.specs.Bases.{localBy};
 ghost use Rattle.rounds.specs.Rounds.{searchedOf, tableAfter};
 ghost use Rattle.locals.specs.LocalAnswer.{asksFor, broughtIn, localAnswer};
-ghost use Rattle.locals.specs.Bring.{broughtOf, Formed, beginnings, Findable};
+ghost use Rattle.locals.specs.Bring.{broughtOf, Formed, beginnings, BitFindable};
 use rounds::Searched;
 use words::clear::clear;
 use words::edition::Edition;
@@ -71,7 +71,7 @@ fn search_lanes(set: &[u32], table: &mut [u32]) -> Searched
 
 // The local position of bit q in the table's lanes.
 fn position_in(set: &[u32], table: &[u32], q: AskedBit) -> LocalPosition
-    requires { ⌜ Findable (now set) (now table) (q .0) ⌝ }
+    requires { ⌜ BitFindable (now set) (now table) (q .0) ⌝ }
     ensures { λ r. ⌜ r .0 ≡ localBy (now (set .entry)) (beginnings (now (set .entry)) (now (table .entry))) (q .0) ⌝ }
 {
     let mut bases = [0u32; PAIRS];

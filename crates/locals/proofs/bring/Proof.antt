@@ -2,14 +2,13 @@
 -- Assumes nothing.
 use mathlib.Core.Path.{_≡_, sym, _∙_}
 use mathlib.Core.Bool.{true}
-use Prim.Native.Nat.{ℕ}
 use borrow.Author.Needs.{needs}
 use Rattle.words.specs.Answer.{good}
 use Rattle.reads.specs.ReadSet.{pairsOf}
 use Rattle.reads.specs.SetAnswer.{Packed, packed}
 use Rattle.rounds.proofs.RoundsAnswerLaws.{lost-is, won-is}
 use Rattle.locals.specs.LocalAnswer.{asksFor}
-use Rattle.locals.proofs.AsksLaws.{asked-small}
+use Rattle.locals.proofs.AsksLaws.{asks-low}
 use Rattle.locals.proofs.BroughtLaws.{findable, to-told, unasked-told, lost-told}
 use Rattle.locals.proofs.bring.Statement.{statement}
 use Rattle.locals.proofs.bring.Tie as tie
@@ -32,7 +31,7 @@ asked-bit-requires : tie.Need-asked-bit-requires
 asked-bit-requires c κs =
     let s = called (c .before .before .before) in
     let known = searched (c .before .before .before) .before .before .before in
-    asked-small (s .args .set .now) (s .args .w) (s .args .k) (λ i. known .shared-slice-known .given i .fits) (asks-in (c .before))
+    asks-low (s .args .set .now) (s .args .w) (s .args .k) (λ i. known .shared-slice-known .given i .fits) (asks-in (c .before))
 
 position-in-requires : tie.Need-position-in-requires
 position-in-requires c κs =

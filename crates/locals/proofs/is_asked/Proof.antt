@@ -1,6 +1,5 @@
 -- `locals::is_asked` meets its contract: the pair that is found for the word decides.
 -- Assumes nothing.
-use native.Mathlib.Omega.{arith}
 use borrow.Author.Needs.{needs}
 use Rattle.reads_local.proofs.LocalPositionLaws.{form-monotone}
 use Rattle.locals.proofs.AsksLaws.{past-all, other-word, mask-bit, too-high}
