@@ -31,6 +31,9 @@ extern "C" {
 #define JUOLGESOT_STAGE_SLOTS 16383
 #define JUOLGESOT_COUNTED_SLOTS 8191
 
+/* What is told for the local position of a bit that a read set does not ask for. */
+#define JUOLGESOT_NO_POSITION 4294967295
+
 /* The largest results: rounds of a read set, and words of a round; bytes of a listing; bytes of an AIGER file before its gates, and
  * of each gate. A placing lists at most JUOLGESOT_COUNTED_SLOTS entries more than it was given. */
 #define JUOLGESOT_MOST_ROUNDS 32
@@ -42,6 +45,7 @@ extern "C" {
 /* Bytes of stack: a thread of so much in all can call the function, whatever the arguments (measured: host/compare's
  * measure_stack holds the archive to them). 592 KiB are enough for all. */
 #define JUOLGESOT_READ_ROUNDS_STACK 147456
+#define JUOLGESOT_LOCAL_POSITION_STACK 147456
 #define JUOLGESOT_LIST_STACK 409600
 #define JUOLGESOT_PLAN_SIZES_STACK 344064
 #define JUOLGESOT_BUILD_STACK 606208
@@ -59,6 +63,13 @@ extern "C" {
  * 4 is the word that the search stopped at, bit 31 included. */
 uint32_t juolgesot_read_rounds(const uint32_t *set, size_t set_len, uint32_t *room, size_t room_len,
                                uint32_t *out, size_t out_len, uint64_t *first, uint64_t *second);
+
+/* The local position (0 to 8191) to which the packing of a read set brings a bit (0 to 31) of a word, which is as it stands in the
+ * set, bit 31 included. The set is packed anew: a call takes the time of juolgesot_read_rounds.
+ * 0: *first is the position, bit *first % 32 of lane *first / 32; or JUOLGESOT_NO_POSITION where the set does not ask for the bit.
+ * Refused by 32, 1, 2, 3, 21, 22, 4, at the places that juolgesot_read_rounds tells. */
+uint32_t juolgesot_local_position(const uint32_t *set, size_t set_len, uint32_t *room, size_t room_len,
+                                  uint32_t word, uint32_t bit, uint64_t *first, uint64_t *second);
 
 /* What the listing program prints for these records, refusals included.
  * 0: *first is the number of bytes, and out begins with them. Refused by 32, 14. */

@@ -126,6 +126,37 @@ static void sizes_and_bounds(void)
     calls += 4;
 }
 
+/* Each bit of M2's set, bits that it does not ask for, and the refusals of its rounds. */
+static void local_position(void)
+{
+    static const uint32_t m2[] = {0, 3, 1, 0x20, 0x80000000u, 1};
+    static const uint32_t asked[][3] = {{0, 0, 1}, {0, 1, 0}, {1, 5, 32}, {0x80000000u, 0, 64}};
+    static const uint32_t unasked[][2] = {{0, 2}, {0, 32}, {1, 4}, {1, 0xFFFFFFFFu}, {2, 0}, {0x80000000u, 1}, {0x80000001u, 0}};
+    uint32_t *set = between_pages(sizeof m2, m2);
+    uint32_t *room = room_of(JUOLGESOT_SET_ROOM);
+    uint64_t *first = number(), *second = number();
+    for (size_t i = 0; i < 4; i++) {
+        is("asked for", juolgesot_local_position(set, 6, room, JUOLGESOT_SET_ROOM, asked[i][0], asked[i][1], first, second), 0);
+        is("local position", *first, asked[i][2]);
+        is("second", *second, 0);
+        is_zero(room, JUOLGESOT_SET_ROOM);
+    }
+    for (size_t i = 0; i < 7; i++) {
+        is("not asked for", juolgesot_local_position(set, 6, room, JUOLGESOT_SET_ROOM, unasked[i][0], unasked[i][1], first, second), 0);
+        is("no position", *first, JUOLGESOT_NO_POSITION);
+    }
+    is("M1", juolgesot_local_position(set, 0, room, JUOLGESOT_SET_ROOM, 0, 0, first, second), 3);
+    is("half a pair", juolgesot_local_position(set, 5, room, JUOLGESOT_SET_ROOM, 0, 0, first, second), 2);
+    is("its place", *second, 2);
+    is("M4", juolgesot_local_position(pairs(256, 0x1FFFF, 0x1FFFF), 514, room, JUOLGESOT_SET_ROOM, 0, 0, first, second), 22);
+    is("8193 bits", juolgesot_local_position(pairs(256, 0xFFFFFFFFu, 1), 514, room, JUOLGESOT_SET_ROOM, 0, 0, first, second), 21);
+    is("8193 pairs", juolgesot_local_position(pairs(8192, 1, 1), 2 * 8193, room, JUOLGESOT_SET_ROOM, 0, 0, first, second), 1);
+    uint32_t *short_room = room_of(JUOLGESOT_SET_ROOM - 1);
+    is("short room", juolgesot_local_position(set, 0, short_room, JUOLGESOT_SET_ROOM - 1, 0, 0, first, second), 32);
+    is("first word of a short room", short_room[0], 0x5A5A5A5A);
+    calls += 17;
+}
+
 static void list(void)
 {
     static const uint8_t example[] = {1, 0, 0, 0, 0, 1, 1, 0, 0, 0, 1, 37, 0, 0, 0, 2, 0, 0, 0, 0, 0};
@@ -399,6 +430,7 @@ int main(void)
     for (at_end = 0; at_end < 2; at_end++) {
         read_rounds();
         sizes_and_bounds();
+        local_position();
         list();
         make_m10();
         make_m10_script();

@@ -1,6 +1,7 @@
 -- What the code's answers tell is what the definitions hand out: by cases of the answer. And a list of slices is equal slice by slice.
 -- Assumes nothing.
 use mathlib.Core.Path.{_≡_, refl}
+use mathlib.Core.Option.{Option, none, some}
 use mathlib.Core.List.{List, _∷_}
 use Prim.Native.Nat.{ℕ}
 use Rattle.words.specs.Answer.{Answer, good, refused, handed}
@@ -18,8 +19,9 @@ use Rattle.aiger.specs.Reading.{Read}
 use Rattle.aiger_read.specs.ReadTold.{gatesReadOf as gatesOf}
 use Rattle.aiger_write.specs.WriteTold.{textWrittenOf as textOf}
 use Rattle.joins.specs.Merge.{joinedOf}
-use Rattle.capi.specs.Exported.{roundsAndSize, textLength, ownBit, turnCount, planSize, entryCount, gateCounts, pairCount}
-use Rattle.capi.specs.Numbers.{roundsNumbers, listedNumbers, valuedNumbers, ranNumbers, repairedNumbers, textNumbers, flattenedNumbers, gatesNumbers, joinedNumbers}
+use Rattle.locals.specs.Bring.{broughtOf}
+use Rattle.capi.specs.Exported.{roundsAndSize, textLength, ownBit, turnCount, planSize, entryCount, gateCounts, pairCount, bitPosition}
+use Rattle.capi.specs.Numbers.{roundsNumbers, broughtNumbers, listedNumbers, valuedNumbers, ranNumbers, repairedNumbers, textNumbers, flattenedNumbers, gatesNumbers, joinedNumbers}
 
 pub also : {x y : List ℕ} {l m : List (List ℕ)} → x ≡ y → l ≡ m → x ∷ l ≡ y ∷ m
 also e f = cc
@@ -27,6 +29,11 @@ also e f = cc
 pub rounds-told : (o : Answer Packed) → roundsNumbers (roundsOf o) ≡ handed 2 roundsAndSize o
 rounds-told (good x) = refl
 rounds-told (refused q) = refl
+
+pub brought-told : (o : Answer (Option ℕ)) → broughtNumbers (broughtOf o) ≡ handed 2 bitPosition o
+brought-told (good (some p)) = refl
+brought-told (good none) = refl
+brought-told (refused q) = refl
 
 pub listed-told : (o : Answer (List ℕ)) → listedNumbers (listedOf o) ≡ handed 2 textLength o
 listed-told (good x) = refl

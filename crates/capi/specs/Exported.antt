@@ -1,6 +1,7 @@
 -- What each exported function hands out and leaves, whatever it is given: its numbers, the one that it returns first, then what each slice that it
 -- writes holds, in the order of the parameters. Each takes the slices as they were. Document 01, "Numbered refusals": number and place, or 0.
 -- Assumes nothing.
+use mathlib.Core.Option.{Option, none, some}
 use mathlib.Core.List.{List, [], _∷_}
 use Prim.Native.Nat.{ℕ}
 use lib.ListN.{length}
@@ -18,6 +19,7 @@ use Rattle.aiger.specs.AigerAnswer.{fitting, gateListAfter as gatesAfter, holdi
 use Rattle.repair_nodes.specs.RepairAnswer.{Repair, placed, cleared, slotsAfter, countListAfter, repairRoomAfter}
 use Rattle.reads.specs.ReadSet.{pairsOf}
 use Rattle.joins.specs.Join.{joining, joinAfter}
+use Rattle.locals.specs.LocalAnswer.{localAnswer}
 
 -- ---- the numbers of a good answer, after 0
 
@@ -53,12 +55,23 @@ gateCounts x = x .header .gates ∷ x .header .inputs ∷ x .header .latches ∷
 abbrev pub pairCount : List ℕ → List ℕ
 pairCount s = length (pairsOf s) ∷ []
 
+-- of a bit its local position; of one that the set does not ask for 0xFFFFFFFF, which is none
+abbrev pub noPosition : ℕ
+noPosition = 4294967295
+
+abbrev pub bitPosition : Option ℕ → List ℕ
+bitPosition (some p) = p ∷ []
+bitPosition none = noPosition ∷ []
+
 -- ---- the functions
 
 unfoldable pub afterReadRounds : (set room out : List ℕ) → List (List ℕ)
 afterReadRounds set room out =
     let o = rounds 256 set (length out) (length room) in
     handed 2 roundsAndSize o ∷ setRoomAfter room ∷ resultAfter o out ∷ []
+
+unfoldable pub afterLocalPosition : (set room : List ℕ) (word bit : ℕ) → List (List ℕ)
+afterLocalPosition set room word bit = handed 2 bitPosition (localAnswer 256 set (length room) word bit) ∷ setRoomAfter room ∷ []
 
 unfoldable pub afterList : (records room out : List ℕ) → List (List ℕ)
 afterList records room out =

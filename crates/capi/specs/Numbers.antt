@@ -22,11 +22,19 @@ use Rattle.aiger_write.specs.declared.Text.{Text}
 use Rattle.aiger_write.specs.declared.Text.the-variants as text
 use Rattle.joins.specs.declared.Joined.{Joined}
 use Rattle.joins.specs.declared.Joined.the-variants as joined
+use Rattle.locals.specs.declared.Brought.{Brought}
+use Rattle.locals.specs.declared.Brought.the-variants as brought
+use Rattle.capi.specs.Exported.{noPosition}
 
 -- two numbers beside the one that is returned
 abbrev pub roundsNumbers : Rounds → List ℕ
 roundsNumbers (rounds.Placed n k) = 0 ∷ n ∷ k ∷ []
 roundsNumbers (rounds.Refused q) = refusalNumbers q
+
+abbrev pub broughtNumbers : Brought → List ℕ
+broughtNumbers (brought.To p) = 0 ∷ p .0 ∷ 0 ∷ []
+broughtNumbers brought.Unasked = 0 ∷ noPosition ∷ 0 ∷ []
+broughtNumbers (brought.Refused q) = refusalNumbers q
 
 abbrev pub listedNumbers : Listed → List ℕ
 listedNumbers (listed.Text n) = 0 ∷ n ∷ 0 ∷ []

@@ -2,14 +2,15 @@
 // lent for them: what a good answer says, or the refusal's place. Each contract is one equation: the numbers, then every slice that is written.
 ghost use mathlib.Core.Path.{_≡_};
 ghost use mathlib.Core.List.{[], _∷_};
-ghost use Rattle.capi.specs.Exported.{afterReadRounds, afterList, afterValue, afterRun, afterPlanSizes, afterBuild, afterPlaceBit, afterPurgeBit, afterReadAiger, afterWriteAiger, afterJoin};
-ghost use Rattle.capi.specs.Numbers.{roundsNumbers, listedNumbers, valuedNumbers, ranNumbers, flattenedNumbers, repairedNumbers, gatesNumbers, textNumbers, joinedNumbers};
+ghost use Rattle.capi.specs.Exported.{afterReadRounds, afterLocalPosition, afterList, afterValue, afterRun, afterPlanSizes, afterBuild, afterPlaceBit, afterPurgeBit, afterReadAiger, afterWriteAiger, afterJoin};
+ghost use Rattle.capi.specs.Numbers.{roundsNumbers, broughtNumbers, listedNumbers, valuedNumbers, ranNumbers, flattenedNumbers, repairedNumbers, gatesNumbers, textNumbers, joinedNumbers};
 ghost use Rattle.capi.specs.Promised.{Promised};
 use aiger_read::Gates;
 use aiger_write::Text;
 use flatten::Flattened;
 use joins::Joined;
 use listing::Listed;
+use locals::Brought;
 use repair_settle::Repaired;
 use rounds::Rounds;
 use run::Ran;
@@ -48,6 +49,35 @@ pub extern "C" fn juolgesot_read_rounds(
         first,
         second,
     )
+}
+
+// What is told for the position of a bit that a set does not ask for.
+const NO_POSITION: u64 = 0xFFFF_FFFF;
+
+fn tell_brought(answer: Brought, first: &mut u64, second: &mut u64) -> u32
+    ensures { λ r. ⌜ (r ∷ now (first .exit) ∷ now (second .exit) ∷ []) ≡ broughtNumbers answer ⌝ }
+{
+    match answer {
+        Brought::To(position) => hand_good(position.0 as u64, first, second),
+        Brought::Unasked => hand_good(NO_POSITION, first, second),
+        Brought::Refused(refusal) => hand_refusal(refusal, first, second),
+    }
+}
+
+// The local position of a bit of a word in the packing of a read set: `first` is the position, or 0xFFFFFFFF where the set does not ask for the bit,
+// or the refusal's part; `second` is 0, or its item.
+#[no_mangle]
+pub extern "C" fn juolgesot_local_position(
+    set: &[u32],
+    room: &mut [u32],
+    word: u32,
+    bit: u32,
+    first: &mut u64,
+    second: &mut u64,
+) -> u32
+    ensures { λ r. ⌜ ((r ∷ now (first .exit) ∷ now (second .exit) ∷ []) ∷ now (room .exit) ∷ []) ≡ afterLocalPosition (now (set .entry)) (now (room .entry)) word bit ⌝ }
+{
+    tell_brought(locals::local_position(set, room, word, bit), first, second)
 }
 
 fn tell_listed(answer: Listed, first: &mut u64, second: &mut u64) -> u32

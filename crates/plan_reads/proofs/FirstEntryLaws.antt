@@ -19,7 +19,7 @@ use Rattle.reads.specs.SetAnswer.{Packed}
 use Rattle.reads.specs.Local.{localOf}
 use Rattle.reads.proofs.LocalLaws.{Requested}
 use Rattle.reads.proofs.SetAnswerLaws.{placed-lanes, Sound}
-use Rattle.reads_asked.proofs.AskedFormLaws.{set-rising, set-form, set-small, set-length-le}
+use Rattle.reads_asked.proofs.AskedFormLaws.{set-form, set-small, set-length-le}
 use Rattle.reads_asked.proofs.RequestLaws.{set-requests}
 use Rattle.reads_try.specs.TableLanes.{lanesAt}
 use Rattle.rounds.specs.Rounds.{tableAfter, Solvable}
@@ -31,11 +31,11 @@ use Rattle.plan_positions.specs.Positions.{positionRight, twelveRight, refusal1
 use Rattle.plan_winners.specs.Planned.{Planned, planned}
 use Rattle.plan_reads.specs.PartReads.{bitNumber, orZero, askedBy, askedTo, readWords, partReads, packedIn, partLanes, localPosition}
 use Rattle.plan_reads.specs.ReadsReady.{plannedNumber, AllNarrow, AllPlanned, SetInForm}
-use Rattle.plan_reads.specs.Bases.{storeLanes, localBy}
+use Rattle.reads_local.specs.Bases.{storeLanes, localBy}
 use Rattle.plan_reads.specs.Entries.{firstEntry, NumberedAt, AllNumbered}
 use Rattle.plan_reads.proofs.AskedLaws.{slotAsks, asked-to-few}
 use Rattle.plan_reads.proofs.SearchedLaws.{in-search, won-sound}
-use Rattle.plan_reads.proofs.LocalPositionLaws.{local-is}
+use Rattle.reads_local.proofs.LocalPositionLaws.{local-is}
 
 -- ---- the set of a part is in form
 
@@ -108,11 +108,11 @@ module _ (d : List ℕ) (p : ℕ) (narrow : AllNarrow (askedTo d p 8192)) {K S n
       let (y, is) = is-planned (planned d (slotAt d p 0 (8192 + j))) (all j l full) in
       let (i, k, g) = asked-in d p 8192 j y l full is in
       let asked : Requested (pairsOf ws) (bitNumber y / 32) (bitNumber y % 32) = rw g at (set-requests (askedTo d p 8192) i k) in
-      let here = local-is n ws at (s .few-lanes) (set-rising (askedTo d p 8192)) sound (w .readable .filled .kept) bases room (bitNumber y) asked in
+      let here = local-is n ws at (s .few-lanes) sound (w .readable .filled .kept) bases room (bitNumber y) asked in
       let same : at ≡ partLanes n d p = part-lanes table e long in
       record {
         placeable = rw is (here .placeable);
-        is = rw is (here .is ∙ ap (λ (ls : List Lane). orZero (localOf ls (bitNumber y / 32) (bitNumber y % 32))) same);
+        is = rw is (ap orZero (sym (here .is)) ∙ ap (λ (ls : List Lane). orZero (localOf ls (bitNumber y / 32) (bitNumber y % 32))) same);
         below = rw is (here .below);
       }
 

@@ -10,7 +10,7 @@ use Rattle.words.specs.Pins.{empty}
 use Rattle.plan_winners.specs.Planned.{planned}
 use Rattle.plan_reads.specs.PartReads.{partLanes, localPosition}
 use Rattle.plan_reads.specs.ReadsReady.{plannedNumber}
-use Rattle.plan_reads.specs.Bases.{localBy, Locatable}
+use Rattle.reads_local.specs.Bases.{localBy, Locatable}
 
 -- "Entry i of a stage is 0 for an empty slot. Else in stage 0 it is the local position of the pin's state bit"
 unfoldable pub firstEntry : ℕ → List ℕ → ℕ → ℕ → ℕ

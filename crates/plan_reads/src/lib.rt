@@ -1,6 +1,5 @@
-// The reads of a part: its read set, its lanes, its pins' local positions.
+// The reads of a part: its read set, its lanes, the entries of its pins.
 pub mod asked;
 pub mod check;
 pub mod entries;
-pub mod local;
 pub mod searched;

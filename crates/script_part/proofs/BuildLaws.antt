@@ -25,7 +25,7 @@ use Rattle.plan_positions.specs.Places.{plannedTable}
 use Rattle.plan_winners.proofs.WinnerLaws.{listed}
 use Rattle.plan_reads.specs.PartReads.{askedTo, readWords, partPacked, partLanes}
 use Rattle.plan_reads.specs.ReadsReady.{AllNarrow, AllPlanned, AllWon, SetRoom}
-use Rattle.plan_reads.specs.Bases.{storeLanes}
+use Rattle.reads_local.specs.Bases.{storeLanes}
 use Rattle.plan_reads.specs.Entries.{firstEntry, AllNumbered}
 use Rattle.plan_reads.proofs.SearchedLaws.{pins-length, pins-won, won-few}
 use Rattle.plan_reads.proofs.CheckLaws.{set-front}

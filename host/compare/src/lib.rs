@@ -16,6 +16,7 @@ pub mod explain;
 pub mod join_checker;
 pub mod lent;
 pub mod list_checker;
+pub mod local_checker;
 pub mod marked;
 pub mod pages;
 pub mod plan_answers;

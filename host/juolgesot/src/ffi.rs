@@ -19,6 +19,17 @@ extern "C" {
         second: *mut u64,
     ) -> u32;
 
+    fn juolgesot_local_position(
+        set: *const u32,
+        set_len: usize,
+        room: *mut u32,
+        room_len: usize,
+        word: u32,
+        bit: u32,
+        first: *mut u64,
+        second: *mut u64,
+    ) -> u32;
+
     fn juolgesot_list(
         records: *const u8,
         records_len: usize,
@@ -210,6 +221,13 @@ macro_rules! call {
 pub fn read_rounds(set: &[u32], room: &mut [u32], out: &mut [u32]) -> Answer {
     Answer::of(|first, second| {
         call!(juolgesot_read_rounds, [set.as_ptr, room.as_mut_ptr, out.as_mut_ptr], first, second)
+    })
+}
+
+/// Code 0: `first` is the local position, or 0xFFFFFFFF where the set does not ask for the bit; `second` is 0.
+pub fn local_position(set: &[u32], room: &mut [u32], word: u32, bit: u32) -> Answer {
+    Answer::of(|first, second| {
+        call!(juolgesot_local_position, [set.as_ptr, room.as_mut_ptr], word, bit, first, second)
     })
 }
 

@@ -39,8 +39,8 @@ pub use joins::{join, join_into, join_words, JoinRefusal, JoinSet, MOST_PAIRS};
 pub use listing::{list, list_into, LIST_ROOM, LIST_TEXT};
 pub use machine::{Machine, Trouble};
 pub use plan::{
-    part_heads, part_words, script_file, Endpoint, FellBack, Gate, Part, PartHead, Pin, PinIv, Plan,
-    Position, Script, Stage, StatePosition, Tables, EMPTY,
+    part_heads, part_words, script_file, Endpoint, FellBack, Gate, LocalPosition, Part, PartHead, Pin, PinIv,
+    Plan, Position, Script, Stage, StatePosition, Tables, EMPTY,
 };
 pub use plan_room::{gate_words, plan_room};
 pub use plans::{build, build_into, plan_sizes, plan_sizes_into, Sizes};
@@ -49,6 +49,9 @@ pub use repair::{
     levels, place_bit, place_bit_into, purge_bit, purge_bit_into, repair_room, stage_counts, Netlist, Place,
     RepairSlices, COUNTED_SLOTS, STAGE_SLOTS,
 };
-pub use rounds::{read_rounds, read_rounds_into, Placed, Rounds, LANES, MOST_ROUNDS, ROUND_WORDS, SET_ROOM};
+pub use rounds::{
+    local_position, local_position_into, read_rounds, read_rounds_into, Placed, Rounds, LANES, MOST_ROUNDS,
+    NO_POSITION, ROUND_WORDS, SET_ROOM,
+};
 pub use run::{finishing_turns, run, run_into, BLOCK_ROOM};
 pub use value::{value, value_into, Values};

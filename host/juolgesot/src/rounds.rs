@@ -2,6 +2,7 @@
 
 use crate::ffi;
 use crate::refusal::Refusal;
+use plan::LocalPosition;
 
 /// Lanes of 32 bits.
 pub const LANES: usize = 256;
@@ -72,4 +73,28 @@ pub fn read_rounds_into(set: &[u32], room: &mut [u32], out: &mut [u32]) -> Resul
     let answer = ffi::read_rounds(set, room, out);
     let size = answer.second as usize;
     Refusal::check(answer).map(|rounds| Placed { rounds: rounds as usize, size })
+}
+
+/// What is told for the position of a bit that a set does not ask for.
+pub const NO_POSITION: u64 = 0xFFFF_FFFF;
+
+/// Where the packing of a read set brings a bit: `bit` (0 to 31) of a word as it stands in the set. `None` where the set does not
+/// ask for it. The set is packed anew at each call, in the time of [`read_rounds`].
+///
+#[doc = "```"]
+#[doc = include_str!("../examples/local_position.rs")]
+#[doc = "```"]
+pub fn local_position(pairs: &[(u32, u32)], word: u32, bit: u32) -> Result<Option<LocalPosition>, Refusal> {
+    local_position_into(&set_words(pairs), &mut vec![0; SET_ROOM], word, bit)
+}
+
+/// The same over lent slices. The room holds zeros afterwards, but for refusal 32, which changes nothing.
+pub fn local_position_into(
+    set: &[u32],
+    room: &mut [u32],
+    word: u32,
+    bit: u32,
+) -> Result<Option<LocalPosition>, Refusal> {
+    let told = Refusal::check(ffi::local_position(set, room, word, bit))?;
+    Ok(if told == NO_POSITION { None } else { Some(LocalPosition(told as u32)) })
 }

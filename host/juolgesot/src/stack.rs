@@ -16,6 +16,8 @@ macro_rules! stacks {
 stacks! {
     /// `read_rounds_into`.
     READ_ROUNDS = "read_rounds", 144;
+    /// `local_position_into`.
+    LOCAL_POSITION = "local_position", 144;
     /// `list_into`.
     LIST = "list", 400;
     /// `plan_sizes_into`.

@@ -14,6 +14,7 @@ fn rooms_and_results() {
     let pairs = [
         ("SET_ROOM", SET_ROOM),
         ("SET_ROOM", LIST_ROOM),
+        ("NO_POSITION", NO_POSITION as usize),
         ("BLOCK_ROOM", BLOCK_ROOM),
         ("PLAN_ROOM", plan_room(&[]) as usize),
         ("REPAIR_ROOM", repair_room(0)),

@@ -67,6 +67,17 @@ fn m2_local_positions() {
     assert_eq!([0, 1, 2, 3].map(|slot| entry(section, slot)), [1, 0, 32, 64]);
 }
 
+/// The same, asked of the set itself.
+#[test]
+fn m2_local_positions_of_the_set() {
+    let set = [(0, 3), (1, 0x20), (0x8000_0000, 1)];
+    let positions = [(0, 0), (0, 1), (1, 5), (0x8000_0000, 0)]
+        .map(|(word, bit)| local_position(&set, word, bit).unwrap());
+    assert_eq!(positions, [1, 0, 32, 64].map(|position| Some(LocalPosition(position))));
+    assert_eq!(local_position(&set, 0, 2), Ok(None));
+    assert_eq!(local_position(&[], 0, 0), Err(Refusal::NothingToRead { part: 0 }));
+}
+
 #[test]
 fn m3_256_words_of_17_bits() {
     let pairs: Vec<_> = (0..256).map(|word| (word, 0x1_FFFF)).collect();

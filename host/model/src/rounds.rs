@@ -173,6 +173,22 @@ pub fn answer(
     Ok(Answer { words, size })
 }
 
+/// Where the packing brings a bit of a word, or a refusal's number and item: none where no pair asks for the bit.
+pub fn local_answer(
+    set: &[u32],
+    room: usize,
+    word: u32,
+    bit: u32,
+    pack: impl FnOnce(&[Pair]) -> Result<Packing, (u32, u64)>,
+) -> Result<Option<u32>, (u32, u64)> {
+    if room < SET_ROOM {
+        return Err((32, 0));
+    }
+    check_form(set)?;
+    let Packing { lanes, .. } = pack(&pairs_of(set))?;
+    Ok(crate::script::local_positions(&lanes).get(&(word, bit)).map(|&position| position.into()))
+}
+
 /// Refusals 1 and 2.
 pub fn check_form(set: &[u32]) -> Result<(), (u32, u64)> {
     if (set.len() + 1) / 2 > MOST_PAIRS {

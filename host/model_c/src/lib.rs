@@ -52,6 +52,28 @@ pub unsafe extern "C" fn juolgesot_read_rounds(
 }
 
 /// # Safety
+/// Each pointer is to its length of words, none of them shared.
+#[no_mangle]
+pub unsafe extern "C" fn juolgesot_local_position(
+    set: *const u32,
+    set_len: usize,
+    room: *mut u32,
+    room_len: usize,
+    word: u32,
+    bit: u32,
+    first: &mut u64,
+    second: &mut u64,
+) -> u32 {
+    let (set, room) = unsafe { (from_raw_parts(set, set_len), from_raw_parts_mut(room, room_len)) };
+    let answer = rounds::local_answer(set, room_len, word, bit, rounds::pack);
+    if !matches!(answer, Err((32, _))) {
+        room.fill(0);
+    }
+    let answer = answer.map_err(|(number, item)| Refused { number, part: 0, item });
+    tell(answer.map(|position| position.map_or(0xFFFF_FFFF, u64::from)), first, second)
+}
+
+/// # Safety
 /// Each pointer is to its length of words or bytes, none of them shared.
 #[no_mangle]
 pub unsafe extern "C" fn juolgesot_list(

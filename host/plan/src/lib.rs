@@ -11,7 +11,7 @@ pub mod stored;
 mod units;
 
 pub use script::{part_heads, part_words, FellBack, PartHead, Script};
-pub use units::{Pin, PinIv, StatePosition};
+pub use units::{LocalPosition, Pin, PinIv, StatePosition};
 
 /// Positions 1..8191, then level 0 (slot j at 8192 + j); index 0 stands for nothing.
 pub const SLOTS: usize = 16384;

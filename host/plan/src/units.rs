@@ -1,5 +1,4 @@
-//! Units of document 01, apart from each other: a number of one is no number of another. Its fourth, the local position, is
-//! inside a script alone.
+//! Units of document 01, apart from each other: a number of one is no number of another.
 
 use std::fmt;
 
@@ -14,6 +13,24 @@ pub struct PinIv(pub u32);
 /// A bit of a state: bit `position % 32` of word `position / 32`.
 #[derive(Debug, Clone, Copy, PartialEq, Eq, PartialOrd, Ord, Hash)]
 pub struct StatePosition(pub u32);
+
+/// A bit of a part's own lanes: bit `position % 32` of lane `position / 32`. The library alone makes one.
+#[derive(Debug, Clone, Copy, PartialEq, Eq, PartialOrd, Ord, Hash)]
+pub struct LocalPosition(pub u32);
+
+impl LocalPosition {
+    /// The lane that has it.
+    #[must_use]
+    pub fn lane(self) -> usize {
+        (self.0 >> 5) as usize
+    }
+
+    /// Which bit of the lane it is.
+    #[must_use]
+    pub fn bit(self) -> u32 {
+        self.0 & 31
+    }
+}
 
 impl Pin {
     /// The pin as it is.
@@ -84,6 +101,12 @@ impl fmt::Display for Pin {
 impl fmt::Display for PinIv {
     fn fmt(&self, f: &mut fmt::Formatter<'_>) -> fmt::Result {
         write!(f, "{}{}", if self.is_inverted() { "not " } else { "" }, self.pin())
+    }
+}
+
+impl fmt::Display for LocalPosition {
+    fn fmt(&self, f: &mut fmt::Formatter<'_>) -> fmt::Result {
+        write!(f, "bit {} of lane {}", self.bit(), self.lane())
     }
 }
 

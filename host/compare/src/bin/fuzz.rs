@@ -10,6 +10,7 @@ use compare::aiger_files;
 use compare::checker::{Checker, Lent, OutLength};
 use compare::join_checker::JoinChecker;
 use compare::list_checker::ListChecker;
+use compare::local_checker::LocalChecker;
 use compare::plan_checker::{More, PlanChecker};
 use compare::plans::{self, Size};
 use compare::repair_checker::{self, RepairChecker, Work};
@@ -59,6 +60,7 @@ struct Fuzz {
     aiger: AigerChecker,
     repairs: RepairChecker,
     joins: JoinChecker,
+    locals: LocalChecker,
     records: Pool<Vec<u32>>,
     scripts: Pool<Case>,
     stages: Pool<repairs::Case>,
@@ -98,6 +100,7 @@ impl Fuzz {
             aiger: AigerChecker::new(),
             repairs: RepairChecker::new(),
             joins: JoinChecker::new(),
+            locals: LocalChecker::new(),
             records: Pool::new(),
             scripts: Pool::new(),
             stages: Pool::new(),
@@ -113,6 +116,7 @@ impl Fuzz {
         self.aiger.answers.print();
         self.repairs.answers.print();
         self.joins.answers.print();
+        self.locals.answers.print();
     }
 
     /// Read sets and listings are quick and come most often.
@@ -127,6 +131,7 @@ impl Fuzz {
             54..=58 => self.write_aiger(),
             59..=61 => self.repair(),
             62..=69 => self.join(),
+            70..=79 => self.local_position(),
             _ => self.read_rounds(),
         };
         self.functions.count_timed(name, start.elapsed());
@@ -169,6 +174,19 @@ impl Fuzz {
             _ => self.joins.check("fuzz", &a, &b, more),
         };
         "join"
+    }
+
+    /// Bits of a set's words and of any, asked for or not.
+    fn local_position(&mut self) -> &'static str {
+        let set = self.set();
+        let random = &mut self.random;
+        let room =
+            if random.chance(12) { random.below(16_384) } else { 16_384 + random.pick(&[0, 0, 1, 77]) };
+        let mut bit = || (random.word(), random.below(34) as u32);
+        let mut bits = vec![bit(), bit()];
+        bits.extend(set.chunks(2).take(3).map(|pair| (pair[0], random.below(34) as u32)));
+        self.locals.check("fuzz", &set, room, random.chance(2), &bits);
+        "local_position"
     }
 
     fn read_rounds(&mut self) -> &'static str {

@@ -35,7 +35,7 @@ fn measure_all(emulator: &[String]) {
         let least = least(emulator, name);
         let verdict = if least <= told { "" } else { ": MORE THAN IS TOLD" };
         println!(
-            "{:12} works in a thread of {:4} KiB, told are {:4}{}",
+            "{:14} works in a thread of {:4} KiB, told are {:4}{}",
             name,
             least / 1024,
             told / 1024,
@@ -87,6 +87,11 @@ fn prepared(name: &str) -> Box<dyn FnOnce() + Send> {
             let set: Vec<u32> = (0..8192).flat_map(|word| [word, 1]).collect();
             let (mut room, mut out) = (vec![0; SET_ROOM], vec![0; ROUND_WORDS * MOST_ROUNDS]);
             Box::new(move || good(ffi::read_rounds(&set, &mut room, &mut out).code))
+        }
+        "local_position" => {
+            let set: Vec<u32> = (0..8192).flat_map(|word| [word, 1]).collect();
+            let mut room = vec![0; SET_ROOM];
+            Box::new(move || good(ffi::local_position(&set, &mut room, 4711, 0).code))
         }
         "list" => {
             let position = |position: u32| [&[1][..], &(33 * position).to_le_bytes()].concat();

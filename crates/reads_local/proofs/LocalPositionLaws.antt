@@ -3,10 +3,10 @@
 -- Assumes nothing.
 use mathlib.Core.Path.{_≡_, refl, sym, ap, ap₂, _∙_}
 use mathlib.Core.Bool.{Bool, true, false}
-use mathlib.Core.Option.{some}
+use mathlib.Core.Option.{none, some}
 use mathlib.Core.List.{List, [], _∷_, _++_}
 use mathlib.Core.Logic.{⊎-elim}
-use Prim.Native.Nat.{ℕ, zero, suc, _+_, _*_, _/_, _%_, _^_, _≤_, _<_}
+use Prim.Native.Nat.{ℕ, zero, suc, _+_, _-_, _*_, _/_, _%_, _^_, _≤_, _<_}
 use native.Mathlib.Nat.{not-suc-le-zero, add-zero}
 use native.Mathlib.Omega.{arith}
 use borrow.Author.Tests.{eq-eqb, ne-eqb, eqb-true, eqb-false}
@@ -15,7 +15,7 @@ use lib.ListN.{length, getD}
 use lib.Seq.{getD-set-same, getD-set-other}
 use Rattle.words.specs.Bit.{pop}
 use Rattle.words.proofs.BitLaws.{lt-or-ge}
-use Rattle.reads.specs.ReadSet.{Pair, total, pairsOf}
+use Rattle.reads.specs.ReadSet.{Pair, total, pairsOf, broken}
 use Rattle.reads.specs.Search.{Lane, joined}
 use Rattle.reads.specs.Packing.{times}
 use Rattle.reads.specs.Local.{wordIn, maskIn, later, localAt, localOf}
@@ -23,15 +23,14 @@ use Rattle.reads.proofs.PackingLaws.{times-cons}
 use Rattle.reads.proofs.SetLaws.{times-here, pair-once}
 use Rattle.reads.proofs.LocalLaws.{Requested, spotted, local-some}
 use Rattle.reads.proofs.SetAnswerLaws.{Sound}
-use Rattle.reads_asked.specs.Rising.{Rising}
 use Rattle.sort.specs.HalfSearch.{Monotone, least}
 use Rattle.sort.proofs.HalfSearchLaws.{least-between, search-found}
 use Rattle.reads_try.specs.TableLanes as decoded
 use Rattle.reads_try.specs.TableLanes.{pairAt, Each, Drawn, SoundLanes}
 use Rattle.reads_try.proofs.LaneTableLaws.{each-at, each-append}
-use Rattle.plan_reads.specs.PartReads.{orZero}
-use Rattle.plan_reads.specs.Bases.{storeLane, storeLanes, pairWordOf, pairOf, localBy, Locatable}
-use Rattle.plan_reads.proofs.BaseLaws.{lane-length, lanes-length}
+use Rattle.reads_section.proofs.PairFormLaws.{brokenAt, bad-low, bad-word, bad-mask, good-pair}
+use Rattle.reads_local.specs.Bases.{storeLane, storeLanes, pairWordOf, pairOf, localBy, Locatable}
+use Rattle.reads_local.proofs.BaseLaws.{lane-length, lanes-length}
 
 -- ---- how often a pair's number stands in a list of pairs
 
@@ -129,42 +128,58 @@ module _ (e : ℕ) where
       lanes-stored (k + 1) ls i r z (storeLane (32 * k) l bases) (omega arith) j a (omega arith) (omega (arith, lane-length (32 * k) l bases))
       ∙ rw n
 
--- ---- words of a set that ascend
+-- ---- the words of a set in form ascend
 
-rising-low : (low : ℕ) (ws : List ℕ) (i : ℕ) → Rising low ws → i < length ws / 2 → low ≤ pairWordOf ws i
-unfolding Rising
-rising-low low [] i r h = absurd (omega arith)
-rising-low low (w ∷ []) i r h = absurd r
-rising-low low (w ∷ m ∷ ws) zero r h = r .0
-rising-low low (w ∷ m ∷ ws) (suc i) r h =
-    let n : 2 * suc i ≡ suc (suc (2 * i)) = omega arith in
-    rw n (omega (arith, r .0, rising-low (w + 1) ws i (r .1) (omega arith)))
+-- a set in form from pair i on, with words from `low` on: it has a pair more, and is in form behind it
+form-next : (ws : List ℕ) (i low : ℕ) → brokenAt ws i low ≡ none → i < length ws / 2 → (low ≤ pairWordOf ws i) × (brokenAt ws (i + 1) (pairWordOf ws i + 1) ≡ none)
+form-next ws i low e h =
+    let there : 2 * i + 1 < length ws = omega arith in
+    let not-some : brokenAt ws i low ≡ some i → ⊥ = λ s.
+    let z : none ≡ some i = sym e ∙ s in
+    let q : _≡_ {A = ℕ} 0 1 = cc in
+    omega arith
+    in
+    ⊎-elim (λ l. absurd (not-some (bad-low ws i low there l)))
+    (λ l. ⊎-elim
+    (λ w. ⊎-elim (λ m. (l, sym (good-pair ws i low there l w m) ∙ e)) (λ m. absurd (not-some (bad-mask ws i low there l w (omega arith)))) (lt-or-ge 0 (getD ws (2 * i + 1) 0)))
+    (λ w. absurd (not-some (bad-word ws i low there l w)))
+    (lt-or-ge (pairWordOf ws i % 2 ^ 31) (2 ^ 27)))
+    (lt-or-ge (pairWordOf ws i) low)
 
-pub rising-strict : (low : ℕ) (ws : List ℕ) (i j : ℕ) → Rising low ws → i < j → j < length ws / 2 → pairWordOf ws i < pairWordOf ws j
-unfolding Rising
-rising-strict low [] i j r l h = absurd (omega arith)
-rising-strict low (w ∷ []) i j r l h = absurd r
-rising-strict low (w ∷ m ∷ ws) i zero r l h = absurd (not-suc-le-zero l)
-rising-strict low (w ∷ m ∷ ws) zero (suc j) r l h =
-    let n : 2 * suc j ≡ suc (suc (2 * j)) = omega arith in
-    rw n (omega (arith, rising-low (w + 1) ws j (r .1) (omega arith)))
-rising-strict low (w ∷ m ∷ ws) (suc i) (suc j) r l h =
-    let n : 2 * suc j ≡ suc (suc (2 * j)) = omega arith in
-    let k : 2 * suc i ≡ suc (suc (2 * i)) = omega arith in
-    rw (n, k) (rising-strict (w + 1) ws i j (r .1) (omega arith) (omega arith))
+form-low : (ws : List ℕ) (d i low : ℕ) → brokenAt ws i low ≡ none → i + d < length ws / 2 → low ≤ pairWordOf ws (i + d)
+form-low ws zero i low e h = rw (add-zero i) (form-next ws i low e (omega arith) .0)
+form-low ws (suc d) i low e h =
+    let n = form-next ws i low e (omega arith) in
+    let same : i + 1 + d ≡ i + suc d = omega arith in
+    omega (arith, n .0, rw same at (form-low ws d (i + 1) (pairWordOf ws i + 1) (n .1) (omega arith)))
 
-pub rising-monotone : (ws : List ℕ) → Rising 0 ws → Monotone (pairWordOf ws) (length ws / 2)
-rising-monotone ws r i j l h =
-    ⊎-elim (λ s. omega (arith, rising-strict 0 ws i j r s h)) (λ s. let e : i ≡ j = omega arith in rw e (omega arith)) (lt-or-ge i j)
+form-at : (ws : List ℕ) (i : ℕ) → broken (pairsOf ws) ≡ none → i ≤ length ws / 2 → (low : ℕ) × (brokenAt ws i low ≡ none)
+form-at ws zero e h = (0, e)
+form-at ws (suc i) e h =
+    let (low, f) = form-at ws i e (omega arith) in
+    let same : suc i ≡ i + 1 = omega arith in
+    (pairWordOf ws i + 1, rw same (form-next ws i low f (omega arith) .1))
 
--- the search ends at the pair that has the word
-pair-found : (ws : List ℕ) (q e : ℕ) → Rising 0 ws → e < length ws / 2 → pairWordOf ws e ≡ q / 32 → pairOf ws q ≡ e
-pair-found ws q e rising h is =
-    let up = rising-monotone ws rising in
-    let f = search-found (pairWordOf ws) (length ws / 2) (q / 32) (pairOf ws q) e up (least-between (pairWordOf ws) (length ws / 2) (q / 32) up) h is in
-    ⊎-elim (λ l. absurd (omega (arith, rising-strict 0 ws (pairOf ws q) e rising l h, f .1)))
-    (λ l. ⊎-elim (λ k. absurd (omega (arith, rising-strict 0 ws e (pairOf ws q) rising k (f .0), f .1))) (λ k. omega arith) (lt-or-ge e (pairOf ws q)))
-    (lt-or-ge (pairOf ws q) e)
+module _ (ws : List ℕ) (form : broken (pairsOf ws) ≡ none) where
+  strict : (i j : ℕ) → i < j → j < length ws / 2 → pairWordOf ws i < pairWordOf ws j
+  strict i j l h =
+      let (low, f) = form-at ws i form (omega arith) in
+      let n = form-next ws i low f (omega arith) in
+      let same : i + 1 + (j - (i + 1)) ≡ j = omega arith in
+      omega (arith, rw same at (form-low ws (j - (i + 1)) (i + 1) (pairWordOf ws i + 1) (n .1) (omega arith)))
+
+  pub form-monotone : Monotone (pairWordOf ws) (length ws / 2)
+  form-monotone i j l h =
+      ⊎-elim (λ s. omega (arith, strict i j s h)) (λ s. let e : i ≡ j = omega arith in rw e (omega arith)) (lt-or-ge i j)
+
+  -- the search for a word ends at the pair that has it
+  pub word-found : (w e : ℕ) → e < length ws / 2 → pairWordOf ws e ≡ w → least (pairWordOf ws) (length ws / 2) w ≡ e
+  word-found w e h is =
+      let f = search-found (pairWordOf ws) (length ws / 2) w (least (pairWordOf ws) (length ws / 2) w) e form-monotone (least-between (pairWordOf ws) (length ws / 2) w form-monotone) h is in
+      let x = least (pairWordOf ws) (length ws / 2) w in
+      ⊎-elim (λ l. absurd (omega (arith, strict x e l h, f .1)))
+      (λ l. ⊎-elim (λ k. absurd (omega (arith, strict e x k (f .0), f .1))) (λ k. omega arith) (lt-or-ge e x))
+      (lt-or-ge x e)
 
 -- ---- the local position of a requested bit
 
@@ -183,10 +198,10 @@ mask-in (p ∷ l) (suc r) z h = mask-in l r z (omega arith)
 -- what is said of bit q
 pub record LocalAt (n : ℕ) (ws : List ℕ) (lanes : List Lane) (bases : List ℕ) (q : ℕ) : Type 0 where
   pub placeable : Locatable ws bases q
-  pub is : localBy ws bases q ≡ orZero (localOf lanes (q / 32) (q % 32))
+  pub is : localOf lanes (q / 32) (q % 32) ≡ some (localBy ws bases q)
   pub below : localBy ws bases q < 32 * n
 
-module _ (n : ℕ) (ws : List ℕ) (lanes : List Lane) (few : n ≤ 256) (rising : Rising 0 ws) {k : ℕ} (sound : Sound n (pairsOf ws) (record { size = k; lanes = lanes })) (kept : SoundLanes ws n lanes) (bases : List ℕ) (room : length ws / 2 ≤ length bases) where
+module _ (n : ℕ) (ws : List ℕ) (lanes : List Lane) (few : n ≤ 256) {k : ℕ} (sound : Sound n (pairsOf ws) (record { size = k; lanes = lanes })) (kept : SoundLanes ws n lanes) (bases : List ℕ) (room : length ws / 2 ≤ length bases) where
   pub local-is : (q : ℕ) → Requested (pairsOf ws) (q / 32) (q % 32) → LocalAt n ws lanes (storeLanes 0 lanes bases) q
   unfolding localBy localAt
   local-is q asked =
@@ -202,7 +217,7 @@ module _ (n : ℕ) (ws : List ℕ) (lanes : List Lane) (few : n ≤ 256) (rising
       let e = x .at in
       let word : pairWordOf ws e ≡ q / 32 = sym (ap (λ (p : Pair). p .word) (drawn .same)) ∙ (sym (word-in lane r z (s .round-there)) ∙ s .word) in
       let mask : getD ws (2 * e + 1) 0 ≡ maskIn lane r = sym (ap (λ (p : Pair). p .mask) (drawn .same)) ∙ sym (mask-in lane r z (s .round-there)) in
-      let found : pairOf ws q ≡ e = pair-found ws q e rising (drawn .in-set) word in
+      let found : pairOf ws q ≡ e = word-found ws form (q / 32) e (drawn .in-set) word in
       let few-times = pair-once (pairsOf ws) form (getD ws (2 * e) 0) (getD ws (2 * e + 1) 0) in
       let once : countAt e (joined lanes) ≤ 1 =
       omega (arith, count-times ws e (joined lanes) (drawn-joined ws lanes (kept .sound)), sound .packing .once (getD ws (2 * e) 0) (getD ws (2 * e + 1) 0)) in
@@ -212,15 +227,16 @@ module _ (n : ℕ) (ws : List ℕ) (lanes : List Lane) (few : n ≤ 256) (rising
       let above : pop (getD ws (2 * e + 1) 0 / 2 ^ (q % 32 + 1)) ≡ pop (maskIn lane r / 2 ^ (q % 32 + 1)) = ap (λ (m : ℕ). pop (m / 2 ^ (q % 32 + 1))) mask in
       let (p, at′, low) = sound .positions .below (q / 32) (q % 32) asked in
       let whole : localBy ws (storeLanes 0 lanes bases) q ≡ localAt lanes i r (q % 32) = rw (found) (omega (arith, base, above)) in
-      let here : localAt lanes i r (q % 32) ≡ p = ap orZero (sym at ∙ at′) in
+      let same : some (localAt lanes i r (q % 32)) ≡ some p = sym at ∙ at′ in
+      let here : localAt lanes i r (q % 32) ≡ p = cc in
       record {
         placeable = record {
-          order = rising-monotone ws rising;
+          order = form-monotone ws form;
           there = omega (arith, found, drawn .in-set);
           room = omega (arith, lanes-length 0 lanes bases);
           small = rw found (omega (arith, whole, here, base, above));
         };
-        is = whole ∙ ap orZero (sym at);
+        is = at ∙ ap some (sym whole);
         below = omega (arith, whole, here);
       }
 

@@ -1,4 +1,4 @@
--- `plan_reads::local::find_pair` meets its contract: a search by halves over the set's words.
+-- `reads_local::find_pair` meets its contract: a search by halves over the set's words.
 -- Assumes nothing.
 use mathlib.Core.Path.{_≡_}
 use Prim.Native.Nat.{_/_, _-_}
@@ -7,9 +7,9 @@ use borrow.Author.Needs.{needs}
 use lib.ListN.{length}
 use Rattle.sort.specs.HalfSearch.{Between}
 use Rattle.sort.proofs.HalfSearchLaws.{search-start, search-right, search-left, between-least}
-use Rattle.plan_reads.specs.Bases.{pairWordOf}
-use Rattle.plan_reads.proofs.local.find_pair.Statement.{statement}
-use Rattle.plan_reads.proofs.local.find_pair.Tie as tie
+use Rattle.reads_local.specs.Bases.{pairWordOf}
+use Rattle.reads_local.proofs.find_pair.Statement.{statement}
+use Rattle.reads_local.proofs.find_pair.Tie as tie
 
 abbrev Inv-loop : tie.InvT-loop
 Inv-loop set w low₀ high₀ low high = Between (pairWordOf set) (length set / 2) w low high

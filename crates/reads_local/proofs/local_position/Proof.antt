@@ -1,11 +1,11 @@
--- `plan_reads::local::local_position` meets its contract: the pair that is found is the bit's.
+-- `reads_local::local_position` meets its contract: the pair that is found is the bit's.
 -- Assumes nothing.
 use native.Mathlib.Omega.{arith}
 use borrow.Author.Needs.{needs}
 use Rattle.reads_try.proofs.SetPairLaws.{mask-bits-le}
-use Rattle.plan_reads.proofs.LocalPositionLaws.{asked-small, found-in, found-base, found-local}
-use Rattle.plan_reads.proofs.local.local_position.Statement.{statement}
-use Rattle.plan_reads.proofs.local.local_position.Tie as tie
+use Rattle.reads_local.proofs.LocalPositionLaws.{asked-small, found-in, found-base, found-local}
+use Rattle.reads_local.proofs.local_position.Statement.{statement}
+use Rattle.reads_local.proofs.local_position.Tie as tie
 
 word-requires : tie.Need-word-requires
 word-requires c κs =

@@ -1,4 +1,4 @@
--- `plan_reads::local::lane_bases` meets its contract. The loop's invariant: the pairs from round r on are stored, and their bits counted.
+-- `reads_local::lane_bases` meets its contract. The loop's invariant: the pairs from round r on are stored, and their bits counted.
 -- Assumes nothing.
 use mathlib.Core.Path.{_≡_, refl}
 use Prim.Native.Nat.{_+_, _-_, _*_, _/_, _<_, _≤_}
@@ -6,9 +6,9 @@ use native.Mathlib.Omega.{arith}
 use borrow.Author.Needs.{needs}
 use lib.ListN.{length, getD}
 use Rattle.reads_try.proofs.SetPairLaws.{mask-bits-le}
-use Rattle.plan_reads.proofs.BaseLaws.{Walked, walked-start, walked-length, walked-entry, walked-sum, walked-on, walked-all}
-use Rattle.plan_reads.proofs.local.lane_bases.Statement.{statement}
-use Rattle.plan_reads.proofs.local.lane_bases.Tie as tie
+use Rattle.reads_local.proofs.BaseLaws.{Walked, walked-start, walked-length, walked-entry, walked-sum, walked-on, walked-all}
+use Rattle.reads_local.proofs.lane_bases.Statement.{statement}
+use Rattle.reads_local.proofs.lane_bases.Tie as tie
 
 abbrev Inv-loop : tie.InvT-loop
 Inv-loop set table j bases₀ r₀ sum₀ bases r sum = Walked set table j bases₀ bases r sum

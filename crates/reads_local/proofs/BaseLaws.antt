@@ -16,7 +16,7 @@ use Rattle.reads_try.specs.Tries.{LaneRowIn}
 use Rattle.reads_try.proofs.SetPairLaws.{total-le}
 use Rattle.reads_try.proofs.LaneTableLaws.{row-pair, row-total-on, row-short, row-at-word, lane-at, filled-row}
 use Rattle.reads_section.specs.Readout.{TableReadable}
-use Rattle.plan_reads.specs.Bases.{storeLane, storeLanes}
+use Rattle.reads_local.specs.Bases.{storeLane, storeLanes}
 
 pub lane-length : (b : ℕ) (l : Lane) (bases : List ℕ) → length (storeLane b l bases) ≡ length bases
 unfolding storeLane

@@ -1,13 +1,13 @@
--- `plan_reads::local::fill_bases` meets its contract. The loop's invariant: the lanes that are left give what all lanes gave at the start.
+-- `reads_local::fill_bases` meets its contract. The loop's invariant: the lanes that are left give what all lanes gave at the start.
 -- Assumes nothing.
 use mathlib.Core.Path.{_≡_, sym, ap, _∙_}
 use Prim.Native.Nat.{_≤_, _-_}
 use native.Mathlib.Omega.{arith}
 use borrow.Author.Needs.{needs}
 use lib.ListN.{length}
-use Rattle.plan_reads.proofs.BaseLaws.{lane-length, lanesLeft, lanes-on, lanes-end, readable-row}
-use Rattle.plan_reads.proofs.local.fill_bases.Statement.{statement}
-use Rattle.plan_reads.proofs.local.fill_bases.Tie as tie
+use Rattle.reads_local.proofs.BaseLaws.{lane-length, lanesLeft, lanes-on, lanes-end, readable-row}
+use Rattle.reads_local.proofs.fill_bases.Statement.{statement}
+use Rattle.reads_local.proofs.fill_bases.Tie as tie
 
 abbrev Inv-loop : tie.InvT-loop
 Inv-loop set table lanes bases₀ j₀ bases j = (j ≤ lanes) × (length bases ≡ length bases₀) × (lanesLeft set table lanes j bases ≡ lanesLeft set table lanes 0 bases₀)

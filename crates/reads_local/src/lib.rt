@@ -6,7 +6,7 @@ ghost use Rattle.sort.specs.HalfSearch.{Monotone, least};
 ghost use Rattle.reads_try.specs.TableLanes.{laneOf, rowAt, lanesAt};
 ghost use Rattle.reads_try.specs.Tries.{LaneRowIn};
 ghost use Rattle.reads_section.specs.Readout.{TableReadable};
-ghost use Rattle.plan_reads.specs.Bases.{storeLane, storeLanes, pairWordOf, localBy, Locatable};
+ghost use Rattle.reads_local.specs.Bases.{storeLane, storeLanes, pairWordOf, localBy, Locatable};
 use words::units::AskedBit;
 use words::units::LocalPosition;
 
@@ -40,7 +40,7 @@ pub fn fill_bases(set: &[u32], table: &[u32], lanes: usize, bases: &mut [u32])
 }
 
 // The first pair whose word is w or above.
-fn find_pair(set: &[u32], w: u32) -> usize
+pub fn find_pair(set: &[u32], w: u32) -> usize
     requires { ⌜ Monotone (pairWordOf (now set)) (length (now set) / 2) ⌝ }
     ensures { λ r. ⌜ (r ≡ least (pairWordOf (now (set .entry))) (length (now (set .entry)) / 2) w) × (r ≤ length (now (set .entry)) / 2) ⌝ }
 {

@@ -1,0 +1,2 @@
+pub mod AsksLaws
+pub mod BroughtLaws

@@ -1,0 +1,2 @@
+pub mod LocalAnswer
+pub mod Bring
