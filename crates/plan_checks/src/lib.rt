@@ -8,7 +8,7 @@ pub mod tell;
 ghost use mathlib.Core.Path.{_≡_};
 ghost use mathlib.Core.Option.{none};
 ghost use lib.ListN.{length};
-ghost use Rattle.plan_checks.specs.Refusals.{planRefusal, planVerdict};
+ghost use Rattle.plan_refusals.specs.Refusals.{planRefusal, planVerdict};
 ghost use Rattle.plan_checks.specs.Verdicts.{verdictOf};
 ghost use Rattle.plan_checks.specs.CheckedRoom.{PlanReady, Cleared, readyRoom, roomLeft};
 use lists::check_lists;

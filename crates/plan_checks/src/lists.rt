@@ -1,7 +1,7 @@
 // Refusals 5, 6 and 7, and 8 with the part table.
 ghost use mathlib.Core.Path.{_≡_};
 ghost use Rattle.plan_blocks.specs.TableFill.{TableFillable, allottedRoom};
-ghost use Rattle.plan_checks.specs.RefusalGroups.{listRefusal, totalRefusal};
+ghost use Rattle.plan_refusals.specs.RefusalGroups.{listRefusal, totalRefusal};
 ghost use Rattle.plan_checks.specs.Verdicts.{verdictOf};
 use crate::Verdict;
 use crate::tell::is_refused;

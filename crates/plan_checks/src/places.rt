@@ -1,7 +1,7 @@
 // Refusals 12 and 13.
 ghost use mathlib.Core.Path.{_≡_};
 ghost use Rattle.plan_positions.specs.Places.{Judgeable};
-ghost use Rattle.plan_checks.specs.RefusalGroups.{placeRefusal};
+ghost use Rattle.plan_refusals.specs.RefusalGroups.{placeRefusal};
 ghost use Rattle.plan_checks.specs.Verdicts.{verdictOf};
 use crate::Verdict;
 use crate::tell::is_refused;

@@ -3,7 +3,7 @@ ghost use mathlib.Core.Path.{_≡_};
 ghost use Prim.Native.Nat.{_+_, _<_, _≤_};
 ghost use lib.ListN.{length};
 ghost use Rattle.run_machine.specs.Part.{stagesAt, lastAt, writeOutsAt, startAt, sramsAt, roundsAt, duplicatesAt, normalAt, endAt, locationIn, sectionAt};
-ghost use Rattle.run_form.specs.Well.{PartIn};
+ghost use Rattle.run_machine.specs.Well.{PartIn};
 use words::edition::Edition;
 
 // Words: of the header, whose second half has the locations; of a round; of a section, its permutation first.

@@ -1,6 +1,6 @@
 -- A plan that no refusal is given to has passed each one; and each of its parts has lanes.
 -- Assumes nothing.
-use mathlib.Core.Path.{_≡_, refl}
+use mathlib.Core.Path.{_≡_, refl, sym, _∙_}
 use mathlib.Core.Bool.{Bool, true, false}
 use mathlib.Core.Option.{Option, none, some}
 use mathlib.Core.List.{List}
@@ -19,7 +19,9 @@ use Rattle.plan_entries.specs.TableEntries.{refusal13}
 use Rattle.plan_reads.specs.PartReads.{partReads, partPacked, refusedReads}
 use Rattle.plan_reads.proofs.CheckLaws.{placed-part}
 use Rattle.words.specs.declared.refusals.Refusal.{Refusal}
-use Rattle.plan_checks.specs.Refusals.{orElse, unless, gatePlace, planRefusal}
+use Rattle.plan_refusals.specs.Refusals.{orElse, unless, gatePlace, planRefusal}
+use Rattle.plan_refusals.specs.RefusalGroups.{first, listRefusal, totalRefusal, pinRefusal, placeRefusal, readRefusal}
+use Rattle.plan_refusals.proofs.RefusalOrderLaws.{plan-first}
 
 pub record Passed (n : ℕ) (d : List ℕ) : Type 0 where
   pub form : planForm d ≡ true
@@ -49,32 +51,62 @@ pub no-gate : (o : Option ℕ) → gatePlace o ≡ none → o ≡ none
 no-gate none e = refl
 no-gate (some g) e = absurd (some-not-none e)
 
-pub passed : (n : ℕ) (d : List ℕ) → planRefusal n d ≡ none → Passed n d
-unfolding planRefusal
-passed n d e =
+past-first : (a r : Option Refusal) → first a r ≡ none → (a ≡ none) × (r ≡ none)
+past-first none r e = (refl, e)
+past-first (some x) r e = absurd (some-not-none e)
+
+-- ---- what a group leaves
+
+pub lists-passed : (d : List ℕ) → listRefusal d ≡ none → (planForm d ≡ true) × (badGate d ≡ none) × (refusal7 d ≡ none)
+unfolding listRefusal
+lists-passed d e =
     let five = past-unless 5 _ _ e in
     let six = past 6 _ _ (five .1) in
-    let seven = past 7 _ _ (six .1) in
-    let eight = past-unless 8 _ _ (seven .1) in
-    let nine = past 9 _ _ (eight .1) in
+    (five .0, no-gate _ (six .0), past 7 _ _ (six .1) .0)
+
+pub totals-passed : (d : List ℕ) → totalRefusal d ≡ none → totalsFit d ≡ true
+unfolding totalRefusal
+totals-passed d e = past-unless 8 _ _ e .0
+
+pins-passed : (d : List ℕ) → pinRefusal d ≡ none → (refusal9 d ≡ none) × (refusal10 d ≡ none) × (refusal11 d ≡ none)
+unfolding pinRefusal
+pins-passed d e =
+    let nine = past 9 _ _ e in
     let ten = past 10 _ _ (nine .1) in
-    let eleven = past 11 _ _ (ten .1) in
-    let twelve = past 12 _ _ (eleven .1) in
-    let thirteen = past 13 _ _ (twelve .1) in
-    let three = past 3 _ _ (thirteen .1) in
+    (nine .0, ten .0, past 11 _ _ (ten .1) .0)
+
+pub places-passed : (d : List ℕ) → placeRefusal d ≡ none → (refusal12 d ≡ none) × (refusal13 d ≡ none)
+unfolding placeRefusal
+places-passed d e =
+    let twelve = past 12 _ _ e in
+    (twelve .0, past 13 _ _ (twelve .1) .0)
+
+-- ---- and all of them
+
+pub passed : (n : ℕ) (d : List ℕ) → planRefusal n d ≡ none → Passed n d
+unfolding readRefusal
+passed n d e =
+    let lists = past-first _ _ (sym (plan-first n d) ∙ e) in
+    let totals = past-first _ _ (lists .1) in
+    let pins = past-first _ _ (totals .1) in
+    let places = past-first _ _ (pins .1) in
+    let three = past 3 _ _ (places .1) in
     let bits = past 21 _ _ (three .1) in
     let wide = past 22 _ _ (bits .1) in
     let four = past 4 _ _ (wide .1) in
+    let listed = lists-passed d (lists .0) in
+    let stood = pins-passed d (pins .0) in
+    let placed = places-passed d (places .0) in
     record {
-      form = five .0;
-      gates = no-gate _ (six .0);
-      counts = seven .0;
-      totals = eight .0;
-      nine = nine .0;
-      ten = ten .0;
-      eleven = eleven .0;
-      twelve = twelve .0;
-      thirteen = thirteen .0;
+      form = listed .0;
+      gates = listed .1;
+      counts = listed .2;
+      totals = totals-passed d (totals .0);
+      nine = stood .0;
+      ten = stood .1;
+      eleven = stood .2;
+      twelve = placed .0;
+      thirteen = placed .1;
       nothing = three .0;
       bits = bits .0;
       wide = wide .0;

@@ -14,7 +14,7 @@ use Rattle.plan_positions.specs.Positions.{refusal12}
 use Rattle.plan_entries.specs.TableEntries.{refusal13}
 use Rattle.plan_reads.specs.PartReads.{refusedReads}
 use Rattle.words.specs.declared.refusals.Refusal.{Refusal}
-use Rattle.plan_checks.specs.Refusals.{orElse, unless, gatePlace}
+use Rattle.plan_refusals.specs.Refusals.{orElse, unless, gatePlace}
 
 -- the first of two refusals
 abbrev pub first : Option Refusal → Option Refusal → Option Refusal

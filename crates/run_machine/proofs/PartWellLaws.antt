@@ -13,9 +13,9 @@ use Rattle.words.specs.Bit.{pop}
 use Rattle.words.specs.Sum.{sumTo}
 use Rattle.words.specs.Tests.{allBelow}
 use Rattle.words.proofs.TestLaws.{and-true, or-cases, all-at, not-both}
 use Rattle.run_machine.specs.Part.{stagesAt, lastAt, writeOutsAt, startAt, sramsAt, roundsAt, duplicatesAt, normalAt, endAt, locationIn, readWordAt, readMaskAt, entryAt}
 use Rattle.run_machine.specs.Run.{entriesForm, locationsForm, lanesForm, readsForm, storesForm, partForm, partsForm}
-use Rattle.run_form.specs.Well.{Reads, EntriesIn, PartWell}
+use Rattle.run_machine.specs.Well.{Reads, EntriesIn, PartWell}
 
 module _ (n : ℕ) (W : List ℕ) (s t o : ℕ) where
   entries-in : entriesForm n W o ≡ true → EntriesIn n W o
