@@ -62,13 +62,13 @@ literal-parts top least (whole d i) r at e = go (leb least d) refl (leb d top) r
 
 -- ---- a gate
 
-pub gate-good : (bs : List ℕ) (v at a i : ℕ) → literalOf (2 * v) 1 (differenceAt bs at) ≡ literal a i → gateFrom bs v at ≡ behind a (literalOf a 0 (differenceAt bs i))
-unfolding gateFrom
-gate-good bs v at a i e = rw (e, gateFrom)
-
 pub gate-bad : (bs : List ℕ) (v at n : ℕ) → literalOf (2 * v) 1 (differenceAt bs at) ≡ Literal.refused n → gateFrom bs v at ≡ Gate.refused n
 unfolding gateFrom
 gate-bad bs v at n e = rw (e, gateFrom)
+
+pub gate-good : (bs : List ℕ) (v at a i : ℕ) → literalOf (2 * v) 1 (differenceAt bs at) ≡ literal a i → gateFrom bs v at ≡ behind a (literalOf a 0 (differenceAt bs i))
+unfolding gateFrom
+gate-good bs v at a i e = rw (e, gateFrom)
 
 pub gate-read : (v a b : ℕ) (bs : List ℕ) {at mid next : ℕ} → v ≤ 2 ^ 30 → a < 2 * v → b ≤ a
     → Stands (differenceBytes (2 * v - a)) bs at mid → Stands (differenceBytes (a - b)) bs mid next → gateFrom bs v at ≡ gateRead a b next

@@ -20,7 +20,7 @@ use Rattle.plan_record.specs.Record.{blocksOf, majorsOf, partsOf}
 use Rattle.plan_record.specs.Form.{planRoomWords}
 use Rattle.words.proofs.TestLaws.{and-true}
 use Rattle.plan_reads.specs.PartReads.{partSize}
-use Rattle.plan_checks.specs.Refusals.{planRefusal, planVerdict}
+use Rattle.plan_refusals.specs.Refusals.{planRefusal, planVerdict}
 use Rattle.plan_checks.specs.CheckedRoom.{PlanReady, readyRoom, roomLeft}
 use Rattle.plan_checks.specs.Verdicts.{verdictOf}
 use Rattle.words.proofs.TestLaws.{some-not-none}

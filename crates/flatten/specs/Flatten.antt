@@ -13,7 +13,7 @@ use Rattle.plan_record.specs.Record.{blocksOf, majorsOf, partsOf}
 use Rattle.plan_record.specs.Form.{planRoomWords}
 use Rattle.plan_blocks.specs.Blocks.{stateWords, sramWords}
 use Rattle.plan_reads.specs.PartReads.{partSize}
-use Rattle.plan_checks.specs.Refusals.{planVerdict}
+use Rattle.plan_refusals.specs.Refusals.{planVerdict}
 use Rattle.script_assembly.specs.Assembly.{scriptWords, scriptStarts}
 
 -- ---- the sizes of a plan

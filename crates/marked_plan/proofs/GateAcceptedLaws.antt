@@ -36,7 +36,7 @@ use Rattle.plan_winners.specs.Planned.{Planned, lastBelow, inLayout, inPosition
 use Rattle.plan_entries.specs.TableEntries.{thirteenRight, refusal13}
 use Rattle.plan_positions.specs.Positions.{positionRight, twelveRight, refusal12}
 use Rattle.plan_reads.specs.PartReads.{askedBy, askedTo, readWords, partReads, badReads, refusedReads}
-use Rattle.plan_checks.specs.Refusals.{planRefusal}
+use Rattle.plan_refusals.specs.Refusals.{planRefusal}
 use Rattle.promise.specs.Promise.{Accepted}
 use Rattle.marked_plan.specs.GatePlan.{bytesOf, slotPin, tableWord, gateRecord, noParts}
 use Rattle.marked_plan.proofs.GateRecordLaws.{record-length, blocks-one, majors-one, gates-one, layout-two, positions-none, parts-one, none-earlier, one-earlier, one-part, gate-base, gate-pin}

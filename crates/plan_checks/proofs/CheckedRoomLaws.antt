@@ -24,13 +24,11 @@ use Rattle.plan_reads.specs.PartReadAnswers.{roundsIn, partsUpTo, readRows, sea
 use Rattle.plan_reads.specs.PartReads.{partSize}
 use Rattle.plan_reads.proofs.ReadRowLaws.{read-long, read-rounds, read-size, read-word, read-low}
 use Rattle.words.specs.Tests.{Place}
-use Rattle.words.specs.Answer.{nowhere}
 use Rattle.words.specs.declared.refusals.Refusal.{Refusal}
-use Rattle.plan_checks.specs.Refusals.{planRefusal, planVerdict}
-use Rattle.plan_checks.specs.RefusalGroups.{listRefusal, totalRefusal, placeRefusal}
+use Rattle.plan_refusals.specs.Refusals.{planRefusal}
+use Rattle.plan_refusals.specs.RefusalGroups.{listRefusal, totalRefusal, placeRefusal}
 use Rattle.plan_checks.specs.CheckedRoom.{PlanReady, Cleared, readyRoom, roomLeft}
-use Rattle.plan_checks.proofs.PassedLaws.{passed}
-use Rattle.plan_checks.proofs.RefusalGroupLaws.{lists-passed, totals-passed, places-passed}
+use Rattle.plan_refusals.proofs.PassedLaws.{passed, lists-passed, totals-passed, places-passed}
 
 -- ---- the first words, lent and zero again
 
@@ -103,7 +101,7 @@ module _ (d room₀ : List ℕ) (c : Cleared d room₀) (lists : listRefusal d �
     }
 
     pub may-search : placeRefusal d ≡ none → ReadsSearchable d room
-    may-search places = record { form = lists-passed d lists .0; planned = places-passed d places; cleared = stays-clear }
+    may-search places = record { form = lists-passed d lists .0; planned = places-passed d places .0; cleared = stays-clear }
 
     pub room-ready : (last : List ℕ) → last ≡ searchedRoom d room → planRefusal 256 d ≡ none → last ≡ readyRoom d (length room₀)
     unfolding searchedRoom readyRoom
@@ -177,19 +175,11 @@ module _ (d : List ℕ) (n : ℕ) (h : rowBase (partsOf d) ≤ n) where
 -- ---- 32, and the rest
 
 module _ (d room : List ℕ) where
-  pub short-verdict : length room < planRoomWords d → planVerdict 256 d (length room) ≡ some (nowhere 32)
-  unfolding planVerdict
-  short-verdict h = rw (planVerdict, lt-leb _ _ h)
-
   pub short-room : length room < planRoomWords d → room ≡ roomLeft d room
   unfolding roomLeft
   short-room h = rw (roomLeft, lt-leb _ _ h)
 
   module _ (enough : planRoomWords d ≤ length room) where
-    pub wide-verdict : planVerdict 256 d (length room) ≡ planRefusal 256 d
-    unfolding planVerdict
-    wide-verdict = rw (planVerdict, le-leb _ _ enough)
-
     left : roomLeft d room ≡ elim (planRefusal 256 d) [ some x ↦ replicate (length room) 0 | none ↦ readyRoom d (length room) ]
     unfolding roomLeft
     left = rw (roomLeft, le-leb _ _ enough)

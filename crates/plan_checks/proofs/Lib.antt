@@ -1,4 +1,3 @@
-pub mod PassedLaws
 pub mod VerdictLaws
 pub mod RefusalPlaceLaws
 pub mod RefusalGroupLaws

@@ -22,8 +22,8 @@ use Rattle.plan_reads.specs.declared.check.Checked.{Checked}
 use Rattle.plan_reads.specs.PartReads.{refusedReads}
 use Rattle.plan_reads.specs.PartReadAnswers.{checkedOf}
 use Rattle.plan_reads.proofs.CheckLaws.{zero-item}
-use Rattle.plan_checks.specs.Refusals.{orElse, gatePlace}
-use Rattle.plan_checks.specs.RefusalGroups.{Few, readRefusal}
+use Rattle.plan_refusals.specs.Refusals.{orElse, gatePlace}
+use Rattle.plan_refusals.specs.RefusalGroups.{Few, readRefusal}
 use Rattle.plan_checks.specs.Verdicts.{lowestPlace, listPlace, checkedPlace, checkedRefusal}
 use Rattle.words.proofs.TestLaws.{some-not-none}
 

@@ -7,11 +7,11 @@ use Prim.Native.Nat.{ℕ}
 use Rattle.words.specs.Tests.{Place}
 use Rattle.words.proofs.TestLaws.{not-both}
 use Rattle.words.specs.declared.refusals.Refusal.{Refusal}
-use Rattle.plan_checks.specs.Refusals.{orElse, unless}
-use Rattle.plan_checks.specs.RefusalGroups.{first}
+use Rattle.plan_refusals.specs.Refusals.{orElse, unless}
+use Rattle.plan_refusals.specs.RefusalGroups.{first}
 use Rattle.plan_checks.specs.Verdicts.{verdictOf, isRefused}
 use Rattle.plan_checks.specs.declared.Verdict.{Verdict}
-use Rattle.plan_checks.proofs.PassedLaws.{past, past-unless}
+use Rattle.plan_refusals.proofs.PassedLaws.{past, past-unless}
 
 -- ---- the first of two
 

@@ -16,7 +16,7 @@ use Rattle.plan_blocks.specs.PartTable.{Tabled}
 use Rattle.plan_blocks.specs.TableFill.{tabledRoom}
 use Rattle.plan_reads.specs.PartReads.{partLanes, partSize}
 use Rattle.plan_reads.specs.PartReadAnswers.{readRows}
-use Rattle.plan_checks.specs.Refusals.{planRefusal}
+use Rattle.plan_refusals.specs.Refusals.{planRefusal}
 
 -- what the room holds once a plan is accepted
 pub record PlanReady (d room : List ℕ) : Type 0 where

@@ -1,4 +1,2 @@
-pub mod Refusals
-pub mod RefusalGroups
 pub mod Verdicts
 pub mod CheckedRoom

@@ -13,7 +13,7 @@ use Rattle.plan_reads.specs.declared.check.Checked.the-variants as checked
 use Rattle.plan_checks.specs.declared.Verdict.{Verdict}
 use Rattle.plan_checks.specs.declared.Verdict.the-variants as verdict
 use Rattle.words.specs.declared.refusals.Refusal.{Refusal}
-use Rattle.plan_checks.specs.Refusals.{orElse}
+use Rattle.plan_refusals.specs.Refusals.{orElse}
 
 abbrev pub verdictOf : Option Refusal → Verdict
 verdictOf none = verdict.Accepted

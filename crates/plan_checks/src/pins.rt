@@ -7,7 +7,7 @@ ghost use Rattle.plan_gates.specs.Gates.{badGate};
 ghost use Rattle.plan_slots.specs.Slots.{refusal10, refusal11};
 ghost use Rattle.words.specs.Found.{lowestOf};
 ghost use Rattle.plan_reads.specs.ReadsReady.{ClearRoom};
-ghost use Rattle.plan_checks.specs.RefusalGroups.{pinRefusal};
+ghost use Rattle.plan_refusals.specs.RefusalGroups.{pinRefusal};
 ghost use Rattle.plan_checks.specs.Verdicts.{verdictOf};
 use crate::Verdict;
 use crate::tell::is_refused;

@@ -3,7 +3,7 @@ ghost use mathlib.Core.Path.{_≡_};
 ghost use Prim.Native.Nat.{_≤_};
 ghost use lib.ListN.{length};
 ghost use Rattle.plan_positions.specs.Places.{Judgeable};
-ghost use Rattle.plan_checks.specs.RefusalGroups.{placeRefusal};
+ghost use Rattle.plan_refusals.specs.RefusalGroups.{placeRefusal};
 ghost use Rattle.plan_checks.specs.Verdicts.{verdictOf};
 use crate::Verdict;
 use crate::tell::is_refused;

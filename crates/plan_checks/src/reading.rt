@@ -3,7 +3,7 @@ ghost use mathlib.Core.Path.{_≡_};
 ghost use lib.ListN.{length};
 ghost use Rattle.plan_reads.specs.ReadsReady.{SetRoom, ReadsSearchable};
 ghost use Rattle.plan_reads.specs.PartReadAnswers.{searchedRoom};
-ghost use Rattle.plan_checks.specs.RefusalGroups.{readRefusal};
+ghost use Rattle.plan_refusals.specs.RefusalGroups.{readRefusal};
 ghost use Rattle.plan_checks.specs.Verdicts.{verdictOf};
 use crate::Verdict;
 use crate::tell::of_reads;

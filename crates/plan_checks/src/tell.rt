@@ -2,8 +2,8 @@
 ghost use mathlib.Core.Path.{_≡_};
 ghost use mathlib.Core.Option.{none};
 ghost use Prim.Native.Nat.{_^_, _<_};
-ghost use Rattle.plan_checks.specs.Refusals.{orElse, unless};
-ghost use Rattle.plan_checks.specs.RefusalGroups.{Few};
+ghost use Rattle.plan_refusals.specs.Refusals.{orElse, unless};
+ghost use Rattle.plan_refusals.specs.RefusalGroups.{Few};
 ghost use Rattle.plan_checks.specs.Verdicts.{verdictOf, isRefused, lowestPlace, listPlace, checkedPlace, checkedRefusal};
 ghost use Rattle.plan_checks.specs.declared.Verdict.the-variants as verdict;
 use crate::Verdict;

@@ -9,7 +9,7 @@ use Rattle.plan_record.specs.Record.{blocksOf, majorsOf, countAt, partsBefore, 
 use Rattle.plan_record.proofs.PlanFormLaws.{formed}
 use Rattle.plan_blocks.proofs.StateStartLaws.{parts-mono, parts-next}
 use Rattle.plan_reads.specs.PartReads.{partReads, partPacked}
-use Rattle.plan_checks.proofs.PassedLaws.{Passed, passed, placed-reads}
+use Rattle.plan_refusals.proofs.PassedLaws.{Passed, passed, placed-reads}
 use Rattle.promise_decode.specs.Decodable.{Decodable}
 use Rattle.promise_decode.proofs.DecodableLaws.{decodable}
 use Rattle.promise_meaning.specs.Meaning.{PassedPart}

@@ -21,7 +21,7 @@ use Rattle.words.specs.Pins.{empty}
 use Rattle.plan_blocks.specs.Blocks.{blockOf, stateStart, stateWords}
 use Rattle.plan_blocks.specs.Sums.{inBlock}
 use Rattle.values.specs.Values.{pinValue}
-use Rattle.plan_checks.specs.Refusals.{planRefusal}
+use Rattle.plan_refusals.specs.Refusals.{planRefusal}
 use Rattle.script_assembly.specs.Assembly.{scriptWords, scriptStarts}
 use Rattle.script_assembly.specs.WrittenSoFar.{partsIn, partStart}
 use Rattle.run_machine.specs.Turn.{taken, enableBit, chosen}

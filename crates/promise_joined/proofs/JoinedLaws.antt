@@ -17,7 +17,7 @@ use Rattle.plan_record.specs.Record.{blocksOf, majorsOf, partsOf}
 use Rattle.plan_record.specs.Form.{planRoomWords}
 use Rattle.words.proofs.TestLaws.{and-true}
 use Rattle.plan_blocks.specs.Blocks.{stateWords}
-use Rattle.plan_checks.specs.Refusals.{planRefusal, planVerdict}
+use Rattle.plan_refusals.specs.Refusals.{planRefusal, planVerdict}
 use Rattle.script_assembly.specs.Assembly.{scriptWords, scriptStarts}
 use Rattle.script_assembly.proofs.ScriptStartLaws.{starts-length}
 use Rattle.run_machine.specs.Run.{runAnswer}

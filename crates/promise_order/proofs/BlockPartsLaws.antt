@@ -2,21 +2,21 @@
 -- for, as long as it allows for these.
 -- Assumes nothing.
 use mathlib.Core.Path.{_≡_, refl, sym, ap, _∙_, subst}
-use mathlib.Core.Bool.{Bool, true, false, _&&_, _||_}
+use mathlib.Core.Bool.{Bool, true, false}
 use mathlib.Core.List.{List, [], _∷_}
 use mathlib.Core.Logic.{_⊎_, inl, inr, ⊎-elim}
-use mathlib.Core.Option.{Option, none, some}
+use mathlib.Core.Option.{none, some}
 use Prim.Native.Nat.{ℕ, zero, suc, _+_, _-_, _≤_, _<_}
 use native.Mathlib.Nat.{add-zero}
 use native.Mathlib.Omega.{arith}
-use borrow.Author.Tests.{ltb-true, eqb-true, eq-eqb, ne-eqb}
-use lib.Dec.{leb, ltb, eqb}
+use borrow.Author.Tests.{eq-eqb, ne-eqb}
+use lib.Dec.{eqb}
 use lib.ListN.{length, getD}
-use Rattle.words.specs.Tests.{allBelow, firstNot}
-use Rattle.words.proofs.TestLaws.{and-true, all-at, not-none, not-both}
+use Rattle.words.proofs.TestLaws.{and-true, not-both}
 use Rattle.run_machine.specs.Part.{stagesAt, lastAt, endAt}
-use Rattle.run_machine.specs.Run.{turnsFrom, turnsAfter, partForm, partsForm, emptyBlock, blockForm, badBlock}
-use Rattle.run_form.proofs.PartWellLaws.{in-form}
+use Rattle.run_machine.specs.Run.{turnsFrom, turnsAfter, partForm, partsForm, badBlock}
+use Rattle.run_machine.proofs.PartWellLaws.{in-form}
+use Rattle.run_machine.proofs.BlockInLaws.{block-in, blocks-in}
 use Rattle.promise_order.specs.Order.{partsFrom, Stores}
 use Rattle.promise_order.proofs.StoreTurnLaws.{stores-below}
 
@@ -45,36 +45,13 @@ parts-chain n W s t e (suc f) o h =
     go true l k r = inl l
     go false l k r = inr (l, r k)
 
--- the empty block has no stages
-empty-stages : (n : ℕ) (W : List ℕ) (o e : ℕ) → o < e → emptyBlock n W o e ≡ true → stagesAt W o ≡ 0
-unfolding emptyBlock
-empty-stages n W o e l h =
-    let (size, words) = and-true (eqb e (o + n)) (allBelow (λ i. eqb (getD W (o + i) 0) (elim (eqb i 1) [ true ↦ 1 | false ↦ 0 ])) n) h in
-    let long = eqb-true e (o + n) size in
-    let at = all-at (λ i. eqb (getD W (o + i) 0) (elim (eqb i 1) [ true ↦ 1 | false ↦ 0 ])) n 0 words (omega arith) in
-    ap (λ (i : ℕ). getD W i 0) (sym (add-zero o)) ∙ eqb-true _ _ at
-
-block-chain : (n : ℕ) (W : List ℕ) (s t o e : ℕ) → blockForm n W s t o e ≡ true → (stagesAt W o ≡ 0) ⊎ Chain n W t (length W) o
-unfolding blockForm
-block-chain n W s t o e h =
-    let (le, form) = and-true (ltb o e && leb e (length W)) (emptyBlock n W o e || partsForm n W s t e (length W) o) h in
-    let l = ltb-true o e (and-true (ltb o e) (leb e (length W)) le .0) in
-    go l (emptyBlock n W o e) refl form
-  where
-    go : o < e → (b : Bool) → emptyBlock n W o e ≡ b → (b || partsForm n W s t e (length W) o) ≡ true → (stagesAt W o ≡ 0) ⊎ Chain n W t (length W) o
-    go l true x k = inl (empty-stages n W o e l x)
-    go l false x k = inr (parts-chain n W s t e (length W) o k)
-
 -- every block of a run in form
 pub form-chain : (n : ℕ) (W starts : List ℕ) (s t b : ℕ) → badBlock n W starts s t ≡ none → b < length starts - 1
     → (stagesAt W (getD starts b 0) ≡ 0) ⊎ Chain n W t (length W) (getD starts b 0)
-unfolding badBlock
-form-chain n W starts s t b h l = block-chain n W s t (getD starts b 0) (getD starts (b + 1) 0) (not-none (λ i. blockForm n W s t (getD starts i 0) (getD starts (i + 1) 0)) (length starts - 1) (go (leb 2 (length starts)) h) b l)
-  where
-    go : (c : Bool) → _≡_ {A = Option ℕ} (elim c [ false ↦ some 0 | true ↦ firstNot (λ i. blockForm n W s t (getD starts i 0) (getD starts (i + 1) 0)) (length starts - 1) ]) none
-        → firstNot (λ i. blockForm n W s t (getD starts i 0) (getD starts (i + 1) 0)) (length starts - 1) ≡ none
-    go true k = k
-    go false k = let z : _≡_ {A = ℕ} 0 1 = cc in absurd (omega arith)
+form-chain n W starts s t b h l =
+    let o = getD starts b 0 in
+    let e = getD starts (b + 1) 0 in
+    ⊎-elim (λ q. inl q) (λ q. inr (parts-chain n W s t e (length W) o q)) (block-in n W s t o e (blocks-in n W starts s t h .each b l) .parts)
 
 -- ---- the list of the parts
 

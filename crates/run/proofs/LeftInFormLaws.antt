@@ -16,8 +16,8 @@ use Rattle.words.proofs.TestLaws.{not-both, and-true, or-cases, all-at}
 use Rattle.run_machine.specs.Part.{stagesAt, lastAt, endAt}
 use Rattle.run_machine.specs.Turn.{Phase, toRead, toStage, toStore, finished, going, Block, begins, ended, afterRead, afterStage, afterStore, turned}
 use Rattle.run_machine.specs.Run.{partForm, partsForm, emptyBlock, blockForm}
-use Rattle.run_form.specs.Well.{Lanes, PartWell}
-use Rattle.run_form.proofs.PartWellLaws.{InForm, in-form, parts-well, parts-next}
+use Rattle.run_machine.specs.Well.{Lanes, PartWell}
+use Rattle.run_machine.proofs.PartWellLaws.{InForm, in-form, parts-well, parts-next}
 use Rattle.run.specs.LeftInForm.{Parts, LeftInForm}
 
 -- ---- the parts from word o to word e

@@ -14,7 +14,7 @@ use Rattle.run_machine.specs.Turn.{Phase, toRead, toStage, toStore, finished, g
 use Rattle.run_machine.specs.Room.{partOf, phaseOf, stageOf}
 use Rattle.run_machine.specs.Run.{turnsFrom, turnsAfter, turnsLeft, allLeft}
 use Rattle.run_turns.specs.Block.{stateBlock}
-use Rattle.run_form.proofs.PartWellLaws.{InForm}
+use Rattle.run_machine.proofs.PartWellLaws.{InForm}
 use Rattle.run.specs.States.{roomOf, roomBlock, blocksIn}
 use Rattle.run.specs.LeftInForm.{Parts, PartsFrom, LeftInForm, RoomLeftInForm, AllLeftInForm}
 use Rattle.run.proofs.LeftInFormLaws.{parts-first, parts-rest, part-turns}

@@ -16,7 +16,7 @@ use Rattle.words.proofs.TestLaws.{not-none}
 use Rattle.run_machine.specs.Turn.{Block}
 use Rattle.run_machine.specs.Room.{blockRoom}
 use Rattle.run_machine.specs.Run.{Running, blocksFrom, runFrom, runTurns, allLeft, badBlock, badTurn, blockForm, runAnswer, newAfter, runRoomAfter}
-use Rattle.run_form.proofs.PartWellLaws.{lanes-of}
+use Rattle.run_machine.proofs.PartWellLaws.{lanes-of}
 use Rattle.run_form.proofs.RefuseLaws.{blockGood, turnGood}
 use Rattle.run.specs.declared.Ran.{Ran}
 use Rattle.run.specs.declared.Ran.the-variants.{Left}

@@ -10,7 +10,7 @@ use Rattle.run_machine.specs.Part.{stagesAt}
 use Rattle.run_machine.specs.Turn.{toStage, going, Block}
 use Rattle.run_machine.specs.Room.{blockRoom}
 use Rattle.run_machine.specs.Run.{partsForm, blockForm}
-use Rattle.run_form.specs.Well.{Lanes}
+use Rattle.run_machine.specs.Well.{Lanes}
 use Rattle.run.specs.States.{roomOf, roomBlock}
 
 -- parts in form from word o to word e

@@ -13,7 +13,7 @@ use Rattle.words.proofs.TestLaws.{and-true}
 use Rattle.run_machine.specs.Part.{stagesAt, lastAt, endAt}
 use Rattle.run_machine.specs.Run.{entriesForm, locationsForm, lanesForm, readsForm, storesForm, partForm, partsForm, emptyBlock, blockForm}
 use Rattle.run_form.specs.PartForm.{partNumbersForm, bodyForm}
-use Rattle.run_form.proofs.PartWellLaws.{in-form}
+use Rattle.run_machine.proofs.PartWellLaws.{in-form}
 
 -- word 1 of a part
 pub part-mark-last : (x y : ℕ) → x ≡ y → _≡_ {A = ℕ} 1 (elim (eqb x y) [ true ↦ 1 | false ↦ 0 ])

@@ -1,5 +1,4 @@
 pub mod HalfLaws
-pub mod PartWellLaws
 pub mod SectionEntryLaws
 pub mod TestCodeLaws
 pub mod BlockFormLaws

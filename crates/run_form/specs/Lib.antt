@@ -1,2 +1,1 @@
-pub mod Well
 pub mod PartForm

@@ -11,7 +11,7 @@ ghost use Rattle.words.specs.Bit.{pop};
 ghost use Rattle.words.specs.Tests.{allBelow};
 ghost use Rattle.run_machine.specs.Part.{stagesAt, roundsAt, locationIn, readWordAt, readMaskAt, entryAt};
 ghost use Rattle.run_machine.specs.Run.{entriesForm, locationsForm, lanesForm, readsForm, storesForm, partForm, partsForm, emptyBlock, blockForm};
-ghost use Rattle.run_form.specs.Well.{Lanes, PartIn, NormalRange};
+ghost use Rattle.run_machine.specs.Well.{Lanes, PartIn, NormalRange};
 ghost use Rattle.run_form.specs.PartForm.{readForm, partNumbersForm, bodyForm};
 
 // Both halves of a word of a permutation are positions, of which there are `slots`.

@@ -3,7 +3,7 @@ ghost use mathlib.Core.Path.{_≡_};
 ghost use Prim.Native.Nat.{_+_, _*_, _<_, _≤_};
 ghost use lib.ListN.{length, getD};
 ghost use Rattle.run_machine.specs.Part.{stagesAt, lastAt, writeOutsAt, startAt, sramsAt, roundsAt, duplicatesAt, normalAt, endAt, locationIn, readWordAt, readMaskAt, sectionAt};
-ghost use Rattle.run_form.specs.Well.{Lanes, PartIn};
+ghost use Rattle.run_machine.specs.Well.{Lanes, PartIn};
 
 // Words for each lane: of a round, which word is read and its mask; of a section's permutation, 32 halves; of a section, that and four more.
 const ROUND_WORDS: usize = 2;

@@ -4,7 +4,7 @@ ghost use mathlib.Core.Path.{_≡_};
 ghost use Prim.Native.Nat.{_-_};
 ghost use lib.ListN.{length};
 ghost use Rattle.run_machine.specs.Run.{badBlock, badTurn};
-ghost use Rattle.run_form.specs.Well.{Lanes};
+ghost use Rattle.run_machine.specs.Well.{Lanes};
 ghost use Rattle.words.specs.Found.{itemOf};
 use words::found::Item;
 

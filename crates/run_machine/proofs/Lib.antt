@@ -2,3 +2,5 @@ pub mod SetsLaws
 pub mod StageBitLaws
 pub mod TurnLaws
 pub mod BlockRoomLaws
+pub mod PartWellLaws
+pub mod BlockInLaws

@@ -37,15 +37,15 @@ module _ (n : ℕ) (W : List ℕ) (o : ℕ) where
 
 -- ---- what is stored
 
-pub taken-lt : (v set0 inv : ℕ) → v < 2 → inv < 2 → taken v set0 inv < 2
-taken-lt v set0 inv h l = differ-lt (min v (1 - set0)) inv (omega arith) l
-
 -- what is cleared, or gathered from where nothing is, gives inv: (set0, inv) = (1, 1) is always, (1, 0) never
 pub taken-cleared : (v inv : ℕ) → taken v 1 inv ≡ inv
 taken-cleared v inv = let none : min v (1 - 1) ≡ 0 = omega arith in ap (λ (x : ℕ). differ x inv) none
 
 pub taken-nothing : (set0 inv : ℕ) → taken 0 set0 inv ≡ inv
 taken-nothing set0 inv = let none : min 0 (1 - set0) ≡ 0 = omega arith in ap (λ (x : ℕ). differ x inv) none
+
+pub taken-lt : (v set0 inv : ℕ) → v < 2 → inv < 2 → taken v set0 inv < 2
+taken-lt v set0 inv h l = differ-lt (min v (1 - set0)) inv (omega arith) l
 
 pub chosen-lt : (e v held : ℕ) → v < 2 → held < 2 → chosen e v held < 2
 chosen-lt e v held h l = go (eqb e 1)

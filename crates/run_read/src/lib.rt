@@ -7,7 +7,7 @@ ghost use Rattle.words.specs.Bit.{pop};
 ghost use Rattle.reads.specs.ReadTurn.{appended, laneWord};
 ghost use Rattle.run_machine.specs.Part.{roundsAt, readWordAt, readMaskAt};
 ghost use Rattle.run_machine.specs.Turn.{stateWord, readRow};
-ghost use Rattle.run_form.specs.Well.{PartIn, Reads};
+ghost use Rattle.run_machine.specs.Well.{PartIn, Reads};
 ghost use Rattle.run_read.specs.Window.{windowOf, WordReadable};
 
 // The one word that a read names, of the old state or the new by bit 31.

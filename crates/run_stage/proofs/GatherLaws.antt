@@ -13,7 +13,7 @@ use lib.ListN.{length, getD, set}
 use Rattle.words.specs.Bit.{bit, bitAt}
 use Rattle.words.specs.Section.{wordOfEntry, halfOf, halfAt}
 use Rattle.words.proofs.BitLaws.{lt-or-ge, at-lt, bit-low, bit-high, bit-first, bit-suc}
-use Rattle.run_form.specs.Well.{Entries}
+use Rattle.run_machine.specs.Well.{Entries}
 use Rattle.run_stage.specs.StoreLoop.{Filled}
 use Rattle.run_stage.specs.Gather.{GatherBits, Gathered}
 use Rattle.run_stage.proofs.StoreLoopLaws.{filled-none, filled-more}

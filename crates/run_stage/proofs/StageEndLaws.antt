@@ -17,7 +17,7 @@ use Rattle.words.proofs.SectionLaws.{place-lt}
 use Rattle.run_machine.specs.Part.{stagesAt, sectionAt, entryAt, laneWordAt}
 use Rattle.run_machine.specs.Turn.{gateAt, stageRow}
 use Rattle.run_machine.proofs.StageBitLaws.{at-word, words-of, StageBits, stage-is}
-use Rattle.run_form.specs.Well.{EntriesIn, Entries}
+use Rattle.run_machine.specs.Well.{EntriesIn, Entries}
 use Rattle.run_stage.specs.Gather.{Gathered, gatheredRow}
 use Rattle.run_stage.specs.Level.{laneGate, Staged}
 

@@ -11,7 +11,7 @@ ghost use Rattle.words.specs.Edition.{levelsFor};
 ghost use Rattle.words.specs.Section.{halfAt};
 ghost use Rattle.run_machine.specs.Part.{stagesAt, entryAt};
 ghost use Rattle.run_machine.specs.Turn.{stageRow};
-ghost use Rattle.run_form.specs.Well.{PartIn, Entries, EntriesIn};
+ghost use Rattle.run_machine.specs.Well.{PartIn, Entries, EntriesIn};
 ghost use Rattle.run_stage.specs.Gather.{Gathered, GatherBits, gatheredRow};
 ghost use Rattle.run_stage.specs.Level.{gateWord, levelWord, LevelIn, Stepped, Low, Staged};
 

@@ -6,7 +6,7 @@ use Prim.Native.Nat.{ℕ, _+_, _<_, _≤_}
 use lib.Bits.{bitAnd, bitXor}
 use lib.ListN.{length}
 use Rattle.run_machine.specs.Part.{startAt, normalAt}
-use Rattle.run_form.specs.Well.{PartIn, EntriesIn, Captures}
+use Rattle.run_machine.specs.Well.{PartIn, EntriesIn, Captures}
 
 -- 5/13 on words: held where the enable bit is 0
 unfoldable pub chosenWord : (cap held gathered inv set0 data-inv : ℕ) → ℕ

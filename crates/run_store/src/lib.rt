@@ -11,7 +11,7 @@ ghost use Rattle.run_machine.specs.Part.{stagesAt, startAt, normalAt, entryAt};
 ghost use Rattle.run_machine.specs.Turn.{storedWord};
 ghost use Rattle.words.specs.Section.{listOf};
 ghost use Rattle.run_store.specs.Store.{chosenWord, Storing};
-ghost use Rattle.run_form.specs.Well.{PartIn, EntriesIn, Captures};
+ghost use Rattle.run_machine.specs.Well.{PartIn, EntriesIn, Captures};
 
 // Bit by bit: the captured bit xor data inv where the gathered bit, cleared where set0 is 1 and then inverted where inv is 1, is 1; else the held bit.
 fn chosen_word(cap: u32, held: u32, gathered: u32, inv: u32, set0: u32, data_inv: u32) -> u32

@@ -19,7 +19,7 @@ use Rattle.words.specs.Edition.{levelsFor}
 use Rattle.words.proofs.EditionLaws.{slots-power}
 use Rattle.words.specs.Section.{listOf}
 use Rattle.words.proofs.SectionLaws.{length-listOf}
-use Rattle.run_form.specs.Well.{Lanes, Captures}
+use Rattle.run_machine.specs.Well.{Lanes, Captures}
 use Rattle.run_stage.specs.Gather.{gatheredRow}
 use Rattle.run_turns.specs.Block.{holds, held, stateBlock, roomRead, roomStaged, roomTurned}
 use Rattle.run_machine.proofs.SetsLaws.{take-sets, sets-in, sets-part, sets-over}

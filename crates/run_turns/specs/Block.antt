@@ -9,7 +9,7 @@ use lib.Seq.{sets}
 use Rattle.run_machine.specs.Part.{stagesAt, normalAt}
 use Rattle.run_machine.specs.Turn.{Phase, toRead, toStage, toStore, finished, going, Block, readRow, stageRow, captured}
 use Rattle.run_machine.specs.Room.{capturedFrom}
-use Rattle.run_form.specs.Well.{PartWell}
+use Rattle.run_machine.specs.Well.{PartWell}
 use Rattle.run_stage.specs.Gather.{gatheredRow}
 
 -- what the room holds counts from the read turn to the store turn

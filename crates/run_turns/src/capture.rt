@@ -9,7 +9,7 @@ ghost use Rattle.run_machine.specs.Part.{normalAt};
 ghost use Rattle.run_machine.specs.Turn.{captured};
 ghost use Rattle.run_machine.specs.Room.{blockRoom, capturedFrom};
 ghost use Rattle.run_turns.specs.Capture.{capturedWord};
-ghost use Rattle.run_form.specs.Well.{PartIn, Captures};
+ghost use Rattle.run_machine.specs.Well.{PartIn, Captures};
 
 // Captured word l after stage k.
 fn capture_word(words: &[u32], n: usize, at: usize, k: usize, room: &[u32], l: usize) -> u32

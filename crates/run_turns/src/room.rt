@@ -14,7 +14,7 @@ ghost use Rattle.words.specs.Section.{listOf};
 ghost use Rattle.run_machine.specs.Part.{stagesAt, startAt, normalAt};
 ghost use Rattle.run_machine.specs.Turn.{storedWord};
 ghost use Rattle.run_machine.specs.Room.{blockRoom, capturedFrom, partLow, phaseCode, phaseFrom, partOf, phaseOf, stageOf, blockStateWords};
-ghost use Rattle.run_form.specs.Well.{PartIn, Reads, EntriesIn, Captures};
+ghost use Rattle.run_machine.specs.Well.{PartIn, Reads, EntriesIn, Captures};
 ghost use Rattle.run_turns.specs.Phases.{phaseIs};
 ghost use Rattle.run_turns.specs.Block.{roomRead, roomStaged};
 use words::clear::clear;

@@ -19,7 +19,7 @@ use Rattle.script.specs.declared.head.Numbers.{Numbers}
 use Rattle.script.specs.Script.{partScript}
 use Rattle.script.specs.Writers.{NumbersOf}
 use Rattle.script_part.specs.Build.{Buildable}
-use Rattle.plan_checks.proofs.PassedLaws.{Passed, passed, placed-reads}
+use Rattle.plan_refusals.proofs.PassedLaws.{Passed, passed, placed-reads}
 use Rattle.script_assembly.specs.WrittenSoFar.{lengthOf}
 use Rattle.script_layout.specs.Layout.{AcceptedTabled, rowScript}
 

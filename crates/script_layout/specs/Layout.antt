@@ -9,7 +9,7 @@ use Rattle.plan_record.specs.Record.{blocksOf, majorsOf, partsOf, partsBefore}
 use Rattle.plan_rows.specs.Columns as col
 use Rattle.plan_rows.specs.Rows.{cellAt}
 use Rattle.script.specs.Script.{partScript}
-use Rattle.plan_checks.specs.Refusals.{planRefusal}
+use Rattle.plan_refusals.specs.Refusals.{planRefusal}
 use Rattle.plan_checks.specs.CheckedRoom.{PlanReady}
 use Rattle.script_assembly.specs.Assembly.{blockWords, stageWords, majorWords, majorStarts, scriptWords, scriptStarts}
 use Rattle.script_assembly.specs.WrittenSoFar.{lengthOf, partsIn, firstRank}

@@ -3,7 +3,7 @@
 use mathlib.Core.Path.{sym, ap, _∙_}
 use lib.ListN.{length}
 use Rattle.words.specs.Answer.{Answer}
-use Rattle.plan_checks.specs.Refusals.{planVerdict}
+use Rattle.plan_refusals.specs.Refusals.{planVerdict}
 use Rattle.flatten.specs.FlattenedAnswer.{flattenedOf}
 use Rattle.script_assembly.specs.Assembly.{scriptStarts, scriptWords}
 use Rattle.flatten.specs.Flatten.{Sizes, pieceSizes, laid}

@@ -2,7 +2,7 @@
 -- Assumes nothing.
 use mathlib.Core.Path.{sym, ap, _∙_}
 use lib.ListN.{length}
-use Rattle.plan_checks.specs.Refusals.{planVerdict}
+use Rattle.plan_refusals.specs.Refusals.{planVerdict}
 use Rattle.flatten.specs.FlattenedAnswer.{flattenedOf}
 use Rattle.flatten.proofs.BuildAnswerLaws.{accepted-is, sound, refused-sized, accepted-sizing, cleared-room}
 use borrow.Author.Needs.{needs}

@@ -4,10 +4,11 @@ use mathlib.Core.Path.{_≡_, _∙_}
 use mathlib.Core.Option.{none}
 use native.Mathlib.Omega.{arith}
 use lib.ListN.{length}
-use Rattle.plan_checks.specs.RefusalGroups.{listRefusal, totalRefusal, pinRefusal, placeRefusal}
-use Rattle.plan_checks.specs.Refusals.{planRefusal}
+use Rattle.plan_refusals.specs.RefusalGroups.{listRefusal, totalRefusal, pinRefusal, placeRefusal}
+use Rattle.plan_refusals.specs.Refusals.{planRefusal}
+use Rattle.plan_refusals.proofs.PassedLaws.{lists-passed}
 use Rattle.plan_checks.proofs.VerdictLaws.{went-on, never}
-use Rattle.plan_checks.proofs.RefusalGroupLaws.{plan-lists, plan-totals, plan-pins, plan-places, plan-reads, lists-passed}
+use Rattle.plan_checks.proofs.RefusalGroupLaws.{plan-lists, plan-totals, plan-pins, plan-places, plan-reads}
 use Rattle.plan_checks.proofs.CheckedRoomLaws.{may-fill, stays-clear, may-judge, may-search, room-ready}
 use borrow.Author.Needs.{needs}
 use Rattle.plan_checks.proofs.check_all.Statement.{statement}

@@ -6,11 +6,12 @@ use Prim.Native.Nat.{_≤_, _<_}
 use native.Mathlib.Omega.{arith}
 use lib.ListN.{length}
 use Rattle.plan_record.specs.Form.{planRoomWords}
-use Rattle.plan_checks.specs.Refusals.{planRefusal}
+use Rattle.plan_refusals.specs.Refusals.{planRefusal}
 use Rattle.plan_checks.specs.Verdicts.{verdictOf}
 use Rattle.words.proofs.TestLaws.{some-not-none}
+use Rattle.plan_refusals.proofs.RefusalOrderLaws.{short-verdict, wide-verdict}
 use Rattle.plan_checks.proofs.VerdictLaws.{went-on, never}
-use Rattle.plan_checks.proofs.CheckedRoomLaws.{room-cleared, short-verdict, short-room, wide-verdict, again-room, last-room, last-ready}
+use Rattle.plan_checks.proofs.CheckedRoomLaws.{room-cleared, short-room, again-room, last-room, last-ready}
 use borrow.Author.Needs.{needs}
 use Rattle.plan_checks.proofs.check_plan.Statement.{statement}
 use Rattle.plan_checks.proofs.check_plan.Tie as tie
@@ -34,7 +35,7 @@ returns : tie.Need-returns
 returns c =
     let s = begun (c .before) .args in
     let h : length (s .room .now) < planRoomWords (s .plan .now) = omega (arith, c .if1 .taken, c .before .room-words .ensures .0) in
-    let is = short-verdict (s .plan .now) (s .room .now) h in
+    let is = short-verdict 256 (s .plan .now) (length (s .room .now)) h in
     (ap verdictOf (sym is), (short-room (s .plan .now) (s .room .now) h, λ e. absurd (some-not-none (sym is ∙ e))))
 
 check-all-requires : tie.Need-check-all-requires
@@ -52,7 +53,7 @@ returns-2 c =
     let at-clear = cleared at-check-all in
     let s = begun (at-clear .before .before .before) .args in
     let h = wide at-clear in
-    let is = wide-verdict (s .plan .now) (s .room .now) h in
+    let is = wide-verdict 256 (s .plan .now) (length (s .room .now)) h in
     let k = at-check-all .check-all in
     let not : planRefusal 256 (s .plan .now) ≡ none → ⊥ = never (planRefusal 256 (s .plan .now)) _ (k .ensures .0) _ (at-if2 .before .is-refused .ensures) (at-if2 .if2 .taken) in (
       k .ensures .0 ∙ ap verdictOf (sym is),
@@ -66,7 +67,7 @@ returns-3 c =
     let at-clear = cleared at-check-all in
     let s = begun (at-clear .before .before .before) .args in
     let h = wide at-clear in
-    let is = wide-verdict (s .plan .now) (s .room .now) h in
+    let is = wide-verdict 256 (s .plan .now) (length (s .room .now)) h in
     let k = at-check-all .check-all in
     let accepted = went-on (planRefusal 256 (s .plan .now)) _ (k .ensures .0) _ (c .before .is-refused .ensures) (c .if2 .left) in (
       k .ensures .0 ∙ ap verdictOf (sym is),

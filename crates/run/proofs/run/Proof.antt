@@ -3,7 +3,7 @@
 use mathlib.Core.Path.{sym, _∙_}
 use lib.ListN.{length}
 use Rattle.words.proofs.FoundLaws.{item-some, item-none}
-use Rattle.run_form.proofs.PartWellLaws.{lanes-of}
+use Rattle.run_machine.proofs.PartWellLaws.{lanes-of}
 use Rattle.run.proofs.RunAnswerLaws.{again, told-short, told-block, told-turn, told-run, accepted}
 use borrow.Author.Needs.{needs}
 use Rattle.run.proofs.run.Statement.{statement}

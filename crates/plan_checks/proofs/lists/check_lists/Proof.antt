@@ -5,7 +5,7 @@ use mathlib.Core.Bool.{true}
 use Rattle.plan_record.specs.Form.{planForm}
 use Rattle.plan_gates.specs.Gates.{badGate}
 use Rattle.plan_counts.specs.Counts.{refusal7}
-use Rattle.plan_checks.specs.Refusals.{gatePlace}
+use Rattle.plan_refusals.specs.Refusals.{gatePlace}
 use Rattle.plan_checks.proofs.VerdictLaws.{unless-told, at-told, held, went-past}
 use Rattle.plan_checks.proofs.RefusalPlaceLaws.{list-told, lowest-told, few-same, few7}
 use Rattle.plan_checks.proofs.RefusalGroupLaws.{list-five, list-six, list-seven}

@@ -1,6 +1,6 @@
 -- `plan_checks::lists::check_totals` meets its contract.
 -- Assumes nothing.
-use Rattle.plan_checks.specs.RefusalGroups.{totalRefusal}
+use Rattle.plan_refusals.specs.RefusalGroups.{totalRefusal}
 use Rattle.plan_checks.proofs.VerdictLaws.{unless-told}
 use borrow.Author.Needs.{needs}
 use Rattle.plan_checks.proofs.lists.check_totals.Statement.{statement}

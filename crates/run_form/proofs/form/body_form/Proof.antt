@@ -2,7 +2,7 @@
 -- Assumes nothing.
 use mathlib.Core.Path.{sym, _∙_}
 use borrow.Author.Tests.{not-true, not-false}
-use Rattle.run_form.proofs.PartWellLaws.{stores-in}
+use Rattle.run_machine.proofs.PartWellLaws.{stores-in}
 use Rattle.run_form.proofs.BlockFormLaws.{body-stores, body-locations, body-lanes, body-reads, body-entries}
 use borrow.Author.Needs.{needs}
 use Rattle.run_form.proofs.form.body_form.Statement.{statement}

@@ -1,0 +1,2 @@
+pub mod RefusalOrderLaws
+pub mod PassedLaws
