@@ -24,7 +24,14 @@ fn one_turn(words: &[u32], n: usize, old: &[u32], new: &mut [u32], room: &mut [u
 }
 
 // All turns, in their order.
-pub fn take_turns(words: &[u32], n: usize, turns: &[u32], old: &[u32], new: &mut [u32], room: &mut [u32])
+pub fn take_turns(
+    words: &[u32],
+    n: usize,
+    turns: &[u32],
+    old: &[u32],
+    new: &mut [u32],
+    room: &mut [u32],
+)
     requires { ⌜ ((starts : List ℕ) × AllLeftInForm n (now words) starts (length (now old)) (length (now new)) (now room) × TurnsNamed starts (now turns)) ⌝ }
     ensures good { λ _. ⌜ ((starts : List ℕ) → AllLeftInForm n (now (words .entry)) starts (length (now (old .entry))) (length (now (new .entry))) (now (room .entry)) → TurnsNamed starts (now (turns .entry)) → AllLeftInForm n (now (words .entry)) starts (length (now (old .entry))) (length (now (new .entry))) (now (room .exit))) ⌝ }
     ensures run { λ _. ⌜ ((starts : List ℕ) → AllLeftInForm n (now (words .entry)) starts (length (now (old .entry))) (length (now (new .entry))) (now (room .entry)) → TurnsNamed starts (now (turns .entry)) → running n (now (words .entry)) (length starts - 1) (now (room .exit)) (now (new .exit)) ≡ runFrom n (levelsFor n) (now (words .entry)) (now (old .entry)) (running n (now (words .entry)) (length starts - 1) (now (room .entry)) (now (new .entry))) (now (turns .entry))) ⌝ }

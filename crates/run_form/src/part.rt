@@ -1,4 +1,5 @@
-// The numbers of the part that begins at word `at`, of a script of n lanes. An index with a product of two numbers is worked out here alone.
+// The numbers of the part that begins at word `at`, of a script of n lanes. Where a round, a section or its end
+// stands has a product of two numbers, and is worked out here alone.
 ghost use mathlib.Core.Path.{_≡_};
 ghost use Prim.Native.Nat.{_+_, _*_, _<_, _≤_};
 ghost use lib.ListN.{length, getD};

@@ -1,6 +1,5 @@
 -- The store turn on whole words, and what it asks for.
 -- Assumes nothing.
-use mathlib.Core.Path.{_≡_}
 use mathlib.Core.List.{List}
 use Prim.Native.Nat.{ℕ, _+_, _<_, _≤_}
 use lib.Bits.{bitAnd, bitXor}

@@ -36,7 +36,11 @@ add-sum c =
     let start = c .before .before .before .before .before .before in
     let l = c .before .before .before .loop in
     let next = left-next _ (start .args .words .now) (start .args .room .now) (start .args .blocks) (l .b) (l .sum) _ _ (omega arith) (rw (lent-room (start .args .room .now) (l .b)) at (c .block-left .ensures)) (l .inv .1) in
-    omega (arith, next, all-bound _ (start .args .words .now) (start .args .room .now) (start .pre .0) (start .pre .1) (start .pre .2) (start .pre .4), ap (λ (m : ℕ). allLeft (start .args .n) (start .args .words .now) (blocksIn (start .args .n) (start .args .words .now) (start .args .room .now) m 0)) (start .pre .3))
+    let n = start .args .n in
+    let W = start .args .words .now in
+    let room = start .args .room .now in
+    let all = all-bound n W room (start .pre .0) (start .pre .1) (start .pre .2) (start .pre .4) in
+    omega (arith, next, all, ap (λ (m : ℕ). allLeft n W (blocksIn n W room m 0)) (start .pre .3))
 
 loop-again : tie.Need-loop-again Inv-loop μ-loop
 loop-again c =
