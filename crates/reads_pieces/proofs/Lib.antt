@@ -1,2 +1,3 @@
 pub mod PieceKeyLaws
 pub mod PieceOrderLaws
+pub mod ClassLaws

@@ -154,7 +154,8 @@ fn try_pieces(
 }
 
 // The search over the sizes n, n/2, n/4 .. 1, up to the first that places all: then it, with its lanes in the table. Else 4, with the word
-// of the last try, and an empty table. Sizes are passed over only where the set has a pair of 32 bits. The running numbers of the lanes are lent; what they hold afterwards is left open.
+// of the last try, and an empty table. Sizes are passed over only where a pair of 32 bits is among the first. The running numbers of the lanes
+// are lent; what they hold afterwards is left open.
 fn sizes_over(
     set: &[u32],
     table: &mut [u32],
@@ -170,7 +171,7 @@ fn sizes_over(
 {
     let mut word = 0;
     let mut k = set.len() / 2;
-    let look = reads_try::full_in(set, 0, k);
+    let look = reads_try::full_in(set, 0, reads_try::least(k, FEW_PAIRS));
     clear(table);
     while 0 < k {
         match try_pieces(set, table, used, held, keys, scratch, lanes, k, look) {

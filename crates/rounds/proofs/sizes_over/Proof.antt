@@ -22,7 +22,8 @@ abbrev μ-loop : tie.MeasureT-loop
 abbrev called : tie.At-loop Inv-loop μ-loop → tie.Start Inv-loop μ-loop
 called c =
     let way = c .before .before .before .before .before .before in
-    way .before .before .before .before .before .before
+    let known = way .before .before .before .before .before .before in
+    known .before
 
 abbrev turn : tie.After-try-pieces Inv-loop μ-loop → tie.In-loop Inv-loop μ-loop
 turn c = c .before .before .before .before .before .before
@@ -32,9 +33,12 @@ tried c =
     let way = c .before .before .before .before .before .before in
     way .before .before .before .before .before .before
 
+full-in-requires : tie.Need-full-in-requires Inv-loop μ-loop
+full-in-requires c κs = omega (arith, c .least .ensures)
+
 loop-holds : tie.Need-loop-holds Inv-loop μ-loop
 loop-holds c =
-    let way = c .before .before .before .before .before in
+    let way = c .before .before .before .before .before .before in
     let start = way .before .before .before .before .before .before in
     let s = start .pre .0 in
     (refl, refl, table-cleared (start .args .table .now) _ (c .before .before .clear .ensures) (s .room), search-start s (start .pre .3), start .pre .1, start .pre .2)
@@ -116,6 +120,6 @@ returns-2 c =
 pub sizes-over-spec : {M : Type 1} → statement M
 sizes-over-spec =
     tie.close
-    (tie.spec Inv-loop μ-loop (λ c κs. search needs) (λ c κs. search needs) loop-holds try-pieces-requires (λ c. search needs) same-length
+    (tie.spec Inv-loop μ-loop (λ c κs. search needs) full-in-requires (λ c κs. search needs) loop-holds try-pieces-requires (λ c. search needs) same-length
     same-length-2 same-length-3 (λ c. search needs) (λ c. search needs) returns (λ c. search needs) (λ c. search needs) loop-again
     (λ c κs. search needs) same-length-6 same-length-7 same-length-8 (λ c. search needs) (λ c. search needs) returns-2)
