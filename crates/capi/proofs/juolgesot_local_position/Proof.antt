@@ -15,8 +15,7 @@ unfolding afterLocalPosition
 returns c =
     let lent = c .before .before .before in
     let m = lent .before .before in
-    let start = m .before .before .before .before .before in
-    let a = start .args in
+    let a = m .before .before .before .before .args in
     let o = localAnswer 256 (a .set .now) (length (a .room .now)) (a .word) (a .bit) in
     let made = m .local-position .ensures in
     let numbers = c .tell-brought .ensures ∙ (ap broughtNumbers (made .0) ∙ brought-told o) in
