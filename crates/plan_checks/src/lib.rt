@@ -8,6 +8,7 @@ pub mod tell;
 ghost use mathlib.Core.Path.{_≡_};
 ghost use mathlib.Core.Option.{none};
 ghost use lib.ListN.{length};
+ghost use Rattle.plan_reads.specs.ReadsReady.{SetRoom};
 ghost use Rattle.plan_checks.specs.Refusals.{planRefusal, planVerdict};
 ghost use Rattle.plan_checks.specs.Verdicts.{verdictOf};
 ghost use Rattle.plan_checks.specs.CheckedRoom.{PlanReady, Cleared, readyRoom, roomLeft};
@@ -28,17 +29,23 @@ pub enum Verdict {
     Refused(Refusal),
 }
 
-// All refusals but for room. What the room of a refused plan holds is left open.
-fn check_all(plan: &[u8], room: &mut [u32]) -> Verdict
-    requires { ⌜ Cleared (now plan) (now room) ⌝ }
+// All refusals but for room. What the room of a refused plan holds is left open, and so is what keys, scratch and set do, here and below.
+fn check_all(
+    plan: &[u8],
+    room: &mut [u32],
+    keys: &mut [u64],
+    scratch: &mut [u64],
+    set: &mut [u32],
+) -> Verdict
+    requires { ⌜ Cleared (now plan) (now room) × SetRoom (length (now keys)) (length (now scratch)) (length (now set)) ⌝ }
     ensures { λ r. ⌜ r ≡ verdictOf (planRefusal 256 (now (plan .entry))) ⌝ }
     ensures { λ _. ⌜ (planRefusal 256 (now (plan .entry)) ≡ none → now (room .exit) ≡ readyRoom (now (plan .entry)) (length (now (room .entry)))) ⌝ }
 {
-    let lists = check_lists(plan);
+    let lists = check_lists(plan, keys, scratch);
     if is_refused(lists) {
         return lists;
     }
-    let totals = check_totals(plan, room);
+    let totals = check_totals(plan, room, keys, scratch);
     if is_refused(totals) {
         return totals;
     }
@@ -46,15 +53,22 @@ fn check_all(plan: &[u8], room: &mut [u32]) -> Verdict
     if is_refused(pins) {
         return pins;
     }
-    let places = check_places(plan, room);
+    let places = check_places(plan, room, keys);
     if is_refused(places) {
         return places;
     }
-    check_reading(plan, room)
+    check_reading(plan, room, keys, scratch, set)
 }
 
 // Checks a plan. Once it is accepted, the room has its part table; once it is refused, the room is clear, unless it was too short.
-pub fn check_plan(plan: &[u8], room: &mut [u32]) -> Verdict
+pub fn check_plan(
+    plan: &[u8],
+    room: &mut [u32],
+    keys: &mut [u64],
+    scratch: &mut [u64],
+    set: &mut [u32],
+) -> Verdict
+    requires { ⌜ SetRoom (length (now keys)) (length (now scratch)) (length (now set)) ⌝ }
     ensures { λ r. ⌜ r ≡ verdictOf (planVerdict 256 (now (plan .entry)) (length (now (room .entry)))) ⌝ }
     ensures { λ _. ⌜ now (room .exit) ≡ roomLeft (now (plan .entry)) (now (room .entry)) ⌝ }
     ensures { λ _. ⌜ (planVerdict 256 (now (plan .entry)) (length (now (room .entry))) ≡ none → PlanReady (now (plan .entry)) (now (room .exit))) ⌝ }
@@ -67,7 +81,7 @@ pub fn check_plan(plan: &[u8], room: &mut [u32]) -> Verdict
         });
     }
     clear(room);
-    let verdict = check_all(plan, room);
+    let verdict = check_all(plan, room, keys, scratch, set);
     if is_refused(verdict) {
         clear(room);
     }

@@ -1,5 +1,7 @@
 // Refusals 5, 6 and 7, and 8 with the part table.
 ghost use mathlib.Core.Path.{_≡_};
+ghost use Prim.Native.Nat.{_≤_};
+ghost use lib.ListN.{length};
 ghost use Rattle.plan_blocks.specs.TableFill.{TableFillable, allottedRoom};
 ghost use Rattle.plan_checks.specs.RefusalGroups.{listRefusal, totalRefusal};
 ghost use Rattle.plan_checks.specs.Verdicts.{verdictOf};
@@ -16,8 +18,9 @@ use words::refusals::PLAN_FORM;
 use words::refusals::TOTALS;
 use words::refusals::WRITE_OUTS;
 
-// Refusals 5, 6 and 7.
-pub fn check_lists(plan: &[u8]) -> Verdict
+// Refusals 5, 6 and 7. What keys and scratch hold afterwards is left open, here and below.
+pub fn check_lists(plan: &[u8], keys: &mut [u64], scratch: &mut [u64]) -> Verdict
+    requires { ⌜ (8192 ≤ length (now keys)) × (8192 ≤ length (now scratch)) ⌝ }
     ensures { λ r. ⌜ r ≡ verdictOf (listRefusal (now (plan .entry))) ⌝ }
 {
     let form = of_test(PLAN_FORM, plan_form(plan));
@@ -28,14 +31,14 @@ pub fn check_lists(plan: &[u8]) -> Verdict
     if is_refused(gates) {
         return gates;
     }
-    of_lowest(WRITE_OUTS, check_counts(plan))
+    of_lowest(WRITE_OUTS, check_counts(plan, keys, scratch))
 }
 
 // Refusal 8.
-pub fn check_totals(plan: &[u8], room: &mut [u32]) -> Verdict
-    requires { ⌜ TableFillable (now plan) (now room) ⌝ }
+pub fn check_totals(plan: &[u8], room: &mut [u32], keys: &mut [u64], scratch: &mut [u64]) -> Verdict
+    requires { ⌜ TableFillable (now plan) (now room) × (8192 ≤ length (now keys)) × (8192 ≤ length (now scratch)) ⌝ }
     ensures { λ r. ⌜ r ≡ verdictOf (totalRefusal (now (plan .entry))) ⌝ }
     ensures { λ _. ⌜ now (room .exit) ≡ allottedRoom (now (plan .entry)) (now (room .entry)) ⌝ }
 {
-    of_test(TOTALS, allot(plan, room))
+    of_test(TOTALS, allot(plan, room, keys, scratch))
 }

@@ -82,7 +82,7 @@ fn put_key(d: &[u8], p: usize, body: Body, i: usize, keys: &mut [u64], n: usize)
 
 // Puts the activations of a part at the front of `keys`: how many there are.
 fn collect(d: &[u8], p: usize, body: Body, keys: &mut [u64]) -> usize
-    requires { ⌜ Countable (now d) p body × (length (now keys) ≡ 8192) ⌝ }
+    requires { ⌜ Countable (now d) p body × (8192 ≤ length (now keys)) ⌝ }
     ensures { λ r. ⌜ (r ≡ length (activations (now (d .entry)) p)) × (r ≤ 8192) ⌝ }
     ensures { λ r. ⌜ now (keys .exit) ≡ activations (now (d .entry)) p ++ drop r (now (keys .entry)) ⌝ }
 {
@@ -96,13 +96,11 @@ fn collect(d: &[u8], p: usize, body: Body, keys: &mut [u64]) -> usize
     n
 }
 
-// The duplicate words of a part.
-pub fn duplicates_of(d: &[u8], p: usize, body: Body) -> u32
-    requires { ⌜ Countable (now d) p body ⌝ }
+// The duplicate words of a part. What keys and scratch hold afterwards is left open.
+pub fn duplicates_of(d: &[u8], p: usize, body: Body, keys: &mut [u64], scratch: &mut [u64]) -> u32
+    requires { ⌜ Countable (now d) p body × (8192 ≤ length (now keys)) × (8192 ≤ length (now scratch)) ⌝ }
     ensures { λ r. ⌜ r ≡ duplicates (now (d .entry)) p ⌝ }
 {
-    let mut keys = [0u64; 8192];
-    let mut scratch = [0u64; 8192];
-    let n = collect(d, p, body, &mut keys);
-    duplicate_words(&mut keys[..n], &mut scratch)
+    let n = collect(d, p, body, keys);
+    duplicate_words(&mut keys[..n], scratch)
 }

@@ -4,6 +4,7 @@ pub mod activations;
 ghost use mathlib.Core.Path.{_≡_};
 ghost use mathlib.Core.Bool.{true};
 ghost use Prim.Native.Nat.{_≤_};
+ghost use lib.ListN.{length};
 ghost use Rattle.plan_record.specs.Body.{BodyOf};
 ghost use Rattle.plan_record.specs.Form.{planForm};
 ghost use Rattle.plan_counts.specs.Counts.{isSram, srams, badCounts, refusal7};
@@ -54,13 +55,13 @@ pub fn srams_of(d: &[u8], p: usize, body: Body) -> u32
     found
 }
 
-// The counts of a part.
-pub fn counts_of(d: &[u8], p: usize, body: Body) -> Counts
-    requires { ⌜ Countable (now d) p body ⌝ }
+// The counts of a part. What keys and scratch hold afterwards is left open, here and below.
+pub fn counts_of(d: &[u8], p: usize, body: Body, keys: &mut [u64], scratch: &mut [u64]) -> Counts
+    requires { ⌜ Countable (now d) p body × (8192 ≤ length (now keys)) × (8192 ≤ length (now scratch)) ⌝ }
     ensures { λ r. ⌜ CountsOf (now (d .entry)) p r ⌝ }
 {
     let srams = srams_of(d, p, body);
-    let duplicates = activations::duplicates_of(d, p, body);
+    let duplicates = activations::duplicates_of(d, p, body, keys, scratch);
     Counts {
         srams,
         duplicates,
@@ -85,14 +86,14 @@ fn first_bad_location(d: &[u8], p: usize, body: Body) -> Item
 }
 
 // Refusal 7 in a part: a location, or else the sum, told at the location count.
-pub fn bad_counts(d: &[u8], p: usize, body: Body) -> Item
-    requires { ⌜ Countable (now d) p body ⌝ }
+pub fn bad_counts(d: &[u8], p: usize, body: Body, keys: &mut [u64], scratch: &mut [u64]) -> Item
+    requires { ⌜ Countable (now d) p body × (8192 ≤ length (now keys)) × (8192 ≤ length (now scratch)) ⌝ }
     ensures { λ r. ⌜ r ≡ itemOf (badCounts (now (d .entry)) p) ⌝ }
 {
     if let Item::At(l) = first_bad_location(d, p, body) {
         return Item::At(l);
     }
-    let counts = counts_of(d, p, body);
+    let counts = counts_of(d, p, body, keys, scratch);
     if counts.words <= Edition::LANES {
         return Item::Fine;
     }
@@ -100,8 +101,8 @@ pub fn bad_counts(d: &[u8], p: usize, body: Body) -> Item
 }
 
 // Refusal 7 over the whole plan.
-pub fn check_counts(d: &[u8]) -> Lowest
-    requires { ⌜ planForm (now d) ≡ true ⌝ }
+pub fn check_counts(d: &[u8], keys: &mut [u64], scratch: &mut [u64]) -> Lowest
+    requires { ⌜ (planForm (now d) ≡ true) × (8192 ≤ length (now keys)) × (8192 ≤ length (now scratch)) ⌝ }
     ensures { λ r. ⌜ r ≡ lowestOf (refusal7 (now (d .entry))) ⌝ }
 {
     let parts = parts_of(d);
@@ -109,7 +110,7 @@ pub fn check_counts(d: &[u8]) -> Lowest
     let mut p = 0;
     while p < parts {
         let body = body_at(d, p, at);
-        if let Item::At(i) = bad_counts(d, p, body) {
+        if let Item::At(i) = bad_counts(d, p, body, keys, scratch) {
             return Lowest::At(p, i);
         }
         at = body.end;

@@ -154,38 +154,29 @@ fn bad_pin(
     bad_slot(d, p, body, room, state, n)
 }
 
-// Refusal 12 of one part. The first words of the room, clear before and after, are its table of pins. What the list holds afterwards is left open.
-fn judge_listed(
+// Refusal 12 of one part. The first words of the room, clear before and after, are its table of pins. What keys holds
+// afterwards, here the list of the pins, is left open.
+fn judge_part(
     d: &[u8],
     p: usize,
     body: Body,
     room: &mut [u32],
     state: usize,
-    list: &mut [u64],
+    keys: &mut [u64],
 ) -> Item
-    requires { ⌜ PartReady (now d) p body (now room) state × (8192 ≤ length (now list)) ⌝ }
+    requires { ⌜ PartReady (now d) p body (now room) state × (8192 ≤ length (now keys)) ⌝ }
     ensures { λ r. ⌜ r ≡ itemOf (badSlot (now (d .entry)) p) ⌝ }
     ensures { λ _. ⌜ now (room .exit) ≡ now (room .entry) ⌝ }
 {
-    let m = list_planned(d, p, body, &mut room[..PIN_TABLE], list);
-    let found = bad_pin(d, p, body, room, state, parts_earlier(d, p), &list[..m]);
+    let m = list_planned(d, p, body, &mut room[..PIN_TABLE], keys);
+    let found = bad_pin(d, p, body, room, state, parts_earlier(d, p), &keys[..m]);
     clear(&mut room[..PIN_TABLE]);
     found
 }
 
-// The same, with a list of its own.
-fn judge_part(d: &[u8], p: usize, body: Body, room: &mut [u32], state: usize) -> Item
-    requires { ⌜ PartReady (now d) p body (now room) state ⌝ }
-    ensures { λ r. ⌜ r ≡ itemOf (badSlot (now (d .entry)) p) ⌝ }
-    ensures { λ _. ⌜ now (room .exit) ≡ now (room .entry) ⌝ }
-{
-    let mut list = [0u64; Edition::SLOTS];
-    judge_listed(d, p, body, room, state, &mut list)
-}
-
-// Refusal 12.
-pub fn refusal12(d: &[u8], room: &mut [u32]) -> Lowest
-    requires { ⌜ Judgeable (now d) (now room) ⌝ }
+// Refusal 12. What keys holds afterwards is left open.
+pub fn refusal12(d: &[u8], room: &mut [u32], keys: &mut [u64]) -> Lowest
+    requires { ⌜ Judgeable (now d) (now room) × (8192 ≤ length (now keys)) ⌝ }
     ensures { λ r. ⌜ r ≡ lowestOf (Rattle.plan_positions.specs.Positions.refusal12 (now (d .entry))) ⌝ }
     ensures { λ _. ⌜ now (room .exit) ≡ now (room .entry) ⌝ }
 {
@@ -195,7 +186,7 @@ pub fn refusal12(d: &[u8], room: &mut [u32]) -> Lowest
     let mut p = 0;
     while p < parts {
         let body = body_at(d, p, at);
-        if let Item::At(i) = judge_part(d, p, body, room, state) {
+        if let Item::At(i) = judge_part(d, p, body, room, state, keys) {
             return Lowest::At(p, i);
         }
         at = body.end;

@@ -45,19 +45,19 @@ fn put_counts(room: &mut [u32], p: usize, srams: u32, duplicates: u32, words: us
     put_cell(room, p, Column::WRITE_OUTS, words as u32);
 }
 
-// What the record says of part p.
-fn fill_row(d: &[u8], room: &mut [u32], p: usize, body: Body)
-    requires { ⌜ RowReady (now d) (now room) p body ⌝ }
+// What the record says of part p. What keys and scratch hold afterwards is left open, here and below.
+fn fill_row(d: &[u8], room: &mut [u32], p: usize, body: Body, keys: &mut [u64], scratch: &mut [u64])
+    requires { ⌜ RowReady (now d) (now room) p body × (8192 ≤ length (now keys)) × (8192 ≤ length (now scratch)) ⌝ }
     ensures { λ _. ⌜ now (room .exit) ≡ countRow (now (d .entry)) (now (room .entry)) p ⌝ }
 {
-    let counts = counts_of(d, p, body);
+    let counts = counts_of(d, p, body, keys, scratch);
     put_body(room, p, body.at, body.locations);
     put_counts(room, p, counts.srams, counts.duplicates, counts.words);
 }
 
 // The same of every part.
-pub fn fill_counts(d: &[u8], room: &mut [u32])
-    requires { ⌜ TableFillable (now d) (now room) ⌝ }
+pub fn fill_counts(d: &[u8], room: &mut [u32], keys: &mut [u64], scratch: &mut [u64])
+    requires { ⌜ TableFillable (now d) (now room) × (8192 ≤ length (now keys)) × (8192 ≤ length (now scratch)) ⌝ }
     ensures { λ _. ⌜ now (room .exit) ≡ countedRoom (now (d .entry)) (now (room .entry)) ⌝ }
 {
     let parts = parts_of(d);
@@ -65,7 +65,7 @@ pub fn fill_counts(d: &[u8], room: &mut [u32])
     let mut p = 0;
     while p < parts {
         let body = body_at(d, p, at);
-        fill_row(d, room, p, body);
+        fill_row(d, room, p, body, keys, scratch);
         at = body.end;
         p += 1;
     }
@@ -102,13 +102,13 @@ pub fn allot_stages(d: &[u8], room: &mut [u32])
 }
 
 // The part table of a plan, where refusal 8 is not given; else the counts alone.
-pub fn allot(d: &[u8], room: &mut [u32]) -> bool
-    requires { ⌜ TableFillable (now d) (now room) ⌝ }
+pub fn allot(d: &[u8], room: &mut [u32], keys: &mut [u64], scratch: &mut [u64]) -> bool
+    requires { ⌜ TableFillable (now d) (now room) × (8192 ≤ length (now keys)) × (8192 ≤ length (now scratch)) ⌝ }
     ensures { λ r. ⌜ r ≡ totalsFit (now (d .entry)) ⌝ }
     ensures { λ _. ⌜ now (room .exit) ≡ allottedRoom (now (d .entry)) (now (room .entry)) ⌝ }
     ensures { λ r. ⌜ (r ≡ true → Tabled (now (d .entry)) (now (room .exit))) ⌝ }
 {
-    fill_counts(d, room);
+    fill_counts(d, room, keys, scratch);
     if totals_fit(d, room) {
         allot_stages(d, room);
         return true;

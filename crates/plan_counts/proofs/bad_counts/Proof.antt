@@ -11,19 +11,22 @@ returns c = counts-location _ _ _ (c .before .before .before .first-bad-location
 
 returns-2 : tie.Need-returns-2
 returns-2 c =
-    let a = c .before .before .before in
-    let w = c .before .before .counts-of .ensures .words-are in
+    let at-counts-of = c .before .before .before .before .before .before in
+    let a = at-counts-of .before .before .before in
+    let w = at-counts-of .counts-of .ensures .words-are in
     counts-fine _ _ _ (a .before .before .first-bad-location .ensures) (a .enum-told .given .1) (omega (arith, w, c .if1 .taken))
 
 returns-3 : tie.Need-returns-3
 returns-3 c =
-    let a = c .before .before .before in
-    let start = a .before .before .before .before in
-    let n = start .pre .body .locations in
-    let w = c .before .before .counts-of .ensures .words-are in
+    let at-counts-of = c .before .before .before .before .before .before in
+    let a = at-counts-of .before .before .before in
+    let start = a .before .before .before .before .before .before in
+    let n = start .pre .0 .body .locations in
+    let w = at-counts-of .counts-of .ensures .words-are in
     counts-many _ _ _ (a .before .before .first-bad-location .ensures) (a .enum-told .given .1) _ n (omega (arith, w, c .if1 .left))
 
 pub bad-counts-spec : {M : Type 1} → statement M
 bad-counts-spec =
     tie.close
-    (tie.spec (λ c κs. search needs) (λ c. search needs) returns (λ c. search needs) (λ c κs. search needs) returns-2 returns-3)
+    (tie.spec (λ c κs. search needs) (λ c. search needs) returns (λ c. search needs) (λ c κs. search needs) (λ c. search needs)
+    (λ c. search needs) returns-2 (λ c. search needs) (λ c. search needs) returns-3)

@@ -10,18 +10,20 @@ use Rattle.plan_counts.proofs.counts_of.Statement.{statement}
 use Rattle.plan_counts.proofs.counts_of.Tie as tie
 
 few : (a : tie.Start) → endpointsOf (a .args .d .now) (a .args .p) ≤ 8192
-few a = omega (arith, a .pre .body .endpoints, a .pre .body .laid .endpoints)
+few a = omega (arith, a .pre .0 .body .endpoints, a .pre .0 .body .laid .endpoints)
 
 returns : tie.Need-returns
 unfolding writeOuts
 returns c =
-    let a = c .before .before .before .before in
-    let s = c .before .before .srams-of .ensures in
-    let u = c .before .duplicates-of .ensures in
+    let at-duplicates-of = c .before .before .before .before .before in
+    let at-srams-of = at-duplicates-of .before .before .before in
+    let a = at-srams-of .before .before .before .before in
+    let s = at-srams-of .srams-of .ensures in
+    let u = at-duplicates-of .duplicates-of .ensures in
     record {
       srams-are = s .0;
       duplicates-are = u;
-      words-are = omega (arith, a .pre .body .locations, s .0, u);
+      words-are = omega (arith, a .pre .0 .body .locations, s .0, u);
       few-srams = s .1;
       few-duplicates = omega (arith, u, duplicates-few _ _ (few a));
     }
@@ -30,4 +32,4 @@ pub counts-of-spec : {M : Type 1} → statement M
 counts-of-spec =
     tie.close
     (tie.spec (λ c κs. search needs) (λ c κs. search needs) (λ c. search needs) (λ c. search needs) (λ c. search needs) (λ c. search needs)
-    returns)
+    (λ c. search needs) (λ c. search needs) returns)

@@ -8,8 +8,12 @@ use Rattle.plan_checks.proofs.lists.check_totals.Tie as tie
 
 returns : tie.Need-returns
 unfolding totalRefusal
-returns c = (unless-told 8 _ _ _ (c .before .before .before .allot .ensures .0) (c .of-test .ensures), c .before .before .before .allot .ensures .1 .0)
+returns c =
+    let at-room = c .before .before .before .before .before .before in
+    let e = at-room .before .allot .ensures in
+    (unless-told 8 _ _ _ (e .0) (c .of-test .ensures), e .1 .0)
 
 pub check-totals-spec : {M : Type 1} → statement M
-check-totals-spec = tie.close
-    (tie.spec (λ c κs. search needs) (λ c κs. search needs) (λ c. search needs) returns)
+check-totals-spec =
+    tie.close
+    (tie.spec (λ c κs. search needs) (λ c κs. search needs) (λ c. search needs) (λ c. search needs) (λ c. search needs) returns)

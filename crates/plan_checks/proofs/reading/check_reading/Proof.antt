@@ -7,17 +7,28 @@ use borrow.Author.Needs.{needs}
 use Rattle.plan_checks.proofs.reading.check_reading.Statement.{statement}
 use Rattle.plan_checks.proofs.reading.check_reading.Tie as tie
 
+-- where it was begun
+abbrev begun : tie.After-check-reads → tie.Start
+begun a =
+    let way = a .before .before .before .before .before in
+    way .before .before .before .before .before
+
 of-reads-requires : tie.Need-of-reads-requires
-of-reads-requires c κs = let s = c .before .before .before .before .before .before in reads-few (s .args .plan .now) (s .pre .form) _ (c .before .before .search-parts .ensures .0)
+of-reads-requires c κs =
+    let way = c .before .before .before .before in
+    let at-check-reads = way .before .before .before .before in
+    let s = begun at-check-reads in
+    reads-few (s .args .plan .now) (s .pre .0 .form) _ (at-check-reads .check-reads .ensures .0)
 
 returns : tie.Need-returns
 returns c =
-    let at-search-parts = c .before .before .before in
-    let start = at-search-parts .before .before .before .before in
-    let d = start .args .plan .now in
-    (c .of-reads .ensures ∙ ap verdictOf (reads-told d _ (at-search-parts .search-parts .ensures .0)), at-search-parts .search-parts .ensures .1)
+    let way = c .before .before .before .before .before in
+    let at-check-reads = way .before .before .before .before in
+    let d = begun at-check-reads .args .plan .now in
+    (c .of-reads .ensures ∙ ap verdictOf (reads-told d _ (at-check-reads .check-reads .ensures .0)), at-check-reads .check-reads .ensures .1)
 
 pub check-reading-spec : {M : Type 1} → statement M
 check-reading-spec =
     tie.close
-    (tie.spec (λ c κs. search needs) of-reads-requires (λ c. search needs) returns)
+    (tie.spec (λ c κs. search needs) of-reads-requires (λ c. search needs) (λ c. search needs) (λ c. search needs) (λ c. search needs)
+    returns)

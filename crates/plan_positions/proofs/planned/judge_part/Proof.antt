@@ -8,8 +8,8 @@ use lib.Seq.{length-take-le}
 use Rattle.plan_record.proofs.PlanFormLaws.{formed}
 use Rattle.plan_winners.proofs.WinnerLaws.{listed}
 use Rattle.plan_positions.proofs.PlannedLaws.{part-stages, part-wide, part-front, part-slots, part-cleared, list-front, list-size, list-small}
-use Rattle.plan_positions.proofs.planned.judge_listed.Statement.{statement}
-use Rattle.plan_positions.proofs.planned.judge_listed.Tie as tie
+use Rattle.plan_positions.proofs.planned.judge_part.Statement.{statement}
+use Rattle.plan_positions.proofs.planned.judge_part.Tie as tie
 
 slice-aggregate-list-planned : tie.Need-slice-aggregate-list-planned
 slice-aggregate-list-planned c =
@@ -33,7 +33,7 @@ slice-aggregate-bad-pin c =
     let way = c .before .before .before .before in
     let k = way .before .before .before in
     let s = k .before .before .before .before .before .before in
-    list-size (s .args .d .now) (s .args .p) (s .args .list .now) _ _ (s .pre .1) (k .list-planned .ensures .0) (k .list-planned .ensures .1 .1 .0)
+    list-size (s .args .d .now) (s .args .p) (s .args .keys .now) _ _ (s .pre .1) (k .list-planned .ensures .0) (k .list-planned .ensures .1 .1 .0)
 
 bad-pin-requires : tie.Need-bad-pin-requires
 bad-pin-requires c κs =
@@ -42,11 +42,11 @@ bad-pin-requires c κs =
     let s = k .before .before .before .before .before .before in
     let d = s .args .d .now in
     let p = s .args .p in
-    let list = s .args .list .now in
+    let keys = s .args .keys .now in
     let e = k .list-planned .ensures in (
       part-slots d p (s .args .body) (s .args .room .now) (s .args .state) (s .pre .0) _ _ (e .1 .0) refl _ (c .before .parts-earlier .ensures),
-      list-front d p list _ _ (s .pre .1) (e .0) (e .1 .1 .0),
-      list-small d p list _ _ (s .pre .1) (e .0) (e .1 .1 .0) (e .1 .1 .1),
+      list-front d p keys _ _ (s .pre .1) (e .0) (e .1 .1 .0),
+      list-small d p keys _ _ (s .pre .1) (e .0) (e .1 .1 .0) (e .1 .1 .1),
     )
 
 slice-aggregate-clear : tie.Need-slice-aggregate-clear
@@ -73,8 +73,8 @@ returns c =
       part-cleared (s .args .d .now) (s .args .p) (s .args .body) (s .args .room .now) (s .args .state) (s .pre .0) _ _ (k .list-planned .ensures .1 .0) refl _ (c .before .before .clear .ensures),
     )
 
-pub judge-listed-spec : {M : Type 1} → statement M
-judge-listed-spec =
+pub judge-part-spec : {M : Type 1} → statement M
+judge-part-spec =
     tie.close
     (tie.spec (λ c. search needs) slice-aggregate-list-planned list-planned-requires parts-earlier-requires (λ c. search needs)
     slice-aggregate-bad-pin bad-pin-requires (λ c. search needs) slice-aggregate-clear (λ c κs. search needs) same-length
