@@ -7,6 +7,7 @@ ghost use mathlib.Core.Bool.{_&&_};
 ghost use lib.Dec.{leb};
 ghost use lib.ListN.{length, replicate};
 ghost use Rattle.words.specs.Answer.{good};
+ghost use Rattle.plan_reads.specs.ReadsReady.{SetRoom};
 ghost use Rattle.script_assembly.specs.Assembly.{scriptWords, scriptStarts};
 ghost use Rattle.script_layout.specs.Layout.{AcceptedTabled};
 ghost use Rattle.flatten.specs.Flatten.{sizesOf, sizing, pieceSizes, fitted, building, laid, startsAfter, wordsAfter, piecesAfter, buildRoomAfter};
@@ -19,8 +20,13 @@ use script_layout::write_plan;
 use sizes::Sizes;
 use sizes::sizes_of;
 use words::clear::clear;
+use words::edition::Edition;
 use words::refusals::RESULT_SHORT;
 use words::refusals::Refusal;
+
+// The words of a read set, a pair to each slot at most. With two lists of as many keys as slots they are all the scratch that a check and a build
+// have: 192 KiB of stack.
+const SET_WORDS: usize = 2 * Edition::SLOTS;
 
 // What a build gives: the sizes, or the refusal.
 pub enum Flattened {
@@ -44,7 +50,10 @@ pub fn plan_sizes(plan: &[u8], room: &mut [u32]) -> Flattened
     ensures { λ r. ⌜ r ≡ flattenedOf (sizing 256 (now (plan .entry)) (length (now (room .entry)))) ⌝ }
     ensures { λ _. ⌜ now (room .exit) ≡ buildRoomAfter (now (plan .entry)) (now (room .entry)) ⌝ }
 {
-    match check_plan(plan, room) {
+    let mut keys = [0u64; Edition::SLOTS];
+    let mut scratch = [0u64; Edition::SLOTS];
+    let mut set = [0u32; SET_WORDS];
+    match check_plan(plan, room, &mut keys, &mut scratch, &mut set) {
         Verdict::Refused(x) => Flattened::Refused(x),
         Verdict::Accepted => size_accepted(plan, room),
     }
@@ -67,15 +76,18 @@ fn enough(sizes: Sizes, parts: usize, starts: usize, words: usize, pieces: usize
     false
 }
 
-// The result of an accepted plan, or refusal 14. The room is clear afterwards.
+// The result of an accepted plan, or refusal 14. The room is clear afterwards; what keys, scratch and set then hold is left open.
 fn build_accepted(
     plan: &[u8],
     room: &mut [u32],
     starts: &mut [u64],
     words: &mut [u32],
     pieces: &mut [u32],
+    keys: &mut [u64],
+    scratch: &mut [u64],
+    set: &mut [u32],
 ) -> Flattened
-    requires { ⌜ AcceptedTabled (now plan) (now room) ⌝ }
+    requires { ⌜ AcceptedTabled (now plan) (now room) × SetRoom (length (now keys)) (length (now scratch)) (length (now set)) ⌝ }
     ensures { λ r. ⌜ r ≡ flattenedOf (fitted 256 (now (plan .entry)) (length (now (starts .entry))) (length (now (words .entry))) (length (now (pieces .entry)))) ⌝ }
     ensures { λ _. ⌜ now (room .exit) ≡ replicate (length (now (room .entry))) 0 ⌝ }
     ensures { λ _. ⌜ now (starts .exit) ≡ laid (fitted 256 (now (plan .entry)) (length (now (starts .entry))) (length (now (words .entry))) (length (now (pieces .entry)))) (scriptStarts 256 (now (plan .entry))) (now (starts .entry)) ⌝ }
@@ -86,7 +98,7 @@ fn build_accepted(
     let parts = parts_of(plan);
     if enough(sizes, parts, starts.len(), words.len(), pieces.len()) {
         write_pieces(plan, room, pieces);
-        write_plan(plan, room, starts, words);
+        write_plan(plan, room, starts, words, keys, scratch, set);
         clear(room);
         return Flattened::Built(sizes);
     }
@@ -112,8 +124,20 @@ pub fn build_flattened_script_v1(
     ensures { λ _. ⌜ now (words .exit) ≡ wordsAfter 256 (now (plan .entry)) (length (now (room .entry))) (now (starts .entry)) (now (words .entry)) (now (pieces .entry)) ⌝ }
     ensures { λ _. ⌜ now (pieces .exit) ≡ piecesAfter 256 (now (plan .entry)) (length (now (room .entry))) (now (starts .entry)) (now (words .entry)) (now (pieces .entry)) ⌝ }
 {
-    match check_plan(plan, room) {
+    let mut keys = [0u64; Edition::SLOTS];
+    let mut scratch = [0u64; Edition::SLOTS];
+    let mut set = [0u32; SET_WORDS];
+    match check_plan(plan, room, &mut keys, &mut scratch, &mut set) {
         Verdict::Refused(x) => Flattened::Refused(x),
-        Verdict::Accepted => build_accepted(plan, room, starts, words, pieces),
+        Verdict::Accepted => build_accepted(
+            plan,
+            room,
+            starts,
+            words,
+            pieces,
+            &mut keys,
+            &mut scratch,
+            &mut set,
+        ),
     }
 }

@@ -2,27 +2,28 @@
 -- Assumes nothing.
 use mathlib.Core.Path.{_≡_, sym, ap, _∙_}
 use mathlib.Core.Option.{none, some}
-use mathlib.Core.List.{List}
+use mathlib.Core.List.{List, _++_}
 use Prim.Native.Nat.{ℕ, _≤_}
 use native.Mathlib.Omega.{arith}
-use lib.ListN.{length, take, replicate, length-replicate}
-use lib.Seq.{sets, length-sets, length-take-le}
+use lib.ListN.{length, take, drop, length-append, length-drop}
+use lib.Seq.{sets, length-sets, length-take-le, take-append-le}
 use Rattle.words.specs.declared.refusals.Refusal.{Refusal}
+use Rattle.reads.specs.ReadSet.{pairsOf}
 use Rattle.reads.specs.Search.{longest}
 use Rattle.reads.specs.Asked.{readSetOf}
 use Rattle.words.specs.Answer.{Answer, good, refused}
-use Rattle.reads.specs.SetAnswer.{Packed, setAnswer, resultAfter}
+use Rattle.reads.specs.SetAnswer.{Packed, readSet, setFitted, setAnswer, resultAfter}
 use Rattle.reads_asked.proofs.AskedFormLaws.{set-length-le}
 use Rattle.reads_asked.proofs.FrontStoreLaws.{take-front}
 use Rattle.rounds.specs.Rounds.{roundsOf}
 use Rattle.rounds.specs.declared.Rounds.the-variants.{Placed, Refused as Denied}
 use Rattle.listing.specs.Records.{Parsed}
 use Rattle.listing.specs.RecordsRead.{setOf, setAfter}
-use Rattle.listing.specs.ListingAnswer.{answered, recordsAnswer, answerTo, sectionAfter}
+use Rattle.listing.specs.ListingAnswer.{answered, answerTo, sectionAfter}
 use Rattle.listing.specs.declared.records.Read.the-variants.{Asked}
+use Rattle.listing.specs.declared.answer.Said.{Said}
 use Rattle.listing.specs.declared.answer.Said.the-variants.{Rounds, Refused, Bad}
 use Rattle.listing.proofs.RecordBitLaws.{read-asked}
-use Rattle.listing.proofs.ListedTextLaws.{room-enough}
 
 pub to-bad : (p : Parsed) (b : ℕ) (section : List ℕ) → p .fault ≡ some b → (Bad b ≡ answerTo p) × (section ≡ sectionAfter p section)
 unfolding answerTo sectionAfter
@@ -38,43 +39,59 @@ unfolding answered
 as-refused (good x) f e = let z : _≡_ {A = ℕ} 0 1 = cc in absurd (omega arith)
 as-refused (refused q) f e = let s : f ≡ q = cc in ap (λ (g : Refusal). Refused (g .number)) s
 
--- the set at the front of 16384 words that held zeros
-module _ (p : Parsed) (small : length (p .keys) ≤ 8192) {set : List ℕ} (held : set ≡ setAfter p (replicate 16384 0)) (n : ℕ) (asked : Asked n ≡ setOf p) where
-  right : p .fault ≡ none
-  right = read-asked (p .fault) (length (readSetOf (p .keys))) n asked .0
+-- `rounds_of`: the answer to a read set, in a section of 16384 words
+module _ (ws : List ℕ) (o : ℕ) (size : o ≡ 16384) where
+  fitted-is : setFitted 256 o (readSet 256 (pairsOf ws)) ≡ setAnswer 256 ws 16384 16384
+  unfolding setAnswer
+  fitted-is = rw size
 
-  count : n ≡ length (readSetOf (p .keys))
-  count = read-asked (p .fault) (length (readSetOf (p .keys))) n asked .1
+  pub of-rounds : (k won : ℕ) → Placed k won ≡ roundsOf (setFitted 256 o (readSet 256 (pairsOf ws))) → Rounds k ≡ answered (setAnswer 256 ws 16384 16384)
+  of-rounds k won e = as-rounds (setAnswer 256 ws 16384 16384) k won (e ∙ ap roundsOf fitted-is)
 
-  is : set ≡ sets (replicate 16384 0) 0 (readSetOf (p .keys))
+  pub of-refused : (f : Refusal) → Denied f ≡ roundsOf (setFitted 256 o (readSet 256 (pairsOf ws))) → Refused (f .number) ≡ answered (setAnswer 256 ws 16384 16384)
+  of-refused f e = as-refused (setAnswer 256 ws 16384 16384) f (e ∙ ap roundsOf fitted-is)
+
+  pub of-section : (s new : List ℕ) → new ≡ resultAfter (setFitted 256 o (readSet 256 (pairsOf ws))) s → new ≡ resultAfter (setAnswer 256 ws 16384 16384) s
+  of-section s new e = e ∙ ap (λ (x : Answer Packed). resultAfter x s) fitted-is
+
+pub room-size : (room set : List ℕ) → 16384 ≤ length room → length set ≡ length (take 16384 room) → length (set ++ drop 16384 room) ≡ length room
+room-size room set wide kept = omega (arith, length-append set (drop 16384 room), length-take-le 16384 room wide, length-drop 16384 room)
+
+-- the set at the front of 16384 words, which are the first of the room
+module _ (p : Parsed) (small : length (p .keys) ≤ 8192) (room : List ℕ) (wide : 16384 ≤ length room) {set : List ℕ} (held : set ≡ setAfter p (take 16384 room)) (n : ℕ)
+    (asked : Asked n ≡ setOf p) where
+  told : (p .fault ≡ none) × (n ≡ length (readSetOf (p .keys)))
+  told = read-asked (p .fault) (length (readSetOf (p .keys))) n asked
+
+  lent : length (take 16384 room) ≡ 16384
+  lent = length-take-le 16384 room wide
+
+  is : set ≡ sets (take 16384 room) 0 (readSetOf (p .keys))
   unfolding setAfter
-  is = held ∙ (rw (right, setAfter))
+  is = held ∙ (rw (told .0, setAfter))
 
-  pub to-few : n ≤ length set
-  to-few = omega (arith, ap length is ∙ length-sets (replicate 16384 0) 0 (readSetOf (p .keys)), length-replicate {A = ℕ} 16384 0, count, set-length-le (p .keys))
+  size : length set ≡ 16384
+  size = ap length is ∙ (length-sets (take 16384 room) 0 (readSetOf (p .keys)) ∙ lent)
 
-  pub to-front : n ≡ length (take n set)
-  to-front = sym (length-take-le n set to-few)
+  few : n ≤ 16384
+  few = omega (arith, told .1, set-length-le (p .keys))
 
-  pub to-set : take n set ≡ readSetOf (p .keys)
+  pub to-few : n ≤ length (set ++ drop 16384 room)
+  to-few = omega (arith, room-size room set wide (size ∙ sym lent), few)
+
+  pub to-front : n ≡ length (take n (set ++ drop 16384 room))
+  to-front = sym (length-take-le n (set ++ drop 16384 room) to-few)
+
+  to-set : take n (set ++ drop 16384 room) ≡ readSetOf (p .keys)
   to-set =
-      let h : length (readSetOf (p .keys)) ≤ length (replicate {A = ℕ} 16384 0) = (rw (length-replicate {A = ℕ} 16384 0) (omega (arith, set-length-le (p .keys)))) in
-      ap (λ (m : ℕ). take m set) count ∙ ap (take (length (readSetOf (p .keys)))) is ∙ take-front (replicate 16384 0) (readSetOf (p .keys)) h
+      take-append-le n set (drop 16384 room) (omega (arith, size, few))
+      ∙ (ap (λ (m : ℕ). take m set) (told .1)
+      ∙ (ap (take (length (readSetOf (p .keys)))) is ∙ take-front (take 16384 room) (readSetOf (p .keys)) (omega (arith, lent, set-length-le (p .keys)))))
 
-  module _ (o r : ℕ) (size : o ≡ 16384) (room : 16384 ≤ r) where
-    same : setAnswer 256 (take n set) o r ≡ recordsAnswer p
-    same = (rw (to-set, size)) ∙ room-enough (readSetOf (p .keys)) 16384 r room
+  pub to-said : (a : Said) → a ≡ answered (setAnswer 256 (take n (set ++ drop 16384 room)) 16384 16384) → a ≡ answerTo p
+  unfolding answerTo
+  to-said a e = e ∙ (rw (to-set, told .0, answerTo))
 
-    answer-is : answered (recordsAnswer p) ≡ answerTo p
-    unfolding answerTo
-    answer-is = rw (right, answerTo)
-
-    pub to-rounds : (k size : ℕ) → Placed k size ≡ roundsOf (setAnswer 256 (take n set) o r) → Rounds k ≡ answerTo p
-    to-rounds k size e = as-rounds (recordsAnswer p) k size (e ∙ ap roundsOf same) ∙ answer-is
-
-    pub to-refused : (f : Refusal) → Denied f ≡ roundsOf (setAnswer 256 (take n set) o r) → Refused (f .number) ≡ answerTo p
-    to-refused f e = as-refused (recordsAnswer p) f (e ∙ ap roundsOf same) ∙ answer-is
-
-    pub to-section : (s new : List ℕ) → new ≡ resultAfter (setAnswer 256 (take n set) o r) s → new ≡ sectionAfter p s
-    unfolding sectionAfter
-    to-section s new e = e ∙ ap (λ (x : Answer Packed). resultAfter x s) same ∙ (rw (right, sectionAfter))
+  pub to-section : (s new : List ℕ) → new ≡ resultAfter (setAnswer 256 (take n (set ++ drop 16384 room)) 16384 16384) s → new ≡ sectionAfter p s
+  unfolding sectionAfter
+  to-section s new e = e ∙ (rw (to-set, told .0, sectionAfter))

@@ -73,10 +73,6 @@ pub room-zeros : (room : List ℕ) → 16384 ≤ length room → setRoomAfter ro
 unfolding setRoomAfter
 room-zeros room h = rw (le-leb _ _ h, setRoomAfter)
 
-pub room-enough : (ws : List ℕ) (o r : ℕ) → 16384 ≤ r → setAnswer 256 ws o r ≡ setAnswer 256 ws o 16384
-unfolding setAnswer
-room-enough ws o r h = rw (le-leb _ _ h, setAnswer)
-
 -- ---- how `list` comes to it
 
 module _ (bs room out : List ℕ) (h : 16384 ≤ length room) {s : List ℕ} (sect : s ≡ sectionAfter (records bs) (replicate 16384 0)) {a : Said} (ans : a ≡ answerTo (records bs)) where

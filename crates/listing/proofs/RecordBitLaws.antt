@@ -8,7 +8,7 @@ use Prim.Native.Nat.{ℕ, zero, suc, _+_, _*_, _/_, _%_, _^_, _≤_, _<_}
 use native.Mathlib.Numerals.{sub-one}
 use native.Mathlib.Omega.{arith}
 use lib.Dec.{leb, ltb}
-use lib.ListN.{length, getD, take, replicate, length-replicate}
+use lib.ListN.{length, getD, take}
 use lib.Seq.{sets, length-sets, length-take-le}
 use Rattle.reads.specs.Asked.{readSetOf}
 use Rattle.reads_asked.specs.Rising.{Settable}
@@ -113,21 +113,29 @@ set-asked p ks set new r t k e h = (
   h ∙ ap (λ (l : List ℕ). sets set 0 (readSetOf l)) k ∙ (rw (t, setAfter)),
 )
 
--- the keys that `read_records` put into 8192 zeros
-module _ (bs : List ℕ) {keys : List ℕ} (held : keys ≡ sets (replicate 8192 0) 0 (records bs .keys)) (n : ℕ) (asked : Asked n ≡ readOf (records bs)) where
-  count : n ≡ length (records bs .keys)
-  count = read-asked (records bs .fault) (length (records bs .keys)) n asked .1
+-- the keys that `read_records` put into 8192 words
+module _ (bs keys₀ : List ℕ) (wide : length keys₀ ≡ 8192) {keys : List ℕ} (held : keys ≡ sets keys₀ 0 (recordsFrom (length keys₀) bs 0 .keys)) (n : ℕ)
+    (asked : Asked n ≡ readOf (recordsFrom (length keys₀) bs 0)) where
+  is : keys ≡ sets keys₀ 0 (records bs .keys)
+  is = rw wide at held
+
+  told : (records bs .fault ≡ none) × (n ≡ length (records bs .keys))
+  told = read-asked (records bs .fault) (length (records bs .keys)) n (rw wide at asked)
+
+  pub told-none : records bs .fault ≡ none
+  told-none = told .0
 
   few : n ≤ 8192
-  few = omega (arith, count, keys-few bs 8192 0)
+  few = omega (arith, told .1, keys-few bs 8192 0)
 
   pub told-few : n ≤ length keys
-  told-few = omega (arith, ap length held ∙ length-sets (replicate 8192 0) 0 (records bs .keys), length-replicate {A = ℕ} 8192 0, few)
+  told-few = omega (arith, ap length is ∙ length-sets keys₀ 0 (records bs .keys), few)
 
   pub told-keys : take n keys ≡ records bs .keys
   told-keys =
-      let h : length (records bs .keys) ≤ length (replicate {A = ℕ} 8192 0) = (rw (length-replicate {A = ℕ} 8192 0) (keys-few bs 8192 0)) in
-      ap (λ (m : ℕ). take m keys) count ∙ ap (take (length (records bs .keys))) held ∙ take-front (replicate 8192 0) (records bs .keys) h
+      ap (λ (m : ℕ). take m keys) (told .1)
+      ∙ ap (take (length (records bs .keys))) is
+      ∙ take-front keys₀ (records bs .keys) (omega (arith, keys-few bs 8192 0))
 
   pub told-front : n ≡ length (take n keys)
   told-front = sym (length-take-le n keys told-few)

@@ -8,9 +8,9 @@ ghost use mathlib.Core.Path.{_≡_};
 ghost use Prim.Native.Nat.{_≤_};
 ghost use lib.ListN.{length, take, replicate};
 ghost use lib.Seq.{sets};
-ghost use Rattle.reads.specs.SetAnswer.{setRoomAfter};
+ghost use Rattle.reads.specs.SetAnswer.{setAnswer, resultAfter, setRoomAfter};
 ghost use Rattle.listing.specs.Records.{records};
-ghost use Rattle.listing.specs.ListingAnswer.{answerTo, sectionAfter, answerText};
+ghost use Rattle.listing.specs.ListingAnswer.{answered, answerTo, sectionAfter, answerText};
 ghost use Rattle.listing.specs.Listing.{listing, listed, listedOf, textAfter};
 use answer::Said;
 use answer::put_answer;
@@ -34,6 +34,9 @@ pub const TEXT_BYTES: usize = 237578;
 // The words of a read section of 32 rounds, the most that there are.
 const SECTION_WORDS: usize = 2 * Edition::LANES * 32;
 
+// A row of 32 entries for each lane.
+const LANE_ROWS: usize = 32 * Edition::LANES;
+
 // The words of working room that the rounds of a read set ask for.
 const ROOM_WORDS: usize = 16384;
 
@@ -43,23 +46,43 @@ pub enum Listed {
     Refused(Refusal),
 }
 
-// The answer to records, with the read section of its rounds.
-fn answer_to(s: &[u8], room: &mut [u32], section: &mut [u32]) -> Said
-    requires { ⌜ (16384 ≤ length (now room)) × (length (now section) ≡ 16384) ⌝ }
+// The answer to a read set, with the read section of its rounds. What keys and scratch hold afterwards is left open.
+fn rounds_of(set: &[u32], section: &mut [u32], keys: &mut [u64], scratch: &mut [u64]) -> Said
+    requires { ⌜ (length (now section) ≡ 16384) × (length (now keys) ≡ 8192) × (length (now scratch) ≡ 8192) ⌝ }
+    ensures { λ r. ⌜ r ≡ answered (setAnswer 256 (now (set .entry)) 16384 16384) ⌝ }
+    ensures { λ _. ⌜ now (section .exit) ≡ resultAfter (setAnswer 256 (now (set .entry)) 16384 16384) (now (section .entry)) ⌝ }
+{
+    let mut table = [0u32; LANE_ROWS];
+    match rounds::rounds_over(set, &mut table, section, keys, scratch, Edition::LANES) {
+        Rounds::Placed(rounds, _) => Said::Rounds(rounds),
+        Rounds::Refused(refusal) => Said::Refused(refusal.number),
+    }
+}
+
+// The answer to records, with the read section of its rounds. The room holds the read set, and is clear afterwards; what keys and scratch then
+// hold is left open.
+fn answer_to(
+    s: &[u8],
+    room: &mut [u32],
+    section: &mut [u32],
+    keys: &mut [u64],
+    scratch: &mut [u64],
+) -> Said
+    requires { ⌜ (16384 ≤ length (now room)) × (length (now section) ≡ 16384) × (length (now keys) ≡ 8192) × (length (now scratch) ≡ 8192) ⌝ }
     ensures { λ r. ⌜ r ≡ answerTo (records (now (s .entry))) ⌝ }
     ensures { λ _. ⌜ now (room .exit) ≡ replicate (length (now (room .entry))) 0 ⌝ }
     ensures { λ _. ⌜ now (section .exit) ≡ sectionAfter (records (now (s .entry))) (now (section .entry)) ⌝ }
 {
-    let mut set = [0u32; SET_WORDS];
-    match read_set_of(s, &mut set) {
+    match read_set_of(s, &mut room[..SET_WORDS], keys, scratch) {
         Read::Refused(b) => {
             clear(room);
             Said::Bad(b)
         }
-        Read::Asked(n) => match rounds::map_global_read_to_rounds(&set[..n], room, section) {
-            Rounds::Placed(rounds, _) => Said::Rounds(rounds),
-            Rounds::Refused(refusal) => Said::Refused(refusal.number),
-        },
+        Read::Asked(n) => {
+            let said = rounds_of(&room[..n], section, keys, scratch);
+            clear(room);
+            said
+        }
     }
 }
 
@@ -85,7 +108,9 @@ pub fn list(records: &[u8], room: &mut [u32], out: &mut [u8]) -> Listed
         });
     }
     let mut section = [0u32; SECTION_WORDS];
-    let answer = answer_to(records, room, &mut section);
+    let mut keys = [0u64; POSITIONS];
+    let mut scratch = [0u64; POSITIONS];
+    let answer = answer_to(records, room, &mut section, &mut keys, &mut scratch);
     let n = text_length(answer, &section);
     if out.len() < n {
         return Listed::Refused(Refusal {

@@ -93,18 +93,14 @@ fn read_records(s: &[u8], keys: &mut [u64]) -> Read
     }
 }
 
-// The read set that the records ask for, from the start of `set`: how many words it has.
-pub fn read_set_of(s: &[u8], set: &mut [u32]) -> Read
-    requires { ⌜ length (now set) ≡ 16384 ⌝ }
+// The read set that the records ask for, from the start of `set`: how many words it has. What keys and scratch hold afterwards is left open.
+pub fn read_set_of(s: &[u8], set: &mut [u32], keys: &mut [u64], scratch: &mut [u64]) -> Read
+    requires { ⌜ (length (now set) ≡ 16384) × (length (now keys) ≡ 8192) × (length (now scratch) ≡ 8192) ⌝ }
     ensures { λ r. ⌜ r ≡ setOf (records (now (s .entry))) ⌝ }
     ensures { λ _. ⌜ now (set .exit) ≡ setAfter (records (now (s .entry))) (now (set .entry)) ⌝ }
 {
-    let mut keys = [0u64; POSITIONS];
-    match read_records(s, &mut keys) {
+    match read_records(s, keys) {
         Read::Refused(b) => Read::Refused(b),
-        Read::Asked(n) => {
-            let mut scratch = [0u64; POSITIONS];
-            Read::Asked(reads_asked::read_set(&mut keys[..n], &mut scratch, set))
-        }
+        Read::Asked(n) => Read::Asked(reads_asked::read_set(&mut keys[..n], scratch, set)),
     }
 }

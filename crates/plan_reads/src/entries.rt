@@ -21,7 +21,7 @@ fn first_entry(
     body: Body,
     pins: &[u32],
     set: &[u32],
-    bases: &[u32],
+    bases: &[u64],
     i: usize,
 ) -> LocalPosition
     requires { ⌜ BodyOf (now d) p body × (0 < body .stages) × (i < 8192) × AllWon (now d) p (now pins) × AllNumbered 256 (now d) p (now set) (now bases) ⌝ }
@@ -34,15 +34,15 @@ fn first_entry(
     local_position(set, bases, bit_of_pin(d, pins, pin))
 }
 
-// The entries of all slots.
+// The entries of all slots. They stand in words of 64 bits, since the lent scratch is free by then.
 pub fn first_entries(
     d: &[u8],
     p: usize,
     body: Body,
     pins: &[u32],
     set: &[u32],
-    bases: &[u32],
-    entries: &mut [u32],
+    bases: &[u64],
+    entries: &mut [u64],
 )
     requires { ⌜ BodyOf (now d) p body × (0 < body .stages) × AllWon (now d) p (now pins) × AllNumbered 256 (now d) p (now set) (now bases) × (length (now entries) ≡ 8192) ⌝ }
     ensures { λ _. ⌜ now (entries .exit) ≡ listOf (firstEntry 256 (now (d .entry)) p) 8192 ⌝ }
@@ -51,7 +51,7 @@ pub fn first_entries(
     let mut i = 0;
     while i < Edition::SLOTS {
         let entry = first_entry(d, p, body, pins, set, bases, i);
-        entries[i] = entry.0;
+        entries[i] = entry.0 as u64;
         i += 1;
     }
 }

@@ -1,4 +1,5 @@
-// Local positions. For each pair of the set one number is kept, where its bits begin; a bit is found by its pair.
+// Local positions. For each pair of the set one number is kept, where its bits begin; a bit is found by its pair. The numbers are small: they
+// stand in words of 64 bits since the lent list of keys is free by then.
 ghost use mathlib.Core.Path.{_≡_};
 ghost use Prim.Native.Nat.{_*_, _/_, _≤_, _<_};
 ghost use lib.ListN.{length};
@@ -11,7 +12,7 @@ use words::units::AskedBit;
 use words::units::LocalPosition;
 
 // The pairs of lane j: each begins after the bits of later rounds, so the row is walked from its end.
-fn lane_bases(set: &[u32], table: &[u32], j: usize, bases: &mut [u32])
+fn lane_bases(set: &[u32], table: &[u32], j: usize, bases: &mut [u64])
     requires { ⌜ LaneRowIn (now set) (now table) j × (j < 256) × (length (now set) / 2 ≤ length (now bases)) ⌝ }
     ensures { λ _. ⌜ now (bases .exit) ≡ storeLane (32 * j) (laneOf (now (set .entry)) (rowAt (now (table .entry)) j)) (now (bases .entry)) ⌝ }
 {
@@ -22,13 +23,13 @@ fn lane_bases(set: &[u32], table: &[u32], j: usize, bases: &mut [u32])
     while 0 < r {
         r -= 1;
         let e = table[32 * j + r] as usize;
-        bases[e - 1] = sum;
+        bases[e - 1] = sum as u64;
         sum += words::bits::count(set[2 * e - 1]);
     }
 }
 
 // The pairs of all lanes.
-pub fn fill_bases(set: &[u32], table: &[u32], lanes: usize, bases: &mut [u32])
+pub fn fill_bases(set: &[u32], table: &[u32], lanes: usize, bases: &mut [u64])
     requires { ⌜ TableReadable (now set) (now table) lanes × (length (now set) / 2 ≤ length (now bases)) ⌝ }
     ensures { λ _. ⌜ now (bases .exit) ≡ storeLanes 0 (lanesAt (now (set .entry)) (now (table .entry)) lanes) (now (bases .entry)) ⌝ }
 {
@@ -58,12 +59,12 @@ pub fn find_pair(set: &[u32], w: u32) -> usize
 }
 
 // The local position of bit q, which the set asks for.
-pub fn local_position(set: &[u32], bases: &[u32], q: AskedBit) -> LocalPosition
+pub fn local_position(set: &[u32], bases: &[u64], q: AskedBit) -> LocalPosition
     requires { ⌜ Locatable (now set) (now bases) (q .0) ⌝ }
     ensures { λ r. ⌜ r .0 ≡ localBy (now (set .entry)) (now (bases .entry)) (q .0) ⌝ }
 {
     let e = find_pair(set, q.word());
     let above = words::bits::count_above(set[2 * e + 1], q.bit());
-    let place = bases[e] + above;
+    let place = bases[e] as u32 + above;
     LocalPosition(place)
 }

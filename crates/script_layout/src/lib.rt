@@ -7,6 +7,7 @@ ghost use Prim.Native.Nat.{_+_};
 ghost use lib.ListN.{length};
 ghost use lib.Seq.{sets};
 ghost use Rattle.plan_record.specs.Record.{blocksOf, majorsOf};
+ghost use Rattle.plan_reads.specs.ReadsReady.{SetRoom};
 ghost use Rattle.script_assembly.specs.Assembly.{stageWords, majorWords, scriptWords, stageStarts, majorStarts, scriptStarts};
 ghost use Rattle.script_layout.specs.Layout.{NextOf, StageRoom, PlanRoom};
 use placed::Next;
@@ -19,7 +20,8 @@ use words::edition::Edition;
 // The zero words that close a script: eight a lane.
 const CLOSING_ZEROS: usize = 8 * Edition::LANES;
 
-// Writes major stage s, and where its blocks begin, from start number `first` on. What comes next.
+// Writes major stage s, and where its blocks begin, from start number `first` on. What comes next. What keys, scratch and set
+// hold afterwards is left open, here and below.
 fn write_stage(
     d: &[u8],
     room: &mut [u32],
@@ -28,8 +30,11 @@ fn write_stage(
     at: Next,
     starts: &mut [u64],
     words: &mut [u32],
+    keys: &mut [u64],
+    scratch: &mut [u64],
+    set: &mut [u32],
 ) -> Next
-    requires { ⌜ StageRoom (now d) (now room) s first at (length (now starts)) (length (now words)) ⌝ }
+    requires { ⌜ StageRoom (now d) (now room) s first at (length (now starts)) (length (now words)) × SetRoom (length (now keys)) (length (now scratch)) (length (now set)) ⌝ }
     ensures { λ r. ⌜ NextOf (now (d .entry)) (s + 1) r ⌝ }
     ensures { λ _. ⌜ now (room .exit) ≡ now (room .entry) ⌝ }
     ensures { λ _. ⌜ now (starts .exit) ≡ sets (now (starts .entry)) first (stageStarts 256 (now (d .entry)) s (blocksOf (now (d .entry)))) ⌝ }
@@ -40,15 +45,23 @@ fn write_stage(
     let mut b = 0;
     while b < blocks {
         starts[first + b] = next.at as u64;
-        next = write_block(d, room, s, b, next.rank, next.at, words);
+        next = write_block(d, room, s, b, next.rank, next.at, words, keys, scratch, set);
         b += 1;
     }
     next
 }
 
 // Writes all major stages. Where their words end.
-fn write_stages(d: &[u8], room: &mut [u32], starts: &mut [u64], words: &mut [u32]) -> usize
-    requires { ⌜ PlanRoom (now d) (now room) (length (now starts)) (length (now words)) ⌝ }
+fn write_stages(
+    d: &[u8],
+    room: &mut [u32],
+    starts: &mut [u64],
+    words: &mut [u32],
+    keys: &mut [u64],
+    scratch: &mut [u64],
+    set: &mut [u32],
+) -> usize
+    requires { ⌜ PlanRoom (now d) (now room) (length (now starts)) (length (now words)) × SetRoom (length (now keys)) (length (now scratch)) (length (now set)) ⌝ }
     ensures { λ r. ⌜ r ≡ length (majorWords 256 (now (d .entry)) (majorsOf (now (d .entry)))) ⌝ }
     ensures { λ _. ⌜ now (room .exit) ≡ now (room .entry) ⌝ }
     ensures { λ _. ⌜ now (starts .exit) ≡ sets (now (starts .entry)) 0 (majorStarts 256 (now (d .entry)) (majorsOf (now (d .entry)))) ⌝ }
@@ -59,20 +72,39 @@ fn write_stages(d: &[u8], room: &mut [u32], starts: &mut [u64], words: &mut [u32
     let mut next = Next { rank: 0, at: 0 };
     let mut s = 0;
     while s < majors {
-        next = write_stage(d, room, s, blocks * s, next, starts, words);
+        next = write_stage(
+            d,
+            room,
+            s,
+            blocks * s,
+            next,
+            starts,
+            words,
+            keys,
+            scratch,
+            set,
+        );
         s += 1;
     }
     next.at
 }
 
 // Writes the whole: the major stages, the final start, and 2048 zero words.
-pub fn write_plan(d: &[u8], room: &mut [u32], starts: &mut [u64], words: &mut [u32])
-    requires { ⌜ PlanRoom (now d) (now room) (length (now starts)) (length (now words)) ⌝ }
+pub fn write_plan(
+    d: &[u8],
+    room: &mut [u32],
+    starts: &mut [u64],
+    words: &mut [u32],
+    keys: &mut [u64],
+    scratch: &mut [u64],
+    set: &mut [u32],
+)
+    requires { ⌜ PlanRoom (now d) (now room) (length (now starts)) (length (now words)) × SetRoom (length (now keys)) (length (now scratch)) (length (now set)) ⌝ }
     ensures { λ _. ⌜ now (room .exit) ≡ now (room .entry) ⌝ }
     ensures { λ _. ⌜ now (starts .exit) ≡ sets (now (starts .entry)) 0 (scriptStarts 256 (now (d .entry))) ⌝ }
     ensures { λ _. ⌜ now (words .exit) ≡ sets (now (words .entry)) 0 (scriptWords 256 (now (d .entry))) ⌝ }
 {
-    let end = write_stages(d, room, starts, words);
+    let end = write_stages(d, room, starts, words, keys, scratch, set);
     let last = blocks_of(d) as usize * (majors_of(d) as usize);
     starts[last] = end as u64;
     clear(&mut words[end..end + CLOSING_ZEROS]);

@@ -7,6 +7,7 @@ ghost use Rattle.plan_record.specs.Record.{partsOf};
 ghost use Rattle.plan_record.specs.Body.{BodyOf};
 ghost use Rattle.plan_rows.specs.Columns as col;
 ghost use Rattle.plan_rows.specs.Rows.{cellAt};
+ghost use Rattle.plan_reads.specs.ReadsReady.{SetRoom};
 ghost use Rattle.script.specs.Writers.{NumbersOf};
 ghost use Rattle.script_assembly.specs.WrittenSoFar.{lengthOf};
 ghost use Rattle.script_layout.specs.Layout.{AcceptedTabled, PartRoom, rowScript};
@@ -46,7 +47,7 @@ fn numbers_of(d: &[u8], room: &[u32], p: usize, body: Body, last: u32) -> Number
     }
 }
 
-// Writes the script of part p from word `at` on. Where the next words begin.
+// Writes the script of part p from word `at` on. Where the next words begin. What keys, scratch and set hold afterwards is left open.
 pub fn write_part(
     d: &[u8],
     room: &mut [u32],
@@ -54,8 +55,11 @@ pub fn write_part(
     last: u32,
     at: usize,
     words: &mut [u32],
+    keys: &mut [u64],
+    scratch: &mut [u64],
+    set: &mut [u32],
 ) -> usize
-    requires { ⌜ PartRoom (now d) (now room) p at (length (now words)) ⌝ }
+    requires { ⌜ PartRoom (now d) (now room) p at (length (now words)) × SetRoom (length (now keys)) (length (now scratch)) (length (now set)) ⌝ }
     ensures { λ r. ⌜ r ≡ at + lengthOf 256 (now (d .entry)) p ⌝ }
     ensures { λ _. ⌜ now (room .exit) ≡ now (room .entry) ⌝ }
     ensures { λ _. ⌜ now (words .exit) ≡ sets (now (words .entry)) at (rowScript (now (d .entry)) (now (room .entry)) p last) ⌝ }
@@ -63,6 +67,16 @@ pub fn write_part(
     let body = body_of(d, room, p);
     let x = numbers_of(d, room, p, body, last);
     let next = at + Edition::part_words(x.rounds, x.stages) as usize;
-    build_script(d, p, body, x, room, &mut words[at..next]);
+    build_script(
+        d,
+        p,
+        body,
+        x,
+        room,
+        &mut words[at..next],
+        keys,
+        scratch,
+        set,
+    );
     next
 }

@@ -3,6 +3,7 @@ ghost use mathlib.Core.Path.{_≡_};
 ghost use Prim.Native.Nat.{_+_, _<_};
 ghost use lib.ListN.{length};
 ghost use lib.Seq.{sets};
+ghost use Rattle.plan_reads.specs.ReadsReady.{SetRoom};
 ghost use Rattle.script_assembly.specs.Assembly.{blockWords};
 ghost use Rattle.script_assembly.specs.WrittenSoFar.{lastMark, partsIn, firstRank};
 ghost use Rattle.script_layout.specs.Layout.{emptyWords, BlockAt, BlockRoom};
@@ -47,7 +48,8 @@ fn last_mark(k: usize, to: usize) -> u32
     if k + 1 == to { 1 } else { 0 }
 }
 
-// Writes the parts of block b, whose ranks are `from` up to `to`, from word `at` on. Where the next words begin.
+// Writes the parts of block b, whose ranks are `from` up to `to`, from word `at` on. Where the next words begin. What keys,
+// scratch and set hold afterwards is left open, here and below.
 fn write_parts(
     d: &[u8],
     room: &mut [u32],
@@ -57,8 +59,11 @@ fn write_parts(
     to: usize,
     at: usize,
     words: &mut [u32],
+    keys: &mut [u64],
+    scratch: &mut [u64],
+    set: &mut [u32],
 ) -> usize
-    requires { ⌜ BlockRoom (now d) (now room) s b from at (length (now words)) × (from < to) × (to ≡ firstRank (now d) s (b + 1)) ⌝ }
+    requires { ⌜ BlockRoom (now d) (now room) s b from at (length (now words)) × (from < to) × (to ≡ firstRank (now d) s (b + 1)) × SetRoom (length (now keys)) (length (now scratch)) (length (now set)) ⌝ }
     ensures { λ r. ⌜ r ≡ at + length (blockWords 256 (now (d .entry)) s (partsIn (now (d .entry)) s b)) ⌝ }
     ensures { λ _. ⌜ now (room .exit) ≡ now (room .entry) ⌝ }
     ensures { λ _. ⌜ now (words .exit) ≡ sets (now (words .entry)) at (blockWords 256 (now (d .entry)) s (partsIn (now (d .entry)) s b)) ⌝ }
@@ -67,7 +72,17 @@ fn write_parts(
     let mut next = at;
     while k < to {
         let p = cell_at(room, k, Column::RANKED) as usize;
-        next = write_part(d, room, p, last_mark(k, to), next, words);
+        next = write_part(
+            d,
+            room,
+            p,
+            last_mark(k, to),
+            next,
+            words,
+            keys,
+            scratch,
+            set,
+        );
         k += 1;
     }
     next
@@ -91,15 +106,18 @@ pub fn write_block(
     from: usize,
     at: usize,
     words: &mut [u32],
+    keys: &mut [u64],
+    scratch: &mut [u64],
+    set: &mut [u32],
 ) -> Next
-    requires { ⌜ BlockRoom (now d) (now room) s b from at (length (now words)) ⌝ }
+    requires { ⌜ BlockRoom (now d) (now room) s b from at (length (now words)) × SetRoom (length (now keys)) (length (now scratch)) (length (now set)) ⌝ }
     ensures { λ r. ⌜ (r .rank ≡ firstRank (now (d .entry)) s (b + 1)) × (r .at ≡ at + length (blockWords 256 (now (d .entry)) s (partsIn (now (d .entry)) s b))) ⌝ }
     ensures { λ _. ⌜ now (room .exit) ≡ now (room .entry) ⌝ }
     ensures { λ _. ⌜ now (words .exit) ≡ sets (now (words .entry)) at (blockWords 256 (now (d .entry)) s (partsIn (now (d .entry)) s b)) ⌝ }
 {
     let to = block_end(d, room, s, b, from);
     if from < to {
-        let next = write_parts(d, room, s, b, from, to, at, words);
+        let next = write_parts(d, room, s, b, from, to, at, words, keys, scratch, set);
         return Next { rank: to, at: next };
     }
     let next = at + EMPTY_BLOCK;

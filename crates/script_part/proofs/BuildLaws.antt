@@ -2,14 +2,14 @@
 -- Assumes nothing.
 use mathlib.Core.Path.{_≡_, refl, sym, ap, ap₂, _∙_}
 use mathlib.Core.List.{List, _++_, append-assoc}
-use Prim.Native.Nat.{ℕ, _+_, _*_, _-_, _≤_, _<_}
+use Prim.Native.Nat.{ℕ, _+_, _*_, _-_, _^_, _≤_, _<_}
 use native.Mathlib.Omega.{arith}
 use borrow.Rule.Slice.PartMut.{putMid, mid-len}
-use lib.ListN.{length, take, drop, replicate, length-append, length-drop}
+use lib.ListN.{length, getD, take, drop, replicate, length-append, length-drop}
 use lib.Seq.{sets, length-sets, length-take-le, take-all, take-at, drop-at, drop-drop, drop-append-add}
 use Rattle.words.specs.Edition.{partWords}
 use Rattle.words.specs.Section.{listOf}
-use Rattle.words.proofs.SectionLaws.{listOf-ext}
+use Rattle.words.proofs.SectionLaws.{length-listOf, getD-listOf, listOf-ext}
 use Rattle.reads.specs.ReadSet.{pairsOf}
 use Rattle.reads.specs.Search.{Lane, lanesOf, longest}
 use Rattle.reads.specs.ReadSection.{roundsFrom, readSection}
@@ -118,6 +118,25 @@ entries-first d p entries e small = record {
   is = e ∙ listOf-ext (firstEntry 256 d p) (stageEntry 256 d p 0) 8192 (λ i l. first-is d p i);
   small = λ i l. omega (arith, first-is d p i, small i l);
 }
+
+-- entries made in the first words of a list, and put over the first words of a set
+module _ (d : List ℕ) (p : ℕ) (list made : List ℕ) (is : made ≡ listOf (firstEntry 256 d p) 8192) where
+  made-size : length made ≡ 8192
+  made-size = ap length is ∙ length-listOf (firstEntry 256 d p) 8192
+
+  made-there : take 8192 (made ++ drop 8192 list) ≡ listOf (firstEntry 256 d p) 8192
+  made-there = take-at made (drop 8192 list) 8192 made-size ∙ is
+
+  pub made-front : length (take 8192 (made ++ drop 8192 list)) ≡ 8192
+  made-front = ap length made-there ∙ length-listOf (firstEntry 256 d p) 8192
+
+  pub made-small : ((i : ℕ) → i < 8192 → firstEntry 256 d p i < 8192) → (i : ℕ) → i < 8192 → getD (take 8192 (made ++ drop 8192 list)) i 0 < 2 ^ 32
+  made-small small i h = omega (arith, ap (λ (l : List ℕ). getD l i 0) made-there ∙ getD-listOf (firstEntry 256 d p) 8192 i h, small i h)
+
+  pub put-front : (set put : List ℕ) → put ≡ take 8192 (made ++ drop 8192 list) → take 8192 (put ++ drop 8192 set) ≡ listOf (firstEntry 256 d p) 8192
+  put-front set put e =
+      let q : put ≡ listOf (firstEntry 256 d p) 8192 = e ∙ made-there in
+      take-at put (drop 8192 set) 8192 (ap length q ∙ length-listOf (firstEntry 256 d p) 8192) ∙ q
 
 -- ---- the reads are found: their lanes, and the numbers of their pairs
 

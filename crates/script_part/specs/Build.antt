@@ -48,10 +48,15 @@ pub record ReadsRoom (set table : List ℕ) (rounds : ℕ) (bases out : List ℕ
   pub pairs : length set / 2 ≤ length bases
   pub room : length out ≡ 512 * rounds
 
+-- n words of a set, and the lengths of the lists that the section of the first stage is made with, and of this section
+pub record FirstRoom (n out list set : ℕ) : Type 0 where
+  pub words : n ≤ set
+  pub section : out ≡ 5120
+  pub slots : 8192 ≤ list
+  pub entries : 8192 ≤ set
+
 -- the lengths of the lists that the first sections are made with, and of these sections
-pub record FrontRoom (rounds room keys scratch set bases entries out : ℕ) : Type 0 where
+pub record FrontRoom (rounds room out keys scratch set : ℕ) : Type 0 where
   pub found : room ≡ 40960
-  pub reads : SetRoom keys scratch set
-  pub pairs : 8192 ≤ bases
-  pub slots : entries ≡ 8192
   pub sections : out ≡ 512 * rounds + 5120
+  pub reads : SetRoom keys scratch set

@@ -68,33 +68,31 @@ pub fn write_section(entries: &[u32], a: &[u32], b: &[u32], c: &[u32], out: &mut
     write_lanes(a, b, c, &mut out[ENTRY_WORDS..]);
 }
 
-// Writes the section of SRAMs and duplicates.
-pub fn write_sram(d: &[u8], p: usize, body: Body, out: &mut [u32])
-    requires { ⌜ AcceptedPart (now d) p body × (length (now out) ≡ 5120) ⌝ }
+// Writes the section of SRAMs and duplicates. What the lent entries hold afterwards is left open, here and below.
+pub fn write_sram(d: &[u8], p: usize, body: Body, out: &mut [u32], entries: &mut [u32])
+    requires { ⌜ AcceptedPart (now d) p body × (length (now out) ≡ 5120) × (length (now entries) ≡ 8192) ⌝ }
     ensures { λ _. ⌜ now (out .exit) ≡ sramSection 256 (now (d .entry)) p ⌝ }
 {
-    let mut entries = [0u32; Edition::SLOTS];
     let mut inv = [0u32; Edition::LANES];
     let mut set0 = [0u32; Edition::LANES];
     let zeros = [0u32; Edition::LANES];
-    read_table(d, p, body, SRAM_ENTRIES, &mut entries);
+    read_table(d, p, body, SRAM_ENTRIES, entries);
     read_table(d, p, body, SRAM_INV, &mut inv);
     read_table(d, p, body, SRAM_SET0, &mut set0);
-    write_section(&entries, &inv, &set0, &zeros, out);
+    write_section(entries, &inv, &set0, &zeros, out);
 }
 
 // Writes the section of clock enables.
-pub fn write_enables(d: &[u8], p: usize, body: Body, out: &mut [u32])
-    requires { ⌜ AcceptedPart (now d) p body × (length (now out) ≡ 5120) ⌝ }
+pub fn write_enables(d: &[u8], p: usize, body: Body, out: &mut [u32], entries: &mut [u32])
+    requires { ⌜ AcceptedPart (now d) p body × (length (now out) ≡ 5120) × (length (now entries) ≡ 8192) ⌝ }
     ensures { λ _. ⌜ now (out .exit) ≡ enableSection 256 (now (d .entry)) p ⌝ }
 {
-    let mut entries = [0u32; Edition::SLOTS];
     let mut inv = [0u32; Edition::LANES];
     let mut set0 = [0u32; Edition::LANES];
     let mut data_inv = [0u32; Edition::LANES];
-    read_table(d, p, body, ENABLE_ENTRIES, &mut entries);
+    read_table(d, p, body, ENABLE_ENTRIES, entries);
     read_table(d, p, body, ENABLE_INV, &mut inv);
     read_table(d, p, body, ENABLE_SET0, &mut set0);
     read_table(d, p, body, ENABLE_DATA_INV, &mut data_inv);
-    write_section(&entries, &inv, &set0, &data_inv, out);
+    write_section(entries, &inv, &set0, &data_inv, out);
 }

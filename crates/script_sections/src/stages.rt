@@ -54,15 +54,22 @@ pub fn write_stage(d: &[u8], p: usize, body: Body, s: usize, entries: &[u32], ou
     write_section(entries, &xora, &xorb, &orb, out);
 }
 
-// Writes the section of stage s + 1. The table then holds the positions of stage s.
-pub fn write_later(d: &[u8], p: usize, body: Body, s: usize, table: &mut [u32], out: &mut [u32])
-    requires { ⌜ AcceptedPart (now d) p body × (s + 1 < body .stages) × (32768 ≤ length (now table)) × (length (now out) ≡ 5120) ⌝ }
+// Writes the section of stage s + 1. The table then holds the positions of stage s; what the entries hold is left open.
+pub fn write_later(
+    d: &[u8],
+    p: usize,
+    body: Body,
+    s: usize,
+    table: &mut [u32],
+    out: &mut [u32],
+    entries: &mut [u32],
+)
+    requires { ⌜ AcceptedPart (now d) p body × (s + 1 < body .stages) × (32768 ≤ length (now table)) × (length (now out) ≡ 5120) × (length (now entries) ≡ 8192) ⌝ }
     ensures { λ _. ⌜ now (table .exit) ≡ filled (length (now (table .entry))) (positionPuts (now (d .entry)) p s) ⌝ }
     ensures { λ _. ⌜ now (out .exit) ≡ stageSection 256 (now (d .entry)) p (s + 1) ⌝ }
 {
     let next = s + 1;
-    let mut entries = [0u32; Edition::SLOTS];
     fill_positions(d, p, body, s, table);
-    later_entries(d, p, body, s, table, &mut entries);
-    write_stage(d, p, body, next, &entries, out);
+    later_entries(d, p, body, s, table, entries);
+    write_stage(d, p, body, next, entries, out);
 }

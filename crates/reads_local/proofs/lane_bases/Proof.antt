@@ -41,6 +41,14 @@ loop-holds c =
 cast-e : tie.Need-cast-e Inv-loop μ-loop
 cast-e c = omega (arith, entry-in (c .before))
 
+cast-bases : tie.Need-cast-bases Inv-loop μ-loop
+cast-bases c =
+    let at-loop-test = c .before in
+    let at-loop = at-loop-test .before in
+    let o = at-loop .before .before .before .before .before .before in
+    let l = at-loop .loop in
+    omega (arith, walked-sum (o .args .set .now) (o .args .table .now) (o .args .j) (o .pre .0) (o .args .bases .now) (l .bases) (l .r) (l .sum) _ (l .inv) (at-loop-test .loop-test .taken) refl)
+
 sub-bases : tie.Need-sub-bases Inv-loop μ-loop
 sub-bases c = omega (arith, entry-in (c .before))
 
@@ -95,5 +103,5 @@ pub lane-bases-spec : {M : Type 1} → statement M
 lane-bases-spec =
     tie.close
     (tie.spec Inv-loop μ-loop (λ c κs. search needs) (λ c. search needs) (λ c κs. search needs) loop-holds (λ c. search needs)
-    (λ c. search needs) (λ c. search needs) (λ c. search needs) (λ c. search needs) cast-e sub-bases mul-bases slice-write-bases mul-count
+    (λ c. search needs) (λ c. search needs) (λ c. search needs) (λ c. search needs) cast-e cast-bases sub-bases mul-bases slice-write-bases mul-count
     sub-count mul-count-2 shared-slice-read-count (λ c κs. search needs) add-sum (λ c. search needs) loop-again same-length returns)

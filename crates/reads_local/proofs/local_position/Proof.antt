@@ -24,6 +24,12 @@ shared-slice-read-place c =
     let s = found .before .before .before .before in
     found-in (s .args .set .now) (s .args .bases .now) (s .args .q .0) _ _ (s .pre) (found .before .word .ensures) (found .find-pair .ensures .0) .1
 
+cast-place : tie.Need-cast-place
+cast-place c =
+    let found = c .before .before .before .before in
+    let s = found .before .before .before .before in
+    omega (arith, found-base (s .args .set .now) (s .args .bases .now) (s .args .q .0) _ _ (s .pre) (found .before .word .ensures) (found .find-pair .ensures .0))
+
 add-place : tie.Need-add-place
 add-place c =
     let found = c .before .before .before .before in
@@ -42,4 +48,4 @@ pub local-position-spec : {M : Type 1} → statement M
 local-position-spec =
     tie.close
     (tie.spec word-requires (λ c κs. search needs) (λ c. search needs) (λ c. search needs) (λ c. search needs) shared-slice-read-count-above
-    (λ c κs. search needs) (λ c κs. search needs) (λ c. search needs) shared-slice-read-place add-place returns)
+    (λ c κs. search needs) (λ c κs. search needs) (λ c. search needs) shared-slice-read-place cast-place add-place returns)

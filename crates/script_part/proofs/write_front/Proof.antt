@@ -2,8 +2,9 @@
 -- Assumes nothing.
 use mathlib.Core.Path.{sym, ap, ap₂, _∙_}
 use mathlib.Core.List.{_++_}
-use Prim.Native.Nat.{_*_}
+use Prim.Native.Nat.{_*_, _≤_}
 use native.Mathlib.Omega.{arith}
+use lib.ListN.{length}
 use lib.Seq.{length-take-le}
 use Rattle.reads.specs.ReadSection.{readSection}
 use Rattle.plan_reads.proofs.CheckLaws.{set-size}
@@ -15,17 +16,16 @@ use Rattle.script_part.proofs.write_front.Tie as tie
 
 find-reads-requires : tie.Need-find-reads-requires
 find-reads-requires c κs =
-    let way = c .before .before .before .before .before .before in
-    let o = way .before .before .before .before .before .before in
+    let way = c .before .before .before .before .before in
+    let o = way .before .before .before .before .before in
     (o .pre .0, o .pre .2 .reads, o .pre .2 .found)
 
 mul-reads : tie.Need-mul-reads
 mul-reads c =
-    let way = c .before .before .before .before in
-    let at-find-reads = way .before .before .before .before in
+    let way = c .before .before .before .before .before in
+    let at-find-reads = way .before .before .before in
     let way-2 = at-find-reads .before .before .before .before .before in
-    let way-3 = way-2 .before .before .before .before in
-    let o = way-3 .before .before .before .before in
+    let o = way-2 .before .before .before .before .before .before in
     let f = at-find-reads .find-reads in
     omega (arith, rounds-few (o .args .d .now) (o .args .p) (o .args .body) (o .pre .0) (f .ensures .1 .1 .1) _ (f .ensures .1 .0) (f .kept .1 .1 .1 .0 ∙ o .pre .2 .found) (o .args .set .now) _ _ (f .ensures .0) (f .ensures .1 .1 .0) (o .pre .2 .reads .set-room) (o .args .rounds) (o .pre .1))
 
@@ -34,32 +34,30 @@ slice-aggregate-write-reads c =
     let way = c .before .before .before .before .before in
     let at-find-reads = way .before .before .before .before in
     let way-2 = at-find-reads .before .before .before .before .before in
-    let way-3 = way-2 .before .before .before .before in
-    let o = way-3 .before .before .before .before in
+    let o = way-2 .before .before .before .before .before .before in
     let f = at-find-reads .find-reads in
     set-size (o .args .d .now) (o .args .p) (o .args .set .now) _ _ (f .ensures .0) (f .ensures .1 .1 .0) (o .pre .2 .reads .set-room)
 
 slice-aggregate-write-reads-2 : tie.Need-slice-aggregate-write-reads-2
 slice-aggregate-write-reads-2 c =
-    let way = c .before .before .before .before .before .before in
+    let way = c .before .before .before .before .before in
     let way-2 = way .before .before .before .before .before in
     let way-3 = way-2 .before .before .before .before .before in
     let way-4 = way-3 .before .before .before .before .before in
-    let o = way-4 .before .before .before .before .before in
+    let o = way-4 .before .before .before .before in
     sym (length-take-le (512 * o .args .rounds) (o .args .out .now) (omega (arith, o .pre .2 .sections)))
 
 write-reads-requires : tie.Need-write-reads-requires
 write-reads-requires c κs =
     let way = c .before .before .before .before .before in
-    let way-2 = way .before .before .before .before in
-    let at-find-reads = way-2 .before .before .before .before in
+    let way-2 = way .before .before .before .before .before in
+    let at-find-reads = way-2 .before .before .before in
     let way-3 = at-find-reads .before .before .before .before .before in
-    let way-4 = way-3 .before .before .before .before in
-    let o = way-4 .before .before .before .before in
+    let o = way-3 .before .before .before .before .before .before in
     let f = at-find-reads .find-reads in
-    reads-room (o .args .d .now) (o .args .p) (o .args .body) (o .pre .0) (f .ensures .1 .1 .1) _ (f .ensures .1 .0) (f .kept .1 .1 .1 .0 ∙ o .pre .2 .found)
-    (o .args .set .now) _ _ (f .ensures .0) (f .ensures .1 .1 .0) (o .pre .2 .reads .set-room) (o .args .rounds) (o .pre .1) (o .args .bases .now) (o .args .out .now)
-    (o .pre .2 .pairs) (o .pre .2 .sections)
+    let pairs : 8192 ≤ length (f .last .1 .1 .1 .1 .0) = omega (arith, f .kept .1 .1 .1 .1 .0, o .pre .2 .reads .keys-room) in
+    reads-room (o .args .d .now) (o .args .p) (o .args .body) (o .pre .0) (f .ensures .1 .1 .1) _ (f .ensures .1 .0) (f .kept .1 .1 .1 .0 ∙ o .pre .2 .found) (o .args .set .now) _ _ (f .ensures .0) (f .ensures .1 .1 .0) (o .pre .2 .reads .set-room)
+    (o .args .rounds) (o .pre .1) (f .last .1 .1 .1 .1 .0) (o .args .out .now) pairs (o .pre .2 .sections)
 
 slice-aggregate-write-first : tie.Need-slice-aggregate-write-first
 slice-aggregate-write-first c =
@@ -68,68 +66,40 @@ slice-aggregate-write-first c =
     let way-3 = way-2 .before .before .before .before .before in
     let at-find-reads = way-3 .before .before .before .before in
     let way-4 = at-find-reads .before .before .before .before .before in
-    let way-5 = way-4 .before .before .before .before in
-    let o = way-5 .before .before .before .before in
+    let o = way-4 .before .before .before .before .before .before in
     let f = at-find-reads .find-reads in
     sym (length-take-le 32768 (f .last .1 .1 .1 .0) (omega (arith, f .kept .1 .1 .1 .0 ∙ o .pre .2 .found)))
 
-slice-reshare-prefix-write-first-2 : tie.Need-slice-reshare-prefix-write-first-2
-slice-reshare-prefix-write-first-2 c =
+mul-write-first : tie.Need-mul-write-first
+mul-write-first c =
     let way = c .before .before .before .before .before in
     let way-2 = way .before .before .before .before .before in
     let way-3 = way-2 .before .before .before .before .before in
     let at-find-reads = way-3 .before .before .before .before in
     let way-4 = at-find-reads .before .before .before .before .before in
-    let way-5 = way-4 .before .before .before .before in
-    let o = way-5 .before .before .before .before in
-    let f = at-find-reads .find-reads in
-    omega (arith, f .ensures .0, f .kept .1 .1 .1 .1 .1 .1 .0, o .pre .2 .reads .set-room)
-
-slice-aggregate-write-first-2 : tie.Need-slice-aggregate-write-first-2
-slice-aggregate-write-first-2 c =
-    let way = c .before .before .before .before .before in
-    let way-2 = way .before .before .before .before .before in
-    let way-3 = way-2 .before .before .before .before .before in
-    let at-find-reads = way-3 .before .before .before .before .before in
-    let way-4 = at-find-reads .before .before .before .before .before in
-    let way-5 = way-4 .before .before .before .before in
-    let o = way-5 .before .before .before .before in
-    let f = at-find-reads .find-reads in
-    set-size (o .args .d .now) (o .args .p) (o .args .set .now) _ _ (f .ensures .0) (f .ensures .1 .1 .0) (o .pre .2 .reads .set-room)
-
-mul-write-first : tie.Need-mul-write-first
-mul-write-first c =
-    let way = c .before .before .before .before .before .before in
-    let way-2 = way .before .before .before .before .before .before in
-    let way-3 = way-2 .before .before .before .before .before in
-    let at-find-reads = way-3 .before .before .before .before .before in
-    let way-4 = at-find-reads .before .before .before .before .before in
-    let way-5 = way-4 .before .before .before .before in
-    let o = way-5 .before .before .before .before in
+    let o = way-4 .before .before .before .before .before .before in
     let f = at-find-reads .find-reads in
     omega (arith, rounds-few (o .args .d .now) (o .args .p) (o .args .body) (o .pre .0) (f .ensures .1 .1 .1) _ (f .ensures .1 .0) (f .kept .1 .1 .1 .0 ∙ o .pre .2 .found) (o .args .set .now) _ _ (f .ensures .0) (f .ensures .1 .1 .0) (o .pre .2 .reads .set-room) (o .args .rounds) (o .pre .1))
 
 sub-write-first : tie.Need-sub-write-first
 sub-write-first c =
-    let way = c .before .before .before .before in
-    let at-write-reads = way .before .before .before .before in
-    let way-2 = at-write-reads .before .before .before .before .before .before in
-    let way-3 = way-2 .before .before .before .before .before .before in
+    let at-write-reads = c .before .before .before .before .before in
+    let way = at-write-reads .before .before .before .before .before in
+    let way-2 = way .before .before .before .before .before in
+    let way-3 = way-2 .before .before .before .before .before in
     let way-4 = way-3 .before .before .before .before .before in
-    let way-5 = way-4 .before .before .before .before .before in
-    let o = way-5 .before .before .before .before .before in
+    let o = way-4 .before .before .before .before .before in
     let w = at-write-reads .write-reads in
     omega (arith, front-length (o .args .rounds) (o .args .out .now) (o .pre .2 .sections) (w .last .1 .1 .1 .1 .0) (w .kept .1 .1 .1 .1 .0))
 
 part-write-first-start : tie.Need-part-write-first-start
 part-write-first-start c =
-    let way = c .before .before .before .before in
-    let at-write-reads = way .before .before .before .before in
-    let way-2 = at-write-reads .before .before .before .before .before .before in
-    let way-3 = way-2 .before .before .before .before .before .before in
+    let at-write-reads = c .before .before .before .before .before in
+    let way = at-write-reads .before .before .before .before .before in
+    let way-2 = way .before .before .before .before .before in
+    let way-3 = way-2 .before .before .before .before .before in
     let way-4 = way-3 .before .before .before .before .before in
-    let way-5 = way-4 .before .before .before .before .before in
-    let o = way-5 .before .before .before .before .before in
+    let o = way-4 .before .before .before .before .before in
     let w = at-write-reads .write-reads in
     omega (arith, front-length (o .args .rounds) (o .args .out .now) (o .pre .2 .sections) (w .last .1 .1 .1 .1 .0) (w .kept .1 .1 .1 .1 .0))
 
@@ -141,98 +111,85 @@ write-first-requires c κs =
     let way-3 = way-2 .before .before .before .before .before in
     let at-find-reads = way-3 .before .before .before .before in
     let way-4 = at-find-reads .before .before .before .before .before in
-    let way-5 = way-4 .before .before .before .before in
-    let o = way-5 .before .before .before .before in
-    let d = o .args .d .now in
-    let p = o .args .p in
-    let body = o .args .body in
-    let set = o .args .set .now in
+    let o = way-4 .before .before .before .before .before .before in
     let f = at-find-reads .find-reads in
-    let w = at-write-reads .write-reads in (
+    let w = at-write-reads .write-reads in
+    let pairs : 8192 ≤ length (f .last .1 .1 .1 .1 .0) = omega (arith, f .kept .1 .1 .1 .1 .0, o .pre .2 .reads .keys-room) in
+    let size = f .kept .1 .1 .1 .1 .1 .1 .0 in (
       o .pre .0,
-      pins-won-there d p body (o .pre .0) (f .ensures .1 .1 .1) _ (f .ensures .1 .0) (f .kept .1 .1 .1 .0 ∙ o .pre .2 .found) set _ _ (f .ensures .0) (f .ensures .1 .1 .0) (o .pre .2 .reads .set-room),
-      pairs-numbered d p body (o .pre .0) (f .ensures .1 .1 .1) _ (f .ensures .1 .0) (f .kept .1 .1 .1 .0 ∙ o .pre .2 .found) set _ _ (f .ensures .0) (f .ensures .1 .1 .0) (o .pre .2 .reads .set-room) (o .args .bases .now) _ (o .pre .2 .pairs) (w .ensures .0),
-      o .pre .2 .slots,
-      first-length (o .args .rounds) (o .args .out .now) (o .pre .2 .sections) (w .last .1 .1 .1 .1 .0) (w .kept .1 .1 .1 .1 .0),
+      pins-won-there (o .args .d .now) (o .args .p) (o .args .body) (o .pre .0) (f .ensures .1 .1 .1) _ (f .ensures .1 .0) (f .kept .1 .1 .1 .0 ∙ o .pre .2 .found) (o .args .set .now) _ _ (f .ensures .0) (f .ensures .1 .1 .0) (o .pre .2 .reads .set-room),
+      pairs-numbered (o .args .d .now) (o .args .p) (o .args .body) (o .pre .0) (f .ensures .1 .1 .1) _ (f .ensures .1 .0) (f .kept .1 .1 .1 .0 ∙ o .pre .2 .found) (o .args .set .now) _ _ (f .ensures .0) (f .ensures .1 .1 .0) (o .pre .2 .reads .set-room)
+          (f .last .1 .1 .1 .1 .0) _ pairs (w .ensures .0),
+      record {
+        words = omega (arith, f .ensures .0, size, o .pre .2 .reads .set-room);
+        section = first-length (o .args .rounds) (o .args .out .now) (o .pre .2 .sections) (w .last .1 .1 .1 .1 .0) (w .kept .1 .1 .1 .1 .0);
+        slots = omega (arith, f .kept .1 .1 .1 .1 .1 .0, o .pre .2 .reads .scratch-room);
+        entries = omega (arith, size, o .pre .2 .reads .set-room);
+      },
     )
 
 same-length : tie.Need-same-length
 same-length c =
-    let way = c .before .before .before .before .before .before in
-    let way-2 = way .before .before .before .before .before .before in
-    let way-3 = way-2 .before .before .before .before .before .before in
+    let way = c .before .before .before .before .before in
+    let way-2 = way .before .before .before .before .before in
+    let way-3 = way-2 .before .before .before .before .before in
     let way-4 = way-3 .before .before .before .before .before in
-    let at-find-reads = way-4 .before .before .before .before .before in
+    let way-5 = way-4 .before .before .before .before .before in
+    let at-find-reads = way-5 .before .before .before .before .before in
     at-find-reads .find-reads .kept .1 .1 .1 .0
-
-same-length-2 : tie.Need-same-length-2
-same-length-2 c =
-    let way = c .before .before .before .before .before .before in
-    let way-2 = way .before .before .before .before .before .before in
-    let way-3 = way-2 .before .before .before .before .before .before in
-    let way-4 = way-3 .before .before .before .before .before in
-    let at-find-reads = way-4 .before .before .before .before .before in
-    at-find-reads .find-reads .kept .1 .1 .1 .1 .0
 
 same-length-3 : tie.Need-same-length-3
 same-length-3 c =
-    let way = c .before .before .before .before .before .before in
-    let way-2 = way .before .before .before .before .before .before in
-    let way-3 = way-2 .before .before .before .before .before .before in
+    let way = c .before .before .before .before .before in
+    let way-2 = way .before .before .before .before .before in
+    let at-write-reads = way-2 .before .before .before .before .before .before in
+    let way-3 = at-write-reads .before .before .before .before .before in
     let way-4 = way-3 .before .before .before .before .before in
-    let at-find-reads = way-4 .before .before .before .before .before in
-    at-find-reads .find-reads .kept .1 .1 .1 .1 .1 .0
+    let at-find-reads = way-4 .before .before .before .before in
+    at-write-reads .write-reads .kept .1 .1 .1 .0 ∙ at-find-reads .find-reads .kept .1 .1 .1 .1 .0
 
 same-length-4 : tie.Need-same-length-4
 same-length-4 c =
-    let way = c .before .before .before .before .before .before in
-    let way-2 = way .before .before .before .before .before .before in
-    let way-3 = way-2 .before .before .before .before .before .before in
+    let at-write-first = c .before .before .before .before .before .before in
+    let way = at-write-first .before .before .before .before .before in
+    let way-2 = way .before .before .before .before .before in
+    let way-3 = way-2 .before .before .before .before .before in
     let way-4 = way-3 .before .before .before .before .before in
-    let at-find-reads = way-4 .before .before .before .before .before in
-    at-find-reads .find-reads .kept .1 .1 .1 .1 .1 .1 .0
+    let at-find-reads = way-4 .before .before .before .before in
+    at-write-first .write-first .kept .1 .1 .1 .1 .1 .1 .1 .0 ∙ at-find-reads .find-reads .kept .1 .1 .1 .1 .1 .0
 
 same-length-5 : tie.Need-same-length-5
 same-length-5 c =
-    let way = c .before .before .before .before .before in
+    let at-write-first = c .before .before .before .before .before .before in
+    let way = at-write-first .before .before .before .before .before in
     let way-2 = way .before .before .before .before .before in
-    let at-write-reads = way-2 .before .before .before .before in
-    at-write-reads .write-reads .kept .1 .1 .1 .0
-
-same-length-6 : tie.Need-same-length-6
-same-length-6 c = c .before .before .before .before .write-first .kept .1 .1 .1 .1 .1 .1 .0
+    let way-3 = way-2 .before .before .before .before .before in
+    let way-4 = way-3 .before .before .before .before .before in
+    let at-find-reads = way-4 .before .before .before .before in
+    at-write-first .write-first .kept .1 .1 .1 .1 .1 .1 .1 .1 .0 ∙ at-find-reads .find-reads .kept .1 .1 .1 .1 .1 .1 .0
 
 returns : tie.Need-returns
 returns c =
-    let at-write-first = c .before .before .before .before in
+    let at-write-first = c .before .before .before .before .before .before in
     let way = at-write-first .before .before .before .before .before in
     let at-write-reads = way .before .before .before .before .before in
     let way-2 = at-write-reads .before .before .before .before .before in
     let way-3 = way-2 .before .before .before .before .before in
     let at-find-reads = way-3 .before .before .before .before in
     let way-4 = at-find-reads .before .before .before .before .before in
-    let way-5 = way-4 .before .before .before .before in
-    let o = way-5 .before .before .before .before in
-    let rounds = o .args .rounds in
-    let out = o .args .out .now in
-    let d = o .args .d .now in
-    let p = o .args .p in
-    let body = o .args .body in
-    let set = o .args .set .now in
+    let o = way-4 .before .before .before .before .before .before in
     let f = at-find-reads .find-reads in
     let w = at-write-reads .write-reads in
     let z = at-write-first .write-first in
+    let rounds = o .args .rounds in
+    let out = o .args .out .now in
     let size = w .kept .1 .1 .1 .1 .0 ∙ length-take-le (512 * rounds) out (omega (arith, o .pre .2 .sections)) in
-    let lanes = lanes-are d p body (o .pre .0) (f .ensures .1 .1 .1) _ (f .ensures .1 .0) (f .kept .1 .1 .1 .0 ∙ o .pre .2 .found) set _ _ (f .ensures .0) (f .ensures .1 .1 .0) (o .pre .2 .reads .set-room) in (
+    let lanes = lanes-are (o .args .d .now) (o .args .p) (o .args .body) (o .pre .0) (f .ensures .1 .1 .1) _ (f .ensures .1 .0) (f .kept .1 .1 .1 .0 ∙ o .pre .2 .found) (o .args .set .now) _ _ (f .ensures .0) (f .ensures .1 .1 .0) (o .pre .2 .reads .set-room) in (
       two-parts (512 * rounds) out (w .last .1 .1 .1 .1 .0) _ size ∙ ap₂ _++_ (w .ensures .1 ∙ ap readSection lanes) (z .ensures),
-      rounds-few d p body (o .pre .0) (f .ensures .1 .1 .1) _ (f .ensures .1 .0) (f .kept .1 .1 .1 .0 ∙ o .pre .2 .found) set _ _ (f .ensures .0) (f .ensures .1 .1 .0) (o .pre .2 .reads .set-room) rounds (o .pre .1),
+      rounds-few (o .args .d .now) (o .args .p) (o .args .body) (o .pre .0) (f .ensures .1 .1 .1) _ (f .ensures .1 .0) (f .kept .1 .1 .1 .0 ∙ o .pre .2 .found) (o .args .set .now) _ _ (f .ensures .0) (f .ensures .1 .1 .0) (o .pre .2 .reads .set-room) (o .args .rounds) (o .pre .1),
     )
 
 pub write-front-spec : {M : Type 1} → statement M
 write-front-spec =
     tie.close
-    (tie.spec find-reads-requires mul-reads (λ c. search needs) slice-aggregate-write-reads (λ c. search needs) (λ c. search needs)
-    (λ c. search needs) (λ c. search needs) slice-aggregate-write-reads-2 write-reads-requires (λ c. search needs)
-    slice-aggregate-write-first slice-reshare-prefix-write-first-2 slice-aggregate-write-first-2 mul-write-first sub-write-first
-    part-write-first-start (λ c. search needs) write-first-requires same-length same-length-2 same-length-3 same-length-4 same-length-5
-    same-length-6 (λ c. search needs) returns)
+    (tie.spec find-reads-requires mul-reads (λ c. search needs) slice-aggregate-write-reads (λ c. search needs) (λ c. search needs) (λ c. search needs) (λ c. search needs) slice-aggregate-write-reads-2 write-reads-requires (λ c. search needs) slice-aggregate-write-first mul-write-first sub-write-first part-write-first-start (λ c. search needs) write-first-requires same-length (λ c. search needs) same-length-3 same-length-4 same-length-5 returns)

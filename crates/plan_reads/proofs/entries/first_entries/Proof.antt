@@ -20,10 +20,10 @@ abbrev μ-loop : tie.MeasureT-loop
 loop-again : tie.Need-loop-again Inv-loop μ-loop
 loop-again c =
     let way = c .before .before .before .before in
-    let start = way .before .before .before .before in
+    let start = way .before .before .before .before .before in
     let o = start .args in
-    let l = c .before .before .loop in
-    (omega arith, length-set (l .entries) _ _ ∙ l .inv .1, entries-on (firstEntry 256 (o .d .now) (o .p)) (l .entries) (l .i) _ (omega arith) (l .inv .2) (c .first-entry .ensures))
+    let l = c .before .before .before .loop in
+    (omega arith, length-set (l .entries) _ _ ∙ l .inv .1, entries-on (firstEntry 256 (o .d .now) (o .p)) (l .entries) (l .i) _ (omega arith) (l .inv .2) (c .before .first-entry .ensures))
 
 returns : tie.Need-returns Inv-loop μ-loop
 returns c =
@@ -36,5 +36,5 @@ returns c =
 pub first-entries-spec : {M : Type 1} → statement M
 first-entries-spec =
     tie.close
-    (tie.spec Inv-loop μ-loop (λ c. search needs) (λ c κs. search needs) (λ c. search needs) (λ c. search needs) (λ c. search needs)
+    (tie.spec Inv-loop μ-loop (λ c. search needs) (λ c κs. search needs) (λ c. search needs) (λ c. search needs) (λ c. search needs) (λ c. search needs)
     (λ c. search needs) loop-again (λ c. search needs) returns)

@@ -13,22 +13,22 @@ use Rattle.script_sections.proofs.parts.write_stages.Statement.{stateme
 use Rattle.script_sections.proofs.parts.write_stages.Tie as tie
 
 abbrev Inv-loop : tie.InvT-loop
-Inv-loop d p body table₀ out₀ stages s₀ table out s =
-    (s + 1 ≤ stages) × (length table ≡ length table₀) × (length out ≡ length out₀) × (take (5120 * (s + 1)) out ≡ stageSections 256 d p (s + 1))
+Inv-loop d p body table₀ out₀ entries₀ stages s₀ table out entries s =
+    (s + 1 ≤ stages) × (length table ≡ length table₀) × (length out ≡ length out₀) × (length entries ≡ 8192) × (take (5120 * (s + 1)) out ≡ stageSections 256 d p (s + 1))
 
 abbrev μ-loop : tie.MeasureT-loop
-μ-loop d p body table₀ out₀ stages s₀ table out s = stages - s
+μ-loop d p body table₀ out₀ entries₀ stages s₀ table out entries s = stages - s
 
 loop-holds : tie.Need-loop-holds Inv-loop μ-loop
 loop-holds c =
-    let o = c .before .before .before in
-    (o .pre .1 .some, refl, refl, o .pre .1 .first ∙ stages-first (o .args .d .now) (o .args .p))
+    let o = c .before .before .before .before in
+    (o .pre .1 .some, refl, refl, o .pre .2, o .pre .1 .first ∙ stages-first (o .args .d .now) (o .args .p))
 
 loop-again : tie.Need-loop-again Inv-loop μ-loop
 loop-again c =
-    let at-write-later = c .before .before .before .before in
-    let at-loop = at-write-later .before .before .before .before in
-    let o = at-loop .before .before .before .before in
+    let at-write-later = c .before .before .before .before .before .before in
+    let at-loop = at-write-later .before .before .before .before .before in
+    let o = at-loop .before .before .before .before .before in
     let p = o .args .p in
     let d = o .args .d .now in
     let w = at-write-later .write-later in
@@ -40,22 +40,22 @@ loop-again c =
       omega arith,
       w .kept .1 .1 .1 .1 .0 ∙ l .inv .1,
       put-mid-length from (from + 5120) (l .out) added (omega arith) room fits ∙ l .inv .2,
-      stages-more d p (l .out) added (l .s + 1) from (from + 5120) refl refl room (w .ensures .1) (l .inv .3),
+      w .kept .1 .1 .1 .1 .1 .1 .0 ∙ l .inv .3,
+      stages-more d p (l .out) added (l .s + 1) from (from + 5120) refl refl room (w .ensures .1) (l .inv .4),
     )
 
 returns : tie.Need-returns Inv-loop μ-loop
 returns c =
-    let at-loop = c .before .before .before .before .before in
-    let o = at-loop .before .before .before .before in
+    let at-clear = c .before .before in
+    let at-loop = at-clear .before .before .before in
+    let o = at-loop .before .before .before .before .before in
     let l = at-loop .loop in
     let n = o .pre .0 .body .stages in (
-      c .before .before .clear .ensures ∙ ap (λ (n : ℕ). replicate n 0) (l .inv .1),
-      stages-end (o .args .d .now) (o .args .p) (l .out) (l .s + 1) _ (omega (arith, n, o .pre .1 .room)) (omega (arith, n)) (l .inv .3),
+      at-clear .clear .ensures ∙ ap (λ (n : ℕ). replicate n 0) (l .inv .1),
+      stages-end (o .args .d .now) (o .args .p) (l .out) (l .s + 1) _ (omega (arith, n, o .pre .1 .room)) (omega (arith, n)) (l .inv .4),
     )
 
 pub write-stages-spec : {M : Type 1} → statement M
 write-stages-spec =
     tie.close
-    (tie.spec Inv-loop μ-loop loop-holds (λ c. search needs) (λ c. search needs) (λ c. search needs) (λ c. search needs) (λ c. search needs)
-    (λ c. search needs) (λ c. search needs) (λ c. search needs) (λ c κs. search needs) (λ c. search needs) (λ c. search needs) loop-again
-    (λ c κs. search needs) (λ c. search needs) (λ c. search needs) returns)
+    (tie.spec Inv-loop μ-loop loop-holds (λ c. search needs) (λ c. search needs) (λ c. search needs) (λ c. search needs) (λ c. search needs) (λ c. search needs) (λ c. search needs) (λ c. search needs) (λ c κs. search needs) (λ c. search needs) (λ c. search needs) loop-again (λ c κs. search needs) (λ c. search needs) (λ c. search needs) (λ c. search needs) returns)

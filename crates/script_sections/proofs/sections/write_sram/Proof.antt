@@ -8,6 +8,7 @@ use Rattle.words.proofs.SectionLaws.{length-listOf}
 use Rattle.plan_record.specs.Record.{tableAt}
 use Rattle.script.specs.Script.{sramSection}
 use Rattle.script.proofs.SectionsLaws.{section-are, entries-small, zeros-are, from-zero}
+use Rattle.words.specs.Section.{listOf}
 use borrow.Author.Needs.{needs}
 use Rattle.script_sections.proofs.sections.write_sram.Statement.{statement}
 use Rattle.script_sections.proofs.sections.write_sram.Tie as tie
@@ -16,32 +17,32 @@ write-section-requires : tie.Need-write-section-requires
 write-section-requires c κs =
     let at-read-table3 = c .before .before .before .before .before .before in
     let at-read-table2 = at-read-table3 .before .before .before in
-    let at-read-table = at-read-table2 .before .before .before in
-    let o = at-read-table .before .before .before .before in
+    let at-read-table = at-read-table2 .before .before .before .before in
+    let o = at-read-table .before .before .before .before .before in
     let t = tableAt (o .args .d .now) (o .args .p) in
-    let e = at-read-table .read-table .ensures ∙ from-zero t 8192 in
+    let e = at-read-table .read-table .ensures ∙ (ap (listOf (λ i. t (0 + i))) (o .pre .2) ∙ from-zero t 8192) in
     record {
       many = ap length e ∙ length-listOf t 8192;
       small = entries-small t _ 8192 e (o .pre .0 .sram);
       first = ap length (at-read-table2 .read-table2 .ensures) ∙ length-listOf _ 256;
       second = ap length (at-read-table3 .read-table3 .ensures) ∙ length-listOf _ 256;
       third = omega arith;
-      room = omega arith;
+      room = o .pre .1;
     }
 
 returns : tie.Need-returns
 unfolding sramSection
 returns c =
-    let way = c .before .before .before .before .before in
-    let at-read-table3 = way .before .before .before .before in
+    let at-write-section = c .before .before in
+    let way = at-write-section .before .before .before .before .before in
+    let at-read-table3 = way .before .before in
     let at-read-table2 = at-read-table3 .before .before .before in
-    let at-read-table = at-read-table2 .before .before .before in
-    let start = at-read-table .before .before .before .before in
-    let o = start .args in
-    let t = tableAt (o .d .now) (o .p) in
-    c .before .before .write-section .ensures
-    ∙ section-are 256 t (λ w. t (8192 + w)) (λ w. t (8448 + w)) (λ w. 0) _ _ _ _
-    (at-read-table .read-table .ensures ∙ from-zero t 8192)
+    let at-read-table = at-read-table2 .before .before .before .before in
+    let o = at-read-table .before .before .before .before .before in
+    let t = tableAt (o .args .d .now) (o .args .p) in
+    let e = at-read-table .read-table .ensures ∙ (ap (listOf (λ i. t (0 + i))) (o .pre .2) ∙ from-zero t 8192) in
+    at-write-section .write-section .ensures
+    ∙ section-are 256 t (λ w. t (8192 + w)) (λ w. t (8448 + w)) (λ w. 0) _ _ _ _ e
     (at-read-table2 .read-table2 .ensures)
     (at-read-table3 .read-table3 .ensures)
     (zeros-are 256)
@@ -49,6 +50,4 @@ returns c =
 pub write-sram-spec : {M : Type 1} → statement M
 write-sram-spec =
     tie.close
-    (tie.spec (λ c. search needs) (λ c κs. search needs) (λ c. search needs) (λ c κs. search needs) (λ c. search needs)
-    (λ c κs. search needs) (λ c. search needs) (λ c. search needs) (λ c. search needs) (λ c. search needs) write-section-requires
-    (λ c. search needs) returns)
+    (tie.spec (λ c κs. search needs) (λ c. search needs) (λ c κs. search needs) (λ c. search needs) (λ c κs. search needs) (λ c. search needs) (λ c. search needs) (λ c. search needs) write-section-requires (λ c. search needs) (λ c. search needs) returns)
