@@ -27,7 +27,7 @@ unfolding times
 times-one w m p = test-le (eqb (p .word) w && eqb (p .mask) m)
 
 -- a pair that is not of this word and mask adds nothing
-one-is : (w m : ℕ) (p : Pair) → 0 < times w m (p ∷ []) → (p .word ≡ w) × (p .mask ≡ m)
+pub one-is : (w m : ℕ) (p : Pair) → 0 < times w m (p ∷ []) → (p .word ≡ w) × (p .mask ≡ m)
 one-is w m p h = ⊎-elim (λ q. q) (λ l. absurd (omega (arith, times-nil w m))) (times-cases w m p [] h)
 
 module _ (ps : List Pair) where
@@ -135,14 +135,14 @@ module _ (ps : List Pair) where
 
   -- ---- each pair of the set stands
 
-  stand-at : (qs rs : List Pair) (w m : ℕ) → allStand rs qs ≡ true → 0 < times w m rs → 0 < times w m qs
+  pub stand-at : (qs rs : List Pair) (w m : ℕ) → allStand rs qs ≡ true → 0 < times w m rs → 0 < times w m qs
   unfolding allStand
   stand-at qs [] w m e h = absurd (omega (arith, times-nil w m))
   stand-at qs (r ∷ rs) w m e h =
       let t = and-true (ltb 0 (times (r .word) (r .mask) qs)) _ e in
       ⊎-elim (λ q. rw (← (q .0), ← (q .1)) (ltb-true _ _ (t .0))) (λ k. stand-at qs rs w m (t .1) k) (times-cases w m r rs h)
 
-  at-stand : (qs rs : List Pair) → ((w m : ℕ) → 0 < times w m rs → 0 < times w m qs) → allStand rs qs ≡ true
+  pub at-stand : (qs rs : List Pair) → ((w m : ℕ) → 0 < times w m rs → 0 < times w m qs) → allStand rs qs ≡ true
   unfolding allStand
   at-stand qs [] h = refl
   at-stand qs (r ∷ rs) h =

@@ -29,12 +29,15 @@ unfoldable pub inFront : Pair → List Lane → List Lane
 inFront p [] = (p ∷ []) ∷ []
 inFront p (l ∷ ls) = (p ∷ l) ∷ ls
 
--- Two words a pair, lane after lane. A pair with mask 0 ends its lane (its word is not looked at), a last half pair is such an end, and pairs
--- behind the last end are a lane too. So every list of words is some list of lanes.
+-- Two words a pair, lane after lane. A pair with mask 0 ends its lane; its word is not looked at.
+unfoldable pub pairMore : List Pair → ℕ → ℕ → List Lane → List Lane
+pairMore ps w m ls = elim (eqb m 0) [ true ↦ [] ∷ ls | false ↦ inFront (pairFor ps w m) ls ]
+
+-- A last half pair is such an end, and pairs behind the last end are a lane too. So every list of words is some list of lanes.
 unfoldable pub lanesIn : List Pair → List ℕ → List Lane
 lanesIn ps [] = []
 lanesIn ps (w ∷ []) = [] ∷ []
-lanesIn ps (w ∷ m ∷ ws) = elim (eqb m 0) [ true ↦ [] ∷ lanesIn ps ws | false ↦ inFront (pairFor ps w m) (lanesIn ps ws) ]
+lanesIn ps (w ∷ m ∷ ws) = pairMore ps w m (lanesIn ps ws)
 
 -- lanes as words: each with an end
 unfoldable pub laneWords : Lane → List ℕ

@@ -1,5 +1,6 @@
 // The lanes handed in, word by word: what is wrong with them first, and their table.
 ghost use mathlib.Core.Path.{_≡_};
+ghost use mathlib.Core.Bool.{_&&_};
 ghost use mathlib.Core.Option.{none};
 ghost use mathlib.Core.List.{[]};
 ghost use Prim.Native.Nat.{_+_, _*_, _/_, _%_, _^_, _≤_, _<_};
@@ -47,11 +48,16 @@ fn find_pair(set: &[u32], w: u32, m: u32) -> usize
 {
     let n = set.len() / 2;
     let p = first_not_below(set, w);
-    if p < n && set[2 * p] == w && set[2 * p + 1] == m {
-        p
-    } else {
-        n
+    if n <= p {
+        return n;
     }
+    if set[2 * p] != w {
+        return n;
+    }
+    if set[2 * p + 1] != m {
+        return n;
+    }
+    p
 }
 
 // The number of a pair that may stand in a lane of b bits, or the number of pairs.
@@ -100,6 +106,17 @@ fn all_marked(seen: &[u32], n: usize) -> bool
     true
 }
 
+// Whether there are n lanes, and each of the set's pairs is marked.
+fn is_whole(seen: &[u32], pairs: usize, count: usize, n: usize) -> bool
+    requires { ⌜ pairs ≤ 32 * length (now seen) ⌝ }
+    ensures { λ r. ⌜ r ≡ (eqb count n && allBelow (λ p. eqb (bitAt (now (seen .entry)) p) 1) pairs) ⌝ }
+{
+    if count != n {
+        return false;
+    }
+    all_marked(seen, pairs)
+}
+
 // A place of the lanes as an item, in 64 bits.
 fn item(lane: usize, place: usize) -> usize
     requires { ⌜ place ≤ 32 ⌝ }
@@ -126,6 +143,7 @@ fn judge_pairs(set: &[u32], lanes: &[u32], table: &mut [u32], seen: &mut [u32], 
             lane += 1;
             place = 0;
             b = 0;
+            i += 2;
         } else {
             let p = fit(set, seen, b, lanes[i], m);
             if p == pairs {
@@ -134,11 +152,14 @@ fn judge_pairs(set: &[u32], lanes: &[u32], table: &mut [u32], seen: &mut [u32], 
             put(table, seen, n, lane, place, p);
             place += 1;
             b += bits::count(m);
+            i += 2;
         }
-        i += 2;
     }
-    if i < lanes.len() || 0 < place {
-        lane += 1;
+    if i < lanes.len() {
+        return Judged::Lanes(lane + 1);
+    }
+    if 0 < place {
+        return Judged::Lanes(lane + 1);
     }
     Judged::Lanes(lane)
 }
@@ -158,7 +179,7 @@ pub fn fill_lanes(set: &[u32], lanes: &[u32], table: &mut [u32], seen: &mut [u32
             Item::At(x)
         }
         Judged::Lanes(count) => {
-            if count == n && all_marked(seen, set.len() / 2) {
+            if is_whole(seen, set.len() / 2, count, n) {
                 return Item::Fine;
             }
             clear(table);
