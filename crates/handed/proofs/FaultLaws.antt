@@ -1,7 +1,7 @@
 -- Document 02, 8/13, "accept it exactly when": for a set in form nothing is wrong with lanes where they are a packing of it, and only there. Pairs that
 -- belong are pairs of the set, none of them twice; and where each pair of the set stands, it then stands as often as in the set.
 -- Assumes nothing.
-use mathlib.Core.Path.{_≡_, refl, sym, ap, _∙_}
+use mathlib.Core.Path.{_≡_, refl, sym, _∙_}
 use mathlib.Core.Bool.{Bool, true, false, _&&_}
 use mathlib.Core.Option.{Option, none, some}
 use mathlib.Core.List.{List, [], _∷_, _++_}
@@ -18,7 +18,7 @@ use Rattle.reads.specs.Search.{Lane, joined, lanesOf}
 use Rattle.reads.specs.Packing.{times, Packing}
 use Rattle.reads.proofs.PackingLaws.{times-nil, times-cons, times-append, times-joined, lanes-packing}
 use Rattle.reads.proofs.SetLaws.{times-here, times-cases, pair-once}
-use Rattle.handed.specs.Handed.{belongs, badFrom, badPair, allStand, fault}
+use Rattle.handed.specs.Handed.{belongs, badFrom, badPair, allStand, whole, fault}
 
 -- ---- one pair
 
@@ -180,26 +180,34 @@ module _ (n : ℕ) (ps : List Pair) (lanes : List Lane) where
     pub wide : length lanes ≡ n
     pub stand : allStand ps (joined lanes) ≡ true
 
+  whole-is : whole n ps lanes ≡ true → (length lanes ≡ n) × (allStand ps (joined lanes) ≡ true)
+  unfolding whole
+  whole-is e =
+      let s = and-true _ (allStand ps (joined lanes)) e in
+      (eqb-true _ _ (s .0), s .1)
+
+  is-whole : length lanes ≡ n → allStand ps (joined lanes) ≡ true → whole n ps lanes ≡ true
+  unfolding whole
+  is-whole h k = true-and _ _ (eq-eqb _ _ h) k
+
   pub fault-none : fault n ps lanes ≡ none → Faultless
   unfolding fault
-  fault-none e = go (badPair ps [] 0 lanes) refl (eqb (length lanes) n && allStand ps (joined lanes)) refl
+  fault-none e = go (badPair ps [] 0 lanes) refl (whole n ps lanes) refl
     where
-      go : (o : Option ℕ) → badPair ps [] 0 lanes ≡ o → (t : Bool) → eqb (length lanes) n && allStand ps (joined lanes) ≡ t → Faultless
+      go : (o : Option ℕ) → badPair ps [] 0 lanes ≡ o → (t : Bool) → whole n ps lanes ≡ t → Faultless
       go (some x) o t q = absurd (some-not-none (rw (o, fault) at e))
       go none o false q = absurd (some-not-none (rw (o, q, fault) at e))
-      go none o true q =
-          let s = and-true (eqb (length lanes) n) _ q in
-          record { no-bad-one = o; wide = eqb-true _ _ (s .0); stand = s .1 }
+      go none o true q = let s = whole-is q in record { no-bad-one = o; wide = s .0; stand = s .1 }
 
   pub none-fault : Faultless → fault n ps lanes ≡ none
   unfolding fault
-  none-fault h = rw (h .no-bad-one, eq-eqb _ _ (h .wide), h .stand, fault)
+  none-fault h = rw (h .no-bad-one, is-whole (h .wide) (h .stand), fault)
 
   pub bad-fault : (x : ℕ) → badPair ps [] 0 lanes ≡ some x → fault n ps lanes ≡ some x
   unfolding fault
   bad-fault x e = rw (e, fault)
 
-  pub count-fault : badPair ps [] 0 lanes ≡ none → eqb (length lanes) n && allStand ps (joined lanes) ≡ false → fault n ps lanes ≡ some (64 * length lanes)
+  pub count-fault : badPair ps [] 0 lanes ≡ none → whole n ps lanes ≡ false → fault n ps lanes ≡ some (64 * length lanes)
   unfolding fault
   count-fault e f = rw (e, f, fault)
 

@@ -6,39 +6,36 @@ use mathlib.Core.Option.{Option, none, some}
 use mathlib.Core.List.{List, [], _++_, append-nil}
 use Prim.Native.Nat.{ℕ, _+_, _*_, _/_, _%_, _^_, _≤_, _<_}
 use native.Mathlib.Omega.{arith}
-use borrow.Author.Tests.{le-leb, lt-leb, lt-ltb, le-ltb, eqb-true, eqb-false, eq-eqb, ltb-true}
-use lib.Dec.{leb, ltb, eqb}
+use borrow.Author.Tests.{le-leb, lt-leb, lt-ltb, le-ltb, eqb-true, eq-eqb}
+use lib.Dec.{leb, eqb}
 use lib.ListN.{length, getD, replicate}
 use Rattle.words.specs.Bit.{bitAt}
 use Rattle.words.specs.Tests.{allBelow}
 use Rattle.words.specs.Found.{itemOf}
 use Rattle.words.specs.declared.found.Item.{Item}
 use Rattle.words.specs.declared.found.Item.the-variants as item
-use Rattle.words.specs.declared.refusals.Refusal.{Refusal}
 use Rattle.words.specs.Answer.{Answer, good, refused, atItem, nowhere}
 use Rattle.words.proofs.BitLaws.{at-lt}
-use Rattle.words.proofs.FoundLaws.{item-none}
-use Rattle.words.proofs.TestLaws.{all-at, all-true, and-true, true-and, some-not-none}
+use Rattle.words.proofs.TestLaws.{all-at, all-true, and-true, some-not-none}
 use Rattle.reads.specs.ReadSet.{Pair, pairsOf, broken}
 use Rattle.reads.specs.Search.{Lane, joined, longest}
-use Rattle.reads.specs.Packing.{times, Packing}
+use Rattle.reads.specs.Packing.{times}
 use Rattle.reads.specs.SetAnswer.{Packed, setFitted, resultAfter, setRoomAfter}
 use Rattle.reads.proofs.RoundCountLaws.{rounds-range}
 use Rattle.reads.proofs.SetLaws.{pairs-small}
 use Rattle.reads_try.specs.LaneTable.{tableOf}
 use Rattle.reads_try.specs.TableLanes.{lanesAt}
-use Rattle.reads_try.proofs.SetPairLaws.{pairs-length, pairs-at}
+use Rattle.reads_try.proofs.SetPairLaws.{pairs-length}
 use Rattle.reads_try.proofs.LaneTableLaws.{filled-of, filled-lanes}
 use Rattle.reads_section.specs.Readout.{TableReadable}
 use Rattle.rounds.specs.declared.Rounds.{Rounds}
 use Rattle.rounds.specs.Rounds.{roundsOf}
-use Rattle.handed.specs.declared.fill.Judged.{Judged}
 use Rattle.handed.specs.declared.fill.Judged.the-variants.{Bad, Lanes}
-use Rattle.handed.specs.Handed.{numberOf, lanesIn, badPair, allStand, fault, told, judged, taken, handed, handedAnswer}
-use Rattle.handed.specs.Fill.{judgedOf, tableHanded, SetFormed, Filled, LanesSolvable}
-use Rattle.handed.proofs.FaultLaws.{exactly-when, Faultless, none-fault, bad-fault, count-fault, stand-at, at-stand}
-use Rattle.handed.proofs.LaneWordLaws.{pairs-count, pair-times, found-pair}
-use Rattle.handed.proofs.HandedLaws.{judged-fine, faultless-sound}
+use Rattle.handed.specs.Handed.{numberOf, lanesIn, badPair, allStand, whole, fault, toldItem, judged, handedPacked, handedSet, handedAnswer}
+use Rattle.handed.specs.Fill.{judgedOf, tableHanded, PairsFilled}
+use Rattle.handed.proofs.FaultLaws.{exactly-when, none-fault, bad-fault, count-fault, stand-at, at-stand}
+use Rattle.handed.proofs.LaneWordLaws.{pair-times, found-pair}
+use Rattle.handed.proofs.HandedLaws.{faultless-judged, faultless-sound}
 
 -- ---- the judgement of the pairs, then the number of lanes and the marks
 
@@ -57,14 +54,14 @@ lanes-are (some y) count x e =
 -- what filling promises
 abbrev pub Judgement : (n : ℕ) (set ws : List ℕ) → Item → List ℕ → Type 0
 Judgement n set ws r table =
-    (r ≡ itemOf (told (fault n (pairsOf set) (lanesIn (pairsOf set) ws)))) × (table ≡ tableHanded n (fault n (pairsOf set) (lanesIn (pairsOf set) ws)) (lanesIn (pairsOf set) ws))
+    (r ≡ itemOf (toldItem (fault n (pairsOf set) (lanesIn (pairsOf set) ws)))) × (table ≡ tableHanded n (fault n (pairsOf set) (lanesIn (pairsOf set) ws)) (lanesIn (pairsOf set) ws))
 
 module _ (n : ℕ) (set ws : List ℕ) where
   abbrev ls : List Lane
   ls = lanesIn (pairsOf set) ws
 
   fault-post : (x y : ℕ) (table : List ℕ) → fault n (pairsOf set) ls ≡ some x → y ≡ x % 2 ^ 64 → table ≡ replicate (32 * n) 0 → Judgement n set ws (item.At y) table
-  unfolding told
+  unfolding toldItem
   fault-post x y table e ey et = rw e (ap item.At ey, et)
 
   -- a pair may not stand where it does
@@ -74,8 +71,8 @@ module _ (n : ℕ) (set ws : List ℕ) where
       fault-post (b .0) x table (bad-fault n (pairsOf set) ls (b .0) (b .1)) (b .2) et
 
   module _ (form : broken (pairsOf set) ≡ none) (table seen : List ℕ) (count : ℕ) (told-count : Lanes count ≡ judgedOf (badPair (pairsOf set) [] 0 ls) (length ls))
-      (filled : badPair (pairsOf set) [] 0 ls ≡ none → Filled set n ls table seen) where
-    f : Filled set n ls table seen
+      (filled : badPair (pairsOf set) [] 0 ls ≡ none → PairsFilled set n ls table seen) where
+    f : PairsFilled set n ls table seen
     f = filled (lanes-are _ _ count told-count .0)
 
     -- the marks say whether each pair stands
@@ -87,11 +84,11 @@ module _ (n : ℕ) (set ws : List ℕ) where
             at-stand (pairsOf set) (joined ls) (pairsOf set) (λ w m h.
             let k = numberOf (pairsOf set) w m in
             let there = found-pair set form w m h in
-            let is = f .marked k (there .0) in
-            let one = eqb-true _ _ (all-at (λ p. eqb (bitAt seen p) 1) (length set / 2) k t (there .0)) in
+            let one : bitAt seen k ≡ 1 = eqb-true (bitAt seen k) 1 (all-at (λ p. eqb (bitAt seen p) 1) (length set / 2) k t (there .0)) in
             let w-is : getD set (2 * k) 0 ≡ w = sym (ap (λ (p : Pair). p .word) (there .1)) in
             let m-is : getD set (2 * k + 1) 0 ≡ m = sym (ap (λ (p : Pair). p .mask) (there .1)) in
-            omega (arith, one, rw (w-is, m-is) at is))
+            let is : bitAt seen k ≡ times w m (joined ls) = f .marked k (there .0) ∙ ap (λ (x : ℕ). times x (getD set (2 * k + 1) 0) (joined ls)) w-is ∙ ap (λ (x : ℕ). times w x (joined ls)) m-is in
+            omega (arith, one, is))
 
         all-marked : allStand (pairsOf set) (joined ls) ≡ true → (p : ℕ) → p < length set / 2 → 0 < bitAt seen p
         all-marked t p h = omega (arith, f .marked p h, stand-at (pairsOf set) (joined ls) (pairsOf set) _ _ t (pair-times set form p h))
@@ -100,11 +97,11 @@ module _ (n : ℕ) (set ws : List ℕ) where
         go true ea true eb = refl
         go false ea false eb = refl
         go true ea false eb = sym (all-stand ea) ∙ eb
-        go false ea true eb = sym ea ∙ all-true (λ p. eqb (bitAt seen p) 1) (length set / 2) (λ p h. eq-eqb _ _ (omega (arith, all-marked eb p h, at-lt seen p)))
+        go false ea true eb = sym ea ∙ all-true (λ p. eqb (bitAt seen p) 1) (length set / 2) (λ p h. eq-eqb (bitAt seen p) 1 (omega (arith, all-marked eb p h, at-lt seen p)))
 
     -- nothing is wrong
     pub fine-post : (eqb count n && allBelow (λ p. eqb (bitAt seen p) 1) (length set / 2)) ≡ true → Judgement n set ws item.Fine table
-    unfolding told
+    unfolding toldItem
     fine-post t =
         let c = lanes-are _ _ count told-count in
         let both = and-true (eqb count n) _ t in
@@ -115,6 +112,7 @@ module _ (n : ℕ) (set ws : List ℕ) where
     -- not n lanes, or a pair is missing
     pub count-post : (eqb count n && allBelow (λ p. eqb (bitAt seen p) 1) (length set / 2)) ≡ false → (y : ℕ) → y ≡ (64 * count + 0) % 2 ^ 64
         → (table′ : List ℕ) → table′ ≡ replicate (32 * n) 0 → Judgement n set ws (item.At y) table′
+    unfolding whole
     count-post t y ey table′ et =
         let c = lanes-are _ _ count told-count in
         let wrong = count-fault n (pairsOf set) ls (c .0) (rw (c .1, marks-are) at t) in
@@ -124,44 +122,44 @@ module _ (n : ℕ) (set ws : List ℕ) where
 
 module _ (n : ℕ) (set ws : List ℕ) (o : ℕ) where
   abbrev pub end : Answer Packed
-  end = setFitted n o (handed n (pairsOf set) ws)
+  end = setFitted n o (handedSet n (pairsOf set) ws)
 
   pub is-many : 16384 < length set → end ≡ refused (nowhere 1)
-  unfolding handed setFitted
-  is-many h = rw (lt-leb (length (pairsOf set)) 8192 (omega (arith, pairs-length 0 set)), handed)
+  unfolding handedSet setFitted
+  is-many h = rw (lt-leb (length (pairsOf set)) 8192 (omega (arith, pairs-length 0 set)), handedSet)
 
   module _ (few : length set ≤ 16384) where
     pairs-few : leb (length (pairsOf set)) 8192 ≡ true
     pairs-few = le-leb (length (pairsOf set)) 8192 (omega (arith, pairs-length 0 set))
 
     pub is-bad : (i : ℕ) → broken (pairsOf set) ≡ some i → end ≡ refused (atItem 2 i)
-    unfolding handed setFitted
-    is-bad i e = rw (pairs-few, e, handed)
+    unfolding handedSet setFitted
+    is-bad i e = rw (pairs-few, e, handedSet)
 
     module _ (form : broken (pairsOf set) ≡ none) where
-      is-taken : handed n (pairsOf set) ws ≡ taken n (pairsOf set) ws
-      unfolding handed
-      is-taken = rw (pairs-few, form, handed)
+      is-packed : handedSet n (pairsOf set) ws ≡ handedPacked n (pairsOf set) ws
+      unfolding handedSet
+      is-packed = rw (pairs-few, form, handedSet)
 
       pub is-empty : length set ≡ 0 → end ≡ refused (nowhere 3)
-      unfolding taken setFitted
-      is-empty z = rw (is-taken, le-ltb 0 (length (pairsOf set)) (omega (arith, pairs-length 0 set)), taken)
+      unfolding handedPacked setFitted
+      is-empty z = rw (is-packed, le-ltb 0 (length (pairsOf set)) (omega (arith, pairs-length 0 set)), handedPacked)
 
       module _ (some-words : length set ≡ 0 → ⊥) where
         pub nonempty : 0 < length (pairsOf set)
         nonempty = omega (arith, pairs-length 0 set)
 
-        is-judged : handed n (pairsOf set) ws ≡ judged n (pairsOf set) (lanesIn (pairsOf set) ws)
-        unfolding taken
-        is-judged = is-taken ∙ rw (lt-ltb 0 (length (pairsOf set)) nonempty, taken)
+        is-judged : handedSet n (pairsOf set) ws ≡ judged n (pairsOf set) (lanesIn (pairsOf set) ws)
+        unfolding handedPacked
+        is-judged = is-packed ∙ rw (lt-ltb 0 (length (pairsOf set)) nonempty, handedPacked)
 
-        pub is-fault : (i : ℕ) → told (fault n (pairsOf set) (lanesIn (pairsOf set) ws)) ≡ some i → end ≡ refused (atItem 27 i)
+        pub is-fault : (i : ℕ) → toldItem (fault n (pairsOf set) (lanesIn (pairsOf set) ws)) ≡ some i → end ≡ refused (atItem 27 i)
         unfolding judged setFitted
         is-fault i e = rw (is-judged, e, judged)
 
         module _ (fine : fault n (pairsOf set) (lanesIn (pairsOf set) ws) ≡ none) where
-          is-good : handed n (pairsOf set) ws ≡ good (record { size = 0; lanes = lanesIn (pairsOf set) ws })
-          is-good = is-judged ∙ judged-fine n (pairsOf set) (lanesIn (pairsOf set) ws) fine
+          is-good : handedSet n (pairsOf set) ws ≡ good (record { size = 0; lanes = lanesIn (pairsOf set) ws })
+          is-good = is-judged ∙ faultless-judged n (pairsOf set) (lanesIn (pairsOf set) ws) fine
 
           pub is-short : o < 2 * n * longest (lanesIn (pairsOf set) ws) → end ≡ refused (nowhere 14)
           unfolding setFitted
@@ -173,8 +171,8 @@ module _ (n : ℕ) (set ws : List ℕ) (o : ℕ) where
 
 -- ---- the lanes that are accepted
 
-pub told-none : (o : Option ℕ) → told o ≡ none → o ≡ none
-unfolding told
+pub told-none : (o : Option ℕ) → toldItem o ≡ none → o ≡ none
+unfolding toldItem
 told-none none e = refl
 told-none (some x) e = absurd (some-not-none e)
 
@@ -197,20 +195,20 @@ module _ (n : ℕ) (set ws : List ℕ) (form : broken (pairsOf set) ≡ none) (s
 -- ---- 32 before all others
 
 -- what is promised of an answer, a result and a room
-abbrev pub Promised : (n : ℕ) (set ws out room : List ℕ) → Rounds → (out′ room′ : List ℕ) → Type 0
-Promised n set ws out room r out′ room′ =
+abbrev pub HandedPromised : (n : ℕ) (set ws out room : List ℕ) → Rounds → (out′ room′ : List ℕ) → Type 0
+HandedPromised n set ws out room r out′ room′ =
     (r ≡ roundsOf (handedAnswer n set ws (length out) (length room))) × ((out′ ≡ resultAfter (handedAnswer n set ws (length out) (length room)) out) × (room′ ≡ setRoomAfter room))
 
-pub short-post : (n : ℕ) (set ws out room : List ℕ) (r : Rounds) → length room < 16384 → r ≡ roundsOf (refused (nowhere 32)) → Promised n set ws out room r out room
+pub handed-short : (n : ℕ) (set ws out room : List ℕ) (r : Rounds) → length room < 16384 → r ≡ roundsOf (refused (nowhere 32)) → HandedPromised n set ws out room r out room
 unfolding handedAnswer resultAfter setRoomAfter
-short-post n set ws out room r h e =
+handed-short n set ws out room r h e =
     let t : leb 16384 (length room) ≡ false = lt-leb 16384 (length room) h in
     (rw (t, handedAnswer) e, (rw (t, handedAnswer, resultAfter), rw (t, setRoomAfter)))
 
-pub long-post : (n : ℕ) (set ws out room : List ℕ) (r : Rounds) (out′ room′ used : List ℕ) → 16384 ≤ length room → r ≡ roundsOf (end n set ws (length out))
-    → out′ ≡ resultAfter (end n set ws (length out)) out → room′ ≡ replicate (length used) 0 → length used ≡ length room → Promised n set ws out room r out′ room′
+pub handed-long : (n : ℕ) (set ws out room : List ℕ) (r : Rounds) (out′ room′ used : List ℕ) → 16384 ≤ length room → r ≡ roundsOf (end n set ws (length out))
+    → out′ ≡ resultAfter (end n set ws (length out)) out → room′ ≡ replicate (length used) 0 → length used ≡ length room → HandedPromised n set ws out room r out′ room′
 unfolding handedAnswer setRoomAfter
-long-post n set ws out room r out′ room′ used h er eo em long =
+handed-long n set ws out room r out′ room′ used h er eo em long =
     let t : leb 16384 (length room) ≡ true = le-leb 16384 (length room) h in
     let o : handedAnswer n set ws (length out) (length room) ≡ end n set ws (length out) = rw (t, handedAnswer) in
     (rw o er, (rw o eo, em ∙ rw (t, setRoomAfter, long)))

@@ -14,10 +14,10 @@ use lib.ListN.{length, getD}
 use Rattle.words.proofs.TestLaws.{and-true}
 use Rattle.words.proofs.PopLaws.{pop-some}
 use Rattle.reads.specs.ReadSet.{Pair, pairsOf, broken}
-use Rattle.reads.specs.Search.{Lane, joined}
+use Rattle.reads.specs.Search.{Lane}
 use Rattle.reads.specs.Packing.{times, Packing}
 use Rattle.reads.proofs.PackingLaws.{times-nil, times-cons}
-use Rattle.reads.proofs.SetLaws.{times-here, times-at, times-cases, mask-some, pair-once, pairs-small}
+use Rattle.reads.proofs.SetLaws.{times-here, times-at, mask-some, pair-once, pairs-small}
 use Rattle.reads.proofs.RoundCountLaws.{in-lanes}
 use Rattle.reads_try.specs.TableLanes.{pairAt, Each, Drawn, SoundLane, SoundLanes}
 use Rattle.reads_try.proofs.SetPairLaws.{pairs-length, pairs-at}
@@ -47,10 +47,10 @@ number-found (p ∷ ps) w m d h = go (eqb (p .word) w && eqb (p .mask) m) refl (
         record { in-set = rw (t, numberOf) (omega (arith, f .in-set)); word-is = rw (t, numberOf) (f .word-is); mask-is = rw (t, numberOf) (f .mask-is) }
 
 -- none stands there
-pub number-none : (ps : List Pair) (w m : ℕ) → times w m ps ≡ 0 → numberOf ps w m ≡ length ps
+pub number-nowhere : (ps : List Pair) (w m : ℕ) → times w m ps ≡ 0 → numberOf ps w m ≡ length ps
 unfolding numberOf times
-number-none [] w m h = refl
-number-none (p ∷ ps) w m h = go (eqb (p .word) w && eqb (p .mask) m) refl (number-none ps w m)
+number-nowhere [] w m h = refl
+number-nowhere (p ∷ ps) w m h = go (eqb (p .word) w && eqb (p .mask) m) refl (number-nowhere ps w m)
   where
     go : (t : Bool) → eqb (p .word) w && eqb (p .mask) m ≡ t → (times w m ps ≡ 0 → numberOf ps w m ≡ length ps) → numberOf (p ∷ ps) w m ≡ suc (length ps)
     go true t r = let z : suc (times w m ps) ≡ 0 = rw (t, times) at h in absurd (omega arith)

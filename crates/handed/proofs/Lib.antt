@@ -2,5 +2,5 @@ pub mod FaultLaws
 pub mod LaneWordLaws
 pub mod HandedLaws
 pub mod SetSearchLaws
-pub mod JudgeLaws
+pub mod PairJudgeLaws
 pub mod HandedAnswerLaws

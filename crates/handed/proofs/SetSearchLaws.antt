@@ -1,7 +1,7 @@
 -- The search by halves over a set in form: its words do not fall, and where the word and the mask are not at the place that it ends at, they are
 -- nowhere.
 -- Assumes nothing.
-use mathlib.Core.Path.{_≡_, refl, sym, ap, _∙_}
+use mathlib.Core.Path.{_≡_, sym, ap, _∙_}
 use mathlib.Core.Bool.{Bool, true, false, _&&_}
 use mathlib.Core.Option.{none}
 use mathlib.Core.List.{List}
@@ -15,16 +15,16 @@ use lib.ListN.{length, getD}
 use Rattle.words.specs.Bit.{bitAt, pop}
 use Rattle.words.proofs.BitLaws.{lt-or-ge, at-lt}
 use Rattle.words.proofs.TestLaws.{some-not-none}
-use Rattle.sort.specs.HalfSearch.{Monotone, Between, least}
+use Rattle.sort.specs.HalfSearch.{Monotone, least}
 use Rattle.sort.proofs.HalfSearchLaws.{monotone-steps, least-between, search-found}
 use Rattle.reads.specs.ReadSet.{Pair, pairsOf, broken}
 use Rattle.reads.specs.Packing.{times}
 use Rattle.reads.proofs.SetLaws.{mask-one}
 use Rattle.reads_section.proofs.PairFormLaws.{brokenAt, bad-low, bad-word, bad-mask, good-pair}
-use Rattle.reads_try.specs.TableLanes.{pairAt, putInLane}
+use Rattle.reads_try.specs.TableLanes.{putInLane}
 use Rattle.handed.specs.Handed.{numberOf}
-use Rattle.handed.specs.Fill.{fitting, tabled}
-use Rattle.handed.proofs.LaneWordLaws.{number-none, pairs-count, pair-times, pair-number, found-pair}
+use Rattle.handed.specs.Fill.{fittingPair, tabled}
+use Rattle.handed.proofs.LaneWordLaws.{number-nowhere, pairs-count, pair-times, pair-number, found-pair}
 
 -- the words of a set, by pair
 abbrev pub wordAt : List ℕ → ℕ → ℕ
@@ -71,7 +71,7 @@ module _ (set : List ℕ) (form : broken (pairsOf set) ≡ none) where
     nowhere : (0 < times w m (pairsOf set) → ⊥) → length set / 2 ≡ numberOf (pairsOf set) w m
     nowhere h =
         let z : times w m (pairsOf set) ≡ 0 = ⊎-elim (λ l. absurd (h l)) (λ l. omega arith) (lt-or-ge 0 (times w m (pairsOf set))) in
-        sym (number-none (pairsOf set) w m z ∙ pairs-count set form)
+        sym (number-nowhere (pairsOf set) w m z ∙ pairs-count set form)
 
     pub past-none : length set / 2 ≤ p → length set / 2 ≡ numberOf (pairsOf set) w m
     past-none l = nowhere (λ h. absurd (omega (arith, found-there h .0)))
@@ -87,7 +87,7 @@ module _ (set : List ℕ) (form : broken (pairsOf set) ≡ none) where
   pub number-le : (w m : ℕ) → numberOf (pairsOf set) w m ≤ length set / 2
   number-le w m = ⊎-elim
       (λ h. omega (arith, found-pair set form w m h .0))
-      (λ h. let z : times w m (pairsOf set) ≡ 0 = omega arith in omega (arith, number-none (pairsOf set) w m z, pairs-count set form))
+      (λ h. let z : times w m (pairsOf set) ≡ 0 = omega arith in omega (arith, number-nowhere (pairsOf set) w m z, pairs-count set form))
       (lt-or-ge 0 (times w m (pairsOf set)))
 
   -- ---- whether a pair of number p may stand
@@ -102,8 +102,8 @@ module _ (set : List ℕ) (form : broken (pairsOf set) ≡ none) where
     abbrev tests : Bool → Bool → Bool → Bool
     tests x y z = (x && y) && z
 
-    pub fit-foreign : p ≡ length set / 2 → length set / 2 ≡ fitting set seen b w m
-    unfolding fitting
+    pub fit-foreign : p ≡ length set / 2 → length set / 2 ≡ fittingPair set seen b w m
+    unfolding fittingPair
     fit-foreign e = sym (ap (λ (t : Bool). picked (tests t (eqb (bitAt seen k) 0) (leb (b + pop m) 32))) (le-ltb k (length set / 2) (omega arith)))
 
     module _ (there : p ≡ length set / 2 → ⊥) where
@@ -111,30 +111,30 @@ module _ (set : List ℕ) (form : broken (pairsOf set) ≡ none) where
       in-set = ⊎-elim
           (λ h. lt-ltb _ _ (found-pair set form w m h .0))
           (λ h. let z : times w m (pairsOf set) ≡ 0 = omega arith in
-          absurd (there (number ∙ number-none (pairsOf set) w m z ∙ pairs-count set form)))
+          absurd (there (number ∙ number-nowhere (pairsOf set) w m z ∙ pairs-count set form)))
           (lt-or-ge 0 (times w m (pairsOf set)))
 
-      first-test : fitting set seen b w m ≡ picked (tests true (eqb (bitAt seen k) 0) (leb (b + pop m) 32))
-      unfolding fitting
+      first-test : fittingPair set seen b w m ≡ picked (tests true (eqb (bitAt seen k) 0) (leb (b + pop m) 32))
+      unfolding fittingPair
       first-test = ap (λ (t : Bool). picked (tests t (eqb (bitAt seen k) 0) (leb (b + pop m) 32))) in-set
 
-      pub fit-marked : (x : ℕ) → x ≡ bitAt seen p → x ≡ 1 → length set / 2 ≡ fitting set seen b w m
+      pub fit-marked : (x : ℕ) → x ≡ bitAt seen p → x ≡ 1 → length set / 2 ≡ fittingPair set seen b w m
       fit-marked x ex e =
           let bit-is : bitAt seen k ≡ 1 = ap (bitAt seen) (sym number) ∙ sym ex ∙ e in
           sym (first-test ∙ ap (λ (t : Bool). picked (tests true t (leb (b + pop m) 32))) (ne-eqb (bitAt seen k) 0 (λ (z : bitAt seen k ≡ 0). omega arith)))
 
       module _ (x : ℕ) (ex : x ≡ bitAt seen p) (unmarked : x ≡ 1 → ⊥) where
-        second-test : fitting set seen b w m ≡ picked (leb (b + pop m) 32)
+        second-test : fittingPair set seen b w m ≡ picked (leb (b + pop m) 32)
         second-test =
             let bit-is : bitAt seen k ≡ x = ap (bitAt seen) (sym number) ∙ sym ex in
             let zero-is : bitAt seen k ≡ 0 = omega (arith, at-lt seen k) in
             first-test ∙ ap (λ (t : Bool). picked (tests true t (leb (b + pop m) 32))) (eq-eqb (bitAt seen k) 0 zero-is)
 
         module _ (c : ℕ) (ec : c ≡ pop m) where
-          pub fit-over : 32 < b + c → length set / 2 ≡ fitting set seen b w m
+          pub fit-over : 32 < b + c → length set / 2 ≡ fittingPair set seen b w m
           fit-over h = sym (second-test ∙ ap picked (lt-leb (b + pop m) 32 (omega arith)))
 
-          pub fit-fits : b + c ≤ 32 → p ≡ fitting set seen b w m
+          pub fit-fits : b + c ≤ 32 → p ≡ fittingPair set seen b w m
           fit-fits h = number ∙ sym (second-test ∙ ap picked (le-leb (b + pop m) 32 (omega arith)))
 
 -- ---- the table with a pair more

@@ -1,7 +1,7 @@
 -- What the code leaves and asks. n is the number of lanes.
 -- Assumes nothing.
 use mathlib.Core.Path.{_≡_}
-use mathlib.Core.Bool.{Bool, true, false, _&&_}
+use mathlib.Core.Bool.{true, false, _&&_}
 use mathlib.Core.Option.{Option, none, some}
 use mathlib.Core.List.{List}
 use Prim.Native.Nat.{ℕ, _+_, _*_, _/_, _%_, _^_, _≤_, _<_}
@@ -41,8 +41,8 @@ pub record Fillable (set : List ℕ) (table seen n : ℕ) : Type 0 where
   pub marks : seen ≡ 256
 
 -- a pair's number where it stands in the set, has no mark and its lane has room for it, else as many as the set has
-unfoldable pub fitting : List ℕ → List ℕ → ℕ → ℕ → ℕ → ℕ
-fitting set seen b w m =
+unfoldable pub fittingPair : List ℕ → List ℕ → ℕ → ℕ → ℕ → ℕ
+fittingPair set seen b w m =
     elim (ltb (numberOf (pairsOf set) w m) (length set / 2) && eqb (bitAt seen (numberOf (pairsOf set) w m)) 0 && leb (b + pop m) 32) [
       | true ↦ numberOf (pairsOf set) w m
       | false ↦ length set / 2
@@ -53,7 +53,7 @@ unfoldable pub tabled : ℕ → List ℕ → ℕ → ℕ → ℕ → List ℕ
 tabled n table i r p = elim (ltb i n) [ true ↦ putInLane table i r p | false ↦ table ]
 
 -- what lanes without a bad pair leave: a mark for each pair of theirs, and their table where there are n of them
-pub record Filled (set : List ℕ) (n : ℕ) (lanes : List Lane) (table seen : List ℕ) : Type 0 where
+pub record PairsFilled (set : List ℕ) (n : ℕ) (lanes : List Lane) (table seen : List ℕ) : Type 0 where
   pub marked : (p : ℕ) → p < length set / 2 → bitAt seen p ≡ times (getD set (2 * p) 0) (getD set (2 * p + 1) 0) (joined lanes)
   pub table-is : length lanes ≡ n → table ≡ tableOf lanes
 

@@ -4,7 +4,7 @@
 use mathlib.Core.Bool.{Bool, true, false, _&&_}
 use mathlib.Core.Option.{Option, none, some}
 use mathlib.Core.List.{List, [], _∷_, _++_}
-use Prim.Native.Nat.{ℕ, zero, suc, _+_, _*_, _%_, _^_}
+use Prim.Native.Nat.{ℕ, suc, _+_, _*_, _%_, _^_}
 use lib.Dec.{leb, ltb, eqb}
 use lib.ListN.{length}
 use Rattle.words.specs.Answer.{Answer, good, refused, atItem, nowhere}
@@ -69,36 +69,40 @@ unfoldable pub allStand : List Pair → List Pair → Bool
 allStand [] qs = true
 allStand (p ∷ ps) qs = ltb 0 (times (p .word) (p .mask) qs) && allStand ps qs
 
--- "else lane count·64": there are not n lanes, or a pair of the set stands nowhere
+-- whether there are n lanes, and each pair of the set stands in them
+unfoldable pub whole : ℕ → List Pair → List Lane → Bool
+whole n ps lanes = eqb (length lanes) n && allStand ps (joined lanes)
+
+-- the first such pair, "else lane count·64"
 unfoldable pub fault : ℕ → List Pair → List Lane → Option ℕ
 fault n ps lanes =
     elim (badPair ps [] 0 lanes) [
       | some x ↦ some x
-      | none ↦ elim (eqb (length lanes) n && allStand ps (joined lanes)) [ true ↦ none | false ↦ some (64 * length lanes) ]
+      | none ↦ elim (whole n ps lanes) [ true ↦ none | false ↦ some (64 * length lanes) ]
     ]
 
 -- An item is told in 64 bits: more than 2^58 lanes, which are more words than a machine has, are told by the rest.
-unfoldable pub told : Option ℕ → Option ℕ
-told none = none
-told (some x) = some (x % 2 ^ 64)
+unfoldable pub toldItem : Option ℕ → Option ℕ
+toldItem none = none
+toldItem (some x) = some (x % 2 ^ 64)
 
 -- ---- what a read set with lanes handed in gets: "27, where 4, 21 and 22 stood", and "its piece size reads 0"
 
 unfoldable pub judged : ℕ → List Pair → List Lane → Answer Packed
-judged n ps lanes = elim (told (fault n ps lanes)) [ some i ↦ refused (atItem 27 i) | none ↦ good (record { size = 0; lanes = lanes }) ]
+judged n ps lanes = elim (toldItem (fault n ps lanes)) [ some i ↦ refused (atItem 27 i) | none ↦ good (record { size = 0; lanes = lanes }) ]
 
 -- 3 before it
-unfoldable pub taken : ℕ → List Pair → List ℕ → Answer Packed
-taken n ps ws = elim (ltb 0 (length ps)) [ false ↦ refused (nowhere 3) | true ↦ judged n ps (lanesIn ps ws) ]
+unfoldable pub handedPacked : ℕ → List Pair → List ℕ → Answer Packed
+handedPacked n ps ws = elim (ltb 0 (length ps)) [ false ↦ refused (nowhere 3) | true ↦ judged n ps (lanesIn ps ws) ]
 
 -- 1 and 2 before that
-unfoldable pub handed : ℕ → List Pair → List ℕ → Answer Packed
-handed n ps ws =
+unfoldable pub handedSet : ℕ → List Pair → List ℕ → Answer Packed
+handedSet n ps ws =
     elim (leb (length ps) 8192) [
       | false ↦ refused (nowhere 1)
-      | true ↦ elim (broken ps) [ some i ↦ refused (atItem 2 i) | none ↦ taken n ps ws ]
+      | true ↦ elim (broken ps) [ some i ↦ refused (atItem 2 i) | none ↦ handedPacked n ps ws ]
     ]
 
 -- 14 after it, where the lent result has o words, and 32 before all, where the lent room has r
 unfoldable pub handedAnswer : ℕ → List ℕ → List ℕ → ℕ → ℕ → Answer Packed
-handedAnswer n set ws o r = elim (leb 16384 r) [ false ↦ refused (nowhere 32) | true ↦ setFitted n o (handed n (pairsOf set) ws) ]
+handedAnswer n set ws o r = elim (leb 16384 r) [ false ↦ refused (nowhere 32) | true ↦ setFitted n o (handedSet n (pairsOf set) ws) ]

@@ -11,8 +11,8 @@ ghost use Rattle.words.specs.Bit.{bitAt, setBit};
 ghost use Rattle.words.specs.Found.{itemOf};
 ghost use Rattle.words.specs.Tests.{allBelow};
 ghost use Rattle.reads.specs.ReadSet.{pairsOf};
-ghost use Rattle.handed.specs.Handed.{numberOf, lanesIn, badPair, fault, told};
-ghost use Rattle.handed.specs.Fill.{SetFormed, Fillable, Filled, fitting, tabled, judgedOf, tableHanded};
+ghost use Rattle.handed.specs.Handed.{numberOf, lanesIn, badPair, fault, toldItem};
+ghost use Rattle.handed.specs.Fill.{SetFormed, Fillable, PairsFilled, fittingPair, tabled, judgedOf, tableHanded};
 use words::bits;
 use words::clear::clear;
 use words::found::Item;
@@ -63,7 +63,7 @@ fn find_pair(set: &[u32], w: u32, m: u32) -> usize
 // The number of a pair that may stand in a lane of b bits, or the number of pairs.
 fn fit(set: &[u32], seen: &[u32], b: u32, w: u32, m: u32) -> usize
     requires { ⌜ SetFormed (now set) × (length (now seen) ≡ 256) × (b ≤ 32) ⌝ }
-    ensures { λ r. ⌜ r ≡ fitting (now (set .entry)) (now (seen .entry)) b w m ⌝ }
+    ensures { λ r. ⌜ r ≡ fittingPair (now (set .entry)) (now (seen .entry)) b w m ⌝ }
 {
     let n = set.len() / 2;
     let p = find_pair(set, w, m);
@@ -130,7 +130,7 @@ fn item(lane: usize, place: usize) -> usize
 fn judge_pairs(set: &[u32], lanes: &[u32], table: &mut [u32], seen: &mut [u32], n: usize) -> Judged
     requires { ⌜ Fillable (now set) (length (now table)) (length (now seen)) n × (now table ≡ replicate (32 * n) 0) × (now seen ≡ replicate 256 0) ⌝ }
     ensures { λ r. ⌜ r ≡ judgedOf (badPair (pairsOf (now (set .entry))) [] 0 (lanesIn (pairsOf (now (set .entry))) (now (lanes .entry)))) (length (lanesIn (pairsOf (now (set .entry))) (now (lanes .entry)))) ⌝ }
-    ensures { λ _. ⌜ (badPair (pairsOf (now (set .entry))) [] 0 (lanesIn (pairsOf (now (set .entry))) (now (lanes .entry))) ≡ none → Filled (now (set .entry)) n (lanesIn (pairsOf (now (set .entry))) (now (lanes .entry))) (now (table .exit)) (now (seen .exit))) ⌝ }
+    ensures { λ _. ⌜ (badPair (pairsOf (now (set .entry))) [] 0 (lanesIn (pairsOf (now (set .entry))) (now (lanes .entry))) ≡ none → PairsFilled (now (set .entry)) n (lanesIn (pairsOf (now (set .entry))) (now (lanes .entry))) (now (table .exit)) (now (seen .exit))) ⌝ }
 {
     let pairs = set.len() / 2;
     let mut lane = 0;
@@ -168,7 +168,7 @@ fn judge_pairs(set: &[u32], lanes: &[u32], table: &mut [u32], seen: &mut [u32], 
 // hold afterwards is left open.
 pub fn fill_lanes(set: &[u32], lanes: &[u32], table: &mut [u32], seen: &mut [u32], n: usize) -> Item
     requires { ⌜ Fillable (now set) (length (now table)) (length (now seen)) n ⌝ }
-    ensures { λ r. ⌜ r ≡ itemOf (told (fault n (pairsOf (now (set .entry))) (lanesIn (pairsOf (now (set .entry))) (now (lanes .entry))))) ⌝ }
+    ensures { λ r. ⌜ r ≡ itemOf (toldItem (fault n (pairsOf (now (set .entry))) (lanesIn (pairsOf (now (set .entry))) (now (lanes .entry))))) ⌝ }
     ensures { λ _. ⌜ now (table .exit) ≡ tableHanded n (fault n (pairsOf (now (set .entry))) (lanesIn (pairsOf (now (set .entry))) (now (lanes .entry)))) (lanesIn (pairsOf (now (set .entry))) (now (lanes .entry))) ⌝ }
 {
     clear(table);

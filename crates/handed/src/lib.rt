@@ -7,7 +7,7 @@ ghost use Rattle.reads.specs.ReadSet.{pairsOf};
 ghost use Rattle.reads.specs.SetAnswer.{setFitted, resultAfter, setRoomAfter};
 ghost use Rattle.rounds.specs.Rounds.{roundsOf};
 ghost use Rattle.words.specs.Answer.{refused, atItem};
-ghost use Rattle.handed.specs.Handed.{handed, handedAnswer};
+ghost use Rattle.handed.specs.Handed.{handedSet, handedAnswer};
 ghost use Rattle.handed.specs.Fill.{LanesSolvable};
 use fill::fill_lanes;
 use rounds::Rounds;
@@ -48,8 +48,8 @@ pub fn lanes_over(
     n: usize,
 ) -> Rounds
     requires { ⌜ LanesSolvable (length (now table)) (length (now seen)) n ⌝ }
-    ensures { λ r. ⌜ r ≡ roundsOf (setFitted n (length (now (out .entry))) (handed n (pairsOf (now (set .entry))) (now (lanes .entry)))) ⌝ }
-    ensures { λ _. ⌜ now (out .exit) ≡ resultAfter (setFitted n (length (now (out .entry))) (handed n (pairsOf (now (set .entry))) (now (lanes .entry)))) (now (out .entry)) ⌝ }
+    ensures { λ r. ⌜ r ≡ roundsOf (setFitted n (length (now (out .entry))) (handedSet n (pairsOf (now (set .entry))) (now (lanes .entry)))) ⌝ }
+    ensures { λ _. ⌜ now (out .exit) ≡ resultAfter (setFitted n (length (now (out .entry))) (handedSet n (pairsOf (now (set .entry))) (now (lanes .entry)))) (now (out .entry)) ⌝ }
 {
     if SET_WORDS < set.len() {
         return refused(refusals::MANY_PAIRS, 0);

@@ -8,7 +8,7 @@ use lib.ListN.{length, drop}
 use lib.Seq.{length-take-le}
 use borrow.Author.Needs.{needs}
 use Rattle.rounds.proofs.RoundsAnswerLaws.{part-length}
-use Rattle.handed.proofs.HandedAnswerLaws.{short-post, long-post}
+use Rattle.handed.proofs.HandedAnswerLaws.{handed-short, handed-long}
 use Rattle.handed.proofs.lane_rounds.Statement.{statement}
 use Rattle.handed.proofs.lane_rounds.Tie as tie
 
@@ -20,7 +20,7 @@ returns : tie.Need-returns
 returns c =
     let way = c .before .before .before in
     let a = way .before .before .before .args in
-    short-post 256 (a .set .now) (a .lanes .now) _ _ _ (c .before .if1 .taken) (c .refused .ensures)
+    handed-short 256 (a .set .now) (a .lanes .now) _ _ _ (c .before .if1 .taken) (c .refused .ensures)
 
 slice-aggregate-lanes-over : tie.Need-slice-aggregate-lanes-over
 slice-aggregate-lanes-over c =
@@ -43,7 +43,7 @@ returns-2 c =
     let a = called at-if1 .args in
     let t = at-lanes-over .lanes-over in
     let h : 8192 ≤ length (a .room .now) = omega (arith, at-if1 .if1 .left) in
-    long-post 256 (a .set .now) (a .lanes .now) (a .out .now) (a .room .now) _ _ _ (t .last .1 .1 .0 ++ drop 8192 (a .room .now)) (at-if1 .if1 .left) (t .ensures .0) (t .ensures .1)
+    handed-long 256 (a .set .now) (a .lanes .now) (a .out .now) (a .room .now) _ _ _ (t .last .1 .1 .0 ++ drop 8192 (a .room .now)) (at-if1 .if1 .left) (t .ensures .0) (t .ensures .1)
     (c .before .before .clear .ensures) (part-length 8192 (a .room .now) (t .last .1 .1 .0) h (t .kept .1 .1 .0))
 
 pub lane-rounds-spec : {M : Type 1} → statement M

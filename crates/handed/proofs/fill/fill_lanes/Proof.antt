@@ -92,7 +92,9 @@ same-length-4 c =
 bad-table : (c : tie.After-clear3)
     → let n = called (cleared (bad-at (c .before .before .before))) .args .n in
     c .clear3 .last .0 ≡ replicate (32 * n) 0
-bad-table c = table-cleared _ _ (c .clear3 .ensures) (table-kept (bad-at (c .before .before .before)))
+bad-table c =
+    let at-judge = bad-at (c .before .before .before) in
+    table-cleared (at-judge .judge-pairs .last .1 .1 .0) _ (c .clear3 .ensures) (table-kept at-judge)
 
 returns-2 : tie.Need-returns-2
 returns-2 c =
@@ -112,7 +114,9 @@ count-at c = c .before .before .before
 count-table : (c : tie.After-clear4)
     → let n = called (cleared (counted-at (count-at (tested c)))) .args .n in
     c .clear4 .last .0 ≡ replicate (32 * n) 0
-count-table c = table-cleared _ _ (c .clear4 .ensures) (table-kept (counted-at (count-at (tested c))))
+count-table c =
+    let at-judge = counted-at (count-at (tested c)) in
+    table-cleared (at-judge .judge-pairs .last .1 .1 .0) _ (c .clear4 .ensures) (table-kept at-judge)
 
 same-length-3 : tie.Need-same-length-3
 same-length-3 c = zeros-length (bad-table (c .before .before)) ∙ sym (called (cleared (bad-at (c .before .before .before .before .before))) .pre .room)

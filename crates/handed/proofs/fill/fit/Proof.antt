@@ -1,7 +1,5 @@
 -- `fit`: each way through is a test of the definition.
 -- Assumes nothing.
-use mathlib.Core.Path.{_≡_}
-use Prim.Native.Nat.{_≤_}
 use native.Mathlib.Omega.{arith}
 use borrow.Author.Needs.{needs}
 use Rattle.words.proofs.PopLaws.{pop-le}
@@ -42,7 +40,7 @@ returns-3 c =
     let at-if1 = at-if2 .before .before in
     let s = called (at-if1 .before) in
     fit-over (s .args .set .now) (s .pre .0 .form) (s .args .seen .now) (s .args .b) (s .args .w) (s .args .m) _ (at-if1 .before .find-pair .ensures) (at-if1 .if1 .left)
-    _ (at-if2 .before .bit-at .ensures) (at-if2 .if2 .left) _ (c .before .count .ensures) (c .if3 .taken)
+    _ (at-if2 .before .bit-at .ensures) (at-if2 .if2 .left) _ (c .before .count .ensures) (omega (arith, c .if3 .taken))
 
 returns-4 : tie.Need-returns-4
 returns-4 c =
@@ -50,7 +48,7 @@ returns-4 c =
     let at-if1 = at-if2 .before .before in
     let s = called (at-if1 .before) in
     fit-fits (s .args .set .now) (s .pre .0 .form) (s .args .seen .now) (s .args .b) (s .args .w) (s .args .m) _ (at-if1 .before .find-pair .ensures) (at-if1 .if1 .left)
-    _ (at-if2 .before .bit-at .ensures) (at-if2 .if2 .left) _ (c .before .count .ensures) (c .if3 .left)
+    _ (at-if2 .before .bit-at .ensures) (at-if2 .if2 .left) _ (c .before .count .ensures) (omega (arith, c .if3 .left))
 
 pub fit-spec : {M : Type 1} → statement M
 fit-spec =

@@ -5,7 +5,7 @@ use Prim.Native.Nat.{ℕ, _+_, _-_, _^_, _<_}
 use native.Mathlib.Omega.{arith}
 use lib.ListN.{length, getD}
 use borrow.Author.Needs.{needs}
-use Rattle.handed.proofs.JudgeLaws.{Judging, judging-start, judging-end, judging-pair, table-long, judged-bad, may-number, may-bits, may-place, judged-half, judged-open, judged-closed}
+use Rattle.handed.proofs.PairJudgeLaws.{Judging, judging-start, judging-end, judging-pair, table-long, judged-bad, may-number, may-bits, may-place, judged-half, judged-open, judged-closed}
 use Rattle.handed.proofs.fill.judge_pairs.Statement.{statement}
 use Rattle.handed.proofs.fill.judge_pairs.Tie as tie
 

@@ -19,7 +19,6 @@ use Rattle.words.specs.Bit.{bitAt, setBit, pop}
 use Rattle.words.proofs.BitLaws.{lt-or-ge, bit-zero, at-set-bit, set-bit-length}
 use Rattle.words.proofs.ListLaws.{zeros-at}
 use Rattle.words.proofs.TestLaws.{some-not-none}
-use Rattle.words.specs.Bit.{bit}
 use Rattle.words.proofs.PopLaws.{pop-some}
 use Rattle.reads.specs.ReadSet.{Pair, bits, pairsOf, broken}
 use Rattle.reads.specs.Search.{Lane, joined, push}
@@ -32,9 +31,9 @@ use Rattle.reads_try.proofs.LaneTableLaws.{table-put, table-empty, table-length
 use Rattle.handed.specs.declared.fill.Judged.{Judged}
 use Rattle.handed.specs.declared.fill.Judged.the-variants.{Bad, Lanes}
 use Rattle.handed.specs.Handed.{numberOf, pairFor, inFront, pairMore, lanesIn, belongs, badFrom, badPair}
-use Rattle.handed.specs.Fill.{judgedOf, SetFormed, fitting, tabled, Filled}
+use Rattle.handed.specs.Fill.{judgedOf, fittingPair, tabled, PairsFilled}
 use Rattle.handed.proofs.FaultLaws.{times-one, one-is, Belongs, belongs-is, bad-next, bad-here}
-use Rattle.handed.proofs.LaneWordLaws.{number-none, more-end, more-pair, pairs-count, pair-times, pair-number, found-pair}
+use Rattle.handed.proofs.LaneWordLaws.{number-nowhere, more-end, more-pair, pairs-count, pair-number, found-pair}
 
 -- ---- what is left of the lanes: the first of them has `place` pairs already, of b bits
 
@@ -246,7 +245,7 @@ module _ (st : List ℕ) (ws : List ℕ) (n : ℕ) where
     table-long = ap length (j .table-is) ∙ table-length (j .lanes) ∙ ap (λ (k : ℕ). 32 * k) (j .wide)
 
     -- what was judged, where nothing is left of it
-    filled : j .stood ≡ joined (lanesIn ps ws) → j .lanes ≡ laid (replicate n []) 0 (lanesIn ps ws) → Filled st n (lanesIn ps ws) table seen
+    filled : j .stood ≡ joined (lanesIn ps ws) → j .lanes ≡ laid (replicate n []) 0 (lanesIn ps ws) → PairsFilled st n (lanesIn ps ws) table seen
     filled pairs all = record {
       marked = λ p h. j .marked p h ∙ ap (times (getD st (2 * p) 0) (getD st (2 * p + 1) 0)) pairs;
       table-is = λ e. j .table-is ∙ ap tableOf (all ∙ laid-all [] (lanesIn ps ws) n e);
@@ -273,7 +272,7 @@ module _ (st : List ℕ) (ws : List ℕ) (n : ℕ) where
       number-test = ⊎-elim
           (λ l. lt-ltb _ _ (found-pair st form w m l .0) ∙ sym (lt-ltb _ _ l))
           (λ l. let z : times w m ps ≡ 0 = omega arith in
-          let none-there : k ≡ length st / 2 = number-none ps w m z ∙ pairs-count st form in
+          let none-there : k ≡ length st / 2 = number-nowhere ps w m z ∙ pairs-count st form in
           le-ltb k (length st / 2) (omega arith) ∙ sym (le-ltb 0 (times w m ps) l))
           (lt-or-ge 0 (times w m ps))
 
@@ -299,18 +298,18 @@ module _ (st : List ℕ) (ws : List ℕ) (n : ℕ) where
       abbrev picked : Bool → ℕ
       picked t = elim t [ true ↦ k | false ↦ length st / 2 ]
 
-      fit-is : fitting st seen b w m ≡ picked (belongs ps (j .stood) b (pairFor ps w m))
-      unfolding fitting belongs
+      fit-is : fittingPair st seen b w m ≡ picked (belongs ps (j .stood) b (pairFor ps w m))
+      unfolding fittingPair belongs
       fit-is = ap picked tests-are
 
       -- it may not
-      pub judged-bad : (p : ℕ) → p ≡ fitting st seen b w m → p ≡ length st / 2 → (x : ℕ) → x ≡ (64 * lane + place) % 2 ^ 64
+      pub judged-bad : (p : ℕ) → p ≡ fittingPair st seen b w m → p ≡ length st / 2 → (x : ℕ) → x ≡ (64 * lane + place) % 2 ^ 64
           → (Bad x ≡ judgedOf (badPair ps [] 0 (lanesIn ps ws)) (length (lanesIn ps ws)))
-          × (badPair ps [] 0 (lanesIn ps ws) ≡ none → Filled st n (lanesIn ps ws) table seen)
+          × (badPair ps [] 0 (lanesIn ps ws) ≡ none → PairsFilled st n (lanesIn ps ws) table seen)
       judged-bad p ep f x ex = go (belongs ps (j .stood) b (pairFor ps w m)) refl
         where
           Post : Type 0
-          Post = (Bad x ≡ judgedOf (badPair ps [] 0 (lanesIn ps ws)) (length (lanesIn ps ws))) × (badPair ps [] 0 (lanesIn ps ws) ≡ none → Filled st n (lanesIn ps ws) table seen)
+          Post = (Bad x ≡ judgedOf (badPair ps [] 0 (lanesIn ps ws)) (length (lanesIn ps ws))) × (badPair ps [] 0 (lanesIn ps ws) ≡ none → PairsFilled st n (lanesIn ps ws) table seen)
 
           go : (t : Bool) → belongs ps (j .stood) b (pairFor ps w m) ≡ t → Post
           go true t =
@@ -326,7 +325,7 @@ module _ (st : List ℕ) (ws : List ℕ) (n : ℕ) where
       mask-bits = pop-some m (small (i + 1)) some-mask
 
       -- it may
-      module _ (p : ℕ) (ep : p ≡ fitting st seen b w m) (fits : p ≡ length st / 2 → ⊥) where
+      module _ (p : ℕ) (ep : p ≡ fittingPair st seen b w m) (fits : p ≡ length st / 2 → ⊥) where
         right-test : belongs ps (j .stood) b (pairFor ps w m) ≡ true
         right-test = go (belongs ps (j .stood) b (pairFor ps w m)) refl
           where
@@ -430,7 +429,7 @@ module _ (st : List ℕ) (ws : List ℕ) (n : ℕ) where
 
     -- what is promised of the judgement
     abbrev Post : Judged → Type 0
-    Post r = (r ≡ judgedOf (badPair ps [] 0 (lanesIn ps ws)) (length (lanesIn ps ws))) × (badPair ps [] 0 (lanesIn ps ws) ≡ none → Filled st n (lanesIn ps ws) table seen)
+    Post r = (r ≡ judgedOf (badPair ps [] 0 (lanesIn ps ws)) (length (lanesIn ps ws))) × (badPair ps [] 0 (lanesIn ps ws) ≡ none → PairsFilled st n (lanesIn ps ws) table seen)
 
     -- nothing is left
     judged-all : length ws ≤ i → Post (Lanes (lane + leftLanes place 0))
