@@ -8,7 +8,7 @@ use Prim.Native.Nat.{ℕ, zero, suc, _+_, _*_, _-_, _/_, _%_, _^_, _≤_, _<_, m
 use native.Mathlib.Omega.{arith}
 use lib.Bits.{differ}
 use lib.Pow.{pow-pos, pow-mono}
-use Rattle.plan_record.specs.Record.{stagesOf, slotAt, gateFirst, gateSecond}
+use Rattle.plan_record.specs.Record.{stagesOf, slotAt, levelAt, gateFirst, gateSecond}
 use Rattle.words.specs.Pins.{empty}
 use Rattle.plan_gates.specs.Gates.{gateBit, value}
 use Rattle.plan_gates.specs.GateValues.{gateFoundOf}
@@ -103,7 +103,7 @@ module _ (d : List ℕ) (p : ℕ) (s : PassedPart d p) (last state sram : ℕ) (
         let last-level : i ≡ 13 = omega arith in
         let z : 2 ^ i ≡ 2 ^ 13 = ap (λ (x : ℕ). 2 ^ x) last-level in
         let j : 8192 + (q - 8192) ≡ q = omega arith in
-        let same : slotAt d p k (8192 + (q - 8192)) ≡ slotAt d p k q = ap (slotAt d p k) j in
+        let same : levelAt d p k (q - 8192) ≡ slotAt d p k q = ap (slotAt d p k) j in
         gathers (q - 8192) (omega arith) (λ y. full (sym same ∙ y)) ∙ ap (pinValue d p old new) same
     level-value (suc h) i e q lo hi full =
         let up = level-value h (suc i) (omega arith) in
