@@ -111,7 +111,7 @@ module _ (d : List ℕ) (p : ℕ) (keys : List ℕ) (n : ℕ) (list : List ℕ) 
       (λ i l. (
         small i l,
         (let f : FromSlot (readPin d p) (slotsOf d) (getD (firstPins (readPin d p) (slotsOf d)) i 0) = listed-from (readPin d p) (slotsOf d) i l in
-        rw (f .is) (won (f .slot) (omega (arith, f .below, lanes-full d)) (f .full))),
+            rw (f .is) (won (f .slot) (omega (arith, f .below, lanes-full d)) (f .full))),
       ))
 
   pub bits-count : n ≡ length (partBits d p)

@@ -7,7 +7,7 @@ use native.Mathlib.Omega.{arith}
 use lib.ListN.{length}
 use Rattle.words.specs.Edition.{Known}
 use Rattle.words.proofs.EditionLaws.{known-least, known-most}
-use Rattle.plan_record.specs.Record.{lanesOf, stageWords, tableWords, wordAt, headBase, stagesOf, endpointsOf, locationsIn, bodyAt, countBase, slotBase, locationBase, tableBase}
+use Rattle.plan_record.specs.Record.{planLanes, slotWords, tableWords, wordAt, headBase, stagesOf, endpointsOf, locationsIn, bodyAt, countBase, slotBase, locationBase, tableBase}
 use Rattle.plan_record.specs.Body.{BodyReady, BodyOf}
 use Rattle.plan_record.proofs.RecordLaws.{lanes-full, lanes-known, body-long, tables-end, stages-at, endpoints-at}
 
@@ -25,7 +25,7 @@ module _ (d : List ℕ) (p at : ℕ) (ready : BodyReady d p at) where
     pub body-sizes : (at ≤ length d / 4) × (n ≤ 255) × (e ≤ 8192)
     body-sizes = (body-inside, omega (arith, ready .stages, stages-is), omega (arith, ready .endpoints, endpoints-is))
 
-    pub body-made : (k l w : ℕ) → k ≡ lanesOf d → l ≡ locationsIn d at n e → w ≡ stageWords k * n
+    pub body-made : (k l w : ℕ) → k ≡ planLanes d → l ≡ locationsIn d at n e → w ≡ slotWords k * n
         → BodyOf d p
         (record {
           lanes = k;
@@ -43,7 +43,7 @@ module _ (d : List ℕ) (p at : ℕ) (ready : BodyReady d p at) where
     body-made k l w lanes locations words =
         let ls : l ≡ locationsIn d (bodyAt d p) (stagesOf d p) (endpointsOf d p) = cc (stages-is, endpoints-is, ready .place) in
         let edition : Known k = subst Known (sym lanes) (lanes-known d) in
-        let slots-are : w ≡ stageWords (lanesOf d) * stagesOf d p = words ∙ ap₂ (λ (a b : ℕ). stageWords a * b) lanes stages-is in
+        let slots-are : w ≡ slotWords (planLanes d) * stagesOf d p = words ∙ ap₂ (λ (a b : ℕ). slotWords a * b) lanes stages-is in
         let end-is : at + 3 * e + n + w + l + tableWords k ≡ bodyAt d (p + 1) = omega (arith, ready .place, endpoints-is, stages-is, slots-are, tables-end d p) in
         record {
           lanes = lanes;

@@ -8,7 +8,7 @@ use lib.ListN.{length}
 use Rattle.plan_record.specs.declared.bodies.Body.{Body}
 use Rattle.words.specs.Edition.{Known}
 use Rattle.words.specs.Tests.{allBelow}
-use Rattle.plan_record.specs.Record.{lanesOf, stageWords, tableWords, majorsOf, partsOf, stagesOf, endpointsOf, locationsOf, bodyAt, countBase, slotBase, locationBase, tableBase}
+use Rattle.plan_record.specs.Record.{planLanes, slotWords, tableWords, majorsOf, partsOf, stagesOf, endpointsOf, locationsOf, bodyAt, countBase, slotBase, locationBase, tableBase}
 use Rattle.plan_record.specs.Form.{partHeadForm, lengthForm}
 
 -- the numbers of stages and endpoints are in range
@@ -41,14 +41,14 @@ pub record Laid (m : ℕ) (b : Body) : Type 0 where
   pub endpoints : b .endpoints ≤ 8192
   pub counts : b .counts ≡ b .at + 3 * b .endpoints
   pub slots : b .slots ≡ b .counts + b .stages
-  pub places : b .places ≡ b .slots + stageWords (b .lanes) * b .stages
+  pub places : b .places ≡ b .slots + slotWords (b .lanes) * b .stages
   pub tables : b .tables ≡ b .places + b .locations
   pub end : b .end ≡ b .tables + tableWords (b .lanes)
   pub inside : b .end ≤ m
 
 -- b is the body of part p: each of its numbers is the definition's
 pub record BodyOf (d : List ℕ) (p : ℕ) (b : Body) : Type 0 where
-  pub lanes : b .lanes ≡ lanesOf d
+  pub lanes : b .lanes ≡ planLanes d
   pub stages : b .stages ≡ stagesOf d p
   pub endpoints : b .endpoints ≡ endpointsOf d p
   pub locations : b .locations ≡ locationsOf d p

@@ -33,16 +33,16 @@ wordAt d i =
 -- ---- the lanes
 
 -- the lanes of the plan's edition: every plan is of the full one, until a word of the record names the edition (10/13)
-unfoldable pub lanesOf : List ℕ → ℕ
-lanesOf d = 256
+unfoldable pub planLanes : List ℕ → ℕ
+planLanes d = 256
 
 -- the slots of level 0: 32 to a lane
 abbrev pub slotsOf : List ℕ → ℕ
-slotsOf d = 32 * lanesOf d
+slotsOf d = 32 * planLanes d
 
 -- the slots of one stage, and the two tables of a part, with n lanes
-unfoldable pub stageWords : ℕ → ℕ
-stageWords n = 64 * n - 1
+unfoldable pub slotWords : ℕ → ℕ
+slotWords n = 64 * n - 1
 
 abbrev pub tableWords : ℕ → ℕ
 tableWords n = 69 * n
@@ -126,7 +126,7 @@ unfoldable pub locationsIn : List ℕ → ℕ → ℕ → ℕ → ℕ
 locationsIn d b m e = sumTo (λ s. wordAt d (b + 3 * e + s)) m
 
 unfoldable pub bodyWords : List ℕ → ℕ → ℕ → ℕ → ℕ
-bodyWords d b m e = 3 * e + m + stageWords (lanesOf d) * m + locationsIn d b m e + tableWords (lanesOf d)
+bodyWords d b m e = 3 * e + m + slotWords (planLanes d) * m + locationsIn d b m e + tableWords (planLanes d)
 
 -- where the body of part p begins
 unfoldable pub bodyAt : List ℕ → ℕ → ℕ
@@ -152,7 +152,7 @@ unfoldable pub slotBase : List ℕ → ℕ → ℕ
 slotBase d p = countBase d p + stagesOf d p
 
 abbrev pub slotAt : List ℕ → ℕ → ℕ → ℕ → ℕ
-slotAt d p s q = wordAt d (slotBase d p + stageWords (lanesOf d) * s + (q - 1))
+slotAt d p s q = wordAt d (slotBase d p + slotWords (planLanes d) * s + (q - 1))
 
 -- the pin of slot j of level 0
 abbrev pub levelAt : List ℕ → ℕ → ℕ → ℕ → ℕ
@@ -160,7 +160,7 @@ levelAt d p s j = slotAt d p s (slotsOf d + j)
 
 -- location l of part p, counted over its stages
 unfoldable pub locationBase : List ℕ → ℕ → ℕ
-locationBase d p = slotBase d p + stageWords (lanesOf d) * stagesOf d p
+locationBase d p = slotBase d p + slotWords (planLanes d) * stagesOf d p
 
 abbrev pub locationAt : List ℕ → ℕ → ℕ → ℕ
 locationAt d p l = wordAt d (locationBase d p + l)

@@ -10,7 +10,7 @@ use crate::places::head_base;
 use crate::places::lanes_of;
 use crate::places::locations_in;
 use crate::places::parts_before;
-use crate::places::stage_words;
+use crate::places::slot_words;
 use crate::places::word_at;
 use crate::places::word_in;
 use words::units::Pin;
@@ -67,7 +67,7 @@ pub fn body_at(d: &[u8], p: usize, at: usize) -> Body
     let locations = locations_in(d, at, stages, endpoints);
     let counts = at + 3 * endpoints;
     let slots = counts + stages;
-    let places = slots + stage_words(lanes, stages);
+    let places = slots + slot_words(lanes, stages);
     let tables = places + locations;
     Body {
         lanes,
@@ -123,7 +123,7 @@ pub fn slot(d: &[u8], p: usize, body: Body, s: usize, q: usize) -> Pin
     requires { ⌜ BodyOf (now d) p body × (s < body .stages) × (1 ≤ q) × (q < 64 * body .lanes) ⌝ }
     ensures { λ r. ⌜ r .0 ≡ slotAt (now (d .entry)) p s q ⌝ }
 {
-    Pin(word_in(d, body.slots + stage_words(body.lanes, s) + (q - 1)))
+    Pin(word_in(d, body.slots + slot_words(body.lanes, s) + (q - 1)))
 }
 
 // The pin of slot j of level 0 of stage s.

@@ -2,7 +2,7 @@
 ghost use mathlib.Core.Path.{_≡_};
 ghost use Prim.Native.Nat.{_+_, _*_, _/_, _^_, _≤_, _<_};
 ghost use lib.ListN.{length};
-ghost use Rattle.plan_record.specs.Record.{lanesOf, stageWords, wordAt, partsBefore, gateBase, layoutBase, positionBase, headBase, locationsIn, bodyWords};
+ghost use Rattle.plan_record.specs.Record.{planLanes, slotWords, wordAt, partsBefore, gateBase, layoutBase, positionBase, headBase, locationsIn, bodyWords};
 ghost use Rattle.plan_record.specs.Form.{planRoomWords};
 use words::edition::Edition;
 
@@ -33,15 +33,15 @@ pub fn word_at(d: &[u8], i: usize) -> u32
 
 // The lanes of a record's edition: every plan is of the full one.
 pub fn lanes_of(d: &[u8]) -> usize
-    ensures { λ r. ⌜ (r ≡ lanesOf (now (d .entry))) × (128 ≤ r) × (r ≤ 256) ⌝ }
+    ensures { λ r. ⌜ (r ≡ planLanes (now (d .entry))) × (128 ≤ r) × (r ≤ 256) ⌝ }
 {
     Edition::LANES
 }
 
 // The slots of s stages: of a stage those from index 1 on, its positions and level 0.
-pub fn stage_words(lanes: usize, s: usize) -> usize
+pub fn slot_words(lanes: usize, s: usize) -> usize
     requires { ⌜ (128 ≤ lanes) × (lanes ≤ 256) × (s ≤ 255) ⌝ }
-    ensures { λ r. ⌜ (r ≡ stageWords lanes * s) × (r < 2 ^ 22) ⌝ }
+    ensures { λ r. ⌜ (r ≡ slotWords lanes * s) × (r < 2 ^ 22) ⌝ }
 {
     (64 * lanes - 1) * s
 }
@@ -116,5 +116,5 @@ pub fn body_words(d: &[u8], b: usize, m: usize, e: usize) -> usize
     ensures { λ r. ⌜ (r ≡ bodyWords (now (d .entry)) b m e) × (r < 2 ^ 42) ⌝ }
 {
     let lanes = lanes_of(d);
-    3 * e + m + stage_words(lanes, m) + locations_in(d, b, m, e) + TABLE_WORDS * lanes
+    3 * e + m + slot_words(lanes, m) + locations_in(d, b, m, e) + TABLE_WORDS * lanes
 }

@@ -4,15 +4,15 @@ use mathlib.Core.Path.{_≡_, refl, sym, ap, ap₂, _∙_}
 use mathlib.Core.Bool.{Bool, true, false}
 use mathlib.Core.List.{List}
 use mathlib.Core.Option.{Option, none, some}
-use Prim.Native.Nat.{ℕ, zero, suc, _+_, _*_, _-_, _/_, _%_, _≤_, _<_}
+use Prim.Native.Nat.{ℕ, zero, suc, _+_, _*_, _-_, _%_, _≤_, _<_}
 use native.Mathlib.Nat.{mul-le-mul-left}
 use native.Mathlib.Omega.{arith}
 use Rattle.words.proofs.EditionLaws.{runs-in}
-use Rattle.plan_record.specs.Record.{lanesOf, slotsOf, majorsOf, partsOf, stagesOf, bodyAt}
+use Rattle.plan_record.specs.Record.{planLanes, slotsOf, majorsOf, partsOf, stagesOf, bodyAt}
 use Rattle.plan_record.specs.Form.{planForm}
 use Rattle.plan_record.specs.Body.{BodyReady, BodyOf}
 use Rattle.plan_record.specs.declared.bodies.Body.{Body}
-use Rattle.words.specs.Tests.{firstFrom, firstNot}
+use Rattle.words.specs.Tests.{firstFrom}
 use Rattle.words.proofs.TestLaws.{some-not-none, first-here, first-on, first-none, none-not}
 use Rattle.plan_record.proofs.PlanFormLaws.{formed, body-ready}
 use Rattle.plan_slots.specs.Slots.{badItem, overItems}
@@ -116,24 +116,24 @@ module _ (n : ℕ) where
       sym (ap (λ (k : ℕ). firstFrom f k (32 * n * t)) z ∙ first-none f (32 * n * t)) ∙ h
 
 pub stages-all : (d : List ℕ) (right : ℕ → ℕ → Bool) (p m : ℕ) → m ≡ stagesOf d p
-    → firstFrom (overItems (lanesOf d) right) (slotsOf d * m - slotsOf d * 0) (slotsOf d * 0) ≡ badItem d right p
+    → firstFrom (overItems (planLanes d) right) (slotsOf d * m - slotsOf d * 0) (slotsOf d * 0) ≡ badItem d right p
 unfolding badItem
 stages-all d right p m h =
     let e : slotsOf d * m - slotsOf d * 0 ≡ slotsOf d * m = omega arith in
     let z : slotsOf d * 0 ≡ 0 = omega arith in
-    ap₂ (firstFrom (overItems (lanesOf d) right)) (e ∙ ap (λ (k : ℕ). slotsOf d * k) h) z
+    ap₂ (firstFrom (overItems (planLanes d) right)) (e ∙ ap (λ (k : ℕ). slotsOf d * k) h) z
 
 pub stages-first : (d : List ℕ) (right : ℕ → ℕ → Bool) (p m : ℕ) → m ≡ stagesOf d p → 0 < m → ((j : ℕ) → right 0 j ≡ true)
-    → firstFrom (overItems (lanesOf d) right) (slotsOf d * m - slotsOf d * (0 + 1)) (slotsOf d * (0 + 1)) ≡ badItem d right p
+    → firstFrom (overItems (planLanes d) right) (slotsOf d * m - slotsOf d * (0 + 1)) (slotsOf d * (0 + 1)) ≡ badItem d right p
 stages-first d right p m h l k =
-    let zero-run : firstFrom (overItems (lanesOf d) right) (slotsOf d) (slotsOf d * 0) ≡ none = from-zero in
-    stages-next (lanesOf d) (overItems (lanesOf d) right) m 0 _ l (stages-all d right p m h) zero-run
+    let zero-run : firstFrom (overItems (planLanes d) right) (slotsOf d) (slotsOf d * 0) ≡ none = from-zero in
+    stages-next (planLanes d) (overItems (planLanes d) right) m 0 _ l (stages-all d right p m h) zero-run
   where
-    from-zero : firstFrom (overItems (lanesOf d) right) (slotsOf d) (slotsOf d * 0) ≡ none
+    from-zero : firstFrom (overItems (planLanes d) right) (slotsOf d) (slotsOf d * 0) ≡ none
     from-zero =
         let z : slotsOf d * 0 ≡ 0 = omega arith in
-        ap (firstFrom (overItems (lanesOf d) right) (slotsOf d)) z
-        ∙ none-not (overItems (lanesOf d) right) (slotsOf d) (λ j u. let a : slotsOf d * 0 + j ≡ j = omega arith in ap (overItems (lanesOf d) right) (sym a) ∙ (over-item (lanesOf d) right 0 j u ∙ k j))
+        ap (firstFrom (overItems (planLanes d) right) (slotsOf d)) z
+        ∙ none-not (overItems (planLanes d) right) (slotsOf d) (λ j u. let a : slotsOf d * 0 + j ≡ j = omega arith in ap (overItems (planLanes d) right) (sym a) ∙ (over-item (planLanes d) right 0 j u ∙ k j))
 
 -- ---- the parts of a plan
 

@@ -3,7 +3,7 @@ ghost use mathlib.Core.Path.{_≡_};
 ghost use mathlib.Core.Bool.{true};
 ghost use Prim.Native.Nat.{_*_, _≤_, _<_};
 ghost use lib.ListN.{length, replicate};
-ghost use Rattle.plan_record.specs.Record.{lanesOf, slotsOf};
+ghost use Rattle.plan_record.specs.Record.{planLanes, slotsOf};
 ghost use Rattle.plan_record.specs.Body.{BodyOf};
 ghost use Rattle.plan_record.specs.Form.{planForm};
 ghost use Rattle.words.specs.Tests.{firstFrom};
@@ -46,7 +46,7 @@ fn eleven_right(d: &[u8], p: usize, body: Body, s: usize, q: usize, table: &[u32
 // The lowest item of stage s that is refused: item 0 has no position.
 fn eleven_items(d: &[u8], p: usize, body: Body, s: usize, table: &[u32]) -> Item
     requires { ⌜ BodyOf (now d) p body × (s < body .stages) × FilledWith (readPuts (now d) p) (now table) ⌝ }
-    ensures { λ r. ⌜ r ≡ itemOf (firstFrom (overItems (lanesOf (now (d .entry))) (elevenRight (now (d .entry)) p)) (slotsOf (now (d .entry))) (slotsOf (now (d .entry)) * s)) ⌝ }
+    ensures { λ r. ⌜ r ≡ itemOf (firstFrom (overItems (planLanes (now (d .entry))) (elevenRight (now (d .entry)) p)) (slotsOf (now (d .entry))) (slotsOf (now (d .entry)) * s)) ⌝ }
 {
     let slots = 32 * body.lanes;
     let mut q = 1;

@@ -3,7 +3,7 @@ ghost use mathlib.Core.Path.{_≡_};
 ghost use mathlib.Core.Bool.{true};
 ghost use Prim.Native.Nat.{_+_, _*_, _≤_, _<_};
 ghost use lib.ListN.{length, replicate};
-ghost use Rattle.plan_record.specs.Record.{lanesOf, slotsOf};
+ghost use Rattle.plan_record.specs.Record.{planLanes, slotsOf};
 ghost use Rattle.plan_record.specs.Body.{BodyOf};
 ghost use Rattle.plan_record.specs.Form.{planForm};
 ghost use Rattle.words.specs.Tests.{firstFrom};
@@ -42,7 +42,7 @@ fn ten_right(d: &[u8], p: usize, body: Body, s: usize, j: usize, table: &[u32]) 
 // The lowest item of stage s + 1 that is refused.
 fn ten_items(d: &[u8], p: usize, body: Body, s: usize, table: &[u32]) -> Item
     requires { ⌜ BodyOf (now d) p body × (s + 1 < body .stages) × FilledWith (positionPuts (now d) p s) (now table) ⌝ }
-    ensures { λ r. ⌜ r ≡ itemOf (firstFrom (overItems (lanesOf (now (d .entry))) (tenRight (now (d .entry)) p)) (slotsOf (now (d .entry))) (slotsOf (now (d .entry)) * (s + 1))) ⌝ }
+    ensures { λ r. ⌜ r ≡ itemOf (firstFrom (overItems (planLanes (now (d .entry))) (tenRight (now (d .entry)) p)) (slotsOf (now (d .entry))) (slotsOf (now (d .entry)) * (s + 1))) ⌝ }
 {
     let slots = 32 * body.lanes;
     let mut j = 0;
@@ -61,7 +61,7 @@ fn ten_items(d: &[u8], p: usize, body: Body, s: usize, table: &[u32]) -> Item
 // The same with a lent table.
 fn ten_stage(d: &[u8], p: usize, body: Body, s: usize, table: &mut [u32]) -> Item
     requires { ⌜ BodyOf (now d) p body × (s + 1 < body .stages) × (32768 ≤ length (now table)) ⌝ }
-    ensures { λ r. ⌜ r ≡ itemOf (firstFrom (overItems (lanesOf (now (d .entry))) (tenRight (now (d .entry)) p)) (slotsOf (now (d .entry))) (slotsOf (now (d .entry)) * (s + 1))) ⌝ }
+    ensures { λ r. ⌜ r ≡ itemOf (firstFrom (overItems (planLanes (now (d .entry))) (tenRight (now (d .entry)) p)) (slotsOf (now (d .entry))) (slotsOf (now (d .entry)) * (s + 1))) ⌝ }
 {
     fill_positions(d, p, body, s, table);
     ten_items(d, p, body, s, table)

@@ -3,7 +3,7 @@ ghost use mathlib.Core.Path.{_≡_};
 ghost use mathlib.Core.Bool.{true, _&&_};
 ghost use mathlib.Core.Option.{none};
 ghost use Prim.Native.Nat.{_+_, _*_, _-_, _<_};
-ghost use Rattle.plan_record.specs.Record.{lanesOf, slotsOf};
+ghost use Rattle.plan_record.specs.Record.{planLanes, slotsOf};
 ghost use Rattle.plan_record.specs.Body.{BodyOf};
 ghost use Rattle.plan_record.specs.Form.{planForm};
 ghost use Rattle.words.specs.Tests.{firstFrom};
@@ -105,7 +105,7 @@ fn nine_empty(d: &[u8], p: usize, body: Body, s: usize, x: usize) -> bool
 // The lowest item of stage s but for item 0 that is refused.
 fn nine_later(d: &[u8], p: usize, body: Body, s: usize) -> Item
     requires { ⌜ BodyOf (now d) p body × (s < body .stages) × (badGate (now d) ≡ none) ⌝ }
-    ensures { λ r. ⌜ r ≡ itemOf (firstFrom (overItems (lanesOf (now (d .entry))) (nineRight (now (d .entry)) p)) (slotsOf (now (d .entry)) - 1) (slotsOf (now (d .entry)) * s + 1)) ⌝ }
+    ensures { λ r. ⌜ r ≡ itemOf (firstFrom (overItems (planLanes (now (d .entry))) (nineRight (now (d .entry)) p)) (slotsOf (now (d .entry)) - 1) (slotsOf (now (d .entry)) * s + 1)) ⌝ }
 {
     let slots = 32 * body.lanes;
     let mut x = 1;
@@ -124,7 +124,7 @@ fn nine_later(d: &[u8], p: usize, body: Body, s: usize) -> Item
 // The lowest item of stage s that is refused: item 0 has no position.
 fn nine_items(d: &[u8], p: usize, body: Body, s: usize) -> Item
     requires { ⌜ BodyOf (now d) p body × (s < body .stages) × (badGate (now d) ≡ none) ⌝ }
-    ensures { λ r. ⌜ r ≡ itemOf (firstFrom (overItems (lanesOf (now (d .entry))) (nineRight (now (d .entry)) p)) (slotsOf (now (d .entry))) (slotsOf (now (d .entry)) * s)) ⌝ }
+    ensures { λ r. ⌜ r ≡ itemOf (firstFrom (overItems (planLanes (now (d .entry))) (nineRight (now (d .entry)) p)) (slotsOf (now (d .entry))) (slotsOf (now (d .entry)) * s)) ⌝ }
 {
     if pin_right(level_slot(d, p, body, s, 0)) {
         return nine_later(d, p, body, s);

@@ -12,7 +12,7 @@ use native.Mathlib.Omega.{arith}
 use borrow.Author.Tests.{leb-true, ne-eqb, eqb-true, eqb-false, ltb-true, not-true}
 use lib.Arith.{digits-div, digits-mod}
 use lib.Dec.{eqb}
-use Rattle.plan_record.specs.Record.{lanesOf, slotsOf, partsOf, stagesOf, slotAt, levelAt, gateFirst, gateSecond}
+use Rattle.plan_record.specs.Record.{planLanes, slotsOf, partsOf, stagesOf, slotAt, levelAt, gateFirst, gateSecond}
 use Rattle.words.specs.Pins.{isPin, empty}
 use Rattle.words.specs.Tests.{firstNot, lowest}
 use Rattle.words.proofs.EditionLaws.{runs-in}
@@ -34,7 +34,7 @@ item-right : (d : List ℕ) (right : ℕ → ℕ → ℕ → Bool) → lowest (�
     → (p s x : ℕ) → p < partsOf d → s < stagesOf d p → x < slotsOf d → right p s x ≡ true
 unfolding badItem
 item-right d right h p s x lp ls lx =
-    let n : ℕ = lanesOf d in
+    let n : ℕ = planLanes d in
     let a : firstNot (overItems n (right p)) (32 * n * stagesOf d p) ≡ none = lowest-none (λ q. badItem d (right q) q) (partsOf d) h p lp in
     let l : 32 * n * s + x < 32 * n * stagesOf d p = omega (arith, runs-in (32 * n) s (stagesOf d p) ls) in
     let b : overItems n (right p) (32 * n * s + x) ≡ true = not-none (overItems n (right p)) (32 * n * stagesOf d p) a (32 * n * s + x) l in

@@ -9,7 +9,7 @@ use mathlib.Core.List.{List}
 use Prim.Native.Nat.{ℕ, zero, suc, _+_, _*_, _-_, _/_, _%_, _^_, _<_}
 use lib.Dec.{leb, ltb, eqb}
 use Rattle.words.specs.Edition.{Known}
-use Rattle.plan_record.specs.Record.{lanesOf, slotsOf, partsOf, stagesOf, slotAt, levelAt, gateFirst, gateSecond}
+use Rattle.plan_record.specs.Record.{planLanes, slotsOf, partsOf, stagesOf, slotAt, levelAt, gateFirst, gateSecond}
 use Rattle.words.specs.Pins.{isPin, empty}
 use Rattle.words.specs.Tests.{firstNot, someBelow, lowest, Place}
 use Rattle.plan_gates.specs.Gates.{gateOf}
@@ -59,7 +59,7 @@ abbrev pub overItems : ℕ → (ℕ → ℕ → Bool) → ℕ → Bool
 overItems n right i = right (i / (32 * n)) (i % (32 * n))
 
 unfoldable pub badItem : List ℕ → (ℕ → ℕ → Bool) → ℕ → Option ℕ
-badItem d right p = firstNot (overItems (lanesOf d) right) (slotsOf d * stagesOf d p)
+badItem d right p = firstNot (overItems (planLanes d) right) (slotsOf d * stagesOf d p)
 
 unfoldable pub refusal9 : List ℕ → Option Place
 refusal9 d = lowest (λ p. badItem d (nineRight d p) p) (partsOf d)

@@ -16,7 +16,8 @@ use Rattle.words.specs.Answer.{good}
 use Rattle.reads_try.specs.LaneTable.{tableOf}
 use Rattle.reads_try.proofs.LaneTableLaws.{table-length}
 use Rattle.rounds.specs.Rounds.{tableAfter}
-use Rattle.plan_record.specs.Record.{partsOf, stagesOf, levelAt}
+use Rattle.plan_record.specs.Record.{planLanes, tableAt, partsOf, stagesOf, levelAt}
+use Rattle.plan_record.proofs.RecordLaws.{lanes-full}
 use Rattle.words.specs.Pins.{empty}
 use Rattle.plan_record.specs.Form.{planForm}
 use Rattle.plan_record.proofs.PlanFormLaws.{formed}
@@ -69,7 +70,9 @@ module _ (d : List ℕ) (p : ℕ) (form : planForm d ≡ true) (seven : refusal7
     some-stages = formed d form .part p part .some-stages;
     stages = formed d form .part p part .stages;
     entry = λ k i h l. omega (arith, stage-small k i h l);
-    sram = λ i h. sram-entry d thirteen p i part h;
-    enable = λ i h. enable-entry d thirteen p i part h;
+    sram = λ i h. omega (arith, sram-entry d thirteen p i part (omega (arith, lanes-full d)), lanes-full d);
+    enable = λ i h.
+        let at : 34 * planLanes d + i ≡ 8704 + i = omega (arith, lanes-full d) in
+        omega (arith, ap (tableAt d p) at, enable-entry d thirteen p i part (omega (arith, lanes-full d)), lanes-full d);
     wide = lanes-wide;
   }

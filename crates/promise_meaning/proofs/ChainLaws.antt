@@ -4,7 +4,7 @@
 use mathlib.Core.Path.{_≡_, sym, ap, _∙_}
 use mathlib.Core.List.{List}
 use mathlib.Core.Logic.{⊎-elim}
-use Prim.Native.Nat.{ℕ, zero, suc, _+_, _/_, _%_, _<_}
+use Prim.Native.Nat.{ℕ, zero, suc, _/_, _%_, _<_}
 use native.Mathlib.Nat.{not-suc-le-zero}
 use native.Mathlib.Numerals.{add-one}
 use native.Mathlib.Omega.{arith}
@@ -13,6 +13,7 @@ use lib.ListN.{getD}
 use Rattle.words.specs.Bit.{bitAt}
 use Rattle.words.proofs.BitLaws.{lt-or-ge}
 use Rattle.plan_record.specs.Record.{stagesOf, locationsOf, levelAt}
+use Rattle.plan_record.proofs.RecordLaws.{lanes-full}
 use Rattle.words.specs.Pins.{empty}
 use Rattle.plan_record.proofs.PlanFormLaws.{formed}
 use Rattle.plan_counts.proofs.PartCountLaws.{counts-passed}
@@ -65,9 +66,9 @@ module _ (d : List ℕ) (p : ℕ) (s : PassedPart d p) where
     later-gathers : (k : ℕ) → suc k < stagesOf d p → (row : List ℕ) → HoldsValues d p old new k row → Gathers d p old new W o (suc k) row
     later-gathers k stage row holds j l full =
         let x = levelAt d p (suc k) j in
-        let (some-position, within, there) = rw add-one at (later-highest d (s .ten) p k j (s .part) (rw add-one stage) l (rw add-one full)) in
+        let (some-position, within, there) = rw add-one at (later-highest d (s .ten) p k j (s .part) (rw add-one stage) (omega (arith, lanes-full d)) (rw add-one full)) in
         let here : entryAt 256 W o (suc k) j ≡ highest d p k x = w .entry (suc k) j stage (omega arith) ∙ later-entry k j full in
-        ap (bitAt row) here ∙ holds (highest d p k x) some-position within (λ e. full (sym there ∙ e)) ∙ ap (pinValue d p old new) there
+        ap (bitAt row) here ∙ holds (highest d p k x) some-position (omega (arith, within, lanes-full d)) (λ e. full (sym there ∙ e)) ∙ ap (pinValue d p old new) there
 
     pub row-values : (k : ℕ) → k < stagesOf d p → HoldsValues d p old new k (rowAfter 256 13 W o (readRow 256 W o old new) (suc k))
     unfolding rowAfter

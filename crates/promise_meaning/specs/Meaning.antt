@@ -5,7 +5,7 @@ use mathlib.Core.Path.{_≡_}
 use mathlib.Core.Bool.{true}
 use mathlib.Core.Option.{none}
 use mathlib.Core.List.{List}
-use Prim.Native.Nat.{ℕ, _+_, _≤_, _<_}
+use Prim.Native.Nat.{ℕ, _≤_, _<_}
 use Rattle.words.specs.Bit.{bitAt}
 use Rattle.words.specs.Answer.{good}
 use Rattle.plan_record.specs.Record.{partsOf, stagesOf, locationAt, slotAt, levelAt}

@@ -6,7 +6,7 @@ use mathlib.Core.Option.{none}
 use Prim.Native.Nat.{ℕ, _+_, _*_, _<_}
 use native.Mathlib.Omega.{arith}
 use Rattle.plan_record.specs.declared.bodies.Body.{Body}
-use Rattle.plan_record.specs.Record.{lanesOf, partsOf, tableAt}
+use Rattle.plan_record.specs.Record.{planLanes, partsOf, tableAt}
 use Rattle.plan_record.specs.Body.{BodyOf}
 use Rattle.plan_record.proofs.RecordLaws.{lanes-full}
 use Rattle.plan_gates.specs.Gates.{badGate}
@@ -24,6 +24,6 @@ module _ (d : List ℕ) (p : ℕ) (b : Body) (body : BodyOf d p b) (part : p < p
     locations = counts-passed d seven p part .location;
     sram = λ i h. omega (arith, sram-entry d thirteen p i part (omega (arith, lanes-full d)), lanes-full d);
     enable = λ i h.
-        let at : 34 * lanesOf d + i ≡ 8704 + i = omega (arith, lanes-full d) in
+        let at : 34 * planLanes d + i ≡ 8704 + i = omega (arith, lanes-full d) in
         omega (arith, ap (tableAt d p) at, enable-entry d thirteen p i part (omega (arith, lanes-full d)), lanes-full d);
   }

@@ -5,7 +5,7 @@ use Prim.Native.Nat.{_+_, _*_}
 use native.Mathlib.Omega.{arith}
 use borrow.Author.Needs.{needs}
 use lib.Dec.{ltb}
-use Rattle.plan_record.specs.Record.{lanesOf, slotsOf, tableAt}
+use Rattle.plan_record.specs.Record.{planLanes, slotsOf, tableAt}
 use Rattle.plan_entries.proofs.TableEntryLaws.{entry-low, entry-high}
 use Rattle.plan_entries.proofs.entry_right.Statement.{statement}
 use Rattle.plan_entries.proofs.entry_right.Tie as tie
@@ -22,7 +22,7 @@ returns-2 c =
     let o = c .before .before .before .before .before in
     let s = o .args in
     let slots : 32 * s .body .lanes ≡ slotsOf (s .d .now) = omega (arith, o .pre .0 .lanes) in
-    let at : s .i + 2 * s .body .lanes ≡ s .i + 2 * lanesOf (s .d .now) = omega (arith, o .pre .0 .lanes) in
+    let at : s .i + 2 * s .body .lanes ≡ s .i + 2 * planLanes (s .d .now) = omega (arith, o .pre .0 .lanes) in
     let read = c .table-word2 .ensures ∙ ap (tableAt (s .d .now) (s .p)) at in
     ap₂ ltb read slots ∙ entry-high (s .d .now) (s .p) (s .i) (omega (arith, c .before .before .if1 .left))
 

@@ -28,6 +28,9 @@ loop-holds c =
     let s = way .before .before .before .before in
     let (n, t) = fill-first (s .args .d .now) (s .args .p) (s .args .body) (s .args .old .now) (s .args .new .now) (s .args .room .now) _ (s .pre .1) (s .pre .2) (s .pre .3) (c .before .before .before .fill-planned .ensures) in (omega arith, refl, n, t)
 
+add-j : tie.Need-add-j Inv-loop μ-loop
+add-j c = omega arith
+
 loop-less : tie.Need-loop-less Inv-loop μ-loop
 loop-less c = omega arith
 
@@ -49,4 +52,4 @@ pub fill-part-spec : {M : Type 1} → statement M
 fill-part-spec =
     tie.close
     (tie.spec Inv-loop μ-loop (λ c. search needs) (λ c. search needs) (λ c. search needs) fill-planned-requires (λ c. search needs) loop-holds
-    (λ c κs. search needs) (λ c. search needs) loop-less loop-again (λ c. search needs) returns)
+    (λ c κs. search needs) add-j loop-less loop-again (λ c. search needs depth 8) returns)

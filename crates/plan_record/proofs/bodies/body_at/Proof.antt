@@ -22,8 +22,8 @@ add-counts c = omega (arith, sizes (c .before))
 add-slots : tie.Need-add-slots
 add-slots c = omega (arith, sizes (c .before))
 
-stage-words-requires : tie.Need-stage-words-requires
-stage-words-requires c κs = let r = c .before .before .before .before .lanes-of .ensures in (r .1, r .2, sizes (c .before) .1)
+slot-words-requires : tie.Need-slot-words-requires
+slot-words-requires c κs = let r = c .before .before .before .before .lanes-of .ensures in (r .1, r .2, sizes (c .before) .1)
 
 add-places : tie.Need-add-places
 add-places c = omega (arith, sizes (c .before .before))
@@ -41,11 +41,11 @@ returns c =
     let h = a .before .before in
     let o = h .before .before .before in
     let read = body-made (o .args .d .now) (o .args .p) (o .args .at) (o .pre) _ _ _ (h .head-base .ensures .0) (a .before .word-at .ensures) (a .word-at2 .ensures) in
-    read _ _ _ (h .before .lanes-of .ensures .0) (l .locations-in .ensures .0) (c .stage-words .ensures .0)
+    read _ _ _ (h .before .lanes-of .ensures .0) (l .locations-in .ensures .0) (c .slot-words .ensures .0)
 
 pub body-at-spec : {M : Type 1} → statement M
 body-at-spec =
     tie.close
     (tie.spec (λ c κs. search needs) (λ c κs. search needs) (λ c. search needs) (λ c. search needs) (λ c κs. search needs) (λ c. search needs)
     (λ c. search needs) (λ c κs. search needs) (λ c. search needs) locations-in-requires (λ c. search needs) add-counts add-slots
-    stage-words-requires add-places add-tables (λ c. search needs) add-t13 returns)
+    slot-words-requires add-places add-tables (λ c. search needs) add-t13 returns)

@@ -5,7 +5,7 @@ use Prim.Native.Nat.{_+_, _*_, _-_, _≤_}
 use native.Mathlib.Omega.{arith}
 use borrow.Author.Needs.{needs}
 use Rattle.plan_record.proofs.RecordLaws.{lanes-range}
-use Rattle.plan_record.specs.Record.{lanesOf, slotsOf}
+use Rattle.plan_record.specs.Record.{planLanes, slotsOf}
 use Rattle.words.specs.Tests.{firstFrom}
 use Rattle.plan_slots.specs.Slots.{elevenRight, overItems}
 use Rattle.words.specs.Found.{itemOf}
@@ -18,7 +18,7 @@ use Rattle.plan_slot_tests.proofs.computed.eleven_items.Tie as tie
 abbrev Inv-loop : tie.InvT-loop
 Inv-loop d p body s table slots q₀ q =
     (1 ≤ q) × (q ≤ slots)
-    × (firstFrom (overItems (lanesOf d) (elevenRight d p)) (slotsOf d - q) (slotsOf d * s + q) ≡ firstFrom (overItems (lanesOf d) (elevenRight d p)) (slotsOf d) (slotsOf d * s))
+    × (firstFrom (overItems (planLanes d) (elevenRight d p)) (slotsOf d - q) (slotsOf d * s + q) ≡ firstFrom (overItems (planLanes d) (elevenRight d p)) (slotsOf d) (slotsOf d * s))
 
 abbrev μ-loop : tie.MeasureT-loop
 μ-loop d p body s table slots q₀ q = slots - q
@@ -26,7 +26,7 @@ abbrev μ-loop : tie.MeasureT-loop
 loop-holds : tie.Need-loop-holds Inv-loop μ-loop
 loop-holds c =
     let o = c .before .before .before .args in
-    let from = zero-right (lanesOf (o .d .now)) (elevenRight (o .d .now) (o .p)) (o .s) (lanes-range (o .d .now) .0) (eleven-zero (o .d .now) (o .p) (o .s)) in
+    let from = zero-right (planLanes (o .d .now)) (elevenRight (o .d .now) (o .p)) (o .s) (lanes-range (o .d .now) .0) (eleven-zero (o .d .now) (o .p) (o .s)) in
     (omega arith, omega arith, from)
 
 loop-again : tie.Need-loop-again Inv-loop μ-loop
@@ -34,7 +34,7 @@ loop-again c =
     let l = c .before .before .before in
     let start = l .before .before .before .before in
     let o = start .args in
-    let n = lanesOf (o .d .now) in
+    let n = planLanes (o .d .now) in
     let eight = eleven-eight (o .d .now) (o .p) (o .s) (l .loop .q) (l .loop .inv .0) (sym (c .before .eighth-empty .ensures) ∙ c .if1 .taken) in
     let (fits, on) = stage-eight n (elevenRight (o .d .now) (o .p)) (o .s) (l .loop .q) _ (l .loop .inv .2) (omega (arith, c .before .before .loop-test .taken, start .pre .0 .lanes)) eight in
     (omega arith, omega (arith, fits, start .pre .0 .lanes), on)
@@ -45,7 +45,7 @@ loop-again-2 c =
     let l = t .before in
     let start = l .before .before .before .before in
     let o = start .args in
-    let n = lanesOf (o .d .now) in
+    let n = planLanes (o .d .now) in
     (omega arith, omega arith, stage-next n (elevenRight (o .d .now) (o .p)) (o .s) (l .loop .q) _ (l .loop .inv .2) (omega (arith, t .loop-test .taken, start .pre .0 .lanes)) (sym (c .before .eleven-right .ensures) ∙ c .if2 .taken))
 
 returns : tie.Need-returns Inv-loop μ-loop
@@ -55,7 +55,7 @@ returns c =
     let l = t .before in
     let start = l .before .before .before .before in
     let o = start .args in
-    let n = lanesOf (o .d .now) in
+    let n = planLanes (o .d .now) in
     let item = item-is (o .d .now) (o .p) (o .body) (o .s) (l .loop .q) _ (start .pre .0) (c .item-at .ensures) in
     ap itemOf (stage-fault n (elevenRight (o .d .now) (o .p)) (o .s) (l .loop .q) _ (l .loop .inv .2) (c .item-at .result) item (omega (arith, t .loop-test .taken, start .pre .0 .lanes)) (sym (e .before .eleven-right .ensures) ∙ e .if2 .left))
 
@@ -64,7 +64,7 @@ returns-2 c =
     let l = c .before in
     let start = l .before .before .before .before in
     let o = start .args in
-    let n = lanesOf (o .d .now) in
+    let n = planLanes (o .d .now) in
     ap itemOf (stage-end n (elevenRight (o .d .now) (o .p)) (o .s) (l .loop .q) _ (l .loop .inv .2) (omega (arith, start .pre .0 .lanes)))
 
 pub eleven-items-spec : {M : Type 1} → statement M

@@ -4,7 +4,7 @@ use mathlib.Core.Path.{_≡_, sym, ap, _∙_}
 use Prim.Native.Nat.{_+_, _*_, _-_, _≤_}
 use native.Mathlib.Omega.{arith}
 use borrow.Author.Needs.{needs}
-use Rattle.plan_record.specs.Record.{lanesOf, slotsOf}
+use Rattle.plan_record.specs.Record.{planLanes, slotsOf}
 use Rattle.words.specs.Tests.{firstFrom}
 use Rattle.plan_slots.specs.Slots.{tenRight, overItems}
 use Rattle.words.specs.Found.{itemOf}
@@ -17,7 +17,7 @@ use Rattle.plan_slot_tests.proofs.later.ten_items.Tie as tie
 abbrev Inv-loop : tie.InvT-loop
 Inv-loop d p body s table slots j₀ j =
     (j ≤ slots)
-    × (firstFrom (overItems (lanesOf d) (tenRight d p)) (slotsOf d - j) (slotsOf d * (s + 1) + j) ≡ firstFrom (overItems (lanesOf d) (tenRight d p)) (slotsOf d) (slotsOf d * (s + 1)))
+    × (firstFrom (overItems (planLanes d) (tenRight d p)) (slotsOf d - j) (slotsOf d * (s + 1) + j) ≡ firstFrom (overItems (planLanes d) (tenRight d p)) (slotsOf d) (slotsOf d * (s + 1)))
 
 abbrev μ-loop : tie.MeasureT-loop
 μ-loop d p body s table slots j₀ j = slots - j
@@ -30,7 +30,7 @@ loop-again c =
     let l = c .before .before .before in
     let start = l .before .before .before .before in
     let o = start .args in
-    let n = lanesOf (o .d .now) in
+    let n = planLanes (o .d .now) in
     let at : 32 * o .body .lanes + l .loop .j ≡ slotsOf (o .d .now) + l .loop .j = omega (arith, start .pre .0 .lanes) in
     let told = c .before .eighth-empty .ensures ∙ ap (eighthEmpty (o .d .now) (o .p) (o .s + 1)) at in
     let eight = ten-eight (o .d .now) (o .p) (o .s) (l .loop .j) (sym told ∙ c .if1 .taken) in
@@ -43,7 +43,7 @@ loop-again-2 c =
     let l = t .before in
     let start = l .before .before .before .before in
     let o = start .args in
-    let n = lanesOf (o .d .now) in
+    let n = planLanes (o .d .now) in
     (omega arith, stage-next n (tenRight (o .d .now) (o .p)) (o .s + 1) (l .loop .j) _ (l .loop .inv .1) (omega (arith, t .loop-test .taken, start .pre .0 .lanes)) (sym (c .before .ten-right .ensures) ∙ c .if2 .taken))
 
 returns : tie.Need-returns Inv-loop μ-loop
@@ -53,7 +53,7 @@ returns c =
     let l = t .before in
     let start = l .before .before .before .before in
     let o = start .args in
-    let n = lanesOf (o .d .now) in
+    let n = planLanes (o .d .now) in
     let item = item-is (o .d .now) (o .p) (o .body) (o .s + 1) (l .loop .j) _ (start .pre .0) (c .item-at .ensures) in
     ap itemOf (stage-fault n (tenRight (o .d .now) (o .p)) (o .s + 1) (l .loop .j) _ (l .loop .inv .1) (c .item-at .result) item (omega (arith, t .loop-test .taken, start .pre .0 .lanes)) (sym (e .before .ten-right .ensures) ∙ e .if2 .left))
 
@@ -62,7 +62,7 @@ returns-2 c =
     let l = c .before in
     let start = l .before .before .before .before in
     let o = start .args in
-    let n = lanesOf (o .d .now) in
+    let n = planLanes (o .d .now) in
     ap itemOf (stage-end n (tenRight (o .d .now) (o .p)) (o .s + 1) (l .loop .j) _ (l .loop .inv .1) (omega (arith, start .pre .0 .lanes)))
 
 pub ten-items-spec : {M : Type 1} → statement M

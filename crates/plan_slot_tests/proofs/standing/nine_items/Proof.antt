@@ -2,7 +2,7 @@
 -- Assumes nothing.
 use mathlib.Core.Path.{sym, ap, _∙_}
 use borrow.Author.Needs.{needs}
-use Rattle.plan_record.specs.Record.{lanesOf}
+use Rattle.plan_record.specs.Record.{planLanes}
 use Rattle.plan_record.proofs.RecordLaws.{lanes-range}
 use Rattle.plan_slots.specs.Slots.{pinRight, nineRight}
 use Rattle.words.specs.Found.{itemOf}
@@ -16,7 +16,7 @@ returns c =
     let r = c .before .before in
     let o = r .before .before .before .args in
     let right = nine-zero (o .d .now) (o .p) (o .s) ∙ (sym (r .pin-right .ensures ∙ ap pinRight (r .before .level-slot .ensures)) ∙ c .before .if1 .taken) in
-    c .nine-later .ensures ∙ ap itemOf (zero-right (lanesOf (o .d .now)) (nineRight (o .d .now) (o .p)) (o .s) (lanes-range (o .d .now) .0) right)
+    c .nine-later .ensures ∙ ap itemOf (zero-right (planLanes (o .d .now)) (nineRight (o .d .now) (o .p)) (o .s) (lanes-range (o .d .now) .0) right)
 
 returns-2 : tie.Need-returns-2
 returns-2 c =
@@ -26,7 +26,7 @@ returns-2 c =
     let o = start .args in
     let item = item-is (o .d .now) (o .p) (o .body) (o .s) 0 _ (start .pre .0) (c .item-at .ensures) in
     let wrong = nine-zero (o .d .now) (o .p) (o .s) ∙ (sym (r .pin-right .ensures ∙ ap pinRight (r .before .level-slot .ensures)) ∙ e .if1 .left) in
-    ap itemOf (zero-fault (lanesOf (o .d .now)) (nineRight (o .d .now) (o .p)) (o .s) (lanes-range (o .d .now) .0) (c .item-at .result) item wrong)
+    ap itemOf (zero-fault (planLanes (o .d .now)) (nineRight (o .d .now) (o .p)) (o .s) (lanes-range (o .d .now) .0) (c .item-at .result) item wrong)
 
 pub nine-items-spec : {M : Type 1} → statement M
 nine-items-spec =

@@ -4,7 +4,7 @@ use mathlib.Core.Path.{_≡_, refl, sym, ap, _∙_}
 use Prim.Native.Nat.{_+_, _*_, _-_, _≤_}
 use native.Mathlib.Omega.{arith}
 use borrow.Author.Needs.{needs}
-use Rattle.plan_record.specs.Record.{lanesOf, slotsOf}
+use Rattle.plan_record.specs.Record.{planLanes, slotsOf}
 use Rattle.words.specs.Tests.{firstFrom}
 use Rattle.plan_slots.specs.Slots.{nineRight, overItems}
 use Rattle.words.specs.Found.{itemOf}
@@ -16,7 +16,7 @@ use Rattle.plan_slot_tests.proofs.standing.nine_later.Tie as tie
 abbrev Inv-loop : tie.InvT-loop
 Inv-loop d p body s slots x₀ x =
     (1 ≤ x) × (x ≤ slots)
-    × (firstFrom (overItems (lanesOf d) (nineRight d p)) (slotsOf d - x) (slotsOf d * s + x) ≡ firstFrom (overItems (lanesOf d) (nineRight d p)) (slotsOf d - 1) (slotsOf d * s + 1))
+    × (firstFrom (overItems (planLanes d) (nineRight d p)) (slotsOf d - x) (slotsOf d * s + x) ≡ firstFrom (overItems (planLanes d) (nineRight d p)) (slotsOf d - 1) (slotsOf d * s + 1))
 
 abbrev μ-loop : tie.MeasureT-loop
 μ-loop d p body s slots x₀ x = slots - x
@@ -29,7 +29,7 @@ loop-again c =
     let l = c .before .before .before in
     let start = l .before .before .before in
     let o = start .args in
-    let n = lanesOf (o .d .now) in
+    let n = planLanes (o .d .now) in
     let eight = nine-eight (o .d .now) (o .p) (o .s) (l .loop .x) (l .loop .inv .0) (sym (c .before .nine-empty .ensures) ∙ c .if1 .taken) in
     let (fits, on) = stage-eight n (nineRight (o .d .now) (o .p)) (o .s) (l .loop .x) _ (l .loop .inv .2) (omega (arith, c .before .before .loop-test .taken, start .pre .0 .lanes)) eight in
     (omega arith, omega (arith, fits, start .pre .0 .lanes), on)
@@ -40,7 +40,7 @@ loop-again-2 c =
     let l = t .before in
     let start = l .before .before .before in
     let o = start .args in
-    let n = lanesOf (o .d .now) in
+    let n = planLanes (o .d .now) in
     (omega arith, omega arith, stage-next n (nineRight (o .d .now) (o .p)) (o .s) (l .loop .x) _ (l .loop .inv .2) (omega (arith, t .loop-test .taken, start .pre .0 .lanes)) (sym (c .before .nine-right .ensures) ∙ c .if2 .taken))
 
 returns : tie.Need-returns Inv-loop μ-loop
@@ -50,7 +50,7 @@ returns c =
     let l = t .before in
     let start = l .before .before .before in
     let o = start .args in
-    let n = lanesOf (o .d .now) in
+    let n = planLanes (o .d .now) in
     let item = item-is (o .d .now) (o .p) (o .body) (o .s) (l .loop .x) _ (start .pre .0) (c .item-at .ensures) in
     ap itemOf (stage-fault n (nineRight (o .d .now) (o .p)) (o .s) (l .loop .x) _ (l .loop .inv .2) (c .item-at .result) item (omega (arith, t .loop-test .taken, start .pre .0 .lanes)) (sym (e .before .nine-right .ensures) ∙ e .if2 .left))
 
@@ -59,7 +59,7 @@ returns-2 c =
     let l = c .before in
     let start = l .before .before .before in
     let o = start .args in
-    let n = lanesOf (o .d .now) in
+    let n = planLanes (o .d .now) in
     ap itemOf (stage-end n (nineRight (o .d .now) (o .p)) (o .s) (l .loop .x) _ (l .loop .inv .2) (omega (arith, start .pre .0 .lanes)))
 
 pub nine-later-spec : {M : Type 1} → statement M
