@@ -22,6 +22,16 @@ write-words-requires c κs =
     let o = way .before .before .before .before .before .before in
     (o .pre .0, o .pre .1, length-take-le 40960 (o .args .room .now) (omega (arith, o .pre .2)), o .pre .3, o .pre .4)
 
+slice-relend-prefix-clear : tie.Need-slice-relend-prefix-clear
+slice-relend-prefix-clear c =
+    let way = c .before .before .before .before .before in
+    let at-write-words = way .before .before .before .before .before in
+    let way-2 = at-write-words .before .before .before .before .before in
+    let way-3 = way-2 .before .before .before .before .before in
+    let o = way-3 .before .before in
+    let w = at-write-words .write-words in
+    omega (arith, o .pre .2, length-front (o .args .room .now) (w .last .1 .1 .1 .1 .0) 40960 (w .kept .1 .1 .1 .1 .0))
+
 slice-aggregate-clear : tie.Need-slice-aggregate-clear
 slice-aggregate-clear c =
     let way = c .before .before .before .before .before in
@@ -90,4 +100,4 @@ returns c =
 pub build-script-spec : {M : Type 1} → statement M
 build-script-spec =
     tie.close
-    (tie.spec (λ c. search needs) slice-aggregate-write-words write-words-requires (λ c. search needs) slice-aggregate-clear (λ c κs. search needs) same-length same-length-2 same-length-3 same-length-4 same-length-5 returns)
+    (tie.spec (λ c. search needs) slice-aggregate-write-words write-words-requires slice-relend-prefix-clear slice-aggregate-clear (λ c κs. search needs) same-length same-length-2 same-length-3 same-length-4 same-length-5 returns)
