@@ -1,11 +1,15 @@
--- Parts of the form for 15 that the code tests by themselves: one pair of a read round, a part's numbers, and what follows from them.
+-- Parts of the form for 15 that the code tests by themselves: one word of a permutation, one pair of a read round, a part's numbers, and what follows from them.
 -- Assumes nothing.
 use mathlib.Core.Bool.{Bool, true, false, _&&_, _||_}
 use mathlib.Core.List.{List}
-use Prim.Native.Nat.{ℕ, _+_, _%_, _^_}
+use Prim.Native.Nat.{ℕ, _+_, _/_, _%_, _^_}
 use lib.Dec.{leb, ltb, eqb}
 use Rattle.run_machine.specs.Part.{stagesAt, lastAt, endAt}
 use Rattle.run_machine.specs.Run.{entriesForm, locationsForm, lanesForm, readsForm, storesForm}
+
+-- "every entry below 8192": the two of a word of a permutation, where there are so many positions
+abbrev pub halvesForm : (slots x : ℕ) → Bool
+halvesForm slots x = ltb (x % 2 ^ 16) slots && ltb (x / 2 ^ 16) slots
 
 -- "words read (mask not 0) .. inside both lent states", which have s and t words
 abbrev pub readForm : (word mask s t : ℕ) → Bool

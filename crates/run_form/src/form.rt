@@ -1,9 +1,10 @@
 // The form of a part of a script of n lanes: document 01, "Form for 15".
 use crate::part;
 use words::bits;
+use words::edition::Edition;
 ghost use mathlib.Core.Path.{_≡_};
 ghost use mathlib.Core.Bool.{true, false, _&&_};
-ghost use Prim.Native.Nat.{_+_, _*_, _%_, _/_, _^_, _<_, _≤_};
+ghost use Prim.Native.Nat.{_+_, _*_, _%_, _/_, _<_, _≤_};
 ghost use lib.Dec.{ltb, eqb};
 ghost use lib.ListN.{length, getD};
 ghost use Rattle.words.specs.Sum.{sumTo};
@@ -12,31 +13,43 @@ ghost use Rattle.words.specs.Tests.{allBelow};
 ghost use Rattle.run_machine.specs.Part.{stagesAt, roundsAt, locationIn, readWordAt, readMaskAt, entryAt};
 ghost use Rattle.run_machine.specs.Run.{entriesForm, locationsForm, lanesForm, readsForm, storesForm, partForm, partsForm, emptyBlock, blockForm};
 ghost use Rattle.run_machine.specs.Well.{Lanes, PartIn, NormalRange};
-ghost use Rattle.run_form.specs.PartForm.{readForm, partNumbersForm, bodyForm};
+ghost use Rattle.run_form.specs.PartForm.{halvesForm, readForm, partNumbersForm, bodyForm};
+
+// The positions of the full edition, as a word is compared with them.
+const SLOTS: u32 = Edition::SLOTS as u32;
 
 // Both halves of a word of a permutation are positions, of which there are `slots`.
 fn halves_form(x: u32, slots: u32) -> bool
-    ensures { λ r. ⌜ r ≡ (ltb (x % 2 ^ 16) slots && ltb (x / 2 ^ 16) slots) ⌝ }
+    ensures { λ r. ⌜ r ≡ halvesForm slots x ⌝ }
 {
     x % 0x1_0000 < slots && x / 0x1_0000 < slots
 }
 
-// Every entry of section k is a position.
-fn section_form(words: &[u32], n: usize, at: usize, k: usize) -> bool
-    requires { ⌜ PartIn n (now words) at × (k < stagesAt (now words) at + 2) ⌝ }
-    ensures { λ r. ⌜ r ≡ allBelow (λ i. ltb (entryAt n (now (words .entry)) at k i) (32 * n)) (32 * n) ⌝ }
+// So have the m words from word `from` on.
+fn words_form(words: &[u32], from: usize, m: usize, slots: u32) -> bool
+    requires { ⌜ from + m ≤ length (now words) ⌝ }
+    ensures { λ r. ⌜ r ≡ allBelow (λ w. halvesForm slots (getD (now (words .entry)) (from + w) 0)) m ⌝ }
 {
-    let slots = (32 * n) as u32;
-    let entries = part::ENTRY_WORDS * n;
-    let from = part::section(words, n, at, k);
     let mut w = 0;
-    while w < entries {
+    while w < m {
         if !halves_form(words[from + w], slots) {
             return false;
         }
         w += 1;
     }
     true
+}
+
+// Every entry of section k is a position. The full edition's numbers stand here as constants: a word is then tested by one mask.
+fn section_form(words: &[u32], n: usize, at: usize, k: usize) -> bool
+    requires { ⌜ PartIn n (now words) at × (k < stagesAt (now words) at + 2) ⌝ }
+    ensures { λ r. ⌜ r ≡ allBelow (λ i. ltb (entryAt n (now (words .entry)) at k i) (32 * n)) (32 * n) ⌝ }
+{
+    let from = part::section(words, n, at, k);
+    if n == Edition::LANES {
+        return words_form(words, from, Edition::SLOTS / 2, SLOTS);
+    }
+    words_form(words, from, part::ENTRY_WORDS * n, (32 * n) as u32)
 }
 
 // Every entry of every section.
