@@ -16,58 +16,111 @@ use Rattle.flatten.proofs.build_accepted.Tie as tie
 
 parts-of-requires : tie.Need-parts-of-requires
 parts-of-requires c κs =
-    let way = c .before .before .before .before in
-    let start = way .before .before .before in
-    majors-few (start .args .plan .now) (start .args .room .now) (start .pre)
+    let way = c .before .before .before .before .before in
+    let o = way .before .before .before .before .before in
+    majors-few (o .args .plan .now) (o .args .room .now) (o .pre .0)
 
 write-pieces-requires : tie.Need-write-pieces-requires
 write-pieces-requires c κs =
     let at-if1 = c .before .before in
-    let at-parts-of = at-if1 .before .before in
+    let at-enough = at-if1 .before in
+    let at-parts-of = at-enough .before in
     let at-sizes-of = at-parts-of .before in
-    let way = at-sizes-of .before .before .before .before in
-    let start = way .before .before .before in
-    let a = start .args in
+    let way = at-sizes-of .before .before .before .before .before in
+    let o = way .before .before .before .before .before in
+    let a = o .args in
     let x = at-sizes-of .sizes-of in
-    let t = at-if1 .before .enough in (
-      start .pre,
-      pieces-room (a .plan .now) (length (a .starts .now)) (length (a .words .now)) (length (a .pieces .now)) (x .result) (x .ensures) _ (at-parts-of .parts-of .ensures .0)
-          (t .result) (t .ensures) (at-if1 .if1 .taken),
-    )
+    let t = at-enough .enough in
+    (o .pre .0, pieces-room (a .plan .now) (length (a .starts .now)) (length (a .words .now)) (length (a .pieces .now)) (x .result) (x .ensures) _ (at-parts-of .parts-of .ensures .0) (t .result) (t .ensures) (at-if1 .if1 .taken))
 
 write-plan-requires : tie.Need-write-plan-requires
 write-plan-requires c κs =
-    let way = c .before .before .before .before in
-    let at-if1 = way .before .before .before .before in
-    let at-parts-of = at-if1 .before .before in
+    let way = c .before .before .before .before .before in
+    let at-if1 = way .before .before .before .before .before .before in
+    let at-enough = at-if1 .before in
+    let at-parts-of = at-enough .before in
     let at-sizes-of = at-parts-of .before in
-    let way-2 = at-sizes-of .before .before .before .before in
-    let start = way-2 .before .before .before in
-    let a = start .args in
+    let way-2 = at-sizes-of .before .before .before .before .before in
+    let o = way-2 .before .before .before .before .before in
+    let a = o .args in
     let x = at-sizes-of .sizes-of in
-    let t = at-if1 .before .enough in
-    plan-room (a .plan .now) (length (a .starts .now)) (length (a .words .now)) (length (a .pieces .now)) (x .result) (x .ensures) _ (at-parts-of .parts-of .ensures .0)
-    (t .result) (t .ensures) (a .room .now) (start .pre) (at-if1 .if1 .taken)
+    let t = at-enough .enough in
+    (plan-room (a .plan .now) (length (a .starts .now)) (length (a .words .now)) (length (a .pieces .now)) (x .result) (x .ensures) _ (at-parts-of .parts-of .ensures .0) (t .result) (t .ensures) (a .room .now) (o .pre .0) (at-if1 .if1 .taken), o .pre .1)
+
+same-length : tie.Need-same-length
+same-length c =
+    let at-clear = c .before .before in
+    let way = at-clear .before .before .before .before .before in
+    let way-2 = way .before .before .before .before .before in
+    let at-write-plan = way-2 .before .before .before .before in
+    at-clear .clear .kept .0 ∙ at-write-plan .write-plan .kept .1 .0
+
+same-length-2 : tie.Need-same-length-2
+same-length-2 c =
+    let way = c .before .before .before .before .before in
+    let way-2 = way .before .before .before .before .before in
+    let at-write-plan = way-2 .before .before .before .before .before .before in
+    at-write-plan .write-plan .kept .1 .1 .0
+
+same-length-3 : tie.Need-same-length-3
+same-length-3 c =
+    let way = c .before .before .before .before .before in
+    let way-2 = way .before .before .before .before .before in
+    let at-write-plan = way-2 .before .before .before .before .before .before in
+    at-write-plan .write-plan .kept .1 .1 .1 .0
+
+same-length-4 : tie.Need-same-length-4
+same-length-4 c =
+    let way = c .before .before .before .before .before in
+    let way-2 = way .before .before .before .before .before in
+    let way-3 = way-2 .before .before .before .before .before in
+    let way-4 = way-3 .before .before .before .before .before in
+    let at-write-pieces = way-4 .before .before .before .before .before in
+    at-write-pieces .write-pieces .kept .1 .1 .0
+
+same-length-5 : tie.Need-same-length-5
+same-length-5 c =
+    let way = c .before .before .before .before .before in
+    let way-2 = way .before .before .before .before .before in
+    let at-write-plan = way-2 .before .before .before .before .before .before in
+    at-write-plan .write-plan .kept .1 .1 .1 .1 .0
+
+same-length-6 : tie.Need-same-length-6
+same-length-6 c =
+    let way = c .before .before .before .before .before in
+    let way-2 = way .before .before .before .before .before in
+    let at-write-plan = way-2 .before .before .before .before .before .before in
+    at-write-plan .write-plan .kept .1 .1 .1 .1 .1 .0
+
+same-length-7 : tie.Need-same-length-7
+same-length-7 c =
+    let way = c .before .before .before .before .before in
+    let way-2 = way .before .before .before .before .before in
+    let at-write-plan = way-2 .before .before .before .before .before .before in
+    at-write-plan .write-plan .kept .1 .1 .1 .1 .1 .1 .0
 
 returns : tie.Need-returns
 returns c =
-    let way = c .before .before .before .before .before in
-    let at-write-plan = way .before .before .before .before .before in
-    let at-write-pieces = at-write-plan .before .before .before .before .before .before in
+    let at-clear = c .before .before in
+    let way = at-clear .before .before .before .before .before in
+    let way-2 = way .before .before .before .before .before in
+    let at-write-plan = way-2 .before .before .before .before in
+    let way-3 = at-write-plan .before .before .before .before .before in
+    let at-write-pieces = way-3 .before .before .before .before in
     let at-if1 = at-write-pieces .before .before .before in
-    let at-parts-of = at-if1 .before .before in
+    let at-enough = at-if1 .before in
+    let at-parts-of = at-enough .before in
     let at-sizes-of = at-parts-of .before in
-    let way-2 = at-sizes-of .before .before .before .before in
-    let start = way-2 .before .before .before in
-    let a = start .args in
+    let way-4 = at-sizes-of .before .before .before .before .before in
+    let o = way-4 .before .before .before .before .before in
+    let a = o .args in
     let x = at-sizes-of .sizes-of in
-    let t = at-if1 .before .enough in
+    let t = at-enough .enough in
     let w = at-write-plan .write-plan in
-    let e = long-enough (a .plan .now) (length (a .starts .now)) (length (a .words .now)) (length (a .pieces .now)) (x .result) (x .ensures) _ (at-parts-of .parts-of .ensures .0)
-    (t .result) (t .ensures) (at-if1 .if1 .taken) in (
+    let e = long-enough (a .plan .now) (length (a .starts .now)) (length (a .words .now)) (length (a .pieces .now)) (x .result) (x .ensures) _ (at-parts-of .parts-of .ensures .0) (t .result) (t .ensures) (at-if1 .if1 .taken) in (
       ap Built (x .ensures) ∙ sym (ap flattenedOf e),
       (
-        c .before .before .clear .ensures ∙ ap (λ (n : ℕ). replicate n 0) (w .kept .1 .0),
+        at-clear .clear .ensures ∙ ap (λ (n : ℕ). replicate n 0) (w .kept .1 .0),
         (
           laid-built _ (sizesOf 256 (a .plan .now)) e (scriptStarts 256 (a .plan .now)) (a .starts .now) _ (w .ensures .1 .0),
           (
@@ -78,21 +131,27 @@ returns c =
       ),
     )
 
+same-length-8 : tie.Need-same-length-8
+same-length-8 c =
+    let at-clear2 = c .before .before in
+    at-clear2 .clear2 .kept .0
+
 returns-2 : tie.Need-returns-2
 returns-2 c =
-    let at-if1 = c .before .before .before .before in
-    let at-parts-of = at-if1 .before .before in
+    let at-clear2 = c .before .before in
+    let at-if1 = at-clear2 .before .before in
+    let at-enough = at-if1 .before in
+    let at-parts-of = at-enough .before in
     let at-sizes-of = at-parts-of .before in
-    let way = at-sizes-of .before .before .before .before in
-    let start = way .before .before .before in
-    let a = start .args in
+    let way = at-sizes-of .before .before .before .before .before in
+    let o = way .before .before .before .before .before in
+    let a = o .args in
     let x = at-sizes-of .sizes-of in
-    let t = at-if1 .before .enough in
-    let e = too-short (a .plan .now) (length (a .starts .now)) (length (a .words .now)) (length (a .pieces .now)) (x .result) (x .ensures) _ (at-parts-of .parts-of .ensures .0)
-    (t .result) (t .ensures) (at-if1 .if1 .left) in (
+    let t = at-enough .enough in
+    let e = too-short (a .plan .now) (length (a .starts .now)) (length (a .words .now)) (length (a .pieces .now)) (x .result) (x .ensures) _ (at-parts-of .parts-of .ensures .0) (t .result) (t .ensures) (at-if1 .if1 .left) in (
       sym (ap flattenedOf e),
       (
-        c .before .before .clear2 .ensures,
+        at-clear2 .clear2 .ensures,
         (
           laid-refused _ (nowhere 14) e (scriptStarts 256 (a .plan .now)) (a .starts .now),
           (
@@ -106,6 +165,4 @@ returns-2 c =
 pub build-accepted-spec : {M : Type 1} → statement M
 build-accepted-spec =
     tie.close
-    (tie.spec (λ c κs. search needs) parts-of-requires (λ c κs. search needs) write-pieces-requires write-plan-requires (λ c κs. search needs)
-    (λ c. search needs) (λ c. search needs) (λ c. search needs) (λ c. search needs) returns (λ c κs. search needs) (λ c. search needs)
-    returns-2)
+    (tie.spec (λ c κs. search needs) parts-of-requires (λ c κs. search needs) write-pieces-requires write-plan-requires (λ c κs. search needs) same-length same-length-2 same-length-3 same-length-4 same-length-5 same-length-6 same-length-7 returns (λ c κs. search needs) same-length-8 returns-2)

@@ -9,60 +9,90 @@ use Rattle.script_layout.proofs.parts.write_part.Tie as tie
 
 add-next : tie.Need-add-next
 add-next c =
-    let way = c .before .before .before .before in
-    let a = way .before .before .before .before in
-    omega (arith, next-in (a .args .d .now) (a .args .room .now) (a .pre .sound) (a .args .p) (a .pre .part) (c .before .numbers-of .result) (c .before .numbers-of .ensures .0) (a .args .at) _ _ (a .args .words .now) (c .part-words .ensures) refl (a .pre .fits), a .good, a .fits)
+    let at-part-words = c in
+    let at-numbers-of = at-part-words .before in
+    let way = at-numbers-of .before .before .before .before .before in
+    let o = way .before .before .before .before .before in
+    let n = at-numbers-of .numbers-of in
+    let w = at-part-words .part-words in
+    omega (arith, next-in (o .args .d .now) (o .args .room .now) (o .pre .0 .sound) (o .args .p) (o .pre .0 .part) (n .result) (n .ensures .0) (o .args .at) _ _ (o .args .words .now) (w .ensures) refl (o .pre .0 .fits), o .good, o .fits)
 
 mul-build-script : tie.Need-mul-build-script
 mul-build-script c =
     let way = c .before .before .before .before .before in
-    let a = way .before .before .before .before in
-    omega (arith, a .pre .fits, a .good, a .fits)
+    let way-2 = way .before .before .before .before .before in
+    let o = way-2 .before .before in
+    omega (arith, o .pre .0 .fits, o .good, o .fits)
 
 part-build-script-end : tie.Need-part-build-script-end
 part-build-script-end c =
-    let at-numbers-of = c .before .before in
-    let way = at-numbers-of .before .before .before .before in
-    let a = way .before .before .before in
-    next-in (a .args .d .now) (a .args .room .now) (a .pre .sound) (a .args .p) (a .pre .part) (at-numbers-of .numbers-of .result) (at-numbers-of .numbers-of .ensures .0) (a .args .at) _ _ (a .args .words .now) (c .before .part-words .ensures) refl (a .pre .fits)
+    let at-part-words = c .before in
+    let at-numbers-of = at-part-words .before in
+    let way = at-numbers-of .before .before .before .before .before in
+    let o = way .before .before .before .before .before in
+    let n = at-numbers-of .numbers-of in
+    let w = at-part-words .part-words in
+    next-in (o .args .d .now) (o .args .room .now) (o .pre .0 .sound) (o .args .p) (o .pre .0 .part) (n .result) (n .ensures .0) (o .args .at) _ _ (o .args .words .now) (w .ensures) refl (o .pre .0 .fits)
 
 build-script-requires : tie.Need-build-script-requires
 build-script-requires c κs =
-    let at-numbers-of = c .before .before .before in
+    let at-part-words = c .before .before .before .before .before in
+    let at-numbers-of = at-part-words .before in
     let at-body-of = at-numbers-of .before .before in
-    let a = at-body-of .before .before .before .before .before in
-    let d = a .args .d .now in
-    let room = a .args .room .now in
-    let p = a .args .p in
-    let n = at-numbers-of .numbers-of in (
-      buildable d room (a .pre .sound) p (a .pre .part) (at-body-of .body-of .result) (at-body-of .body-of .ensures),
+    let way = at-body-of .before .before .before .before .before in
+    let o = way .before .before .before in
+    let n = at-numbers-of .numbers-of in
+    let w = at-part-words .part-words in (
+      buildable (o .args .d .now) (o .args .room .now) (o .pre .0 .sound) (o .args .p) (o .pre .0 .part) (at-body-of .body-of .result) (at-body-of .body-of .ensures),
       n .ensures .0,
-      omega (arith, a .pre .sound .ready .wide),
-      lent-long d room (a .pre .sound) p (a .pre .part) (n .result) (n .ensures .0) (a .args .at) _ _ (a .args .words .now) (c .before .before .part-words .ensures) refl (a .pre .fits),
+      omega (arith, o .pre .0 .sound .ready .wide),
+      lent-long (o .args .d .now) (o .args .room .now) (o .pre .0 .sound) (o .args .p) (o .pre .0 .part) (n .result) (n .ensures .0) (o .args .at) _ _ (o .args .words .now) (w .ensures) refl (o .pre .0 .fits),
+      o .pre .1,
     )
+
+same-length : tie.Need-same-length
+same-length c =
+    let way = c .before .before .before .before .before in
+    let at-build-script = way .before .before .before .before .before in
+    at-build-script .build-script .kept .1 .1 .1 .1 .0
+
+same-length-3 : tie.Need-same-length-3
+same-length-3 c =
+    let way = c .before .before .before .before .before in
+    let at-build-script = way .before .before .before .before .before in
+    at-build-script .build-script .kept .1 .1 .1 .1 .1 .1 .0
+
+same-length-4 : tie.Need-same-length-4
+same-length-4 c =
+    let way = c .before .before .before .before .before in
+    let at-build-script = way .before .before .before .before .before in
+    at-build-script .build-script .kept .1 .1 .1 .1 .1 .1 .1 .0
+
+same-length-5 : tie.Need-same-length-5
+same-length-5 c =
+    let way = c .before .before .before .before .before in
+    let at-build-script = way .before .before .before .before .before in
+    at-build-script .build-script .kept .1 .1 .1 .1 .1 .1 .1 .1 .0
 
 returns : tie.Need-returns
 returns c =
-    let at-build-script = c .before .before .before .before in
-    let at-part-words = at-build-script .before .before .before in
-    let way = at-part-words .before .before .before .before in
-    let a = way .before .before .before .before in
-    let d = a .args .d .now in
-    let room = a .args .room .now in
-    let p = a .args .p in
-    let words = a .args .words .now in
-    let n = at-part-words .before .numbers-of in
+    let way = c .before .before .before .before .before in
+    let at-build-script = way .before .before .before .before .before in
+    let at-part-words = at-build-script .before .before .before .before .before .before in
+    let at-numbers-of = at-part-words .before in
+    let way-2 = at-numbers-of .before .before .before .before .before in
+    let o = way-2 .before .before .before .before .before in
+    let n = at-numbers-of .numbers-of in
     let w = at-part-words .part-words in
     let r = at-build-script .build-script in (
-      next-is d room (a .pre .sound) p (a .pre .part) (n .result) (n .ensures .0) (a .args .at) _ _ words (w .ensures) refl (a .pre .fits),
+      next-is (o .args .d .now) (o .args .room .now) (o .pre .0 .sound) (o .args .p) (o .pre .0 .part) (n .result) (n .ensures .0) (o .args .at) _ _ (o .args .words .now) (w .ensures) refl (o .pre .0 .fits),
       (
-        room-same d room (a .pre .sound) _ (r .ensures .1),
-        part-written d room (a .pre .sound) p (a .pre .part) (n .result) (n .ensures .0) (a .args .at) _ _ words (w .ensures) refl (a .pre .fits) (a .args .last) (n .ensures .1) _ (r .kept .1 .1 .1 .1 .1 .0) (r .ensures .0),
+        room-same (o .args .d .now) (o .args .room .now) (o .pre .0 .sound) _ (r .ensures .1),
+        part-written (o .args .d .now) (o .args .room .now) (o .pre .0 .sound) (o .args .p) (o .pre .0 .part) (n .result) (n .ensures .0) (o .args .at) _ _ (o .args .words .now) (w .ensures) refl (o .pre .0 .fits) (o .args .last) (n .ensures .1) _ (r .kept .1 .1 .1 .1 .1 .0) (r .ensures .0),
       ),
     )
 
 pub write-part-spec : {M : Type 1} → statement M
 write-part-spec =
     tie.close
-    (tie.spec (λ c κs. search needs) (λ c κs. search needs) (λ c κs. search needs) add-next mul-build-script (λ c. search needs)
-    (λ c. search needs) part-build-script-end build-script-requires (λ c. search needs) (λ c. search needs) returns)
+    (tie.spec (λ c κs. search needs) (λ c κs. search needs) (λ c κs. search needs) add-next mul-build-script (λ c. search needs) (λ c. search needs) part-build-script-end build-script-requires same-length (λ c. search needs) same-length-3 same-length-4 same-length-5 returns)

@@ -7,27 +7,76 @@ use borrow.Author.Needs.{needs}
 use Rattle.script_layout.proofs.placed.write_block.Statement.{statement}
 use Rattle.script_layout.proofs.placed.write_block.Tie as tie
 
+write-parts-requires : tie.Need-write-parts-requires
+write-parts-requires c κs =
+    let at-if1 = c .before .before .before .before .before in
+    let at-block-end = at-if1 .before in
+    let way = at-block-end .before .before .before .before .before in
+    let o = way .before .before .before in
+    (o .pre .0, at-if1 .if1 .taken, at-block-end .block-end .ensures, o .pre .1)
+
+same-length : tie.Need-same-length
+same-length c =
+    let way = c .before .before .before .before .before in
+    let at-write-parts = way .before .before .before .before .before in
+    at-write-parts .write-parts .kept .1 .0
+
+same-length-2 : tie.Need-same-length-2
+same-length-2 c =
+    let way = c .before .before .before .before .before in
+    let at-write-parts = way .before .before .before .before .before in
+    at-write-parts .write-parts .kept .1 .1 .1 .1 .1 .1 .1 .0
+
+same-length-3 : tie.Need-same-length-3
+same-length-3 c =
+    let way = c .before .before .before .before .before in
+    let at-write-parts = way .before .before .before .before .before in
+    at-write-parts .write-parts .kept .1 .1 .1 .1 .1 .1 .1 .1 .0
+
+same-length-4 : tie.Need-same-length-4
+same-length-4 c =
+    let way = c .before .before .before .before .before in
+    let at-write-parts = way .before .before .before .before .before in
+    at-write-parts .write-parts .kept .1 .1 .1 .1 .1 .1 .1 .1 .1 .0
+
+same-length-5 : tie.Need-same-length-5
+same-length-5 c =
+    let way = c .before .before .before .before .before in
+    let at-write-parts = way .before .before .before .before .before in
+    at-write-parts .write-parts .kept .1 .1 .1 .1 .1 .1 .1 .1 .1 .1 .0
+
+returns : tie.Need-returns
+returns c =
+    let way = c .before .before .before .before .before in
+    let at-write-parts = way .before .before .before .before .before in
+    let way-2 = at-write-parts .before .before .before .before .before in
+    let at-block-end = way-2 .before .before in
+    let w = at-write-parts .write-parts in
+    ((at-block-end .block-end .ensures, w .ensures .0), w .ensures .1)
+
 part-write-empty-end : tie.Need-part-write-empty-end
 part-write-empty-end c =
-    let a = c .before .before .before .before .before .before in
-    empty-in (a .args .d .now) (a .args .room .now) _ _ _ (a .pre .place) (omega (arith, c .before .block-end .ensures)) (a .args .at) (a .args .words .now) (a .pre .fits)
+    let at-if1 = c in
+    let at-block-end = at-if1 .before in
+    let way = at-block-end .before .before .before .before .before in
+    let o = way .before .before .before in
+    empty-in (o .args .d .now) (o .args .room .now) _ _ _ (o .pre .0 .place) (omega (arith, at-block-end .block-end .ensures, at-if1 .if1 .left)) (o .args .at) (o .args .words .now) (o .pre .0 .fits)
 
 returns-2 : tie.Need-returns-2
 returns-2 c =
-    let at-if1 = c .before .before .before .before in
-    let a = at-if1 .before .before .before .before .before .before in
-    let d = a .args .d .now in
-    let room = a .args .room .now in
-    let words = a .args .words .now in
-    let e = at-if1 .before .block-end .ensures in
-    let w = c .before .before .write-empty in (
-      (e, empty-next d room _ _ _ (a .pre .place) (omega (arith, e, at-if1 .if1 .left)) (a .args .at) words (a .pre .fits)),
-      (refl, empty-stored d room _ _ _ (a .pre .place) (omega (arith, e, at-if1 .if1 .left)) (a .args .at) words (a .pre .fits) _ (w .kept .0) (w .ensures)),
+    let at-write-empty = c .before .before in
+    let at-if1 = at-write-empty .before .before in
+    let at-block-end = at-if1 .before in
+    let way = at-block-end .before .before .before .before .before in
+    let o = way .before .before .before in
+    let words = o .args .words .now in
+    let e = at-block-end .block-end .ensures in
+    let w = at-write-empty .write-empty in (
+      (e, empty-next (o .args .d .now) (o .args .room .now) _ _ _ (o .pre .0 .place) (omega (arith, e, at-if1 .if1 .left)) (o .args .at) words (o .pre .0 .fits)),
+      (refl, empty-stored (o .args .d .now) (o .args .room .now) _ _ _ (o .pre .0 .place) (omega (arith, e, at-if1 .if1 .left)) (o .args .at) words (o .pre .0 .fits) _ (w .kept .0) (w .ensures)),
     )
 
 pub write-block-spec : {M : Type 1} → statement M
 write-block-spec =
     tie.close
-    (tie.spec (λ c κs. search needs) (λ c κs. search needs) (λ c. search needs) (λ c. search needs) (λ c. search needs) (λ c. search needs)
-    (λ c. search needs) (λ c. search needs) (λ c. search needs) part-write-empty-end (λ c κs. search needs) (λ c. search needs)
-    (λ c. search needs) returns-2)
+    (tie.spec (λ c κs. search needs) write-parts-requires same-length same-length-2 same-length-3 same-length-4 same-length-5 returns (λ c. search needs) (λ c. search needs) (λ c. search needs) (λ c. search needs) part-write-empty-end (λ c κs. search needs) (λ c. search needs) (λ c. search needs) returns-2)
