@@ -1,15 +1,19 @@
 -- Laws of the record's words: a word is there or it is 0; the numbers of a plan stand in their order.
 -- Assumes nothing.
 use mathlib.Core.Path.{_≡_, refl, ap}
-use mathlib.Core.Logic.{⊎-elim}
+use mathlib.Core.Logic.{inl, ⊎-elim}
 use mathlib.Core.List.{List}
-use Prim.Native.Nat.{ℕ, zero, suc, _+_, _*_, _≤_, _<_}
+use Prim.Native.Nat.{ℕ, zero, suc, _+_, _*_, _-_, _≤_, _<_}
+use native.Mathlib.Nat.{mul-le-mul}
 use native.Mathlib.Omega.{arith}
 use native.Mathlib.Numerals.{add-one}
 use borrow.Author.Tests.{le-leb, lt-leb}
 use lib.ListN.{length, getD}
+use Rattle.words.specs.Edition.{Known}
+use Rattle.words.proofs.EditionLaws.{known-least, known-most, runs-in}
 use Rattle.words.proofs.SumLaws.{sum-more}
 use Rattle.words.proofs.BitLaws.{lt-or-ge}
+use Rattle.plan_record.specs.Record.{planLanes, slotsOf, slotWords, tableWords}
 use Rattle.plan_record.specs.Record.{wordAt, gatesOf, layoutOf, positionsOf, gateBase, layoutBase, positionBase, countAt, partsBefore, partsOf, headBase, stagesOf, endpointsOf, locationsIn, bodyWords, bodyAt, countBase, slotBase, locationBase, tableBase}
 
 pub word-there : (d : List ℕ) (i : ℕ) → 4 * i + 4 ≤ length d
@@ -20,6 +24,36 @@ word-there d i h = rw (le-leb _ _ h, wordAt)
 pub word-missing : (d : List ℕ) (i : ℕ) → length d < 4 * i + 4 → wordAt d i ≡ 0
 unfolding wordAt
 word-missing d i h = rw (lt-leb _ _ h, wordAt)
+
+-- ---- the lanes
+
+-- every plan is of the full edition: what is stated over 256 lanes alone stands on this law, which goes with 10/13
+pub lanes-full : (d : List ℕ) → planLanes d ≡ 256
+unfolding planLanes
+lanes-full d = refl
+
+pub lanes-known : (d : List ℕ) → Known (planLanes d)
+lanes-known d = inl (lanes-full d)
+
+pub lanes-range : (d : List ℕ) → (128 ≤ planLanes d) × (planLanes d ≤ 256)
+lanes-range d = (known-least (planLanes d) (lanes-known d), known-most (planLanes d) (lanes-known d))
+
+-- the slots of level 0 are more than none
+pub one-more : (d : List ℕ) → suc (slotsOf d - 1) ≡ slotsOf d
+one-more d = omega (arith, lanes-range d)
+
+-- the slots of a stage have indices 1 .. 64n − 1
+pub slot-words : (n : ℕ) → 128 ≤ n → slotWords n + 1 ≡ 64 * n
+unfolding slotWords
+slot-words n h = omega arith
+
+-- a slot of stage s is inside the slots of m stages
+pub slot-inside : (n s m q : ℕ) → 128 ≤ n → s < m → 1 ≤ q → q < 64 * n → slotWords n * s + (q - 1) < slotWords n * m
+slot-inside n s m q h l a b = omega (arith, slot-words n h, runs-in (slotWords n) s m l)
+
+-- the slots of at most 255 stages are few
+pub stages-few : (n s : ℕ) → n ≤ 256 → s ≤ 255 → (64 * n - 1) * s ≤ 16383 * 255
+stages-few n s h l = let k : 64 * n - 1 ≤ 16383 = omega arith in mul-le-mul k l
 
 -- ---- the lists before the part heads: their words are before those of the heads
 
@@ -55,7 +89,7 @@ pub body-more : (d : List ℕ) (p : ℕ) → bodyAt d (p + 1) ≡ bodyAt d p + b
 unfolding bodyAt
 body-more d p = rw add-one
 
-pub body-long : (d : List ℕ) (p : ℕ) → bodyAt d p + 17664 ≤ bodyAt d (p + 1)
+pub body-long : (d : List ℕ) (p : ℕ) → bodyAt d p + tableWords (planLanes d) ≤ bodyAt d (p + 1)
 unfolding bodyWords
 body-long d p = omega (arith, body-more d p)
 
@@ -77,6 +111,6 @@ pub endpoints-at : (d : List ℕ) (h p : ℕ) → h ≡ headBase d → wordAt d 
 endpoints-at d h p e = ap (λ (x : ℕ). wordAt d (x + 2 * p + 1)) e
 
 -- the lists of a body, one after the other
-pub tables-end : (d : List ℕ) (p : ℕ) → bodyAt d (p + 1) ≡ tableBase d p + 17664
+pub tables-end : (d : List ℕ) (p : ℕ) → bodyAt d (p + 1) ≡ tableBase d p + tableWords (planLanes d)
 unfolding tableBase locationBase slotBase countBase bodyWords
 tables-end d p = omega (arith, body-more d p)

@@ -6,8 +6,9 @@ use mathlib.Core.List.{List}
 use Prim.Native.Nat.{ℕ, _+_, _*_, _/_, _≤_, _<_}
 use lib.ListN.{length}
 use Rattle.plan_record.specs.declared.bodies.Body.{Body}
+use Rattle.words.specs.Edition.{Known}
 use Rattle.words.specs.Tests.{allBelow}
-use Rattle.plan_record.specs.Record.{majorsOf, partsOf, stagesOf, endpointsOf, locationsOf, bodyAt, countBase, slotBase, locationBase, tableBase}
+use Rattle.plan_record.specs.Record.{planLanes, slotWords, tableWords, majorsOf, partsOf, stagesOf, endpointsOf, locationsOf, bodyAt, countBase, slotBase, locationBase, tableBase}
 use Rattle.plan_record.specs.Form.{partHeadForm, lengthForm}
 
 -- the numbers of stages and endpoints are in range
@@ -29,19 +30,25 @@ pub record BodyReady (d : List ℕ) (p at : ℕ) : Type 0 where
   pub stages : stagesOf d p ≤ 255
   pub endpoints : endpointsOf d p ≤ 8192
 
--- the lists of a body follow one another, and end inside m words
+-- the lists of a body follow one another, and end inside m words; the lanes are an edition's. `full` goes with 10/13: what is stated over 256 lanes
+-- alone stands on it.
 pub record Laid (m : ℕ) (b : Body) : Type 0 where
+  pub edition : Known (b .lanes)
+  pub some-lanes : 128 ≤ b .lanes
+  pub lanes : b .lanes ≤ 256
+  pub full : b .lanes ≡ 256
   pub stages : b .stages ≤ 255
   pub endpoints : b .endpoints ≤ 8192
   pub counts : b .counts ≡ b .at + 3 * b .endpoints
   pub slots : b .slots ≡ b .counts + b .stages
-  pub places : b .places ≡ b .slots + 16383 * b .stages
+  pub places : b .places ≡ b .slots + slotWords (b .lanes) * b .stages
   pub tables : b .tables ≡ b .places + b .locations
-  pub end : b .end ≡ b .tables + 17664
+  pub end : b .end ≡ b .tables + tableWords (b .lanes)
   pub inside : b .end ≤ m
 
 -- b is the body of part p: each of its numbers is the definition's
 pub record BodyOf (d : List ℕ) (p : ℕ) (b : Body) : Type 0 where
+  pub lanes : b .lanes ≡ planLanes d
   pub stages : b .stages ≡ stagesOf d p
   pub endpoints : b .endpoints ≡ endpointsOf d p
   pub locations : b .locations ≡ locationsOf d p

@@ -1,18 +1,19 @@
 -- The plan record: little-endian 32-bit words in a byte list, and what stands where. Every number of a plan is read through these definitions.
+-- n is the number of lanes of the plan's edition.
 --
 --   5 words           blocks, major stages S, gates G, input layout length I, positions P
 --   S                 parts of each major stage; N is their sum
 --   3·G               gate: pin, first fan-in, second fan-in (inverted pin numbers)
 --   I                 input layout: a pin, or the empty pin
 --   3·P               position: pin, state position, 0 unstaged or 1 staged
---   2·N               part head: boomerang stages n, endpoints e
+--   2·N               part head: boomerang stages m, endpoints e
 --   then each part's body:
 --   3·e               endpoint: kind, x, y
---   n                 locations of each stage; their sum is the part's number of locations
---   16383·n           slots of each stage by index 1..16383: positions 1..8191, then slot j of level 0 at index 8192 + j
+--   m                 locations of each stage; their sum is the part's number of locations
+--   (64n − 1)·m       slots of each stage by index 1..64n − 1: positions 1..32n − 1, then slot j of level 0 at index 32n + j
 --   one a location    locations, stage by stage
---   8192 + 256 + 256  SRAM and duplicate table: entries, inv, set0
---   8192 + 3·256      enable table: entries, inv, set0, data inv
+--   34·n              SRAM and duplicate table: 32n entries, n inv, n set0
+--   35·n              enable table: 32n entries, n inv, n set0, n data inv
 -- Assumes nothing.
 use mathlib.Core.Bool.{true, false}
 use mathlib.Core.List.{List}
@@ -28,6 +29,23 @@ wordAt d i =
       | true ↦ getD d (4 * i) 0 + 256 * getD d (4 * i + 1) 0 + 65536 * getD d (4 * i + 2) 0 + 16777216 * getD d (4 * i + 3) 0
       | false ↦ 0
     ]
+
+-- ---- the lanes
+
+-- the lanes of the plan's edition: every plan is of the full one, until a word of the record names the edition (10/13)
+unfoldable pub planLanes : List ℕ → ℕ
+planLanes d = 256
+
+-- the slots of level 0: 32 to a lane
+abbrev pub slotsOf : List ℕ → ℕ
+slotsOf d = 32 * planLanes d
+
+-- the slots of one stage, and the two tables of a part, with n lanes
+unfoldable pub slotWords : ℕ → ℕ
+slotWords n = 64 * n - 1
+
+abbrev pub tableWords : ℕ → ℕ
+tableWords n = 69 * n
 
 -- ---- the head
 
@@ -103,12 +121,12 @@ stagesOf d p = wordAt d (headBase d + 2 * p)
 abbrev pub endpointsOf : List ℕ → ℕ → ℕ
 endpointsOf d p = wordAt d (headBase d + 2 * p + 1)
 
--- the words of a body at word b, with n stages and e endpoints: how many locations it has, and how long it is
+-- the words of a body at word b, with m stages and e endpoints: how many locations it has, and how long it is
 unfoldable pub locationsIn : List ℕ → ℕ → ℕ → ℕ → ℕ
-locationsIn d b n e = sumTo (λ s. wordAt d (b + 3 * e + s)) n
+locationsIn d b m e = sumTo (λ s. wordAt d (b + 3 * e + s)) m
 
 unfoldable pub bodyWords : List ℕ → ℕ → ℕ → ℕ → ℕ
-bodyWords d b n e = 3 * e + n + 16383 * n + locationsIn d b n e + 17664
+bodyWords d b m e = 3 * e + m + slotWords (planLanes d) * m + locationsIn d b m e + tableWords (planLanes d)
 
 -- where the body of part p begins
 unfoldable pub bodyAt : List ℕ → ℕ → ℕ
@@ -129,26 +147,26 @@ stageLocations d p s = wordAt d (countBase d p + s)
 abbrev pub locationsOf : List ℕ → ℕ → ℕ
 locationsOf d p = locationsIn d (bodyAt d p) (stagesOf d p) (endpointsOf d p)
 
--- the pin at index q of stage s of part p, for q in 1..16383
+-- the pin at index q of stage s of part p, for q in 1..64n − 1
 unfoldable pub slotBase : List ℕ → ℕ → ℕ
 slotBase d p = countBase d p + stagesOf d p
 
 abbrev pub slotAt : List ℕ → ℕ → ℕ → ℕ → ℕ
-slotAt d p s q = wordAt d (slotBase d p + 16383 * s + (q - 1))
+slotAt d p s q = wordAt d (slotBase d p + slotWords (planLanes d) * s + (q - 1))
 
 -- the pin of slot j of level 0
 abbrev pub levelAt : List ℕ → ℕ → ℕ → ℕ → ℕ
-levelAt d p s j = slotAt d p s (8192 + j)
+levelAt d p s j = slotAt d p s (slotsOf d + j)
 
 -- location l of part p, counted over its stages
 unfoldable pub locationBase : List ℕ → ℕ → ℕ
-locationBase d p = slotBase d p + 16383 * stagesOf d p
+locationBase d p = slotBase d p + slotWords (planLanes d) * stagesOf d p
 
 abbrev pub locationAt : List ℕ → ℕ → ℕ → ℕ
 locationAt d p l = wordAt d (locationBase d p + l)
 
--- word i of the two tables of part p: SRAM and duplicate entries from 0, inv from 8192, set0 from 8448; enable entries from 8704, inv from
--- 16896, set0 from 17152, data inv from 17408
+-- word i of the two tables of part p: SRAM and duplicate entries from 0, inv from 32n, set0 from 33n; enable entries from 34n, inv from
+-- 66n, set0 from 67n, data inv from 68n
 unfoldable pub tableBase : List ℕ → ℕ → ℕ
 tableBase d p = locationBase d p + locationsOf d p
 

@@ -1,18 +1,18 @@
 // The bodies of a record's parts: where each of a part's lists begins. A pass over all parts starts at `first_body`, asks `body_at` once a part
 // and goes on at the body's end.
 ghost use mathlib.Core.Path.{_≡_};
-ghost use Prim.Native.Nat.{_^_, _≤_, _<_};
-ghost use Rattle.plan_record.specs.Record.{majorsOf, partsOf, bodyAt, endpointWord, stageLocations, slotAt, levelAt, locationAt, tableAt};
+ghost use Prim.Native.Nat.{_*_, _^_, _≤_, _<_};
+ghost use Rattle.plan_record.specs.Record.{tableWords, majorsOf, partsOf, bodyAt, endpointWord, stageLocations, slotAt, levelAt, locationAt, tableAt};
 ghost use Rattle.plan_record.specs.Body.{BodyReady, BodyOf};
 ghost use Rattle.plan_record.specs.Endpoint.{endpointAt};
-use crate::places::STAGE_WORDS;
 use crate::places::TABLE_WORDS;
 use crate::places::head_base;
+use crate::places::lanes_of;
 use crate::places::locations_in;
 use crate::places::parts_before;
+use crate::places::slot_words;
 use crate::places::word_at;
 use crate::places::word_in;
-use words::edition::Edition;
 use words::units::Pin;
 use words::units::PinIv;
 
@@ -24,8 +24,10 @@ pub enum Endpoint {
     Sram,
 }
 
-// One part's numbers, and the words where its lists begin: endpoints, locations of each stage, slots, locations, tables, and the next body.
+// The lanes of the edition, one part's numbers, and the words where its lists begin: endpoints, locations of each stage, slots, locations, tables,
+// and the next body.
 pub struct Body {
+    pub lanes: usize,
     pub stages: usize,
     pub endpoints: usize,
     pub locations: usize,
@@ -58,15 +60,17 @@ pub fn body_at(d: &[u8], p: usize, at: usize) -> Body
     requires { ⌜ BodyReady (now d) p at ⌝ }
     ensures { λ r. ⌜ BodyOf (now (d .entry)) p r ⌝ }
 {
+    let lanes = lanes_of(d);
     let head = head_base(d) + 2 * p;
     let stages = word_at(d, head) as usize;
     let endpoints = word_at(d, head + 1) as usize;
     let locations = locations_in(d, at, stages, endpoints);
     let counts = at + 3 * endpoints;
     let slots = counts + stages;
-    let places = slots + STAGE_WORDS * stages;
+    let places = slots + slot_words(lanes, stages);
     let tables = places + locations;
     Body {
+        lanes,
         stages,
         endpoints,
         locations,
@@ -75,7 +79,7 @@ pub fn body_at(d: &[u8], p: usize, at: usize) -> Body
         slots,
         places,
         tables,
-        end: tables + TABLE_WORDS,
+        end: tables + TABLE_WORDS * lanes,
     }
 }
 
@@ -116,18 +120,18 @@ pub fn stage_locations(d: &[u8], p: usize, body: Body, s: usize) -> u32
 
 // The pin at index q of stage s.
 pub fn slot(d: &[u8], p: usize, body: Body, s: usize, q: usize) -> Pin
-    requires { ⌜ BodyOf (now d) p body × (s < body .stages) × (1 ≤ q) × (q ≤ 16383) ⌝ }
+    requires { ⌜ BodyOf (now d) p body × (s < body .stages) × (1 ≤ q) × (q < 64 * body .lanes) ⌝ }
     ensures { λ r. ⌜ r .0 ≡ slotAt (now (d .entry)) p s q ⌝ }
 {
-    Pin(word_in(d, body.slots + STAGE_WORDS * s + (q - 1)))
+    Pin(word_in(d, body.slots + slot_words(body.lanes, s) + (q - 1)))
 }
 
 // The pin of slot j of level 0 of stage s.
 pub fn level_slot(d: &[u8], p: usize, body: Body, s: usize, j: usize) -> Pin
-    requires { ⌜ BodyOf (now d) p body × (s < body .stages) × (j < 8192) ⌝ }
+    requires { ⌜ BodyOf (now d) p body × (s < body .stages) × (j < 32 * body .lanes) ⌝ }
     ensures { λ r. ⌜ r .0 ≡ levelAt (now (d .entry)) p s j ⌝ }
 {
-    slot(d, p, body, s, Edition::SLOTS + j)
+    slot(d, p, body, s, 32 * body.lanes + j)
 }
 
 // Location l, counted over the stages.
@@ -140,7 +144,7 @@ pub fn location(d: &[u8], p: usize, body: Body, l: usize) -> u32
 
 // Word i of the two tables.
 pub fn table_word(d: &[u8], p: usize, body: Body, i: usize) -> u32
-    requires { ⌜ BodyOf (now d) p body × (i < 17664) ⌝ }
+    requires { ⌜ BodyOf (now d) p body × (i < tableWords (body .lanes)) ⌝ }
     ensures { λ r. ⌜ r ≡ tableAt (now (d .entry)) p i ⌝ }
 {
     word_in(d, body.tables + i)

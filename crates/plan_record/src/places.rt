@@ -2,14 +2,12 @@
 ghost use mathlib.Core.Path.{_≡_};
 ghost use Prim.Native.Nat.{_+_, _*_, _/_, _^_, _≤_, _<_};
 ghost use lib.ListN.{length};
-ghost use Rattle.plan_record.specs.Record.{wordAt, partsBefore, gateBase, layoutBase, positionBase, headBase, locationsIn, bodyWords};
+ghost use Rattle.plan_record.specs.Record.{planLanes, slotWords, wordAt, partsBefore, gateBase, layoutBase, positionBase, headBase, locationsIn, bodyWords};
 ghost use Rattle.plan_record.specs.Form.{planRoomWords};
 use words::edition::Edition;
 
-// The slots of a stage, index 1 and up: its positions and level 0. And the two tables: an entry a slot, and five lists of a word a lane.
-pub const STAGE_WORDS: usize = 2 * Edition::SLOTS - 1;
-
-pub const TABLE_WORDS: usize = 2 * Edition::SLOTS + 5 * Edition::LANES;
+// What a lane has of the two tables: 32 entries in each, and one word in each of five lists.
+pub const TABLE_WORDS: usize = 69;
 
 // Four bytes as one number, the lowest first.
 fn word_of(a: u8, b: u8, c: u8, e: u8) -> u32
@@ -31,6 +29,21 @@ pub fn word_at(d: &[u8], i: usize) -> u32
     ensures { λ r. ⌜ r ≡ wordAt (now (d .entry)) i ⌝ }
 {
     if i < d.len() / 4 { word_in(d, i) } else { 0 }
+}
+
+// The lanes of a record's edition: every plan is of the full one.
+pub fn lanes_of(d: &[u8]) -> usize
+    ensures { λ r. ⌜ (r ≡ planLanes (now (d .entry))) × (128 ≤ r) × (r ≤ 256) ⌝ }
+{
+    Edition::LANES
+}
+
+// The slots of s stages: of a stage those from index 1 on, its positions and level 0.
+pub fn slot_words(lanes: usize, s: usize) -> usize
+    requires { ⌜ (128 ≤ lanes) × (lanes ≤ 256) × (s ≤ 255) ⌝ }
+    ensures { λ r. ⌜ (r ≡ slotWords lanes * s) × (r < 2 ^ 22) ⌝ }
+{
+    (64 * lanes - 1) * s
 }
 
 // Where the gates begin.
@@ -85,22 +98,23 @@ pub fn room_words(d: &[u8]) -> usize
     }
 }
 
-// How many locations a body at word b has, with n stages and e endpoints.
-pub fn locations_in(d: &[u8], b: usize, n: usize, e: usize) -> usize
-    requires { ⌜ (b < 2 ^ 62) × (n ≤ 255) × (e ≤ 8192) ⌝ }
-    ensures { λ r. ⌜ (r ≡ locationsIn (now (d .entry)) b n e) × (r < 2 ^ 41) ⌝ }
+// How many locations a body at word b has, with m stages and e endpoints.
+pub fn locations_in(d: &[u8], b: usize, m: usize, e: usize) -> usize
+    requires { ⌜ (b < 2 ^ 62) × (m ≤ 255) × (e ≤ 8192) ⌝ }
+    ensures { λ r. ⌜ (r ≡ locationsIn (now (d .entry)) b m e) × (r < 2 ^ 41) ⌝ }
 {
     let mut sum = 0;
-    for s in 0..n {
+    for s in 0..m {
         sum += word_at(d, b + 3 * e + s) as usize;
     }
     sum
 }
 
 // How long that body is.
-pub fn body_words(d: &[u8], b: usize, n: usize, e: usize) -> usize
-    requires { ⌜ (b < 2 ^ 62) × (n ≤ 255) × (e ≤ 8192) ⌝ }
-    ensures { λ r. ⌜ (r ≡ bodyWords (now (d .entry)) b n e) × (r < 2 ^ 42) ⌝ }
+pub fn body_words(d: &[u8], b: usize, m: usize, e: usize) -> usize
+    requires { ⌜ (b < 2 ^ 62) × (m ≤ 255) × (e ≤ 8192) ⌝ }
+    ensures { λ r. ⌜ (r ≡ bodyWords (now (d .entry)) b m e) × (r < 2 ^ 42) ⌝ }
 {
-    3 * e + n + STAGE_WORDS * n + locations_in(d, b, n, e) + TABLE_WORDS
+    let lanes = lanes_of(d);
+    3 * e + m + slot_words(lanes, m) + locations_in(d, b, m, e) + TABLE_WORDS * lanes
 }

@@ -11,10 +11,10 @@ use Rattle.plan_record.proofs.places.locations_in.Statement.{statement}
 use Rattle.plan_record.proofs.places.locations_in.Tie as tie
 
 abbrev Inv-loop : tie.InvT-loop
-Inv-loop d b n e sum₀ s₀ sum s = (s ≤ n) × (sum ≡ locationsIn d b s e) × (sum ≤ 4294967295 * s)
+Inv-loop d b m e sum₀ s₀ sum s = (s ≤ m) × (sum ≡ locationsIn d b s e) × (sum ≤ 4294967295 * s)
 
 abbrev μ-loop : tie.MeasureT-loop
-μ-loop d b n e sum₀ s₀ sum s = n - s
+μ-loop d b m e sum₀ s₀ sum s = m - s
 
 loop-holds : tie.Need-loop-holds Inv-loop μ-loop
 unfolding locationsIn sumTo
@@ -33,8 +33,8 @@ returns : tie.Need-returns Inv-loop μ-loop
 returns c =
     let a = c .before in
     let o = a .before .before .args in
-    let n : a .loop .s ≡ o .n = omega arith in
-    (a .loop .inv .1 ∙ ap (λ (m : ℕ). locationsIn (o .d .now) (o .b) m (o .e)) n, omega arith)
+    let all : a .loop .s ≡ o .m = omega arith in
+    (a .loop .inv .1 ∙ ap (λ (m : ℕ). locationsIn (o .d .now) (o .b) m (o .e)) all, omega arith)
 
 pub locations-in-spec : {M : Type 1} → statement M
 locations-in-spec =
