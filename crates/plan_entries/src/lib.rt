@@ -1,7 +1,7 @@
 // The entries of the two slot tables: refusal 13.
 ghost use mathlib.Core.Path.{_≡_};
 ghost use mathlib.Core.Bool.{true};
-ghost use Prim.Native.Nat.{_<_};
+ghost use Prim.Native.Nat.{_*_, _<_};
 ghost use Rattle.plan_record.specs.Body.{BodyOf};
 ghost use Rattle.plan_record.specs.Form.{planForm};
 ghost use Rattle.words.specs.Found.{itemOf, lowestOf};
@@ -11,28 +11,20 @@ use plan_record::bodies::body_at;
 use plan_record::bodies::first_body;
 use plan_record::bodies::parts_of;
 use plan_record::bodies::table_word;
-use words::edition::Edition;
 use words::found::Item;
 use words::found::Lowest;
 
-// The last position that an entry can name.
-const LAST_POSITION: usize = Edition::SLOTS - 1;
-
-// The entries of both tables.
-const ENTRIES: usize = 2 * Edition::SLOTS;
-
-// The words between the two tables: the inversions and the zeros of the first.
-const BETWEEN: usize = 2 * Edition::LANES;
-
-// Whether entry i, the enables' from 8192 on, is a position.
+// Whether entry i, the enables' from the number of slots on, is a position. Between the two tables' entries stand the inversions and the zeros of the
+// first.
 fn entry_right(d: &[u8], p: usize, body: Body, i: usize) -> bool
-    requires { ⌜ BodyOf (now d) p body × (i < 16384) ⌝ }
+    requires { ⌜ BodyOf (now d) p body × (i < 64 * body .lanes) ⌝ }
     ensures { λ r. ⌜ r ≡ thirteenRight (now (d .entry)) p i ⌝ }
 {
-    if i < Edition::SLOTS {
-        return table_word(d, p, body, i) as usize <= LAST_POSITION;
+    let slots = 32 * body.lanes;
+    if i < slots {
+        return (table_word(d, p, body, i) as usize) < slots;
     }
-    table_word(d, p, body, i + BETWEEN) as usize <= LAST_POSITION
+    (table_word(d, p, body, i + 2 * body.lanes) as usize) < slots
 }
 
 // The first entry of a part that is not.
@@ -40,8 +32,9 @@ fn bad_entry(d: &[u8], p: usize, body: Body) -> Item
     requires { ⌜ BodyOf (now d) p body ⌝ }
     ensures { λ r. ⌜ r ≡ itemOf (badEntry (now (d .entry)) p) ⌝ }
 {
+    let entries = 64 * body.lanes;
     let mut i = 0;
-    while i < ENTRIES {
+    while i < entries {
         if !entry_right(d, p, body, i) {
             return Item::At(i);
         }
