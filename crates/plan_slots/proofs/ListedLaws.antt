@@ -22,6 +22,8 @@ use Rattle.pinmap.specs.declared.Found.the-variants.{Value, Missing}
 use Rattle.pinmap.specs.PinMap.{valueAt, slotOf, lookAt, look, lookAnswer, putAt, putIn, afterPuts}
 use Rattle.words.specs.Pins.{empty}
 use Rattle.words.specs.Tests.{someBelow}
+use Rattle.plan_record.specs.Record.{slotsOf}
+use Rattle.plan_record.proofs.RecordLaws.{lanes-range}
 use Rattle.words.proofs.TestLaws.{some-found, some-not-none}
 use Rattle.plan_slots.specs.Puts.{heldAt, heldBelow, readPuts, newPin, firstPins, readPin, readPins, AllPins, filled, FilledWith, foundIf}
 use Rattle.plan_slots.proofs.PutLaws.{held-none, held-one, held-length, filled-holds, last-put-found, fill-start, fill-more, fill-end}
@@ -164,7 +166,7 @@ module _ (d : List ℕ) (p : ℕ) (t l : List ℕ) (n j x : ℕ) (read : x ≡ r
       let new : newPin (readPin d p) j ≡ [] = new-empty (readPin d p) j k in
       rw new (omega arith, (held-none t _ 0 k, (refl, λ i h. absurd (omega arith))))
 
-  module _ (full : x ≡ empty → ⊥) (below : j < 8192) (f : FilledWith (heldBelow (readPin d p) (λ k. 0) j) t) (r : Found) (told : r ≡ lookAnswer (look t x)) where
+  module _ (full : x ≡ empty → ⊥) (below : j < slotsOf d) (f : FilledWith (heldBelow (readPin d p) (λ k. 0) j) t) (r : Found) (told : r ≡ lookAnswer (look t x)) where
     abbrev seen : Bool
     seen = someBelow (λ i. eqb (readPin d p i) (readPin d p j)) j
 
@@ -174,7 +176,7 @@ module _ (d : List ℕ) (p : ℕ) (t l : List ℕ) (n j x : ℕ) (read : x ≡ r
     slot-look : look t (readPin d p j) ≡ foundIf seen 0
     slot-look =
         ap (λ (u : List ℕ). look u (readPin d p j)) (f .is)
-        ∙ (filled-holds (length t) (heldBelow (readPin d p) (λ k. 0) j) (omega (arith, f .wide, held-length (readPin d p) (λ k. 0) j)) .finds (readPin d p j)
+        ∙ (filled-holds (length t) (heldBelow (readPin d p) (λ k. 0) j) (omega (arith, f .wide, held-length (readPin d p) (λ k. 0) j, lanes-range d)) .finds (readPin d p j)
         ∙ last-put-found (readPin d p) 0 j (readPin d p j) there)
 
     tells : r ≡ lookAnswer (foundIf seen 0)
@@ -215,7 +217,7 @@ new-most pin n = go (eqb (pin n) empty) (someBelow (λ i. eqb (pin i) (pin n)) n
 
 -- the first j slots are put and listed
 pub record Listing (d : List ℕ) (p : ℕ) (t₀ l₀ t l : List ℕ) (n j : ℕ) : Type 0 where
-  pub so-far : j ≤ 8192
+  pub so-far : j ≤ slotsOf d
   pub size : length t ≡ length t₀
   pub puts : t ≡ filled (length t) (heldBelow (readPin d p) (λ k. 0) j)
   pub count : n ≡ length (firstPins (readPin d p) j)
@@ -242,7 +244,7 @@ module _ (d : List ℕ) (p : ℕ) (t₀ l₀ t l : List ℕ) (n j : ℕ) (a : Li
   pub listing-filled : (m : ℕ) → t₀ ≡ replicate m 0 → 32768 ≤ m → FilledWith (heldBelow (readPin d p) (λ k. 0) j) t
   listing-filled m z h = record { wide = omega (arith, a .size, ap length z, length-replicate {A = ℕ} m 0); is = a .puts }
 
-  pub listing-more : (t′ l′ : List ℕ) (r : ℕ) → j < 8192 → Listed d p t l n j t′ l′ r → Listing d p t₀ l₀ t′ l′ r (j + 1)
+  pub listing-more : (t′ l′ : List ℕ) (r : ℕ) → j < slotsOf d → Listed d p t l n j t′ l′ r → Listing d p t₀ l₀ t′ l′ r (j + 1)
   unfolding firstPins
   listing-more t′ l′ r h (c, (u, (k, f))) =
       let e : firstPins (readPin d p) (j + 1) ≡ firstPins (readPin d p) j ++ newPin (readPin d p) j = rw (add-one, firstPins) in
@@ -258,11 +260,11 @@ module _ (d : List ℕ) (p : ℕ) (t₀ l₀ t l : List ℕ) (n j : ℕ) (a : Li
         pins = rw e (pins-append (firstPins (readPin d p) j) (newPin (readPin d p) j) (a .pins) f);
       }
 
-  pub listing-all : (m : ℕ) → t₀ ≡ replicate m 0 → 8192 ≤ j
-      → ((n ≡ length (readPins d p)) × (n ≤ 8192)) × ((t ≡ filled m (readPuts d p)) × ((l ≡ sets l₀ 0 (readPins d p)) × AllPins (readPins d p)))
+  pub listing-all : (m : ℕ) → t₀ ≡ replicate m 0 → slotsOf d ≤ j
+      → ((n ≡ length (readPins d p)) × (n ≤ slotsOf d)) × ((t ≡ filled m (readPuts d p)) × ((l ≡ sets l₀ 0 (readPins d p)) × AllPins (readPins d p)))
   unfolding readPins readPuts
   listing-all m z h =
-      let e : j ≡ 8192 = omega (arith, a .so-far) in (
+      let e : j ≡ slotsOf d = omega (arith, a .so-far) in (
         (rw e at (a .count), omega (arith, a .few)),
-        (fill-end (readPin d p) (λ k. 0) t₀ t m 8192 j z (a .size) (a .puts) e, (rw e at (a .holds), rw e at (a .pins))),
+        (fill-end (readPin d p) (λ k. 0) t₀ t m (slotsOf d) j z (a .size) (a .puts) e, (rw e at (a .holds), rw e at (a .pins))),
       )

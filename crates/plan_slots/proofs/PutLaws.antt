@@ -1,11 +1,11 @@
 -- What is found in a table filled with a stage's positions or with the pins that a part reads: by induction over the slots, the last one decided.
 -- Assumes nothing.
-use mathlib.Core.Path.{_≡_, refl, sym, ap, ap₂, _∙_}
+use mathlib.Core.Path.{_≡_, refl, sym, ap, ap₂, _∙_, subst}
 use mathlib.Core.Bool.{Bool, true, false, _||_, or-true, or-false, and-false}
 use mathlib.Core.List.{List, [], _∷_, _++_, append-nil}
 use mathlib.Core.Logic.{⊎-elim}
 use mathlib.Core.Option.{none, some}
-use Prim.Native.Nat.{ℕ, zero, suc, _+_, _/_, _≤_, _<_}
+use Prim.Native.Nat.{ℕ, zero, suc, _+_, _-_, _/_, _≤_, _<_}
 use native.Mathlib.Omega.{arith}
 use native.Mathlib.Numerals.{add-one}
 use borrow.Author.Tests.{lt-ltb, eq-eqb, ne-eqb, eqb-true, eqb-false}
@@ -15,7 +15,8 @@ use Rattle.words.proofs.BitLaws.{lt-or-ge}
 use Rattle.pinmap.specs.PinMap.{Entry, entry, look, putIn, lastFrom, lastPut, afterPuts, Holds}
 use Rattle.pinmap.proofs.HoldsLaws.{last-snoc, holds-none, holds-puts}
 use Rattle.pinmap.proofs.PinMapLaws.{put-length, replaced-same, replaced-other}
-use Rattle.plan_record.specs.Record.{slotAt}
+use Rattle.plan_record.specs.Record.{slotsOf, slotAt, levelAt}
+use Rattle.plan_record.proofs.RecordLaws.{lanes-range, one-more}
 use Rattle.words.specs.Pins.{empty}
 use Rattle.words.specs.Tests.{someBelow}
 use Rattle.plan_slots.specs.Slots.{standsIn, readsPin, highestBelow, highest}
@@ -106,12 +107,12 @@ filled-holds n puts l = holds-puts (replicate n 0) [] puts (holds-none n) (rw le
 pub positions-hold : (d : List ℕ) (p s n : ℕ) → 16384 ≤ n → Holds (filled n (positionPuts d p s)) (positionPuts d p s)
 unfolding positionPuts
 positions-hold d p s n h =
-    let l : length (positionPuts d p s) ≤ 8191 = held-length _ _ 8191 in
-    filled-holds n (positionPuts d p s) (omega arith)
+    let l : length (positionPuts d p s) ≤ slotsOf d - 1 = held-length _ _ (slotsOf d - 1) in
+    filled-holds n (positionPuts d p s) (omega (arith, lanes-range d))
 
 pub reads-hold : (d : List ℕ) (p n : ℕ) → 16384 ≤ n → Holds (filled n (readPuts d p)) (readPuts d p)
 unfolding readPuts
-reads-hold d p n h = filled-holds n (readPuts d p) (omega (arith, held-length (λ j. slotAt d p 0 (8192 + j)) (λ j. 0) 8192))
+reads-hold d p n h = filled-holds n (readPuts d p) (omega (arith, held-length (levelAt d p 0) (λ j. 0) (slotsOf d), lanes-range d))
 
 -- ---- the pins that a part reads: found just where some slot has them
 
@@ -160,7 +161,7 @@ module _ (d : List ℕ) (p s x : ℕ) where
 
   pub stands-highest : standsIn d p s x ≡ ltb 0 (highest d p s x)
   unfolding standsIn
-  stands-highest = stands-below 8191
+  stands-highest = stands-below (slotsOf d - 1) ∙ ap (λ (m : ℕ). ltb 0 (highestBelow d p s x m)) (one-more d)
 
   -- the highest position below n + 1 that has it, where there is one
   pub record HighestAt (n q : ℕ) : Type 0 where
@@ -184,8 +185,8 @@ module _ (d : List ℕ) (p s x : ℕ) where
             last = λ i h l k. ⊎-elim (λ u. r .last i h (omega arith) k) (λ u. let z : i ≡ suc n = omega arith in eqb-false _ _ e (sym (ap (slotAt d p s) z) ∙ k)) (lt-or-ge i (suc n));
           })
 
-  pub highest-is : HighestAt 8191 (highest d p s x)
-  highest-is = highest-below 8191
+  pub highest-is : HighestAt (slotsOf d - 1) (highest d p s x)
+  highest-is = subst (λ (m : ℕ). HighestAt (slotsOf d - 1) (highestBelow d p s x m)) (one-more d) (highest-below (slotsOf d - 1))
 
   -- ---- in a table of positions it is found there
 
@@ -206,13 +207,13 @@ module _ (d : List ℕ) (p s x : ℕ) where
 
   pub positions-look : (m : ℕ) → 16384 ≤ m → (x ≡ empty → ⊥) → look (filled m (positionPuts d p s)) x ≡ foundAt (highest d p s x)
   unfolding positionPuts
-  positions-look m h k = positions-hold d p s m h .finds x ∙ found-highest k 8191
+  positions-look m h k = positions-hold d p s m h .finds x ∙ (found-highest k (slotsOf d - 1) ∙ ap (λ (m : ℕ). foundAt (highestBelow d p s x m)) (one-more d))
 
 -- ---- in a table of the pins read: found just where the part reads it
 
 pub reads-look : (d : List ℕ) (p x m : ℕ) → 16384 ≤ m → (x ≡ empty → ⊥) → look (filled m (readPuts d p)) x ≡ foundIf (readsPin d p x) 0
 unfolding readPuts readsPin
-reads-look d p x m h k = reads-hold d p m h .finds x ∙ last-put-found (λ j. slotAt d p 0 (8192 + j)) 0 8192 x k
+reads-look d p x m h k = reads-hold d p m h .finds x ∙ last-put-found (levelAt d p 0) 0 (slotsOf d) x k
 
 -- ---- the same of a lent table
 

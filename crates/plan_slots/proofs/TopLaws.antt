@@ -9,7 +9,9 @@ use borrow.Author.Tests.{le-leb, lt-leb}
 use lib.Count.{leadingZeros, leading-top}
 use lib.Pow.{pow-mono}
 use Rattle.words.proofs.BitLaws.{lt-or-ge}
-use Rattle.plan_slots.specs.Slots.{topBelow, top}
+use Rattle.words.specs.Edition.{Known, levelsFor}
+use Rattle.words.proofs.EditionLaws.{slots-power}
+use Rattle.plan_slots.specs.Slots.{topBelow, top, TopOf}
 
 -- 2^j is the top power of q
 pub record TopAt (q j : ℕ) : Type 0 where
@@ -45,19 +47,23 @@ pub record Below (q : ℕ) : Type 0 where
   pub some : 0 < top q
   pub least : top q ≤ q
   pub most : q < 2 * top q
-  pub inside : q + 2 * top q < 16384
+  pub inside : (n : ℕ) → Known n → q < 32 * n → q + 2 * top q < 64 * n
+
+-- 2^j below 2^k is at most half of it
+half-power : (j k : ℕ) → 2 ^ j < 2 ^ k → 2 * 2 ^ j ≤ 2 ^ k
+half-power j k h = ⊎-elim (λ l. let m : 2 ^ suc j ≤ 2 ^ k = pow-mono l in omega arith) (λ l. let m : 2 ^ k ≤ 2 ^ j = pow-mono l in absurd (omega arith)) (lt-or-ge j k)
 
 pub top-below : (q : ℕ) → 0 < q → q < 8192 → Below q
 top-below q h l =
     let (j, i, t) = top-at 13 q h l in
     let e : top q ≡ 2 ^ j = top-is 13 q j i t in
-    let k : j ≤ 12 = omega arith in
-    let m : 2 ^ j ≤ 2 ^ 12 = pow-mono k in
     record {
       some = omega (arith, t .least, t .most);
       least = omega (arith, t .least);
       most = omega (arith, t .most);
-      inside = omega (arith, t .most);
+      inside = λ n known l.
+          let a : 2 ^ j < 2 ^ levelsFor n = omega (arith, slots-power n known, t .least) in
+          omega (arith, half-power j (levelsFor n) a, slots-power n known);
     }
 
 -- the code counts the zeros above it
@@ -69,9 +75,9 @@ power-is q h l =
     let w : 63 - leadingZeros 64 q ≡ j = omega (arith, k) in
     (omega (arith, k), ap (λ (x : ℕ). 2 ^ x) w ∙ sym (top-is 13 q j i t))
 
-pub power-shifted : (q : ℕ) → 0 < q → q < 8192
-    → (1 * 2 ^ (63 - leadingZeros 64 q) % 2 ^ 64 ≡ top q) × (q + 2 * (1 * 2 ^ (63 - leadingZeros 64 q) % 2 ^ 64) < 16384)
+pub power-shifted : (q : ℕ) → 0 < q → q < 8192 → TopOf q (1 * 2 ^ (63 - leadingZeros 64 q) % 2 ^ 64)
 power-shifted q h l =
     let e : 2 ^ (63 - leadingZeros 64 q) ≡ top q = power-is q h l .1 in
     let m : Below q = top-below q h l in
-    rw e (omega arith, omega arith)
+    let r : 1 * 2 ^ (63 - leadingZeros 64 q) % 2 ^ 64 ≡ top q = rw e (omega arith) in
+    record { is = r; some = omega (arith, m .some); inside = λ n known k. omega (arith, m .inside n known k) }

@@ -9,7 +9,7 @@ use Prim.Native.Nat.{ℕ, zero, suc, _+_, _-_, _^_, _≤_, _<_}
 use lib.Dec.{eqb}
 use lib.ListN.{length, getD, replicate}
 use Rattle.pinmap.specs.PinMap.{Entry, entry, afterPuts}
-use Rattle.plan_record.specs.Record.{slotAt, levelAt}
+use Rattle.plan_record.specs.Record.{slotsOf, slotAt, levelAt}
 use Rattle.words.specs.Pins.{empty}
 use Rattle.words.specs.Tests.{someBelow}
 
@@ -22,13 +22,13 @@ unfoldable pub heldBelow : (ℕ → ℕ) → (ℕ → ℕ) → ℕ → List Entr
 heldBelow pin value zero = []
 heldBelow pin value (suc n) = heldBelow pin value n ++ heldAt (pin n) (value n)
 
--- positions 1..8191 of stage s, each with its number
+-- positions 1, 2, .. of stage s, each with its number
 unfoldable pub positionPuts : List ℕ → ℕ → ℕ → List Entry
-positionPuts d p s = heldBelow (λ i. slotAt d p s (i + 1)) (λ i. i + 1) 8191
+positionPuts d p s = heldBelow (λ i. slotAt d p s (i + 1)) (λ i. i + 1) (slotsOf d - 1)
 
 -- the slots of level 0 of stage 0
 unfoldable pub readPuts : List ℕ → ℕ → List Entry
-readPuts d p = heldBelow (λ j. levelAt d p 0 j) (λ j. 0) 8192
+readPuts d p = heldBelow (levelAt d p 0) (λ j. 0) (slotsOf d)
 
 -- pin n, where it is not empty and none of those before it; and the pins of n slots, each once, in the order in which they first come
 unfoldable pub newPin : (ℕ → ℕ) → ℕ → List ℕ
@@ -44,7 +44,7 @@ abbrev pub readPin : List ℕ → ℕ → ℕ → ℕ
 readPin d p j = levelAt d p 0 j
 
 unfoldable pub readPins : List ℕ → ℕ → List ℕ
-readPins d p = firstPins (readPin d p) 8192
+readPins d p = firstPins (readPin d p) (slotsOf d)
 
 -- each can be looked for in a table
 abbrev pub AllPins : List ℕ → Type 0

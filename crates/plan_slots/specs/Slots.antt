@@ -1,24 +1,32 @@
 -- The slots of a stage, and refusals 9, 10 and 11: document 01, "Positions and counts", "The script of a part" and the table.
--- Index q of a stage: position q for 1 ≤ q < 8192; slot j of level 0 has index 8192 + j. For m the largest power of two not above q, slot a stands
--- at q + m and slot b at q + 2m.
+-- Index q of a stage with n lanes: position q for 1 ≤ q < 32n; slot j of level 0 has index 32n + j. For m the largest power of two not above q,
+-- slot a stands at q + m and slot b at q + 2m.
 -- Assumes nothing.
+use mathlib.Core.Path.{_≡_}
 use mathlib.Core.Bool.{Bool, true, false, not, _&&_, _||_}
 use mathlib.Core.Option.{Option, none, some}
 use mathlib.Core.List.{List}
-use Prim.Native.Nat.{ℕ, zero, suc, _+_, _*_, _/_, _%_, _^_}
+use Prim.Native.Nat.{ℕ, zero, suc, _+_, _*_, _-_, _/_, _%_, _^_, _<_}
 use lib.Dec.{leb, ltb, eqb}
-use Rattle.plan_record.specs.Record.{partsOf, stagesOf, slotAt, levelAt, gateFirst, gateSecond}
+use Rattle.words.specs.Edition.{Known}
+use Rattle.plan_record.specs.Record.{planLanes, slotsOf, partsOf, stagesOf, slotAt, levelAt, gateFirst, gateSecond}
 use Rattle.words.specs.Pins.{isPin, empty}
 use Rattle.words.specs.Tests.{firstNot, someBelow, lowest, Place}
 use Rattle.plan_gates.specs.Gates.{gateOf}
 
--- the largest of 1, 2, .. 2^(n−1) that is not above q
+-- the largest of 1, 2, .. 2^(n−1) that is not above q; thirteen of them serve both editions
 unfoldable pub topBelow : ℕ → ℕ → ℕ
 topBelow zero q = 0
 topBelow (suc n) q = elim (leb (2 ^ n) q) [ true ↦ 2 ^ n | false ↦ topBelow n q ]
 
 abbrev pub top : ℕ → ℕ
 top q = topBelow 13 q
+
+-- r is that power; with it slots a and b are inside a stage of n lanes where q is one of its positions
+pub record TopOf (q r : ℕ) : Type 0 where
+  pub is : r ≡ top q
+  pub some : 0 < r
+  pub inside : (n : ℕ) → Known n → q < 32 * n → q + 2 * r < 64 * n
 
 abbrev pub slotA : List ℕ → ℕ → ℕ → ℕ → ℕ
 slotA d p s q = slotAt d p s (q + top q)
@@ -45,19 +53,20 @@ slotRight d p s q =
 unfoldable pub nineRight : List ℕ → ℕ → ℕ → ℕ → Bool
 nineRight d p s x = pinRight (levelAt d p s x) && (eqb x 0 || slotRight d p s x)
 
--- "stage·8192 + position": a test over stage and item as a test over the items of a part, and the lowest item of part p that it refuses
-abbrev pub overItems : (ℕ → ℕ → Bool) → ℕ → Bool
-overItems right i = right (i / 8192) (i % 8192)
+-- "stage·8192 + position", 8192 being the slots of the edition: a test over stage and item as a test over the items of a part with n lanes, and the
+-- lowest item of part p that it refuses
+abbrev pub overItems : ℕ → (ℕ → ℕ → Bool) → ℕ → Bool
+overItems n right i = right (i / (32 * n)) (i % (32 * n))
 
 unfoldable pub badItem : List ℕ → (ℕ → ℕ → Bool) → ℕ → Option ℕ
-badItem d right p = firstNot (overItems right) (8192 * stagesOf d p)
+badItem d right p = firstNot (overItems (planLanes d) right) (slotsOf d * stagesOf d p)
 
 unfoldable pub refusal9 : List ℕ → Option Place
 refusal9 d = lowest (λ p. badItem d (nineRight d p) p) (partsOf d)
 
--- 10: "later-stage pin absent from the stage before": positions 1..8191 are looked at
+-- 10: "later-stage pin absent from the stage before": positions from 1 on are looked at
 unfoldable pub standsIn : List ℕ → ℕ → ℕ → ℕ → Bool
-standsIn d p s x = someBelow (λ q. eqb (slotAt d p s (q + 1)) x) 8191
+standsIn d p s x = someBelow (λ q. eqb (slotAt d p s (q + 1)) x) (slotsOf d - 1)
 
 unfoldable pub tenRight : List ℕ → ℕ → ℕ → ℕ → Bool
 tenRight d p zero j = true
@@ -68,7 +77,7 @@ refusal10 d = lowest (λ p. badItem d (tenRight d p) p) (partsOf d)
 
 -- 11: "a part computes by gate a pin it reads in stage 0"
 unfoldable pub readsPin : List ℕ → ℕ → ℕ → Bool
-readsPin d p x = someBelow (λ j. eqb (levelAt d p 0 j) x) 8192
+readsPin d p x = someBelow (λ j. eqb (levelAt d p 0 j) x) (slotsOf d)
 
 unfoldable pub elevenRight : List ℕ → ℕ → ℕ → ℕ → Bool
 elevenRight d p s q =
@@ -83,4 +92,4 @@ highestBelow d p s x zero = 0
 highestBelow d p s x (suc q) = elim (ltb 0 q && eqb (slotAt d p s q) x) [ true ↦ q | false ↦ highestBelow d p s x q ]
 
 abbrev pub highest : List ℕ → ℕ → ℕ → ℕ → ℕ
-highest d p s x = highestBelow d p s x 8192
+highest d p s x = highestBelow d p s x (slotsOf d)

@@ -20,7 +20,7 @@ returns-2 c =
     let a = t .before .before in
     let s = a .before .before .before .before in
     let o = s .args in
-    slot-again (o .d .now) (o .p) (o .table .now) (o .list .now) (o .n) (o .j) (a .level-slot .result .0) (a .level-slot .ensures) (t .if1 .left) (s .pre .2) (s .pre .4) (k .look-up .result) (k .look-up .ensures) _ (c .enum-told .given .1)
+    slot-again (o .d .now) (o .p) (o .table .now) (o .list .now) (o .n) (o .j) (a .level-slot .result .0) (a .level-slot .ensures) (t .if1 .left) (omega (arith, s .pre .2, s .pre .0 .lanes)) (s .pre .4) (k .look-up .result) (k .look-up .ensures) _ (c .enum-told .given .1)
 
 returns-3 : tie.Need-returns-3
 returns-3 c =
@@ -31,7 +31,8 @@ returns-3 c =
     let a = t .before .before in
     let s = a .before .before .before .before in
     let o = s .args in
-    slot-new (o .d .now) (o .p) (o .table .now) (o .list .now) (o .n) (o .j) (a .level-slot .result .0) (a .level-slot .ensures) (t .if1 .left) (s .pre .2) (s .pre .4) (k .look-up .result) (k .look-up .ensures) _ _ (m .enum-told2 .given .1) (u .put .ensures .1) refl (omega arith)
+    slot-new (o .d .now) (o .p) (o .table .now) (o .list .now) (o .n) (o .j) (a .level-slot .result .0) (a .level-slot .ensures) (t .if1 .left)
+    (omega (arith, s .pre .2, s .pre .0 .lanes)) (s .pre .4) (k .look-up .result) (k .look-up .ensures) _ _ (m .enum-told2 .given .1) (u .put .ensures .1) refl (omega arith)
 
 pub list-slot-spec : {M : Type 1} → statement M
 list-slot-spec =
