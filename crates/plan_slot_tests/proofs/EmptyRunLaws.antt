@@ -8,7 +8,7 @@ use native.Mathlib.Omega.{arith}
 use borrow.Author.Tests.{eq-eqb, ne-eqb, eqb-true, eqb-false}
 use lib.Bits.{bitAnd, and-le-l, and-le-r, and-self}
 use lib.Dec.{eqb}
-use Rattle.plan_record.specs.Record.{slotAt}
+use Rattle.plan_record.specs.Record.{slotsOf, slotAt}
 use Rattle.words.specs.Pins.{empty}
 use Rattle.words.specs.Tests.{allBelow}
 use Rattle.words.proofs.TestLaws.{and-true, all-more, all-at}
@@ -53,26 +53,26 @@ module _ (d : List ℕ) (p s q : ℕ) where
 
 -- ---- eight items that no refusal says anything of
 
-pub nine-eight : (d : List ℕ) (p s x : ℕ) → 0 < x → (eighthEmpty d p s x && eighthEmpty d p s (8192 + x)) ≡ true
+pub nine-eight : (d : List ℕ) (p s x : ℕ) → 0 < x → (eighthEmpty d p s x && eighthEmpty d p s (slotsOf d + x)) ≡ true
     → (x % 8 ≡ 0) × ((k : ℕ) → k < 8 → nineRight d p s (x + k) ≡ true)
 nine-eight d p s x h e =
-    let (a, b) = and-true (eighthEmpty d p s x) (eighthEmpty d p s (8192 + x)) e in
+    let (a, b) = and-true (eighthEmpty d p s x) (eighthEmpty d p s (slotsOf d + x)) e in
     let (m, position) = eighth-slots d p s x a in
-    let level = eighth-slots d p s (8192 + x) b .1 in (
+    let level = eighth-slots d p s (slotsOf d + x) b .1 in (
       m,
       λ k l.
-          let z : 8192 + (x + k) ≡ 8192 + x + k = omega arith in
-          let v : slotAt d p s (8192 + (x + k)) ≡ empty = ap (slotAt d p s) z ∙ level k l in
+          let z : slotsOf d + (x + k) ≡ slotsOf d + x + k = omega arith in
+          let v : slotAt d p s (slotsOf d + (x + k)) ≡ empty = ap (slotAt d p s) z ∙ level k l in
           sym (nine-position d p s (x + k) true (pin-empty _ v) refl (omega arith)) ∙ sym (slot-empty d p s (x + k) _ refl (position k l)),
     )
 
-pub ten-eight : (d : List ℕ) (p s j : ℕ) → eighthEmpty d p (s + 1) (8192 + j) ≡ true
+pub ten-eight : (d : List ℕ) (p s j : ℕ) → eighthEmpty d p (s + 1) (slotsOf d + j) ≡ true
     → (j % 8 ≡ 0) × ((k : ℕ) → k < 8 → tenRight d p (s + 1) (j + k) ≡ true)
 ten-eight d p s j e =
-    let (m, level) = eighth-slots d p (s + 1) (8192 + j) e in (
+    let (m, level) = eighth-slots d p (s + 1) (slotsOf d + j) e in (
       omega arith,
       λ k l.
-          let z : 8192 + (j + k) ≡ 8192 + j + k = omega arith in
+          let z : slotsOf d + (j + k) ≡ slotsOf d + j + k = omega arith in
           sym (ten-empty d d p s (j + k) _ refl (ap (slotAt d p (s + 1)) z ∙ level k l)),
     )
 

@@ -4,16 +4,19 @@ use mathlib.Core.Path.{_≡_, refl, sym, ap, ap₂, _∙_}
 use mathlib.Core.Bool.{Bool, true, false}
 use mathlib.Core.List.{List}
 use mathlib.Core.Option.{Option, none, some}
-use Prim.Native.Nat.{ℕ, zero, suc, _+_, _*_, _-_, _/_, _%_, _≤_, _<_}
+use Prim.Native.Nat.{ℕ, zero, suc, _+_, _*_, _-_, _%_, _≤_, _<_}
+use native.Mathlib.Nat.{mul-le-mul-left}
 use native.Mathlib.Omega.{arith}
-use Rattle.plan_record.specs.Record.{majorsOf, partsOf, stagesOf, bodyAt}
+use Rattle.words.proofs.EditionLaws.{runs-in}
+use Rattle.plan_record.specs.Record.{planLanes, slotsOf, majorsOf, partsOf, stagesOf, bodyAt}
 use Rattle.plan_record.specs.Form.{planForm}
 use Rattle.plan_record.specs.Body.{BodyReady, BodyOf}
 use Rattle.plan_record.specs.declared.bodies.Body.{Body}
-use Rattle.words.specs.Tests.{firstFrom, firstNot}
+use Rattle.words.specs.Tests.{firstFrom}
 use Rattle.words.proofs.TestLaws.{some-not-none, first-here, first-on, first-none, none-not}
 use Rattle.plan_record.proofs.PlanFormLaws.{formed, body-ready}
 use Rattle.plan_slots.specs.Slots.{badItem, overItems}
+use Rattle.plan_slots.proofs.SlotLaws.{over-item}
 
 -- ---- a run of items, then the others
 
@@ -42,93 +45,95 @@ run-none f (suc m) n i h = go (f i) refl (run-none f m n (i + 1))
         passed f (suc m + n) (m + n) i (omega arith) e ∙ (r (sym (passed f (suc m) m i (omega arith) e) ∙ h) ∙ ap (firstFrom f n) q)
     go false e r = absurd (some-not-none (sym (first-here f (suc m) i (omega arith) e) ∙ h))
 
--- ---- the items of stage t, from slot j on
+-- ---- the items of stage t, from slot j on. n is the number of lanes: a stage has 32n items, and products with n stay as they are
 
-pub over-item : (right : ℕ → ℕ → Bool) (t j : ℕ) → j < 8192 → overItems right (8192 * t + j) ≡ right t j
-over-item right t j h =
-    let a : (8192 * t + j) / 8192 ≡ t = omega arith in
-    let b : (8192 * t + j) % 8192 ≡ j = omega arith in
-    ap₂ right a b
+module _ (n : ℕ) where
+  pub stage-start : (f : ℕ → Bool) (b : ℕ) → firstFrom f (32 * n - 0) (b + 0) ≡ firstFrom f (32 * n) b
+  stage-start f b =
+      let e : b + 0 ≡ b = omega arith in
+      let z : 32 * n - 0 ≡ 32 * n = omega arith in
+      ap₂ (firstFrom f) z e
 
-pub stage-start : (f : ℕ → Bool) (b : ℕ) → firstFrom f 8192 (b + 0) ≡ firstFrom f 8192 b
-stage-start f b = let e : b + 0 ≡ b = omega arith in ap (firstFrom f 8192) e
+  module _ (right : ℕ → ℕ → Bool) (t j : ℕ) (answer : Option ℕ) (so-far : firstFrom (overItems n right) (32 * n - j) (32 * n * t + j) ≡ answer) where
+    pub stage-next : j < 32 * n → right t j ≡ true → firstFrom (overItems n right) (32 * n - (j + 1)) (32 * n * t + (j + 1)) ≡ answer
+    stage-next l e =
+        let a : 32 * n * t + j + 1 ≡ 32 * n * t + (j + 1) = omega arith in
+        ap (firstFrom (overItems n right) (32 * n - (j + 1))) (sym a)
+        ∙ (sym (passed (overItems n right) (32 * n - j) (32 * n - (j + 1)) (32 * n * t + j) (omega arith) (over-item n right t j l ∙ e)) ∙ so-far)
 
-module _ (right : ℕ → ℕ → Bool) (t j : ℕ) (answer : Option ℕ) (so-far : firstFrom (overItems right) (8192 - j) (8192 * t + j) ≡ answer) where
-  pub stage-next : j < 8192 → right t j ≡ true → firstFrom (overItems right) (8192 - (j + 1)) (8192 * t + (j + 1)) ≡ answer
-  stage-next l e =
-      let a : 8192 * t + j + 1 ≡ 8192 * t + (j + 1) = omega arith in
-      ap (firstFrom (overItems right) (8192 - (j + 1))) (sym a)
-      ∙ (sym (passed (overItems right) (8192 - j) (8192 - (j + 1)) (8192 * t + j) (omega arith) (over-item right t j l ∙ e)) ∙ so-far)
+    pub stage-fault : (i : ℕ) → i ≡ 32 * n * t + j → j < 32 * n → right t j ≡ false → some i ≡ answer
+    stage-fault i at l e = ap some at ∙ (sym (first-here (overItems n right) (32 * n - j) (32 * n * t + j) (omega arith) (over-item n right t j l ∙ e)) ∙ so-far)
 
-  pub stage-fault : j < 8192 → right t j ≡ false → some (8192 * t + j) ≡ answer
-  stage-fault l e = sym (first-here (overItems right) (8192 - j) (8192 * t + j) (omega arith) (over-item right t j l ∙ e)) ∙ so-far
+    pub stage-end : 32 * n ≤ j → none ≡ answer
+    stage-end l =
+        let z : 32 * n - j ≡ 0 = omega arith in
+        sym (ap (λ (m : ℕ). firstFrom (overItems n right) m (32 * n * t + j)) z ∙ first-none (overItems n right) (32 * n * t + j)) ∙ so-far
 
-  pub stage-end : 8192 ≤ j → none ≡ answer
-  stage-end l =
-      let z : 8192 - j ≡ 0 = omega arith in
-      sym (ap (λ (m : ℕ). firstFrom (overItems right) m (8192 * t + j)) z ∙ first-none (overItems right) (8192 * t + j)) ∙ so-far
+  -- items that are right, one after the other, and eight from an eighth one on
+  stage-run : (right : ℕ → ℕ → Bool) (t j : ℕ) (answer : Option ℕ) → firstFrom (overItems n right) (32 * n - j) (32 * n * t + j) ≡ answer
+      → (m : ℕ) → j + m ≤ 32 * n → ((k : ℕ) → k < m → right t (j + k) ≡ true) → firstFrom (overItems n right) (32 * n - (j + m)) (32 * n * t + (j + m)) ≡ answer
+  stage-run right t j answer h zero l e =
+      let z : j + 0 ≡ j = omega arith in
+      ap (λ (i : ℕ). firstFrom (overItems n right) (32 * n - i) (32 * n * t + i)) z ∙ h
+  stage-run right t j answer h (suc m) l e =
+      let z : j + suc m ≡ j + m + 1 = omega arith in
+      ap (λ (i : ℕ). firstFrom (overItems n right) (32 * n - i) (32 * n * t + i)) z
+      ∙ stage-next right t (j + m) answer (stage-run right t j answer h m (omega arith) (λ k u. e k (omega arith))) (omega arith) (e m (omega arith))
 
--- items that are right, one after the other, and eight from an eighth one on
-stage-run : (right : ℕ → ℕ → Bool) (t j : ℕ) (answer : Option ℕ) → firstFrom (overItems right) (8192 - j) (8192 * t + j) ≡ answer
-    → (n : ℕ) → j + n ≤ 8192 → ((k : ℕ) → k < n → right t (j + k) ≡ true) → firstFrom (overItems right) (8192 - (j + n)) (8192 * t + (j + n)) ≡ answer
-stage-run right t j answer h zero l e =
-    let z : j + 0 ≡ j = omega arith in
-    ap (λ (i : ℕ). firstFrom (overItems right) (8192 - i) (8192 * t + i)) z ∙ h
-stage-run right t j answer h (suc n) l e =
-    let z : j + suc n ≡ j + n + 1 = omega arith in
-    ap (λ (i : ℕ). firstFrom (overItems right) (8192 - i) (8192 * t + i)) z
-    ∙ stage-next right t (j + n) answer (stage-run right t j answer h n (omega arith) (λ k u. e k (omega arith))) (omega arith) (e n (omega arith))
+  pub stage-eight : (right : ℕ → ℕ → Bool) (t j : ℕ) (answer : Option ℕ) → firstFrom (overItems n right) (32 * n - j) (32 * n * t + j) ≡ answer
+      → j < 32 * n → (j % 8 ≡ 0) × ((k : ℕ) → k < 8 → right t (j + k) ≡ true)
+      → (j + 8 ≤ 32 * n) × (firstFrom (overItems n right) (32 * n - (j + 8)) (32 * n * t + (j + 8)) ≡ answer)
+  stage-eight right t j answer h l (m, e) = let b : j + 8 ≤ 32 * n = omega arith in (b, stage-run right t j answer h 8 b e)
 
-pub stage-eight : (right : ℕ → ℕ → Bool) (t j : ℕ) (answer : Option ℕ) → firstFrom (overItems right) (8192 - j) (8192 * t + j) ≡ answer
-    → j < 8192 → (j % 8 ≡ 0) × ((k : ℕ) → k < 8 → right t (j + k) ≡ true)
-    → (j + 8 ≤ 8192) × (firstFrom (overItems right) (8192 - (j + 8)) (8192 * t + (j + 8)) ≡ answer)
-stage-eight right t j answer h l (m, e) = let b : j + 8 ≤ 8192 = omega arith in (b, stage-run right t j answer h 8 b e)
+  -- item 0 is right, and the others are left; or it is refused
+  module _ (right : ℕ → ℕ → Bool) (t : ℕ) (lanes : 128 ≤ n) where
+    pub zero-right : right t 0 ≡ true → firstFrom (overItems n right) (32 * n - 1) (32 * n * t + 1) ≡ firstFrom (overItems n right) (32 * n) (32 * n * t)
+    zero-right e = stage-next right t 0 _ (stage-start (overItems n right) (32 * n * t)) (omega arith) e
 
--- item 0 is right, and the others are left; or it is refused
-module _ (right : ℕ → ℕ → Bool) (t : ℕ) where
-  pub zero-right : right t 0 ≡ true → firstFrom (overItems right) 8191 (8192 * t + 1) ≡ firstFrom (overItems right) 8192 (8192 * t)
-  zero-right e = stage-next right t 0 _ (stage-start (overItems right) (8192 * t)) (omega arith) e
-
-  pub zero-fault : right t 0 ≡ false → some (8192 * t) ≡ firstFrom (overItems right) 8192 (8192 * t)
-  zero-fault e =
-      let z : 8192 * t ≡ 8192 * t + 0 = omega arith in
-      ap some z ∙ stage-fault right t 0 _ (stage-start (overItems right) (8192 * t)) (omega arith) e
+    pub zero-fault : (i : ℕ) → i ≡ 32 * n * t + 0 → right t 0 ≡ false → some i ≡ firstFrom (overItems n right) (32 * n) (32 * n * t)
+    zero-fault i at e = stage-fault right t 0 _ (stage-start (overItems n right) (32 * n * t)) i at (omega arith) e
 
 -- ---- the stages of a part, one run after the other: from stage 0 on, and from stage 1 on where stage 0 has nothing to refuse
 
-pub stages-all : (d : List ℕ) (right : ℕ → ℕ → Bool) (p n : ℕ) → n ≡ stagesOf d p
-    → firstFrom (overItems right) (8192 * n - 8192 * 0) (8192 * 0) ≡ badItem d right p
+module _ (n : ℕ) where
+  module _ (f : ℕ → Bool) (m t : ℕ) (answer : Option ℕ) (left : t < m) (so-far : firstFrom f (32 * n * m - 32 * n * t) (32 * n * t) ≡ answer) where
+    split : 32 * n * m - 32 * n * t ≡ 32 * n + (32 * n * m - 32 * n * (t + 1))
+    split = omega (arith, runs-in (32 * n) t m left)
+
+    pub stages-next : firstFrom f (32 * n) (32 * n * t) ≡ none → firstFrom f (32 * n * m - 32 * n * (t + 1)) (32 * n * (t + 1)) ≡ answer
+    stages-next h =
+        let e : 32 * n * (t + 1) ≡ 32 * n * t + 32 * n = omega arith in
+        ap (firstFrom f (32 * n * m - 32 * n * (t + 1))) e
+        ∙ (sym (run-none f (32 * n) (32 * n * m - 32 * n * (t + 1)) (32 * n * t) h) ∙ (sym (ap (λ (k : ℕ). firstFrom f k (32 * n * t)) split) ∙ so-far))
+
+    pub stages-fault : (k : ℕ) → firstFrom f (32 * n) (32 * n * t) ≡ some k → some k ≡ answer
+    stages-fault k h =
+        sym (run-some f (32 * n) (32 * n * m - 32 * n * (t + 1)) (32 * n * t) k h) ∙ (sym (ap (λ (k : ℕ). firstFrom f k (32 * n * t)) split) ∙ so-far)
+
+  pub stages-end : (f : ℕ → Bool) (m t : ℕ) (answer : Option ℕ) → m ≤ t → firstFrom f (32 * n * m - 32 * n * t) (32 * n * t) ≡ answer → none ≡ answer
+  stages-end f m t answer l h =
+      let z : 32 * n * m - 32 * n * t ≡ 0 = omega (arith, mul-le-mul-left {m = m} {n = t} (32 * n) l) in
+      sym (ap (λ (k : ℕ). firstFrom f k (32 * n * t)) z ∙ first-none f (32 * n * t)) ∙ h
+
+pub stages-all : (d : List ℕ) (right : ℕ → ℕ → Bool) (p m : ℕ) → m ≡ stagesOf d p
+    → firstFrom (overItems (planLanes d) right) (slotsOf d * m - slotsOf d * 0) (slotsOf d * 0) ≡ badItem d right p
 unfolding badItem
-stages-all d right p n h =
-    let e : 8192 * n - 8192 * 0 ≡ 8192 * stagesOf d p = omega arith in
-    ap (λ (m : ℕ). firstFrom (overItems right) m 0) e
+stages-all d right p m h =
+    let e : slotsOf d * m - slotsOf d * 0 ≡ slotsOf d * m = omega arith in
+    let z : slotsOf d * 0 ≡ 0 = omega arith in
+    ap₂ (firstFrom (overItems (planLanes d) right)) (e ∙ ap (λ (k : ℕ). slotsOf d * k) h) z
 
-pub stages-first : (d : List ℕ) (right : ℕ → ℕ → Bool) (p n : ℕ) → n ≡ stagesOf d p → 0 < n → ((j : ℕ) → right 0 j ≡ true)
-    → firstFrom (overItems right) (8192 * n - 8192 * (0 + 1)) (8192 * (0 + 1)) ≡ badItem d right p
-unfolding badItem
-stages-first d right p n h l k =
-    let e : 8192 + (8192 * n - 8192 * (0 + 1)) ≡ 8192 * stagesOf d p = omega arith in
-    let first : firstNot (overItems right) 8192 ≡ none = none-not (overItems right) 8192 (λ j u. let z : j / 8192 ≡ 0 = omega arith in ap (λ (t : ℕ). right t (j % 8192)) z ∙ k (j % 8192)) in
-    sym (sym (ap (λ (m : ℕ). firstFrom (overItems right) m 0) e) ∙ run-none (overItems right) 8192 (8192 * n - 8192 * (0 + 1)) 0 first)
-
-module _ (f : ℕ → Bool) (n t : ℕ) (answer : Option ℕ) (left : t < n) (so-far : firstFrom f (8192 * n - 8192 * t) (8192 * t) ≡ answer) where
-  split : 8192 * n - 8192 * t ≡ 8192 + (8192 * n - 8192 * (t + 1))
-  split = omega arith
-
-  pub stages-next : firstFrom f 8192 (8192 * t) ≡ none → firstFrom f (8192 * n - 8192 * (t + 1)) (8192 * (t + 1)) ≡ answer
-  stages-next h =
-      let e : 8192 * (t + 1) ≡ 8192 * t + 8192 = omega arith in
-      ap (firstFrom f (8192 * n - 8192 * (t + 1))) e
-      ∙ (sym (run-none f 8192 (8192 * n - 8192 * (t + 1)) (8192 * t) h) ∙ (sym (ap (λ (m : ℕ). firstFrom f m (8192 * t)) split) ∙ so-far))
-
-  pub stages-fault : (k : ℕ) → firstFrom f 8192 (8192 * t) ≡ some k → some k ≡ answer
-  stages-fault k h =
-      sym (run-some f 8192 (8192 * n - 8192 * (t + 1)) (8192 * t) k h) ∙ (sym (ap (λ (m : ℕ). firstFrom f m (8192 * t)) split) ∙ so-far)
-
-pub stages-end : (f : ℕ → Bool) (n t : ℕ) (answer : Option ℕ) → n ≤ t → firstFrom f (8192 * n - 8192 * t) (8192 * t) ≡ answer → none ≡ answer
-stages-end f n t answer l h =
-    let z : 8192 * n - 8192 * t ≡ 0 = omega arith in
-    sym (ap (λ (m : ℕ). firstFrom f m (8192 * t)) z ∙ first-none f (8192 * t)) ∙ h
+pub stages-first : (d : List ℕ) (right : ℕ → ℕ → Bool) (p m : ℕ) → m ≡ stagesOf d p → 0 < m → ((j : ℕ) → right 0 j ≡ true)
+    → firstFrom (overItems (planLanes d) right) (slotsOf d * m - slotsOf d * (0 + 1)) (slotsOf d * (0 + 1)) ≡ badItem d right p
+stages-first d right p m h l k =
+    let zero-run : firstFrom (overItems (planLanes d) right) (slotsOf d) (slotsOf d * 0) ≡ none = from-zero in
+    stages-next (planLanes d) (overItems (planLanes d) right) m 0 _ l (stages-all d right p m h) zero-run
+  where
+    from-zero : firstFrom (overItems (planLanes d) right) (slotsOf d) (slotsOf d * 0) ≡ none
+    from-zero =
+        let z : slotsOf d * 0 ≡ 0 = omega arith in
+        ap (firstFrom (overItems (planLanes d) right) (slotsOf d)) z
+        ∙ none-not (overItems (planLanes d) right) (slotsOf d) (λ j u. let a : slotsOf d * 0 + j ≡ j = omega arith in ap (overItems (planLanes d) right) (sym a) ∙ (over-item (planLanes d) right 0 j u ∙ k j))
 
 -- ---- the parts of a plan
 
@@ -142,3 +147,7 @@ module _ (d : List ℕ) (form : planForm d ≡ true) where
 
   pub form-stages : (n p : ℕ) (b : Body) → n ≡ partsOf d → p < n → BodyOf d p b → 0 < b .stages
   form-stages n p b h l e = omega (arith, formed d form .part p (omega arith) .some-stages, e .stages)
+
+-- the item of a body's stage, as the code works it out
+pub item-is : (d : List ℕ) (p : ℕ) (b : Body) (s x r : ℕ) → BodyOf d p b → r ≡ 32 * b .lanes * s + x → r ≡ slotsOf d * s + x
+item-is d p b s x r h e = e ∙ ap (λ (n : ℕ). 32 * n * s + x) (h .lanes)

@@ -3,6 +3,7 @@ ghost use mathlib.Core.Path.{_≡_};
 ghost use mathlib.Core.Bool.{true};
 ghost use Prim.Native.Nat.{_*_, _≤_, _<_};
 ghost use lib.ListN.{length, replicate};
+ghost use Rattle.plan_record.specs.Record.{planLanes, slotsOf};
 ghost use Rattle.plan_record.specs.Body.{BodyOf};
 ghost use Rattle.plan_record.specs.Form.{planForm};
 ghost use Rattle.words.specs.Tests.{firstFrom};
@@ -10,6 +11,7 @@ ghost use Rattle.plan_slots.specs.Slots.{elevenRight, badItem, overItems};
 ghost use Rattle.plan_slots.specs.Puts.{readPuts, FilledWith};
 ghost use Rattle.words.specs.Found.{itemOf, lowestOf};
 use crate::runs::eighth_empty;
+use crate::runs::item_at;
 use pinmap::Found;
 use plan_record::bodies::Body;
 use plan_record::bodies::body_at;
@@ -19,14 +21,13 @@ use plan_record::bodies::slot;
 use plan_slots::tables::fill_reads;
 use plan_slots::tables::top_power;
 use words::clear::clear;
-use words::edition::Edition;
 use words::found::Item;
 use words::found::Lowest;
 use words::units::EMPTY_PIN;
 
 // Whether position q of stage s is empty or carried, or its pin is not read: the table holds the pins that the part reads.
 fn eleven_right(d: &[u8], p: usize, body: Body, s: usize, q: usize, table: &[u32]) -> bool
-    requires { ⌜ BodyOf (now d) p body × (s < body .stages) × (0 < q) × (q < 8192) × FilledWith (readPuts (now d) p) (now table) ⌝ }
+    requires { ⌜ BodyOf (now d) p body × (s < body .stages) × (0 < q) × (q < 32 * body .lanes) × FilledWith (readPuts (now d) p) (now table) ⌝ }
     ensures { λ r. ⌜ r ≡ elevenRight (now (d .entry)) p s q ⌝ }
 {
     let pin = slot(d, p, body, s, q);
@@ -45,16 +46,17 @@ fn eleven_right(d: &[u8], p: usize, body: Body, s: usize, q: usize, table: &[u32
 // The lowest item of stage s that is refused: item 0 has no position.
 fn eleven_items(d: &[u8], p: usize, body: Body, s: usize, table: &[u32]) -> Item
     requires { ⌜ BodyOf (now d) p body × (s < body .stages) × FilledWith (readPuts (now d) p) (now table) ⌝ }
-    ensures { λ r. ⌜ r ≡ itemOf (firstFrom (overItems (elevenRight (now (d .entry)) p)) 8192 (8192 * s)) ⌝ }
+    ensures { λ r. ⌜ r ≡ itemOf (firstFrom (overItems (planLanes (now (d .entry))) (elevenRight (now (d .entry)) p)) (slotsOf (now (d .entry))) (slotsOf (now (d .entry)) * s)) ⌝ }
 {
+    let slots = 32 * body.lanes;
     let mut q = 1;
-    while q < Edition::SLOTS {
+    while q < slots {
         if eighth_empty(d, p, body, s, q) {
             q += 8;
         } else if eleven_right(d, p, body, s, q, table) {
             q += 1;
         } else {
-            return Item::At(Edition::SLOTS * s + q);
+            return Item::At(item_at(body, s, q));
         }
     }
     Item::Fine

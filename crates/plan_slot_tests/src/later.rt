@@ -3,6 +3,7 @@ ghost use mathlib.Core.Path.{_≡_};
 ghost use mathlib.Core.Bool.{true};
 ghost use Prim.Native.Nat.{_+_, _*_, _≤_, _<_};
 ghost use lib.ListN.{length, replicate};
+ghost use Rattle.plan_record.specs.Record.{planLanes, slotsOf};
 ghost use Rattle.plan_record.specs.Body.{BodyOf};
 ghost use Rattle.plan_record.specs.Form.{planForm};
 ghost use Rattle.words.specs.Tests.{firstFrom};
@@ -10,6 +11,7 @@ ghost use Rattle.plan_slots.specs.Slots.{tenRight, badItem, overItems};
 ghost use Rattle.plan_slots.specs.Puts.{positionPuts, FilledWith};
 ghost use Rattle.words.specs.Found.{itemOf, lowestOf};
 use crate::runs::eighth_empty;
+use crate::runs::item_at;
 use pinmap::Found;
 use plan_record::bodies::Body;
 use plan_record::bodies::body_at;
@@ -18,14 +20,13 @@ use plan_record::bodies::level_slot;
 use plan_record::bodies::parts_of;
 use plan_slots::tables::fill_positions;
 use words::clear::clear;
-use words::edition::Edition;
 use words::found::Item;
 use words::found::Lowest;
 use words::units::EMPTY_PIN;
 
 // Whether slot j of level 0 of stage s + 1 is empty or its pin stands in stage s, whose positions the table holds.
 fn ten_right(d: &[u8], p: usize, body: Body, s: usize, j: usize, table: &[u32]) -> bool
-    requires { ⌜ BodyOf (now d) p body × (s + 1 < body .stages) × (j < 8192) × FilledWith (positionPuts (now d) p s) (now table) ⌝ }
+    requires { ⌜ BodyOf (now d) p body × (s + 1 < body .stages) × (j < 32 * body .lanes) × FilledWith (positionPuts (now d) p s) (now table) ⌝ }
     ensures { λ r. ⌜ r ≡ tenRight (now (d .entry)) p (s + 1) j ⌝ }
 {
     let pin = level_slot(d, p, body, s + 1, j);
@@ -41,16 +42,17 @@ fn ten_right(d: &[u8], p: usize, body: Body, s: usize, j: usize, table: &[u32]) 
 // The lowest item of stage s + 1 that is refused.
 fn ten_items(d: &[u8], p: usize, body: Body, s: usize, table: &[u32]) -> Item
     requires { ⌜ BodyOf (now d) p body × (s + 1 < body .stages) × FilledWith (positionPuts (now d) p s) (now table) ⌝ }
-    ensures { λ r. ⌜ r ≡ itemOf (firstFrom (overItems (tenRight (now (d .entry)) p)) 8192 (8192 * (s + 1))) ⌝ }
+    ensures { λ r. ⌜ r ≡ itemOf (firstFrom (overItems (planLanes (now (d .entry))) (tenRight (now (d .entry)) p)) (slotsOf (now (d .entry))) (slotsOf (now (d .entry)) * (s + 1))) ⌝ }
 {
+    let slots = 32 * body.lanes;
     let mut j = 0;
-    while j < Edition::SLOTS {
-        if eighth_empty(d, p, body, s + 1, Edition::SLOTS + j) {
+    while j < slots {
+        if eighth_empty(d, p, body, s + 1, slots + j) {
             j += 8;
         } else if ten_right(d, p, body, s, j, table) {
             j += 1;
         } else {
-            return Item::At(Edition::SLOTS * (s + 1) + j);
+            return Item::At(item_at(body, s + 1, j));
         }
     }
     Item::Fine
@@ -59,7 +61,7 @@ fn ten_items(d: &[u8], p: usize, body: Body, s: usize, table: &[u32]) -> Item
 // The same with a lent table.
 fn ten_stage(d: &[u8], p: usize, body: Body, s: usize, table: &mut [u32]) -> Item
     requires { ⌜ BodyOf (now d) p body × (s + 1 < body .stages) × (32768 ≤ length (now table)) ⌝ }
-    ensures { λ r. ⌜ r ≡ itemOf (firstFrom (overItems (tenRight (now (d .entry)) p)) 8192 (8192 * (s + 1))) ⌝ }
+    ensures { λ r. ⌜ r ≡ itemOf (firstFrom (overItems (planLanes (now (d .entry))) (tenRight (now (d .entry)) p)) (slotsOf (now (d .entry))) (slotsOf (now (d .entry)) * (s + 1))) ⌝ }
 {
     fill_positions(d, p, body, s, table);
     ten_items(d, p, body, s, table)

@@ -1,6 +1,6 @@
 // Eight slots at once: most slots of a plan are empty, and are passed by eight.
 ghost use mathlib.Core.Path.{_≡_};
-ghost use Prim.Native.Nat.{_≤_, _<_};
+ghost use Prim.Native.Nat.{_+_, _*_, _≤_, _<_};
 ghost use Rattle.words.specs.Tests.{allBelow};
 ghost use Rattle.plan_record.specs.Body.{BodyOf};
 ghost use Rattle.plan_slot_tests.specs.EmptyRuns.{emptyFrom, eighthEmpty};
@@ -10,7 +10,7 @@ use words::units::EMPTY_PIN;
 
 // Whether eight slots from index q on are empty: each bit of the empty pin is 1.
 fn eight_empty(d: &[u8], p: usize, body: Body, s: usize, q: usize) -> bool
-    requires { ⌜ BodyOf (now d) p body × (s < body .stages) × (1 ≤ q) × (q ≤ 16376) ⌝ }
+    requires { ⌜ BodyOf (now d) p body × (s < body .stages) × (1 ≤ q) × (q + 7 < 64 * body .lanes) ⌝ }
     ensures { λ r. ⌜ r ≡ allBelow (emptyFrom (now (d .entry)) p s q) 8 ⌝ }
 {
     let mut all = EMPTY_PIN;
@@ -24,11 +24,19 @@ fn eight_empty(d: &[u8], p: usize, body: Body, s: usize, q: usize) -> bool
 
 // The same, asked of each eighth index.
 pub fn eighth_empty(d: &[u8], p: usize, body: Body, s: usize, q: usize) -> bool
-    requires { ⌜ BodyOf (now d) p body × (s < body .stages) × (1 ≤ q) × (q ≤ 16383) ⌝ }
+    requires { ⌜ BodyOf (now d) p body × (s < body .stages) × (1 ≤ q) × (q < 64 * body .lanes) ⌝ }
     ensures { λ r. ⌜ r ≡ eighthEmpty (now (d .entry)) p s q ⌝ }
 {
     if q % 8 == 0 {
         return eight_empty(d, p, body, s, q);
     }
     false
+}
+
+// Item x of stage s.
+pub fn item_at(body: Body, s: usize, x: usize) -> usize
+    requires { ⌜ (body .lanes ≤ 256) × (s ≤ 255) × (x < 8192) ⌝ }
+    ensures { λ r. ⌜ r ≡ 32 * body .lanes * s + x ⌝ }
+{
+    32 * body.lanes * s + x
 }

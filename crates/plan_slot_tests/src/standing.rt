@@ -2,7 +2,8 @@
 ghost use mathlib.Core.Path.{_≡_};
 ghost use mathlib.Core.Bool.{true, _&&_};
 ghost use mathlib.Core.Option.{none};
-ghost use Prim.Native.Nat.{_+_, _*_, _<_};
+ghost use Prim.Native.Nat.{_+_, _*_, _-_, _<_};
+ghost use Rattle.plan_record.specs.Record.{planLanes, slotsOf};
 ghost use Rattle.plan_record.specs.Body.{BodyOf};
 ghost use Rattle.plan_record.specs.Form.{planForm};
 ghost use Rattle.words.specs.Tests.{firstFrom};
@@ -11,6 +12,7 @@ ghost use Rattle.plan_slots.specs.Slots.{feeds, pinRight, slotRight, nineRight,
 ghost use Rattle.plan_slot_tests.specs.EmptyRuns.{eighthEmpty};
 ghost use Rattle.words.specs.Found.{itemOf, lowestOf};
 use crate::runs::eighth_empty;
+use crate::runs::item_at;
 use plan_gates::GateFound;
 use plan_gates::find_gate;
 use plan_record::bodies::Body;
@@ -22,7 +24,6 @@ use plan_record::bodies::slot;
 use plan_record::numbers::gate_first;
 use plan_record::numbers::gate_second;
 use plan_slots::tables::top_power;
-use words::edition::Edition;
 use words::found::Item;
 use words::found::Lowest;
 use words::units::EMPTY_PIN;
@@ -61,7 +62,7 @@ fn fed_by(d: &[u8], pin: Pin, a: Pin, b: Pin) -> bool
 
 // Whether position q of stage s holds what may stand there.
 fn slot_right(d: &[u8], p: usize, body: Body, s: usize, q: usize) -> bool
-    requires { ⌜ BodyOf (now d) p body × (s < body .stages) × (0 < q) × (q < 8192) × (badGate (now d) ≡ none) ⌝ }
+    requires { ⌜ BodyOf (now d) p body × (s < body .stages) × (0 < q) × (q < 32 * body .lanes) × (badGate (now d) ≡ none) ⌝ }
     ensures { λ r. ⌜ r ≡ slotRight (now (d .entry)) p s q ⌝ }
 {
     let pin = slot(d, p, body, s, q);
@@ -81,7 +82,7 @@ fn slot_right(d: &[u8], p: usize, body: Body, s: usize, q: usize) -> bool
 
 // Whether slot x of level 0 and position x are right.
 fn nine_right(d: &[u8], p: usize, body: Body, s: usize, x: usize) -> bool
-    requires { ⌜ BodyOf (now d) p body × (s < body .stages) × (0 < x) × (x < 8192) × (badGate (now d) ≡ none) ⌝ }
+    requires { ⌜ BodyOf (now d) p body × (s < body .stages) × (0 < x) × (x < 32 * body .lanes) × (badGate (now d) ≡ none) ⌝ }
     ensures { λ r. ⌜ r ≡ nineRight (now (d .entry)) p s x ⌝ }
 {
     if pin_right(level_slot(d, p, body, s, x)) {
@@ -92,11 +93,11 @@ fn nine_right(d: &[u8], p: usize, body: Body, s: usize, x: usize) -> bool
 
 // Whether eight slots of level 0 and eight positions, from an eighth x on, are empty.
 fn nine_empty(d: &[u8], p: usize, body: Body, s: usize, x: usize) -> bool
-    requires { ⌜ BodyOf (now d) p body × (s < body .stages) × (0 < x) × (x < 8192) ⌝ }
-    ensures { λ r. ⌜ r ≡ (eighthEmpty (now (d .entry)) p s x && eighthEmpty (now (d .entry)) p s (8192 + x)) ⌝ }
+    requires { ⌜ BodyOf (now d) p body × (s < body .stages) × (0 < x) × (x < 32 * body .lanes) ⌝ }
+    ensures { λ r. ⌜ r ≡ (eighthEmpty (now (d .entry)) p s x && eighthEmpty (now (d .entry)) p s (slotsOf (now (d .entry)) + x)) ⌝ }
 {
     if eighth_empty(d, p, body, s, x) {
-        return eighth_empty(d, p, body, s, Edition::SLOTS + x);
+        return eighth_empty(d, p, body, s, 32 * body.lanes + x);
     }
     false
 }
@@ -104,16 +105,17 @@ fn nine_empty(d: &[u8], p: usize, body: Body, s: usize, x: usize) -> bool
 // The lowest item of stage s but for item 0 that is refused.
 fn nine_later(d: &[u8], p: usize, body: Body, s: usize) -> Item
     requires { ⌜ BodyOf (now d) p body × (s < body .stages) × (badGate (now d) ≡ none) ⌝ }
-    ensures { λ r. ⌜ r ≡ itemOf (firstFrom (overItems (nineRight (now (d .entry)) p)) 8191 (8192 * s + 1)) ⌝ }
+    ensures { λ r. ⌜ r ≡ itemOf (firstFrom (overItems (planLanes (now (d .entry))) (nineRight (now (d .entry)) p)) (slotsOf (now (d .entry)) - 1) (slotsOf (now (d .entry)) * s + 1)) ⌝ }
 {
+    let slots = 32 * body.lanes;
     let mut x = 1;
-    while x < Edition::SLOTS {
+    while x < slots {
         if nine_empty(d, p, body, s, x) {
             x += 8;
         } else if nine_right(d, p, body, s, x) {
             x += 1;
         } else {
-            return Item::At(Edition::SLOTS * s + x);
+            return Item::At(item_at(body, s, x));
         }
     }
     Item::Fine
@@ -122,12 +124,12 @@ fn nine_later(d: &[u8], p: usize, body: Body, s: usize) -> Item
 // The lowest item of stage s that is refused: item 0 has no position.
 fn nine_items(d: &[u8], p: usize, body: Body, s: usize) -> Item
     requires { ⌜ BodyOf (now d) p body × (s < body .stages) × (badGate (now d) ≡ none) ⌝ }
-    ensures { λ r. ⌜ r ≡ itemOf (firstFrom (overItems (nineRight (now (d .entry)) p)) 8192 (8192 * s)) ⌝ }
+    ensures { λ r. ⌜ r ≡ itemOf (firstFrom (overItems (planLanes (now (d .entry))) (nineRight (now (d .entry)) p)) (slotsOf (now (d .entry))) (slotsOf (now (d .entry)) * s)) ⌝ }
 {
     if pin_right(level_slot(d, p, body, s, 0)) {
         return nine_later(d, p, body, s);
     }
-    Item::At(Edition::SLOTS * s)
+    Item::At(item_at(body, s, 0))
 }
 
 // The lowest item of part p that is refused.

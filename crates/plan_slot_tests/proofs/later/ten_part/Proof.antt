@@ -5,6 +5,7 @@ use Prim.Native.Nat.{_+_, _*_, _-_, _<_}
 use native.Mathlib.Omega.{arith}
 use borrow.Author.Needs.{needs}
 use lib.ListN.{length}
+use Rattle.plan_record.specs.Record.{planLanes, slotsOf}
 use Rattle.words.specs.Tests.{firstFrom}
 use Rattle.plan_slots.specs.Slots.{tenRight, badItem, overItems}
 use Rattle.words.specs.Found.{itemOf}
@@ -17,7 +18,7 @@ use Rattle.plan_slot_tests.proofs.later.ten_part.Tie as tie
 abbrev Inv-loop : tie.InvT-loop
 Inv-loop d p body table₀ s₀ table s =
     (s < body .stages) × (length table ≡ length table₀)
-    × (firstFrom (overItems (tenRight d p)) (8192 * body .stages - 8192 * (s + 1)) (8192 * (s + 1)) ≡ badItem d (tenRight d p) p)
+    × (firstFrom (overItems (planLanes d) (tenRight d p)) (slotsOf d * body .stages - slotsOf d * (s + 1)) (slotsOf d * (s + 1)) ≡ badItem d (tenRight d p) p)
 
 abbrev μ-loop : tie.MeasureT-loop
 μ-loop d p body table₀ s₀ table s = body .stages - s
@@ -42,7 +43,8 @@ loop-again c =
     let l = at-if1 .before .before in
     let s = l .before .before .before in
     let o = s .args in
-    (at-if1 .if1 .taken, at-table .table .given ∙ l .loop .inv .1, stages-next (overItems (tenRight (o .d .now) (o .p))) (o .body .stages) (l .loop .s + 1) _ (at-if1 .if1 .taken) (l .loop .inv .2) (item-none _ (sym (k .ten-stage .ensures) ∙ c .enum-told .given .1)))
+    let n = planLanes (o .d .now) in
+    (at-if1 .if1 .taken, at-table .table .given ∙ l .loop .inv .1, stages-next n (overItems n (tenRight (o .d .now) (o .p))) (o .body .stages) (l .loop .s + 1) _ (at-if1 .if1 .taken) (l .loop .inv .2) (item-none _ (sym (k .ten-stage .ensures) ∙ c .enum-told .given .1)))
 
 same-length : tie.Need-same-length Inv-loop μ-loop
 same-length c =
@@ -56,13 +58,15 @@ returns c =
     let l = k .before .before .before .before in
     let s = l .before .before .before in
     let o = s .args in
-    (ap itemOf (stages-fault (overItems (tenRight (o .d .now) (o .p))) (o .body .stages) (l .loop .s + 1) _ (k .before .before .if1 .taken) (l .loop .inv .2) _ (item-some _ _ (sym (k .ten-stage .ensures) ∙ c .before .i .given .1))))
+    let n = planLanes (o .d .now) in
+    (ap itemOf (stages-fault n (overItems n (tenRight (o .d .now) (o .p))) (o .body .stages) (l .loop .s + 1) _ (k .before .before .if1 .taken) (l .loop .inv .2) _ (item-some _ _ (sym (k .ten-stage .ensures) ∙ c .before .i .given .1))))
 
 returns-2 : tie.Need-returns-2 Inv-loop μ-loop
 returns-2 c =
     let l = c .before .before in
     let o = l .before .before .before .args in
-    (ap itemOf (stages-end (overItems (tenRight (o .d .now) (o .p))) (o .body .stages) (l .loop .s + 1) _ (c .if1 .left) (l .loop .inv .2)))
+    let n = planLanes (o .d .now) in
+    (ap itemOf (stages-end n (overItems n (tenRight (o .d .now) (o .p))) (o .body .stages) (l .loop .s + 1) _ (c .if1 .left) (l .loop .inv .2)))
 
 pub ten-part-spec : {M : Type 1} → statement M
 ten-part-spec =
