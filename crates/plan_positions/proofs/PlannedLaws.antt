@@ -15,7 +15,8 @@ use Rattle.pinmap.specs.declared.Found.{Found}
 use Rattle.pinmap.specs.declared.Found.the-variants.{Value, Missing}
 use Rattle.pinmap.specs.PinMap.{look, lookAnswer}
 use Rattle.plan_record.specs.declared.bodies.Body.{Body}
-use Rattle.plan_record.specs.Record.{partsBefore, partsOf, slotAt}
+use Rattle.plan_record.specs.Record.{slotsOf, partsBefore, partsOf, levelAt}
+use Rattle.plan_record.proofs.RecordLaws.{lanes-full}
 use Rattle.words.specs.Pins.{empty}
 use Rattle.plan_record.specs.Body.{BodyOf}
 use Rattle.words.specs.Tests.{allBelow, someBelow}
@@ -63,18 +64,18 @@ module _ (d : List ℕ) (n : ℕ) where
 -- ---- a slot is right
 
 module _ (d : List ℕ) (p j : ℕ) where
-  pub slot-empty : slotAt d p 0 (8192 + j) ≡ empty → true ≡ twelveRight d p j
+  pub slot-empty : levelAt d p 0 j ≡ empty → true ≡ twelveRight d p j
   unfolding twelveRight
   slot-empty h = rw (eq-eqb _ _ h)
 
-  pub slot-held : (slotAt d p 0 (8192 + j) ≡ empty → ⊥)
-      → positionRightIn d (partsBefore d (majorOf d p)) (plannedBy d (winner d (slotAt d p 0 (8192 + j)))) ≡ twelveRight d p j
+  pub slot-held : (levelAt d p 0 j ≡ empty → ⊥)
+      → positionRightIn d (partsBefore d (majorOf d p)) (plannedBy d (winner d (levelAt d p 0 j))) ≡ twelveRight d p j
   unfolding twelveRight
-  slot-held h = rw (ne-eqb _ _ h, planned-winner d (slotAt d p 0 (8192 + j)), place-in d (majorOf d p))
+  slot-held h = rw (ne-eqb _ _ h, planned-winner d (levelAt d p 0 j), place-in d (majorOf d p))
 
-  pub slot-read : j < 8192 → readsPin d p (slotAt d p 0 (8192 + j)) ≡ true
+  pub slot-read : j < 8192 → readsPin d p (levelAt d p 0 j) ≡ true
   unfolding readsPin
-  slot-read l = some-at (λ k. eqb (slotAt d p 0 (8192 + k)) (slotAt d p 0 (8192 + j))) 8192 j l (eq-eqb (slotAt d p 0 (8192 + j)) _ refl)
+  slot-read l = some-at (λ k. eqb (levelAt d p 0 k) (levelAt d p 0 j)) (slotsOf d) j (omega (arith, lanes-full d)) (eq-eqb (levelAt d p 0 j) _ refl)
 
 -- ---- what the table of a part has for a pin
 
@@ -113,13 +114,13 @@ module _ (d room : List ℕ) (n x : ℕ) (held : WinnerHeld d room x) where
 
 -- the pins of a part whose table is there: slot j's is x, and all of them, listed
 module _ (d : List ℕ) (p : ℕ) (b : Body) (room : List ℕ) (state n : ℕ) (ready : SlotsReady d p b room state n) where
-  pub slot-there : (j x : ℕ) → j < 8192 → x ≡ slotAt d p 0 (8192 + j) → (x ≡ empty → ⊥) → x < 2 ^ 32 → WinnerHeld d room x
+  pub slot-there : (j x : ℕ) → j < 8192 → x ≡ levelAt d p 0 j → (x ≡ empty → ⊥) → x < 2 ^ 32 → WinnerHeld d room x
   slot-there j x l read full s = record {
     small = omega (arith, full);
     found = ap (λ (t : List ℕ). look t x) (ready .table) ∙ planned-look d p x 32768 (omega arith) full (ap (readsPin d p) read ∙ slot-read d p j l);
   }
 
-  pub slot-by : (j x : ℕ) (r : Bool) → x ≡ slotAt d p 0 (8192 + j) → (x ≡ empty → ⊥) → r ≡ positionRightIn d n (plannedBy d (winner d x)) → r ≡ twelveRight d p j
+  pub slot-by : (j x : ℕ) (r : Bool) → x ≡ levelAt d p 0 j → (x ≡ empty → ⊥) → r ≡ positionRightIn d n (plannedBy d (winner d x)) → r ≡ twelveRight d p j
   slot-by j x r read full e =
       e ∙ (ap₂ (λ (m v : ℕ). positionRightIn d m (plannedBy d (winner d v))) (ready .earlier) read ∙ slot-held d p j (λ z. full (read ∙ z)))
 
@@ -127,9 +128,9 @@ module _ (d : List ℕ) (p : ℕ) (b : Body) (room : List ℕ) (state n : ℕ) (
     pub list-held : AllPins list → ListHeld d room list
     unfolding readPins
     list-held small i l =
-        let f : FromSlot (readPin d p) 8192 (getD (firstPins (readPin d p) 8192) i 0) = listed-from (readPin d p) 8192 i (rw is at l) in
+        let f : FromSlot (readPin d p) (slotsOf d) (getD (firstPins (readPin d p) (slotsOf d)) i 0) = listed-from (readPin d p) (slotsOf d) i (rw is at l) in
         let e : getD list i 0 ≡ readPin d p (f .slot) = ap (λ (t : List ℕ). getD t i 0) is ∙ f .is in
-        slot-there (f .slot) (getD list i 0) (f .below) e (λ z. f .full (sym e ∙ z)) (omega (arith, small i l))
+        slot-there (f .slot) (getD list i 0) (omega (arith, f .below, lanes-full d)) e (λ z. f .full (sym e ∙ z)) (omega (arith, small i l))
 
     -- where they all are right, each slot is
     all-right : allBelow (listedPinRight d n list) (length list) ≡ true → (j : ℕ) → j < 8192 → twelveRight d p j ≡ true
@@ -139,7 +140,7 @@ module _ (d : List ℕ) (p : ℕ) (b : Body) (room : List ℕ) (state n : ℕ) (
         go : (t : Bool) → eqb (readPin d p j) empty ≡ t → twelveRight d p j ≡ true
         go true e = sym (slot-empty d p j (eqb-true _ _ e))
         go false e =
-            let a : Among (readPin d p) 8192 (readPin d p j) = listed-among (readPin d p) 8192 j l (eqb-false _ _ e) in
+            let a : Among (readPin d p) (slotsOf d) (readPin d p j) = listed-among (readPin d p) (slotsOf d) j (omega (arith, lanes-full d)) (eqb-false _ _ e) in
             let x : getD list (a .at) 0 ≡ readPin d p j = ap (λ (t : List ℕ). getD t (a .at) 0) is ∙ a .is in
             let k : a .at < length list = omega (arith, a .inside, ap length is) in
             sym (slot-by j (getD list (a .at) 0) true x (λ z. eqb-false _ _ e (sym x ∙ z)) (sym (all-at (listedPinRight d n list) (length list) (a .at) right k)))

@@ -10,7 +10,8 @@ use native.Mathlib.Omega.{arith}
 use borrow.Author.Tests.{eq-eqb, ne-eqb, eqb-true, leb-true, ltb-true, lt-ltb}
 use lib.Dec.{leb, ltb, eqb}
 use Rattle.words.specs.Bit.{bitAt}
-use Rattle.plan_record.specs.Record.{majorsOf, partsBefore, partsOf, positionState, locationsOf, slotAt}
+use Rattle.plan_record.specs.Record.{slotsOf, majorsOf, partsBefore, partsOf, positionState, locationsOf, levelAt}
+use Rattle.plan_record.proofs.RecordLaws.{lanes-full}
 use Rattle.words.specs.Pins.{empty}
 use Rattle.words.proofs.TestLaws.{and-true, not-both, some-found, not-none, lowest-none}
 use Rattle.plan_counts.specs.Counts.{writeOuts}
@@ -100,16 +101,17 @@ twelve-at : (d : List ℕ) → refusal12 d ≡ none → (p j : ℕ) → p < part
 unfolding refusal12
 twelve-at d h p j l u = not-none (twelveRight d p) 8192 (lowest-none _ (partsOf d) h p l) j u
 
-twelve-place : (d : List ℕ) (p j x : ℕ) → twelveRight d p j ≡ true → slotAt d p 0 (8192 + j) ≡ x → (x ≡ empty → ⊥) → positionRight d (majorOf d p) (planned d x) ≡ true
+twelve-place : (d : List ℕ) (p j x : ℕ) → twelveRight d p j ≡ true → levelAt d p 0 j ≡ x → (x ≡ empty → ⊥) → positionRight d (majorOf d p) (planned d x) ≡ true
 unfolding twelveRight
 twelve-place d p j x h e n =
-    let k : eqb (slotAt d p 0 (8192 + j)) empty ≡ false = ne-eqb _ _ (λ z. n (sym e ∙ z)) in
+    let k : eqb (levelAt d p 0 j) empty ≡ false = ne-eqb _ _ (λ z. n (sym e ∙ z)) in
     ap (λ (y : ℕ). positionRight d (majorOf d p) (planned d y)) (sym e) ∙ (rw k at h)
 
 pub read-planned : (d : List ℕ) → refusal12 d ≡ none → (p x : ℕ) → p < partsOf d → readsPin d p x ≡ true → (x ≡ empty → ⊥) → RightlyPlanned d (majorOf d p) x
 unfolding readsPin
 read-planned d none-refused p x l r n =
-    let (j, u, e) = some-found _ 8192 r in
+    let (j, inside, e) = some-found _ (slotsOf d) r in
+    let u : j < 8192 = omega (arith, lanes-full d) in
     let right : positionRight d (majorOf d p) (planned d x) ≡ true = twelve-place d p j x (twelve-at d none-refused p j l u) (eqb-true _ _ e) n in
     let (y, is) = right-some d (majorOf d p) (planned d x) right in
     let given : positionRight d (majorOf d p) (some y) ≡ true = rw is at right in
