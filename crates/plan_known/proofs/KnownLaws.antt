@@ -18,7 +18,8 @@ use Rattle.pinmap.specs.PinMap.{Entry, entry, look, lookAnswer, putIn, lastPut,
 use Rattle.pinmap.proofs.PinMapLaws.{replaced-same, replaced-other}
 use Rattle.pinmap.proofs.HoldsLaws.{last-snoc, puts-look}
 use Rattle.plan_record.specs.declared.bodies.Body.{Body}
-use Rattle.plan_record.specs.Record.{partsOf, slotAt}
+use Rattle.plan_record.specs.Record.{slotsOf, partsOf, levelAt}
+use Rattle.plan_record.proofs.RecordLaws.{lanes-full, lanes-range}
 use Rattle.words.specs.Pins.{empty}
 use Rattle.plan_record.specs.Body.{BodyOf}
 use Rattle.words.specs.Tests.{someBelow}
@@ -125,11 +126,11 @@ module _ (d : List ℕ) (p : ℕ) (old new : List ℕ) where
     unfolding knownPuts readsPin lastFrom
     known-finds = go (ltb p (partsOf d))
       where
-        go : (b : Bool) → look (filled n (elim b [ true ↦ bitPuts d p old new 8192 | false ↦ [] ])) x
-            ≡ elim (b && someBelow (λ j. eqb (slotAt d p 0 (8192 + j)) x) 8192) [ true ↦ heldBit d old new x | false ↦ none ]
+        go : (b : Bool) → look (filled n (elim b [ true ↦ bitPuts d p old new (slotsOf d) | false ↦ [] ])) x
+            ≡ elim (b && someBelow (λ j. eqb (levelAt d p 0 j) x) (slotsOf d)) [ true ↦ heldBit d old new x | false ↦ none ]
         go true =
-            puts-look n (bitPuts d p old new 8192) x (omega (arith, found-length (λ j. slotAt d p 0 (8192 + j)) (heldBit d old new) 8192))
-            ∙ found-last (λ j. slotAt d p 0 (8192 + j)) (heldBit d old new) x 8192
+            puts-look n (bitPuts d p old new (slotsOf d)) x (omega (arith, found-length (levelAt d p 0) (heldBit d old new) (slotsOf d), lanes-range d))
+            ∙ found-last (levelAt d p 0) (heldBit d old new) x (slotsOf d)
         go false = puts-look n [] x (omega arith)
 
     pub known-bit : (v : ℕ) → look (filled n (knownPuts d p old new)) x ≡ some v → v < 2
@@ -145,7 +146,7 @@ module _ (d : List ℕ) (p : ℕ) (old new : List ℕ) where
         known-finds
         ∙ ap (λ (o : Option ℕ). elim (ltb p (partsOf d) && readsPin d p x) [ true ↦ o | false ↦ none ]) (held-pin x k)
 
-  pub puts-part : p < partsOf d → bitPuts d p old new 8192 ≡ knownPuts d p old new
+  pub puts-part : p < partsOf d → bitPuts d p old new (slotsOf d) ≡ knownPuts d p old new
   unfolding knownPuts
   puts-part l = rw (lt-ltb _ _ l, knownPuts)
 
@@ -155,29 +156,29 @@ module _ (d : List ℕ) (p : ℕ) (old new : List ℕ) where
 
 -- ---- one slot more, as the code reads it: x is the pin of slot j, t the words with the winners
 
-module _ (d : List ℕ) (p : ℕ) (b : Body) (old new room : List ℕ) (ready : WinnersTabled d p b room) (j x : ℕ) (l : j < 8192) (read : x ≡ slotAt d p 0 (8192 + j)) where
+module _ (d : List ℕ) (p : ℕ) (b : Body) (old new room : List ℕ) (ready : WinnersTabled d p b room) (j x : ℕ) (l : j < slotsOf d) (read : x ≡ levelAt d p 0 j) where
   pub bit-empty : x ≡ empty
-      → room ≡ afterPuts (take 32768 room) (foundPut (slotAt d p 0 (8192 + j)) (heldBit d old new (slotAt d p 0 (8192 + j)))) ++ drop 32768 room
+      → room ≡ afterPuts (take 32768 room) (foundPut (levelAt d p 0 j) (heldBit d old new (levelAt d p 0 j))) ++ drop 32768 room
   bit-empty h =
       sym (take-append-drop 32768 room)
-      ∙ ap (λ (a : List ℕ). a ++ drop 32768 room) (nothing-put (take 32768 room) (slotAt d p 0 (8192 + j)) _ (held-empty d p old new _ (sym read ∙ h)))
+      ∙ ap (λ (a : List ℕ). a ++ drop 32768 room) (nothing-put (take 32768 room) (levelAt d p 0 j) _ (held-empty d p old new _ (sym read ∙ h)))
 
   module _ (held : x ≡ empty → ⊥) (t : List ℕ) (part : t ≡ drop 32768 room) where
     slot-look : look t x ≡ some (winner d x)
     slot-look =
         ap (λ (a : List ℕ). look a x) (part ∙ ready .winners)
-        ∙ planned-look d p x (length (drop 32768 room)) (omega (arith, length-drop 32768 room, ready .wide)) held (ap (readsPin d p) read ∙ slot-read d p j l)
+        ∙ planned-look d p x (length (drop 32768 room)) (omega (arith, length-drop 32768 room, ready .wide)) held (ap (readsPin d p) read ∙ slot-read d p j (omega (arith, lanes-full d)))
 
     pub bit-value : (f : Found) (w : ℕ) (u : List ℕ) → f ≡ lookAnswer (look t x) → f ≡ Value w
         → u ≡ afterPuts (take 32768 room) (foundPut x (plannedBit old new (plannedBy d w)))
-        → u ++ drop 32768 room ≡ afterPuts (take 32768 room) (foundPut (slotAt d p 0 (8192 + j)) (heldBit d old new (slotAt d p 0 (8192 + j)))) ++ drop 32768 room
+        → u ++ drop 32768 room ≡ afterPuts (take 32768 room) (foundPut (levelAt d p 0 j) (heldBit d old new (levelAt d p 0 j))) ++ drop 32768 room
     bit-value f w u a v e =
         let k : Value w ≡ Value (winner d x) = sym v ∙ (a ∙ ap lookAnswer slot-look) in
         let g : w ≡ winner d x = cc in
         let o : plannedBit old new (plannedBy d w) ≡ heldBit d old new x =
         ap (λ (y : ℕ). plannedBit old new (plannedBy d y)) g ∙ (ap (plannedBit old new) (sym (planned-winner d x)) ∙ sym (held-pin d p old new x held))
         in
-        let q : foundPut x (plannedBit old new (plannedBy d w)) ≡ foundPut (slotAt d p 0 (8192 + j)) (heldBit d old new (slotAt d p 0 (8192 + j))) =
+        let q : foundPut x (plannedBit old new (plannedBy d w)) ≡ foundPut (levelAt d p 0 j) (heldBit d old new (levelAt d p 0 j)) =
         ap (foundPut x) o ∙ ap (λ (y : ℕ). foundPut y (heldBit d old new y)) read
         in
         ap (λ (c : List ℕ). c ++ drop 32768 room) (e ∙ ap (afterPuts (take 32768 room)) q)
@@ -195,6 +196,16 @@ rest-is room n = take-all (length room - n) (drop n room) (omega (arith, length-
 
 pub clear-front : (room : List ℕ) → Clear room → take 32768 room ≡ replicate 32768 0
 clear-front room c = ap (take 32768) (c .is) ∙ zeros-front (length room) 32768 (omega (arith, c .wide))
+
+pub fill-kept : (d : List ℕ) (p : ℕ) (room ys : List ℕ) → Clear room → ys ≡ plannedTable d p (length (take (length room - 32768) (drop 32768 room)))
+    → length (take 32768 room ++ (ys ++ drop (length room - 32768) (drop 32768 room))) ≡ length room
+fill-kept d p room ys c e =
+    let n : length (take 32768 room) ≡ 32768 = length-take-le 32768 room (omega (arith, c .wide)) in
+    let k : drop (length room - 32768) (drop 32768 room) ≡ [] = drop-of-length-le (drop 32768 room) {i = length room - 32768} (omega (arith, length-drop 32768 room)) in
+    let z : ys ++ drop (length room - 32768) (drop 32768 room) ≡ ys = ap (λ (a : List ℕ). ys ++ a) k ∙ append-nil ys in
+    let m : length ys ≡ length (take (length room - 32768) (drop 32768 room)) = ap length e ∙ planned-length d p _ in
+    let r : length (take (length room - 32768) (drop 32768 room)) ≡ length room - 32768 = ap length (rest-is room 32768) ∙ length-drop 32768 room in
+    ap (λ (a : List ℕ). length (take 32768 room ++ a)) z ∙ (length-append (take 32768 room) ys ∙ omega (arith, n, m, r, c .wide))
 
 module _ (d : List ℕ) (p : ℕ) (b : Body) (old new : List ℕ) where
   pub fill-first : (room ys : List ℕ) → BodyOf d p b → 0 < b .stages → Clear room
@@ -216,25 +227,25 @@ module _ (d : List ℕ) (p : ℕ) (b : Body) (old new : List ℕ) where
           wide = rw length-append (omega (arith, n, m, r, c .wide));
           winners = u ∙ (e ∙ ap (plannedTable d p) (sym (ap length u ∙ m)));
         },
-        t ∙ (clear-front room c ∙ found-start (λ i. slotAt d p 0 (8192 + i)) (heldBit d old new) (replicate 32768 0)),
+        t ∙ (clear-front room c ∙ found-start (levelAt d p 0) (heldBit d old new) (replicate 32768 0)),
       )
 
   pub fill-next : (room u : List ℕ) (j : ℕ) → WinnersTabled d p b room → take 32768 room ≡ filled 32768 (bitPuts d p old new j)
-      → u ≡ afterPuts (take 32768 room) (foundPut (slotAt d p 0 (8192 + j)) (heldBit d old new (slotAt d p 0 (8192 + j)))) ++ drop 32768 room
+      → u ≡ afterPuts (take 32768 room) (foundPut (levelAt d p 0 j) (heldBit d old new (levelAt d p 0 j))) ++ drop 32768 room
       → (length u ≡ length room) × WinnersTabled d p b u × (take 32768 u ≡ filled 32768 (bitPuts d p old new (j + 1)))
   fill-next room u j r h e =
-      let q = foundPut (slotAt d p 0 (8192 + j)) (heldBit d old new (slotAt d p 0 (8192 + j))) in
+      let q = foundPut (levelAt d p 0 j) (heldBit d old new (levelAt d p 0 j)) in
       let n : length (afterPuts (take 32768 room) q) ≡ 32768 = puts-length (take 32768 room) q ∙ length-take-le 32768 room (omega (arith, r .wide)) in
       let t : take 32768 u ≡ afterPuts (take 32768 room) q = ap (take 32768) e ∙ take-at (afterPuts (take 32768 room) q) (drop 32768 room) 32768 n in
       let v : drop 32768 u ≡ drop 32768 room = ap (drop 32768) e ∙ drop-at (afterPuts (take 32768 room) q) (drop 32768 room) 32768 n in
       let s : length u ≡ length room = ap length e ∙ (length-append (afterPuts (take 32768 room) q) (drop 32768 room) ∙ omega (arith, n, length-drop 32768 room, r .wide)) in (
         s,
         record { body = r .body; stages = r .stages; wide = omega (arith, s, r .wide); winners = v ∙ (r .winners ∙ ap (λ (a : List ℕ). plannedTable d p (length a)) (sym v)) },
-        t ∙ (ap (λ (a : List ℕ). afterPuts a q) h ∙ found-more (λ i. slotAt d p 0 (8192 + i)) (heldBit d old new) (replicate 32768 0) j),
+        t ∙ (ap (λ (a : List ℕ). afterPuts a q) h ∙ found-more (levelAt d p 0) (heldBit d old new) (replicate 32768 0) j),
       )
 
 module _ (d : List ℕ) (p : ℕ) (old new : List ℕ) where
-  pub fill-read : (t : List ℕ) → p < partsOf d → t ≡ filled 32768 (bitPuts d p old new 8192) → t ≡ filled 32768 (knownPuts d p old new)
+  pub fill-read : (t : List ℕ) → p < partsOf d → t ≡ filled 32768 (bitPuts d p old new (slotsOf d)) → t ≡ filled 32768 (knownPuts d p old new)
   fill-read t l e = e ∙ ap (filled 32768) (puts-part d p old new l)
 
   zeros-filled : (n : ℕ) → replicate n 0 ≡ filled n []

@@ -4,12 +4,12 @@ use mathlib.Core.Path.{_≡_}
 use mathlib.Core.Bool.{true, false}
 use mathlib.Core.Option.{Option, none, some}
 use mathlib.Core.List.{List, [], _∷_, _++_}
-use Prim.Native.Nat.{ℕ, zero, suc, _+_, _≤_, _<_}
+use Prim.Native.Nat.{ℕ, zero, suc, _≤_, _<_}
 use lib.Dec.{ltb, eqb}
 use lib.ListN.{length, drop, replicate}
 use Rattle.pinmap.specs.PinMap.{Entry, entry}
 use Rattle.plan_record.specs.declared.bodies.Body.{Body}
-use Rattle.plan_record.specs.Record.{partsOf, slotAt}
+use Rattle.plan_record.specs.Record.{slotsOf, partsOf, levelAt}
 use Rattle.words.specs.Pins.{empty}
 use Rattle.plan_record.specs.Body.{BodyOf}
 use Rattle.plan_winners.specs.Planned.{planned}
@@ -32,11 +32,11 @@ foundBelow pin f (suc n) = foundBelow pin f n ++ foundPut (pin n) (f (pin n))
 
 -- those of the first n slots of level 0 of stage 0 of part p
 abbrev pub bitPuts : List ℕ → ℕ → List ℕ → List ℕ → ℕ → List Entry
-bitPuts d p old new n = foundBelow (λ j. slotAt d p 0 (8192 + j)) (heldBit d old new) n
+bitPuts d p old new n = foundBelow (levelAt d p 0) (heldBit d old new) n
 
 -- a part past the plan reads nothing
 unfoldable pub knownPuts : List ℕ → ℕ → List ℕ → List ℕ → List Entry
-knownPuts d p old new = elim (ltb p (partsOf d)) [ true ↦ bitPuts d p old new 8192 | false ↦ [] ]
+knownPuts d p old new = elim (ltb p (partsOf d)) [ true ↦ bitPuts d p old new (slotsOf d) | false ↦ [] ]
 
 -- ---- what is known when the table is filled: its place are the first 32768 words of the room
 

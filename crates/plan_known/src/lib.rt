@@ -3,11 +3,11 @@ ghost use mathlib.Core.Path.{_≡_};
 ghost use mathlib.Core.Bool.{true};
 ghost use mathlib.Core.Option.{some};
 ghost use mathlib.Core.List.{_++_};
-ghost use Prim.Native.Nat.{_+_, _-_, _^_, _<_};
+ghost use Prim.Native.Nat.{_*_, _-_, _^_, _<_};
 ghost use lib.ListN.{take, drop};
 ghost use Rattle.words.specs.Bit.{bitAt};
 ghost use Rattle.pinmap.specs.PinMap.{afterPuts};
-ghost use Rattle.plan_record.specs.Record.{partsOf, slotAt};
+ghost use Rattle.plan_record.specs.Record.{slotsOf, partsOf, levelAt};
 ghost use Rattle.plan_record.specs.Form.{planForm};
 ghost use Rattle.plan_record.specs.Body.{BodyOf};
 ghost use Rattle.plan_slots.specs.Puts.{filled};
@@ -24,7 +24,6 @@ use plan_record::bodies::first_body;
 use plan_record::bodies::level_slot;
 use plan_record::bodies::parts_of;
 use plan_winners::planned_by;
-use words::edition::Edition;
 use words::units::EMPTY_PIN;
 use words::units::Pin;
 use words::units::StatePosition;
@@ -74,8 +73,8 @@ fn put_slot_bit(
     room: &mut [u32],
     j: usize,
 )
-    requires { ⌜ WinnersTabled (now d) p body (now room) × (j < 8192) ⌝ }
-    ensures { λ _. ⌜ now (room .exit) ≡ afterPuts (take 32768 (now (room .entry))) (foundPut (slotAt (now (d .entry)) p 0 (8192 + j)) (heldBit (now (d .entry)) (now (old .entry)) (now (new .entry)) (slotAt (now (d .entry)) p 0 (8192 + j)))) ++ drop 32768 (now (room .entry)) ⌝ }
+    requires { ⌜ WinnersTabled (now d) p body (now room) × (j < 32 * body .lanes) ⌝ }
+    ensures { λ _. ⌜ now (room .exit) ≡ afterPuts (take 32768 (now (room .entry))) (foundPut (levelAt (now (d .entry)) p 0 j) (heldBit (now (d .entry)) (now (old .entry)) (now (new .entry)) (levelAt (now (d .entry)) p 0 j))) ++ drop 32768 (now (room .entry)) ⌝ }
 {
     let pin = level_slot(d, p, body, 0, j);
     if pin.0 == EMPTY_PIN {
@@ -90,11 +89,12 @@ fn put_slot_bit(
 // The bits of all pins that part p reads. The words after the table are for the numbers of the entries that win.
 fn fill_part(d: &[u8], p: usize, body: Body, old: &[u32], new: &[u32], room: &mut [u32])
     requires { ⌜ (planForm (now d) ≡ true) × BodyOf (now d) p body × (0 < body .stages) × Clear (now room) ⌝ }
-    ensures { λ _. ⌜ take 32768 (now (room .exit)) ≡ filled 32768 (bitPuts (now (d .entry)) p (now (old .entry)) (now (new .entry)) 8192) ⌝ }
+    ensures { λ _. ⌜ take 32768 (now (room .exit)) ≡ filled 32768 (bitPuts (now (d .entry)) p (now (old .entry)) (now (new .entry)) (slotsOf (now (d .entry)))) ⌝ }
 {
+    let slots = 32 * body.lanes;
     fill_planned(d, p, body, &mut room[PIN_TABLE..]);
     let mut j = 0;
-    while j < Edition::SLOTS {
+    while j < slots {
         put_slot_bit(d, p, body, old, new, room, j);
         j += 1;
     }

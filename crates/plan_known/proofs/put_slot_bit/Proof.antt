@@ -13,7 +13,7 @@ returns c =
     let at-slot = c .before .before in
     let s = at-slot .before .before .before .before .before in
     let o = s .args in
-    bit-empty (o .d .now) (o .p) (o .body) (o .old .now) (o .new .now) (o .room .now) (s .pre .0) (o .j) _ (s .pre .1) (at-slot .level-slot .ensures) (c .if1 .taken)
+    bit-empty (o .d .now) (o .p) (o .body) (o .old .now) (o .new .now) (o .room .now) (s .pre .0) (o .j) _ (omega (arith, s .pre .1, s .pre .0 .body .lanes)) (at-slot .level-slot .ensures) (c .if1 .taken)
 
 slice-aggregate-put-planned : tie.Need-slice-aggregate-put-planned
 slice-aggregate-put-planned c =
@@ -29,7 +29,7 @@ returns-2 c =
     let at-slot = at-if1 .before .before in
     let s = at-slot .before .before .before .before .before in
     let room = s .args .room .now in
-    bit-value (s .args .d .now) (s .args .p) (s .args .body) (s .args .old .now) (s .args .new .now) room (s .pre .0) (s .args .j) _ (s .pre .1)
+    bit-value (s .args .d .now) (s .args .p) (s .args .body) (s .args .old .now) (s .args .new .now) room (s .pre .0) (s .args .j) _ (omega (arith, s .pre .1, s .pre .0 .body .lanes))
     (at-slot .level-slot .ensures) (at-if1 .if1 .left) _ (rest-is room 32768) _ _ _ (at-w .before .before .look-up .ensures) (at-w .w .given .1)
     (c .before .before .put-planned .ensures)
 
@@ -40,7 +40,7 @@ returns-3 c =
     let s = at-slot .before .before .before .before .before in
     let room = s .args .room .now in
     let o = s .args in
-    absurd (bit-missing (o .d .now) (o .p) (o .body) (o .old .now) (o .new .now) room (s .pre .0) (o .j) _ (s .pre .1) (at-slot .level-slot .ensures) (at-if1 .if1 .left) _ (rest-is room 32768) _ (c .before .before .look-up .ensures) (c .enum-told .given .1))
+    absurd (bit-missing (o .d .now) (o .p) (o .body) (o .old .now) (o .new .now) room (s .pre .0) (o .j) _ (omega (arith, s .pre .1, s .pre .0 .body .lanes)) (at-slot .level-slot .ensures) (at-if1 .if1 .left) _ (rest-is room 32768) _ (c .before .before .look-up .ensures) (c .enum-told .given .1))
 
 pub put-slot-bit-spec : {M : Type 1} → statement M
 put-slot-bit-spec =
