@@ -11,7 +11,7 @@ use lib.ListN.{length, length-append}
 use Rattle.pinmap.specs.PinMap.{look, lookAnswer}
 use Rattle.pinmap.specs.declared.Found.{Found}
 use Rattle.pinmap.specs.declared.Found.the-variants.{Value, Missing}
-use Rattle.plan_record.specs.Record.{slotAt}
+use Rattle.plan_record.specs.Record.{levelAt}
 use Rattle.words.specs.Pins.{empty}
 use Rattle.plan_winners.specs.Planned.{Planned, inLayout, inPositions, planned}
 use Rattle.plan_winners.specs.declared.Planned as code
@@ -82,7 +82,7 @@ module _ (d pins : List ℕ) (x : ℕ) (won : Won d pins x) where
 -- ---- the bits of a slot
 
 abbrev pub slotAsks : List ℕ → ℕ → ℕ → List ℕ
-slotAsks d p j = askedBy (eqb (slotAt d p 0 (8192 + j)) empty) (planned d (slotAt d p 0 (8192 + j)))
+slotAsks d p j = askedBy (eqb (levelAt d p 0 j) empty) (planned d (levelAt d p 0 j))
 
 -- ---- the bits of all slots
 
@@ -93,7 +93,7 @@ narrow-append (x ∷ a) b f g (suc i) l = narrow-append a b (λ k m. f (suc k) (
 
 asked-most : (d : List ℕ) (p j : ℕ) → length (slotAsks d p j) ≤ 1
 unfolding askedBy
-asked-most d p j = go (eqb (slotAt d p 0 (8192 + j)) empty) (planned d (slotAt d p 0 (8192 + j)))
+asked-most d p j = go (eqb (levelAt d p 0 j) empty) (planned d (levelAt d p 0 j))
   where
     go : (b : Bool) (o : Option Planned) → length (askedBy b o) ≤ 1
     go true o = omega arith

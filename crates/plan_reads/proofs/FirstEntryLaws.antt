@@ -24,7 +24,7 @@ use Rattle.reads_asked.proofs.RequestLaws.{set-requests}
 use Rattle.reads_try.specs.TableLanes.{lanesAt}
 use Rattle.rounds.specs.Rounds.{tableAfter, Solvable}
 use Rattle.rounds.proofs.RoundsAnswerLaws.{Win, win-of}
-use Rattle.plan_record.specs.Record.{slotAt, partsOf}
+use Rattle.plan_record.specs.Record.{levelAt, partsOf}
 use Rattle.words.specs.Pins.{empty}
 use Rattle.words.proofs.TestLaws.{lowest-none, not-none}
 use Rattle.plan_positions.specs.Positions.{positionRight, twelveRight, refusal12}
@@ -52,7 +52,7 @@ words-small d p narrow = set-small (askedTo d p 8192) (λ i l. narrow i l .small
 
 -- ---- a slot's bit is asked for
 
-pub asked-in : (d : List ℕ) (p n j : ℕ) (y : Planned) → j < n → (slotAt d p 0 (8192 + j) ≡ empty → ⊥) → planned d (slotAt d p 0 (8192 + j)) ≡ some y
+pub asked-in : (d : List ℕ) (p n j : ℕ) (y : Planned) → j < n → (levelAt d p 0 j ≡ empty → ⊥) → planned d (levelAt d p 0 j) ≡ some y
     → (i : ℕ) × (i < length (askedTo d p n)) × (getD (askedTo d p n) i 0 ≡ bitNumber y)
 unfolding askedTo askedBy
 asked-in d p zero j y h full e = absurd (not-suc-le-zero h)
@@ -105,7 +105,7 @@ module _ (d : List ℕ) (p : ℕ) (narrow : AllNarrow (askedTo d p 8192)) {K S n
       let w = part-win table e long in
       let at = lanesAt ws table n in
       let sound : Sound n (pairsOf ws) (record { size = sizeOf n (pairsOf ws); lanes = at }) = rw (w .same) (won-sound (words-form d p narrow) s (words-small d p narrow) (w .lanes) (w .found)) in
-      let (y, is) = is-planned (planned d (slotAt d p 0 (8192 + j))) (all j l full) in
+      let (y, is) = is-planned (planned d (levelAt d p 0 j)) (all j l full) in
       let (i, k, g) = asked-in d p 8192 j y l full is in
       let asked : Requested (pairsOf ws) (bitNumber y / 32) (bitNumber y % 32) = rw g at (set-requests (askedTo d p 8192) i k) in
       let here = local-is n ws at (s .few-lanes) (set-rising (askedTo d p 8192)) sound (w .readable .filled .kept) bases room (bitNumber y) asked in
@@ -118,16 +118,16 @@ module _ (d : List ℕ) (p : ℕ) (narrow : AllNarrow (askedTo d p 8192)) {K S n
 
 -- ---- the entries
 
-pub entry-empty : (d : List ℕ) (p i : ℕ) → slotAt d p 0 (8192 + i) ≡ empty → (0 ≡ firstEntry 256 d p i) × (0 < 8192)
+pub entry-empty : (d : List ℕ) (p i : ℕ) → levelAt d p 0 i ≡ empty → (0 ≡ firstEntry 256 d p i) × (0 < 8192)
 unfolding firstEntry
 entry-empty d p i h = (rw (eq-eqb _ _ h, firstEntry), omega arith)
 
-pub entry-local : (d set bases : List ℕ) (p i x q r : ℕ) → x ≡ slotAt d p 0 (8192 + i) → (x ≡ empty → ⊥) → NumberedAt 256 d p set bases i → q ≡ plannedNumber (planned d x) → r ≡ localBy set bases q
+pub entry-local : (d set bases : List ℕ) (p i x q r : ℕ) → x ≡ levelAt d p 0 i → (x ≡ empty → ⊥) → NumberedAt 256 d p set bases i → q ≡ plannedNumber (planned d x) → r ≡ localBy set bases q
     → (r ≡ firstEntry 256 d p i) × (r < 8192)
 unfolding firstEntry
 entry-local d set bases p i x q r is full at eq er =
-    let e : r ≡ localBy set bases (plannedNumber (planned d (slotAt d p 0 (8192 + i)))) = er ∙ ap (localBy set bases) (eq ∙ ap (λ (y : ℕ). plannedNumber (planned d y)) is) in
-    (e ∙ (at .is ∙ rw (ne-eqb (slotAt d p 0 (8192 + i)) empty (λ z. full (is ∙ z)), firstEntry)), omega (arith, e, at .below))
+    let e : r ≡ localBy set bases (plannedNumber (planned d (levelAt d p 0 i))) = er ∙ ap (localBy set bases) (eq ∙ ap (λ (y : ℕ). plannedNumber (planned d y)) is) in
+    (e ∙ (at .is ∙ rw (ne-eqb (levelAt d p 0 i) empty (λ z. full (is ∙ z)), firstEntry)), omega (arith, e, at .below))
 
 pub entries-on : (f : ℕ → ℕ) (l : List ℕ) (i v : ℕ) → i < length l → ((k : ℕ) → k < i → (getD l k 0 ≡ f k) × (f k < 8192)) → (v ≡ f i) × (v < 8192)
     → (k : ℕ) → k < i + 1 → (getD (set l i v) k 0 ≡ f k) × (f k < 8192)

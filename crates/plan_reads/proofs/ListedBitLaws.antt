@@ -19,6 +19,8 @@ use Rattle.reads_asked.proofs.AskLaws.{set-snoc, set-again}
 use Rattle.reads_asked.proofs.FrontStoreLaws.{take-front}
 use Rattle.reads_asked.proofs.AskedFormLaws.{set-length-le}
 use Rattle.words.specs.Pins.{empty}
+use Rattle.plan_record.specs.Record.{slotsOf}
+use Rattle.plan_record.proofs.RecordLaws.{lanes-full}
 use Rattle.plan_slots.specs.Puts.{readPin, firstPins, readPins, AllPins}
 use Rattle.plan_slots.proofs.ListedLaws.{Step, vacant, again, fresh, step, Among, listed-among, FromSlot, listed-from}
 use Rattle.plan_winners.specs.Planned.{Planned, planned}
@@ -108,7 +110,8 @@ module _ (d : List ℕ) (p : ℕ) (keys : List ℕ) (n : ℕ) (list : List ℕ) 
       rw front
       (λ i l. (
         small i l,
-        (let f : FromSlot (readPin d p) 8192 (getD (firstPins (readPin d p) 8192) i 0) = listed-from (readPin d p) 8192 i l in rw (f .is) (won (f .slot) (f .below) (f .full))),
+        (let f : FromSlot (readPin d p) (slotsOf d) (getD (firstPins (readPin d p) (slotsOf d)) i 0) = listed-from (readPin d p) (slotsOf d) i l in
+            rw (f .is) (won (f .slot) (omega (arith, f .below, lanes-full d)) (f .full))),
       ))
 
   pub bits-count : n ≡ length (partBits d p)
@@ -180,7 +183,9 @@ module _ (d : List ℕ) (p : ℕ) (all : AllPlanned d p) where
   -- THE SAME SET
   pub same-set : readSetOf (partBits d p) ≡ readWords d p
   unfolding readWords partBits readPins
-  same-set = same-to 8192 (omega arith)
+  same-set =
+      let full : slotsOf d ≡ 8192 = omega (arith, lanes-full d) in
+      same-to (slotsOf d) (omega arith) ∙ ap (λ (m : ℕ). readSetOf (askedTo d p m)) full
 
   -- ---- narrow bits
 
@@ -193,8 +198,8 @@ module _ (d : List ℕ) (p : ℕ) (all : AllPlanned d p) where
     slot-bit : (j : ℕ) → j < 8192 → (readPin d p j ≡ empty → ⊥) → Narrow (plannedNumber (planned d (readPin d p j)))
     unfolding partBits readPins
     slot-bit j l k =
-        let a : Among (readPin d p) 8192 (readPin d p j) = listed-among (readPin d p) 8192 j l k in
-        let pins : List ℕ = firstPins (readPin d p) 8192 in
+        let a : Among (readPin d p) (slotsOf d) (readPin d p j) = listed-among (readPin d p) (slotsOf d) j (omega (arith, lanes-full d)) k in
+        let pins : List ℕ = firstPins (readPin d p) (slotsOf d) in
         let e : getD (bitsOf d pins) (a .at) 0 ≡ plannedNumber (planned d (readPin d p j)) =
         map-at (λ x. plannedNumber (planned d x)) pins (a .at) (a .inside) ∙ ap (λ (x : ℕ). plannedNumber (planned d x)) (a .is)
         in

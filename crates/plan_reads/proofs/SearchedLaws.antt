@@ -4,7 +4,7 @@ use mathlib.Core.Path.{_≡_, refl, sym, ap, ap₂, _∙_}
 use mathlib.Core.Bool.{Bool, true}
 use mathlib.Core.Option.{none, some}
 use mathlib.Core.List.{List}
-use Prim.Native.Nat.{ℕ, zero, suc, _+_, _^_, _≤_, _<_}
+use Prim.Native.Nat.{ℕ, zero, suc, _^_, _≤_, _<_}
 use native.Mathlib.Omega.{arith}
 use borrow.Author.Tests.{eq-eqb}
 use lib.Dec.{eqb}
@@ -21,7 +21,8 @@ use Rattle.reads_try.specs.TableLanes.{lanesAt}
 use Rattle.rounds.specs.Rounds.{SetSearchable, Solvable}
 use Rattle.rounds.proofs.RoundsAnswerLaws.{searchable, is-read, Win}
 use Rattle.pinmap.specs.PinMap.{look}
-use Rattle.plan_record.specs.Record.{slotAt}
+use Rattle.plan_record.specs.Record.{slotsOf, levelAt}
+use Rattle.plan_record.proofs.RecordLaws.{lanes-full}
 use Rattle.words.proofs.TestLaws.{some-at}
 use Rattle.plan_slots.specs.Slots.{readsPin}
 use Rattle.plan_slots.specs.Puts.{readPuts, filled, foundIf}
@@ -80,9 +81,9 @@ lost-reads n ws q e = rw e
 
 -- ---- the table of pins
 
-pub reads-slot : (d : List ℕ) (p j : ℕ) → j < 8192 → readsPin d p (slotAt d p 0 (8192 + j)) ≡ true
+pub reads-slot : (d : List ℕ) (p j : ℕ) → j < 8192 → readsPin d p (levelAt d p 0 j) ≡ true
 unfolding readsPin
-reads-slot d p j h = some-at (λ i. eqb (slotAt d p 0 (8192 + i)) (slotAt d p 0 (8192 + j))) 8192 j h (eq-eqb (slotAt d p 0 (8192 + j)) _ refl)
+reads-slot d p j h = some-at (λ i. eqb (levelAt d p 0 i) (levelAt d p 0 j)) (slotsOf d) j (omega (arith, lanes-full d)) (eq-eqb (levelAt d p 0 j) _ refl)
 
 planned-winning : (d : List ℕ) (x : ℕ) → (planned d x ≡ none → ⊥) → 0 < winner d x
 planned-winning d x h = go (winner d x) refl
@@ -93,7 +94,7 @@ planned-winning d x h = go (winner d x) refl
 
 pub pins-won : (d : List ℕ) (p n : ℕ) → 16384 ≤ n → AllPlanned d p → AllWon d p (plannedTable d p n)
 pins-won d p n h all j l full =
-    let x = slotAt d p 0 (8192 + j) in
+    let x = levelAt d p 0 j in
     let there : look (filled n (readPuts d p)) x ≡ some 0 = reads-look d p x n h full ∙ ap (λ (b : Bool). foundIf b 0) (reads-slot d p j l) in
     record {
       found = winners-look d (filled n (readPuts d p)) (readPuts d p) x (reads-hold d p n h) there full;

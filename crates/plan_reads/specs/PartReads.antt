@@ -12,7 +12,7 @@ use Rattle.reads.specs.Search.{Lane}
 use Rattle.reads.specs.Local.{localOf}
 use Rattle.words.specs.Answer.{Answer, good, refused}
 use Rattle.reads.specs.SetAnswer.{Packed, packed}
-use Rattle.plan_record.specs.Record.{slotAt, partsOf}
+use Rattle.plan_record.specs.Record.{levelAt, partsOf}
 use Rattle.words.specs.Pins.{empty}
 use Rattle.words.specs.Tests.{lowest, Place}
 use Rattle.plan_winners.specs.Planned.{Planned, planned}
@@ -29,7 +29,7 @@ askedBy false (some x) = bitNumber x ∷ []
 
 unfoldable pub askedTo : List ℕ → ℕ → ℕ → List ℕ
 askedTo d p zero = []
-askedTo d p (suc j) = askedTo d p j ++ askedBy (eqb (slotAt d p 0 (8192 + j)) empty) (planned d (slotAt d p 0 (8192 + j)))
+askedTo d p (suc j) = askedTo d p j ++ askedBy (eqb (levelAt d p 0 j) empty) (planned d (levelAt d p 0 j))
 
 -- the read set, and what the search makes of it
 unfoldable pub readWords : List ℕ → ℕ → List ℕ
