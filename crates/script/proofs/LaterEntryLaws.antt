@@ -12,6 +12,7 @@ use Rattle.pinmap.specs.PinMap.{look, lookAnswer}
 use Rattle.pinmap.specs.declared.Found.{Found}
 use Rattle.pinmap.specs.declared.Found.the-variants as known-as
 use Rattle.plan_record.specs.Record.{levelAt}
+use Rattle.plan_record.proofs.RecordLaws.{lanes-full}
 use Rattle.words.specs.Pins.{empty}
 use Rattle.plan_gates.proofs.ValueCodeLaws.{known-some, known-none}
 use Rattle.plan_slots.specs.Slots.{highest}
@@ -56,4 +57,4 @@ entry-small d p s i = by (ℕ-discrete (levelAt d p (s + 1) i) empty)
   where
     by : Dec (levelAt d p (s + 1) i ≡ empty) → stageEntry 256 d p (s + 1) i ≤ 8191
     by (yes e) = omega (arith, entry-empty d p s i _ refl e)
-    by (no n) = omega (arith, entry-is d p s i _ refl n, highest-is d p s (levelAt d p (s + 1) i) .below)
+    by (no n) = omega (arith, entry-is d p s i _ refl n, highest-is d p s (levelAt d p (s + 1) i) .below, lanes-full d)

@@ -12,7 +12,7 @@ use Rattle.words.specs.Bit.{wordOf}
 use Rattle.words.specs.Section.{listOf, sectionOf}
 use Rattle.reads.specs.Search.{longest}
 use Rattle.reads.specs.ReadSection.{readSection}
-use Rattle.plan_record.specs.Record.{stagesOf, stageLocations, locationsOf, locationAt, slotAt, tableAt, gateFirst, gateSecond}
+use Rattle.plan_record.specs.Record.{stagesOf, stageLocations, locationsOf, locationAt, slotAt, levelAt, tableAt, gateFirst, gateSecond}
 use Rattle.words.specs.Pins.{empty}
 use Rattle.plan_gates.specs.Gates.{gateOf}
 use Rattle.plan_counts.specs.Counts.{srams, duplicates, writeOuts}
@@ -58,7 +58,7 @@ pinEntry n d p zero x = localPosition (partLanes n d p) (planned d x)
 pinEntry n d p (suc s) x = highest d p s x
 
 unfoldable pub stageEntry : ℕ → List ℕ → ℕ → ℕ → ℕ → ℕ
-stageEntry n d p s i = elim (eqb (slotAt d p s (32 * n + i)) empty) [ true ↦ 0 | false ↦ pinEntry n d p s (slotAt d p s (32 * n + i)) ]
+stageEntry n d p s i = elim (eqb (levelAt d p s i) empty) [ true ↦ 0 | false ↦ pinEntry n d p s (levelAt d p s i) ]
 
 -- "At a non-empty slot ..: if it equals a, set orb at its position; else it is an AND gate .., and xora, xorb take their inversions."
 unfoldable pub firstInversion : List ℕ → Option ℕ → ℕ
