@@ -16,7 +16,8 @@ use Rattle.words.specs.Answer.{good}
 use Rattle.reads_try.specs.LaneTable.{tableOf}
 use Rattle.reads_try.proofs.LaneTableLaws.{table-length}
 use Rattle.rounds.specs.Rounds.{tableAfter}
-use Rattle.plan_record.specs.Record.{partsOf, stagesOf, slotAt}
+use Rattle.plan_record.specs.Record.{planLanes, tableAt, partsOf, stagesOf, levelAt}
+use Rattle.plan_record.proofs.RecordLaws.{lanes-full}
 use Rattle.words.specs.Pins.{empty}
 use Rattle.plan_record.specs.Form.{planForm}
 use Rattle.plan_record.proofs.PlanFormLaws.{formed}
@@ -42,7 +43,7 @@ module _ (d : List ℕ) (p : ℕ) (form : planForm d ≡ true) (seven : refusal7
   lanes-wide = part-packing d fit twelve p part found .wide
 
   -- the pin of a slot of stage 0 has its local position
-  numbered : (j : ℕ) → j < 8192 → (slotAt d p 0 (8192 + j) ≡ empty → ⊥) → localPosition lanes (planned d (slotAt d p 0 (8192 + j))) < 8192
+  numbered : (j : ℕ) → j < 8192 → (levelAt d p 0 j ≡ empty → ⊥) → localPosition lanes (planned d (levelAt d p 0 j)) < 8192
   numbered j h full =
       let ws = readWords d p in
       let few = narrow d fit twelve p part in
@@ -52,9 +53,9 @@ module _ (d : List ℕ) (p : ℕ) (form : planForm d ≡ true) (seven : refusal7
 
   first-small : (i : ℕ) → i < 8192 → stageEntry 256 d p 0 i ≤ 8191
   unfolding stageEntry pinEntry
-  first-small i h = by (ℕ-discrete (slotAt d p 0 (8192 + i)) empty)
+  first-small i h = by (ℕ-discrete (levelAt d p 0 i) empty)
     where
-      by : Dec (slotAt d p 0 (8192 + i) ≡ empty) → stageEntry 256 d p 0 i ≤ 8191
+      by : Dec (levelAt d p 0 i ≡ empty) → stageEntry 256 d p 0 i ≤ 8191
       by (yes e) = rw (eq-eqb _ _ e, stageEntry) (omega arith)
       by (no n) = rw (ne-eqb _ _ n, stageEntry, pinEntry) (omega (arith, numbered i h n))
 
@@ -69,7 +70,9 @@ module _ (d : List ℕ) (p : ℕ) (form : planForm d ≡ true) (seven : refusal7
     some-stages = formed d form .part p part .some-stages;
     stages = formed d form .part p part .stages;
     entry = λ k i h l. omega (arith, stage-small k i h l);
-    sram = λ i h. sram-entry d thirteen p i part h;
-    enable = λ i h. enable-entry d thirteen p i part h;
+    sram = λ i h. omega (arith, sram-entry d thirteen p i part (omega (arith, lanes-full d)), lanes-full d);
+    enable = λ i h.
+        let at : 34 * planLanes d + i ≡ 8704 + i = omega (arith, lanes-full d) in
+        omega (arith, ap (tableAt d p) at, enable-entry d thirteen p i part (omega (arith, lanes-full d)), lanes-full d);
     wide = lanes-wide;
   }

@@ -27,7 +27,7 @@ use Rattle.reads_asked.proofs.AskedFormLaws.{EachPair, set-each}
 use Rattle.reads_try.specs.TableLanes.{Each}
 use Rattle.reads_try.proofs.LaneTableLaws.{each-append, each-at}
 use Rattle.rounds.specs.Rounds.{Solvable}
-use Rattle.plan_record.specs.Record.{majorsOf, partsOf, slotAt}
+use Rattle.plan_record.specs.Record.{majorsOf, partsOf, levelAt}
 use Rattle.words.specs.Pins.{empty}
 use Rattle.plan_blocks.specs.Blocks.{stateOf, stateWords, totalsFit}
 use Rattle.plan_blocks.proofs.MajorStageLaws.{totals-fit}
@@ -93,13 +93,13 @@ module _ (d : List ℕ) (fit : totalsFit d ≡ true) (twelve : refusal12 d ≡ n
 
   slot-inside : (j : ℕ) → j < 8192 → Each (Inside d B) (slotAsks d p j)
   unfolding askedBy
-  slot-inside j h = go (eqb (slotAt d p 0 (8192 + j)) empty) refl (planned d (slotAt d p 0 (8192 + j))) refl
+  slot-inside j h = go (eqb (levelAt d p 0 j) empty) refl (planned d (levelAt d p 0 j)) refl
     where
-      go : (b : Bool) → eqb (slotAt d p 0 (8192 + j)) empty ≡ b → (o : Option Planned) → planned d (slotAt d p 0 (8192 + j)) ≡ o → Each (Inside d B) (askedBy b o)
+      go : (b : Bool) → eqb (levelAt d p 0 j) empty ≡ b → (o : Option Planned) → planned d (levelAt d p 0 j) ≡ o → Each (Inside d B) (askedBy b o)
       go true e o f = tt
       go false e none f = tt
       go false e (some y) f =
-          (planned-inside (slotAt d p 0 (8192 + j)) y (read-planned d twelve p (slotAt d p 0 (8192 + j)) part (slot-read d p j h) (eqb-false _ _ e)) f, tt)
+          (planned-inside (levelAt d p 0 j) y (read-planned d twelve p (levelAt d p 0 j) part (slot-read d p j h) (eqb-false _ _ e)) f, tt)
 
   asked-inside : (n : ℕ) → n ≤ 8192 → Each (Inside d B) (askedTo d p n)
   unfolding askedTo
