@@ -4,7 +4,7 @@
 use mathlib.Core.Path.{_≡_, sym, ap, _∙_}
 use mathlib.Core.List.{List}
 use mathlib.Core.Logic.{⊎-elim}
-use Prim.Native.Nat.{ℕ, zero, suc, _+_, _/_, _%_, _<_}
+use Prim.Native.Nat.{ℕ, zero, suc, _/_, _%_, _<_}
 use native.Mathlib.Nat.{not-suc-le-zero}
 use native.Mathlib.Numerals.{add-one}
 use native.Mathlib.Omega.{arith}
@@ -12,7 +12,8 @@ use borrow.Author.Tests.{eq-eqb, ne-eqb}
 use lib.ListN.{getD}
 use Rattle.words.specs.Bit.{bitAt}
 use Rattle.words.proofs.BitLaws.{lt-or-ge}
-use Rattle.plan_record.specs.Record.{stagesOf, locationsOf, slotAt}
+use Rattle.plan_record.specs.Record.{stagesOf, locationsOf, levelAt}
+use Rattle.plan_record.proofs.RecordLaws.{lanes-full}
 use Rattle.words.specs.Pins.{empty}
 use Rattle.plan_record.proofs.PlanFormLaws.{formed}
 use Rattle.plan_counts.proofs.PartCountLaws.{counts-passed}
@@ -58,16 +59,16 @@ module _ (d : List ℕ) (p : ℕ) (s : PassedPart d p) where
   module _ (last state sram : ℕ) (W : List ℕ) (o : ℕ) (w : Decoded 256 d p last state sram W o) (old new : List ℕ) where
     -- ---- the rows
 
-    later-entry : (k j : ℕ) → (slotAt d p (suc k) (8192 + j) ≡ empty → ⊥) → stageEntry 256 d p (suc k) j ≡ highest d p k (slotAt d p (suc k) (8192 + j))
+    later-entry : (k j : ℕ) → (levelAt d p (suc k) j ≡ empty → ⊥) → stageEntry 256 d p (suc k) j ≡ highest d p k (levelAt d p (suc k) j)
     unfolding stageEntry pinEntry
     later-entry k j full = rw (ne-eqb _ _ full, stageEntry, pinEntry)
 
     later-gathers : (k : ℕ) → suc k < stagesOf d p → (row : List ℕ) → HoldsValues d p old new k row → Gathers d p old new W o (suc k) row
     later-gathers k stage row holds j l full =
-        let x = slotAt d p (suc k) (8192 + j) in
-        let (some-position, within, there) = rw add-one at (later-highest d (s .ten) p k j (s .part) (rw add-one stage) l (rw add-one full)) in
+        let x = levelAt d p (suc k) j in
+        let (some-position, within, there) = rw add-one at (later-highest d (s .ten) p k j (s .part) (rw add-one stage) (omega (arith, lanes-full d)) (rw add-one full)) in
         let here : entryAt 256 W o (suc k) j ≡ highest d p k x = w .entry (suc k) j stage (omega arith) ∙ later-entry k j full in
-        ap (bitAt row) here ∙ holds (highest d p k x) some-position within (λ e. full (sym there ∙ e)) ∙ ap (pinValue d p old new) there
+        ap (bitAt row) here ∙ holds (highest d p k x) some-position (omega (arith, within, lanes-full d)) (λ e. full (sym there ∙ e)) ∙ ap (pinValue d p old new) there
 
     pub row-values : (k : ℕ) → k < stagesOf d p → HoldsValues d p old new k (rowAfter 256 13 W o (readRow 256 W o old new) (suc k))
     unfolding rowAfter

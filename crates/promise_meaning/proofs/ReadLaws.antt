@@ -21,7 +21,7 @@ use Rattle.reads.proofs.LocalLaws.{Requested, own-positions}
 use Rattle.reads.proofs.SectionWordLaws.{section-word, section-mask}
 use Rattle.reads.proofs.ReadTurnLaws.{ReadBy, read-requested}
 use Rattle.reads_asked.proofs.RequestLaws.{set-requests}
-use Rattle.plan_record.specs.Record.{majorsOf, partsOf, stagesOf, slotAt}
+use Rattle.plan_record.specs.Record.{majorsOf, partsOf, stagesOf, levelAt}
 use Rattle.words.specs.Pins.{empty}
 use Rattle.plan_record.proofs.PlanFormLaws.{formed}
 use Rattle.plan_gates.specs.Gates.{value}
@@ -92,8 +92,8 @@ module _ (d : List ℕ) (p : ℕ) (s : PassedPart d p) where
       let most = sum-most 256 (writeOuts d) (partsOf d) (λ q l. counts-passed d (s .seven) q l .words) in
       omega (arith, f .head .layout, f .sizes .headed .parts, most)
 
-  slot-planned : (j : ℕ) → j < 8192 → (slotAt d p 0 (8192 + j) ≡ empty → ⊥) → RightlyPlanned d (majorOf d p) (slotAt d p 0 (8192 + j))
-  slot-planned j l full = read-planned d (s .twelve) p (slotAt d p 0 (8192 + j)) (s .part) (reads-slot d p j l) full
+  slot-planned : (j : ℕ) → j < 8192 → (levelAt d p 0 j ≡ empty → ⊥) → RightlyPlanned d (majorOf d p) (levelAt d p 0 j)
+  slot-planned j l full = read-planned d (s .twelve) p (levelAt d p 0 j) (s .part) (reads-slot d p j l) full
 
   place-small : (x : ℕ) (r : RightlyPlanned d (majorOf d p) x) → r .position .place < 2 ^ 32
   place-small x r = ⊎-elim
@@ -109,13 +109,13 @@ module _ (d : List ℕ) (p : ℕ) (s : PassedPart d p) where
 
   slot-narrow : (j : ℕ) → j < 8192 → AllNarrow (slotAsks d p j)
   unfolding askedBy
-  slot-narrow j l = by (eqb (slotAt d p 0 (8192 + j)) empty) refl
+  slot-narrow j l = by (eqb (levelAt d p 0 j) empty) refl
     where
       one : (q : ℕ) → Narrow q → AllNarrow (q ∷ [])
       one q n zero h = n
       one q n (suc i) h = absurd (omega arith)
 
-      by : (b : Bool) → eqb (slotAt d p 0 (8192 + j)) empty ≡ b → AllNarrow (askedBy b (planned d (slotAt d p 0 (8192 + j))))
+      by : (b : Bool) → eqb (levelAt d p 0 j) empty ≡ b → AllNarrow (askedBy b (planned d (levelAt d p 0 j)))
       by true e = λ i h. absurd (omega arith)
       by false e =
           let r = slot-planned j l (eqb-false _ _ e) in
@@ -141,7 +141,7 @@ module _ (d : List ℕ) (p : ℕ) (s : PassedPart d p) where
   masks-small : (w m : ℕ) → 0 < times w m (pairsOf (readWords d p)) → m < 2 ^ 32
   masks-small w m h = pairs-small 0 (readWords d p) (2 ^ 32) (words-small d p narrow) w m h .1
 
-  slot-requested : (j : ℕ) (l : j < 8192) (full : slotAt d p 0 (8192 + j) ≡ empty → ⊥)
+  slot-requested : (j : ℕ) (l : j < 8192) (full : levelAt d p 0 j ≡ empty → ⊥)
       → Requested (pairsOf (readWords d p)) (bitNumber (slot-planned j l full .position) / 32) (bitNumber (slot-planned j l full .position) % 32)
   unfolding readWords
   slot-requested j l full =
@@ -149,7 +149,7 @@ module _ (d : List ℕ) (p : ℕ) (s : PassedPart d p) where
       let (i, k, g) = asked-in d p 8192 j (r .position) l full (r .is) in
       rw g at (set-requests (askedTo d p 8192) i k)
 
-  first-entry : (j : ℕ) → (slotAt d p 0 (8192 + j) ≡ empty → ⊥) → (y : Planned) → planned d (slotAt d p 0 (8192 + j)) ≡ some y
+  first-entry : (j : ℕ) → (levelAt d p 0 j ≡ empty → ⊥) → (y : Planned) → planned d (levelAt d p 0 j) ≡ some y
       → stageEntry 256 d p 0 j ≡ orZero (localOf (partLanes 256 d p) (bitNumber y / 32) (bitNumber y % 32))
   unfolding stageEntry pinEntry localPosition
   first-entry j full y e = rw (ne-eqb _ _ full, stageEntry, pinEntry, e, localPosition)
@@ -166,7 +166,7 @@ module _ (d : List ℕ) (p : ℕ) (s : PassedPart d p) where
 
     pub first-gathers : 0 < stagesOf d p → Gathers d p old new W o 0 (readRow 256 W o old new)
     first-gathers some-stages j l full =
-        let x = slotAt d p 0 (8192 + j) in
+        let x = levelAt d p 0 j in
         let r = slot-planned j l full in
         let y = r .position in
         let asked = slot-requested j l full in

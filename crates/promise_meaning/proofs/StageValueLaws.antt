@@ -8,7 +8,8 @@ use Prim.Native.Nat.{ℕ, zero, suc, _+_, _*_, _-_, _/_, _%_, _^_, _≤_, _<_, m
 use native.Mathlib.Omega.{arith}
 use lib.Bits.{differ}
 use lib.Pow.{pow-pos, pow-mono}
-use Rattle.plan_record.specs.Record.{stagesOf, slotAt, gateFirst, gateSecond}
+use Rattle.plan_record.specs.Record.{slotsOf, stagesOf, slotAt, levelAt, gateFirst, gateSecond}
+use Rattle.plan_record.proofs.RecordLaws.{lanes-full}
 use Rattle.words.specs.Pins.{empty}
 use Rattle.plan_gates.specs.Gates.{gateBit, value}
 use Rattle.plan_gates.specs.GateValues.{gateFoundOf}
@@ -66,7 +67,7 @@ module _ (d : List ℕ) (p : ℕ) (s : PassedPart d p) (last state sram : ℕ) (
     position-value : (a b : ℕ) → a < 2 → ((slotA d p k q ≡ empty → ⊥) → a ≡ pinValue d p old new (slotA d p k q))
         → ((slotB d p k q ≡ empty → ⊥) → b ≡ pinValue d p old new (slotB d p k q)) → (slotAt d p k q ≡ empty → ⊥)
         → gateAt 256 W o k q a b ≡ pinValue d p old new (slotAt d p k q)
-    position-value a b small first second full = by (position-stands d (s .nine) p k (s .part) stage q some-position within)
+    position-value a b small first second full = by (position-stands d (s .nine) p k (s .part) stage q some-position (omega (arith, lanes-full d)))
       where
         by : SlotStands d (slotAt d p k q) (slotA d p k q) (slotB d p k q) → gateAt 256 W o k q a b ≡ pinValue d p old new (slotAt d p k q)
         by (vacant e) = absurd (full e)
@@ -89,7 +90,7 @@ module _ (d : List ℕ) (p : ℕ) (s : PassedPart d p) (last state sram : ℕ) (
             first (λ z. first-pin (f .first ∙ z)) ∙ ap (pinValue d p old new) (sym (f .first)) ∙ pin-value d p old new (u / 2) first-pin in
             let two : b ≡ value d inp (v / 2) =
             second (λ z. second-pin (f .second ∙ z)) ∙ ap (pinValue d p old new) (sym (f .second)) ∙ pin-value d p old new (v / 2) second-pin in
-            let unread : inp x ≡ none = input-other d p old new x (computed-unread d (s .eleven) p k q (s .part) stage some-position within full n) in
+            let unread : inp x ≡ none = input-other d p old new x (computed-unread d (s .eleven) p k q (s .part) stage some-position (omega (arith, lanes-full d)) full n) in
             at-masks a b (u % 2) (v % 2) 0 masks ∙ gate-computed a b (u % 2) (v % 2) ∙ ap₂ (λ (i j : ℕ). min (differ i (u % 2)) (differ j (v % 2))) one two
             ∙ sym (pin-value d p old new x full ∙ value-gate d (s .gates) inp x g unread (f .found) ∙ gate-bit d g (value d inp))
 
@@ -102,8 +103,8 @@ module _ (d : List ℕ) (p : ℕ) (s : PassedPart d p) (last state sram : ℕ) (
     level-value zero i e q lo hi full =
         let last-level : i ≡ 13 = omega arith in
         let z : 2 ^ i ≡ 2 ^ 13 = ap (λ (x : ℕ). 2 ^ x) last-level in
-        let j : 8192 + (q - 8192) ≡ q = omega arith in
-        let same : slotAt d p k (8192 + (q - 8192)) ≡ slotAt d p k q = ap (slotAt d p k) j in
+        let j : slotsOf d + (q - 8192) ≡ q = omega (arith, lanes-full d) in
+        let same : levelAt d p k (q - 8192) ≡ slotAt d p k q = ap (slotAt d p k) j in
         gathers (q - 8192) (omega arith) (λ y. full (sym same ∙ y)) ∙ ap (pinValue d p old new) same
     level-value (suc h) i e q lo hi full =
         let up = level-value h (suc i) (omega arith) in

@@ -5,10 +5,10 @@ use mathlib.Core.Path.{_≡_}
 use mathlib.Core.Bool.{true}
 use mathlib.Core.Option.{none}
 use mathlib.Core.List.{List}
-use Prim.Native.Nat.{ℕ, _+_, _≤_, _<_}
+use Prim.Native.Nat.{ℕ, _≤_, _<_}
 use Rattle.words.specs.Bit.{bitAt}
 use Rattle.words.specs.Answer.{good}
-use Rattle.plan_record.specs.Record.{partsOf, stagesOf, locationAt, slotAt}
+use Rattle.plan_record.specs.Record.{partsOf, stagesOf, locationAt, slotAt, levelAt}
 use Rattle.words.specs.Pins.{empty}
 use Rattle.plan_record.specs.Form.{planForm}
 use Rattle.plan_gates.specs.Gates.{badGate}
@@ -40,7 +40,7 @@ pub record LocationAt (d : List ℕ) (p l : ℕ) : Type 0 where
 -- the bits that stage k gathers from `row`: each slot of level 0 with a pin gets the pin's value
 abbrev pub Gathers : List ℕ → ℕ → List ℕ → List ℕ → List ℕ → ℕ → ℕ → List ℕ → Type 0
 Gathers d p old new W o k row =
-    (j : ℕ) → j < 8192 → (slotAt d p k (8192 + j) ≡ empty → ⊥) → bitAt row (entryAt 256 W o k j) ≡ pinValue d p old new (slotAt d p k (8192 + j))
+    (j : ℕ) → j < 8192 → (levelAt d p k j ≡ empty → ⊥) → bitAt row (entryAt 256 W o k j) ≡ pinValue d p old new (levelAt d p k j)
 
 -- the positions after stage k: each with a pin holds the pin's value
 abbrev pub HoldsValues : List ℕ → ℕ → List ℕ → List ℕ → ℕ → List ℕ → Type 0
