@@ -6,17 +6,17 @@ use mathlib.Core.Logic.{⊎-elim}
 use mathlib.Core.Bool.{Bool, true, false, not}
 use mathlib.Core.Option.{Option, none, some}
 use mathlib.Core.List.{List, [], _∷_, _++_, append-nil}
-use Prim.Native.Nat.{ℕ, zero, suc, _+_, _/_, _%_, _≤_, _<_}
+use Prim.Native.Nat.{ℕ, zero, suc, _+_, _*_, _/_, _%_, _≤_, _<_}
 use native.Mathlib.Omega.{arith}
-use borrow.Author.Tests.{lt-ltb, le-ltb, ne-eqb}
-use lib.Dec.{leb, eqb}
+use borrow.Author.Tests.{lt-ltb, ne-eqb}
+use lib.Dec.{leb, ltb, eqb}
 use lib.ListN.{replicate}
 use Rattle.words.proofs.BitLaws.{lt-or-ge}
 use Rattle.words.specs.Pins.{empty}
 use Rattle.words.specs.Sum.{sumTo}
 use Rattle.words.specs.Tests.{allBelow, firstFrom, firstNot, lowestFrom, lowest}
 use Rattle.words.proofs.TestLaws.{none-not, not-is, some-false}
-use Rattle.plan_record.specs.Record.{wordAt, partsBefore, gateBase, layoutBase, positionBase, headBase, bodyAt, partsOf, slotAt, tableAt, gatePin, gateFirst, gateSecond, locationsOf, locationAt, layoutPin}
+use Rattle.plan_record.specs.Record.{wordAt, partsBefore, gateBase, layoutBase, positionBase, headBase, bodyAt, partsOf, planLanes, slotsOf, slotAt, levelAt, tableAt, gatePin, gateFirst, gateSecond, locationsOf, locationAt, layoutPin}
 use Rattle.plan_record.specs.Form.{headForm, countsForm, partHeadForm, lengthForm, gateForm, layoutForm, listsForm, planForm}
 use Rattle.gatelist.specs.GateList.{beforeOver, rightOver, badOver, gateOver}
 use Rattle.reads.specs.ReadSet.{pairsOf, pairsFrom, total}
@@ -34,12 +34,13 @@ use Rattle.plan_slots.specs.Slots.{topBelow, feeds, pinRight, slotRight, nineRi
 use Rattle.plan_slots.proofs.SlotLaws.{ten-first}
 use Rattle.plan_winners.specs.Planned.{Planned, lastBelow, inLayout, inPositions, planned}
 use Rattle.plan_entries.specs.TableEntries.{thirteenRight, refusal13}
+use Rattle.plan_entries.proofs.TableEntryLaws.{entry-low, entry-high}
 use Rattle.plan_positions.specs.Positions.{positionRight, twelveRight, refusal12}
 use Rattle.plan_reads.specs.PartReads.{askedBy, askedTo, readWords, partReads, badReads, refusedReads}
 use Rattle.plan_checks.specs.Refusals.{planRefusal}
 use Rattle.promise.specs.Promise.{Accepted}
 use Rattle.marked_plan.specs.GatePlan.{bytesOf, slotPin, tableWord, gateRecord, noParts}
-use Rattle.marked_plan.proofs.GateRecordLaws.{record-length, blocks-one, majors-one, gates-one, layout-two, positions-none, parts-one, none-earlier, one-earlier, one-part, gate-base, gate-pin}
+use Rattle.marked_plan.proofs.GateRecordLaws.{gate-lanes, record-length, blocks-one, majors-one, gates-one, layout-two, positions-none, parts-one, none-earlier, one-earlier, one-part, gate-base, gate-pin}
 use Rattle.marked_plan.proofs.GateRecordLaws.{gate-first, gate-second, layout-base, layout-first, layout-second, stages-one, endpoints-none, locations-one, body-end, slot-is, location-is, table-is}
 
 abbrev d : List ℕ
@@ -139,6 +140,16 @@ pub pin-two : slotAt d 0 0 12288 ≡ 2
 unfolding slotPin
 pin-two = slot-is 12288 (omega arith) (omega arith)
 
+-- level 0 begins at index 8192
+at-level : (j : ℕ) → levelAt d 0 0 j ≡ slotAt d 0 0 (8192 + j)
+at-level j = let e : slotsOf d + j ≡ 8192 + j = omega (arith, gate-lanes) in ap (slotAt d 0 0) e
+
+pub level-one : levelAt d 0 0 0 ≡ 1
+level-one = at-level 0 ∙ pin-one
+
+pub level-two : levelAt d 0 0 4096 ≡ 2
+level-two = at-level 4096 ∙ pin-two
+
 pin-none : (q : ℕ) → 0 < q → q < 16384 → (q ≡ 4096 → ⊥) → (q ≡ 8192 → ⊥) → (q ≡ 12288 → ⊥) → slotAt d 0 0 q ≡ empty
 unfolding slotPin
 pin-none q a b x y z = slot-is q a b ∙ rw (ne-eqb q 4096 x, ne-eqb q 8192 y, ne-eqb q 12288 z, slotPin)
@@ -148,15 +159,15 @@ pub each : (P : ℕ → Type 0) → P 0 → P 4096 → ((x : ℕ) → x < 8192 �
 each P first second other x l =
     ⊎-elim (λ e. subst P (sym e) first) (λ e. ⊎-elim (λ f. subst P (sym f) second) (λ f. other x l e f) (same-or x 4096)) (same-or x 0)
 
-pub below-empty : (x : ℕ) → x < 8192 → (x ≡ 0 → ⊥) → (x ≡ 4096 → ⊥) → slotAt d 0 0 (8192 + x) ≡ empty
-below-empty x l a b = pin-none (8192 + x) (omega arith) (omega arith) (λ e. omega arith) (λ e. a (omega arith)) (λ e. b (omega arith))
+pub below-empty : (x : ℕ) → x < 8192 → (x ≡ 0 → ⊥) → (x ≡ 4096 → ⊥) → levelAt d 0 0 x ≡ empty
+below-empty x l a b = at-level x ∙ pin-none (8192 + x) (omega arith) (omega arith) (λ e. omega arith) (λ e. a (omega arith)) (λ e. b (omega arith))
 
 pub above-empty : (x : ℕ) → x < 8192 → (x ≡ 0 → ⊥) → (x ≡ 4096 → ⊥) → slotAt d 0 0 x ≡ empty
 above-empty x l a b = pin-none x (omega (arith, a)) (omega arith) b (λ e. omega arith) (λ e. omega arith)
 
 items-right : (right : ℕ → ℕ → Bool) → ((x : ℕ) → x < 8192 → right 0 x ≡ true) → badItem d right 0 ≡ none
 unfolding badItem
-items-right right h = rw stages-one (none-not (λ i. right (i / 8192) (i % 8192)) 8192 item)
+items-right right h = rw (gate-lanes, stages-one) (none-not (λ i. right (i / 8192) (i % 8192)) 8192 item)
   where
     item : (i : ℕ) → i < 8192 → right (i / 8192) (i % 8192) ≡ true
     item i l =
@@ -180,11 +191,11 @@ nine-other x l a b = rw (below-empty x l a b, above-empty x l a b, ne-eqb x 0 a)
 
 nine-first : nineRight d 0 0 0 ≡ true
 unfolding nineRight pinRight
-nine-first = rw pin-one
+nine-first = rw level-one
 
 nine-gate : nineRight d 0 0 4096 ≡ true
 unfolding nineRight pinRight
-nine-gate = rw (pin-two, slot-gate)
+nine-gate = rw (level-two, slot-gate)
 
 nine : refusal9 d ≡ none
 unfolding refusal9
@@ -197,8 +208,8 @@ ten = one-of (λ p. badItem d (tenRight d p) p) (items-right (tenRight d 0) (λ 
 three-unread : readsPin d 0 3 ≡ false
 unfolding readsPin
 three-unread =
-    some-false (λ j. eqb (slotAt d 0 0 (8192 + j)) 3) 8192
-    (each (λ j. eqb (slotAt d 0 0 (8192 + j)) 3 ≡ false) (rw pin-one) (rw pin-two) (λ x l a b. rw (below-empty x l a b)))
+    some-false (λ j. eqb (levelAt d 0 0 j) 3) (slotsOf d)
+    (λ j l. each (λ j. eqb (levelAt d 0 0 j) 3 ≡ false) (rw level-one) (rw level-two) (λ x l a b. rw (below-empty x l a b)) j (omega (arith, gate-lanes)))
 
 eleven-first : elevenRight d 0 0 0 ≡ true
 unfolding elevenRight
@@ -250,11 +261,11 @@ planned-two = rw (no-positions 0 2, laid-two, planned)
 
 twelve-first : twelveRight d 0 0 ≡ true
 unfolding twelveRight positionRight
-twelve-first = rw (pin-one, planned-one, state-two)
+twelve-first = rw (level-one, planned-one, state-two)
 
 twelve-second : twelveRight d 0 4096 ≡ true
 unfolding twelveRight positionRight
-twelve-second = rw (pin-two, planned-two, state-two)
+twelve-second = rw (level-two, planned-two, state-two)
 
 twelve-other : (x : ℕ) → x < 8192 → (x ≡ 0 → ⊥) → (x ≡ 4096 → ⊥) → twelveRight d 0 x ≡ true
 unfolding twelveRight
@@ -270,18 +281,21 @@ pub table-zero : (i : ℕ) → i < 16896 → tableAt d 0 i ≡ 0
 unfolding tableWord
 table-zero i l = table-is i (omega arith) ∙ rw (lt-ltb i 16896 l, tableWord)
 
-entry-right : (i : ℕ) → i < 16384 → thirteenRight d 0 i ≡ true
-unfolding thirteenRight
+zero-right : (k i : ℕ) → k < 16896 → ltb (tableAt d 0 k) (slotsOf d) ≡ thirteenRight d 0 i → thirteenRight d 0 i ≡ true
+zero-right k i l e = sym e ∙ ap (λ (x : ℕ). ltb x (slotsOf d)) (table-zero k l) ∙ lt-ltb 0 (slotsOf d) (omega (arith, gate-lanes))
+
+entry-right : (i : ℕ) → i < 2 * slotsOf d → thirteenRight d 0 i ≡ true
 entry-right i l =
-    ⊎-elim (λ k. rw (lt-ltb i 8192 k, table-zero i (omega arith))) (λ k. rw (le-ltb i 8192 k, table-zero (i + 512) (omega arith))) (lt-or-ge i 8192)
+    ⊎-elim (λ k. zero-right i i (omega (arith, gate-lanes)) (entry-low d 0 i k))
+    (λ k. zero-right (i + 2 * planLanes d) i (omega (arith, gate-lanes)) (entry-high d 0 i k)) (lt-or-ge i (slotsOf d))
 
 thirteen : refusal13 d ≡ none
 unfolding refusal13
-thirteen = one-of (λ p. firstNot (thirteenRight d p) 16384) (none-not (thirteenRight d 0) 16384 entry-right)
+thirteen = one-of (λ p. firstNot (thirteenRight d p) (2 * slotsOf d)) (none-not (thirteenRight d 0) (2 * slotsOf d) entry-right)
 
 -- ---- what the part reads: the bits of pins 1 and 2, which are bits 0 and 1 of word 0
 
-asked-more : (j : ℕ) → askedTo d 0 (suc j) ≡ askedTo d 0 j ++ askedBy (eqb (slotAt d 0 0 (8192 + j)) empty) (planned d (slotAt d 0 0 (8192 + j)))
+asked-more : (j : ℕ) → askedTo d 0 (suc j) ≡ askedTo d 0 j ++ askedBy (eqb (levelAt d 0 0 j) empty) (planned d (levelAt d 0 0 j))
 unfolding askedTo
 asked-more j = refl
 
@@ -290,7 +304,7 @@ unfolding askedBy
 asked-none o = refl
 
 -- m empty slots from slot j on ask for nothing
-asked-on : (m j : ℕ) → ((i : ℕ) → j ≤ i → i < j + m → slotAt d 0 0 (8192 + i) ≡ empty) → askedTo d 0 (j + m) ≡ askedTo d 0 j
+asked-on : (m j : ℕ) → ((i : ℕ) → j ≤ i → i < j + m → levelAt d 0 0 i ≡ empty) → askedTo d 0 (j + m) ≡ askedTo d 0 j
 asked-on zero j h = let e : j + 0 ≡ j = omega arith in ap (askedTo d 0) e
 asked-on (suc m) j h =
     let e : j + suc m ≡ suc (j + m) = omega arith in
@@ -298,11 +312,11 @@ asked-on (suc m) j h =
 
 asked-one : askedTo d 0 1 ≡ 0 ∷ []
 unfolding askedTo askedBy
-asked-one = rw (pin-one, planned-one)
+asked-one = rw (level-one, planned-one)
 
-asked-second : askedBy (eqb (slotAt d 0 0 12288) empty) (planned d (slotAt d 0 0 12288)) ≡ 1 ∷ []
+asked-second : askedBy (eqb (levelAt d 0 0 4096) empty) (planned d (levelAt d 0 0 4096)) ≡ 1 ∷ []
 unfolding askedBy
-asked-second = rw (pin-two, planned-two)
+asked-second = rw (level-two, planned-two)
 
 asked-all : askedTo d 0 8192 ≡ 0 ∷ 1 ∷ []
 asked-all =

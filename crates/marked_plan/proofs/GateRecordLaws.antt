@@ -11,7 +11,8 @@ use Rattle.words.proofs.BitLaws.{lt-or-ge}
 use Rattle.words.specs.Sum.{sumTo}
 use Rattle.words.specs.Section.{listOf}
 use Rattle.words.proofs.SectionLaws.{length-listOf, getD-listOf}
-use Rattle.plan_record.proofs.RecordLaws.{word-there, word-missing}
+use Rattle.plan_record.proofs.RecordLaws.{lanes-full, word-there, word-missing}
+use Rattle.plan_record.specs.Record.{planLanes, slotWords}
 use Rattle.plan_record.specs.Record.{wordAt, countAt, partsBefore, partsOf, gateBase, layoutBase, positionBase, headBase, bodyAt, bodyWords, locationsIn, stagesOf, endpointsOf, countBase, stageLocations, locationsOf, slotBase, slotAt, locationBase, locationAt, tableBase, tableAt}
 use Rattle.promise_decode.proofs.LaneListLaws.{behind}
 use Rattle.marked_plan.specs.GatePlan.{bytesOf, recordHead, slotPin, tableWord, recordWords, gateRecord}
@@ -207,20 +208,25 @@ slot-base : slotBase d 0 ≡ 14
 unfolding slotBase
 slot-base = rw (count-base, stages-one)
 
+-- its edition
+pub gate-lanes : planLanes d ≡ 256
+gate-lanes = lanes-full d
+
 location-base : locationBase d 0 ≡ 16397
-unfolding locationBase
-location-base = rw (slot-base, stages-one)
+unfolding locationBase slotWords
+location-base = rw (gate-lanes, slot-base, stages-one)
 
 table-base : tableBase d 0 ≡ 16398
 unfolding tableBase
 table-base = rw (location-base, locations-one)
 
 pub body-end : bodyAt d 1 ≡ 34062
-unfolding bodyAt bodyWords
-body-end = rw (body-first, stages-one, endpoints-none, locations-in)
+unfolding bodyAt bodyWords slotWords
+body-end = rw (gate-lanes, body-first, stages-one, endpoints-none, locations-in)
 
 pub slot-is : (q : ℕ) → 0 < q → q < 16384 → slotAt d 0 0 q ≡ slotPin q
-slot-is q some few = rw slot-base (slot-word q some few)
+unfolding slotWords
+slot-is q some few = rw (gate-lanes, slot-base) (slot-word q some few)
 
 pub location-is : locationAt d 0 0 ≡ 128
 location-is = rw location-base (behind-slots 0)

@@ -22,7 +22,7 @@ use Rattle.reads.specs.ReadSet.{total}
 use Rattle.reads.specs.Search.{longest}
 use Rattle.reads.specs.Local.{maskIn, later, localAt, roundFrom, laneRoundFrom, localOf}
 use Rattle.reads.specs.ReadSection.{laneRoundWords, roundWords, roundsFrom, readSection}
-use Rattle.plan_record.specs.Record.{slotAt, tableAt}
+use Rattle.plan_record.specs.Record.{slotsOf, slotAt, levelAt, tableAt}
 use Rattle.plan_blocks.proofs.TotalLaws.{same-or}
 use Rattle.plan_gates.specs.Gates.{gateOf}
 use Rattle.plan_slots.specs.Slots.{topBelow}
@@ -35,7 +35,7 @@ use Rattle.script.proofs.SectionsLaws.{lanes-ext}
 use Rattle.marked_plan.specs.GatePlan.{tableWord, gateRecord}
 use Rattle.marked_plan.specs.GateScript.{alwaysOn, headWords, placeWords, oneRound, gateSection, gateThree}
 use Rattle.marked_plan.proofs.GateRecordLaws.{gate-base, gate-first, gate-second, stages-one, endpoints-none, stage-location, locations-one, location-is, table-is}
-use Rattle.marked_plan.proofs.GateAcceptedLaws.{no-duplicates, write-outs-one, gate-three, planned-one, planned-two, pin-one, pin-two, pin-three, each, below-empty, above-empty, table-zero, gateLanes, reads-are}
+use Rattle.marked_plan.proofs.GateAcceptedLaws.{level-one, level-two, no-duplicates, write-outs-one, gate-three, planned-one, planned-two, pin-one, pin-three, each, below-empty, above-empty, table-zero, gateLanes, reads-are}
 
 abbrev d : List ℕ
 d = gateRecord
@@ -116,15 +116,15 @@ local-two = refl
 slot-full : (q x : ℕ) → slotAt d 0 0 q ≡ x → (x ≡ empty → ⊥) → eqb (slotAt d 0 0 q) empty ≡ false
 slot-full q x e h = rw e (ne-eqb x empty h)
 
-entry-full : (i x : ℕ) → slotAt d 0 0 (8192 + i) ≡ x → (x ≡ empty → ⊥) → stageEntry 256 d 0 0 i ≡ localPosition gateLanes (planned d x)
+entry-full : (i x : ℕ) → levelAt d 0 0 i ≡ x → (x ≡ empty → ⊥) → stageEntry 256 d 0 0 i ≡ localPosition gateLanes (planned d x)
 unfolding stageEntry pinEntry
-entry-full i x e h = rw (slot-full (8192 + i) x e h, stageEntry) (ap (λ (y : ℕ). localPosition (partLanes 256 d 0) (planned d y)) e ∙ rw lanes-are)
+entry-full i x e h = rw (slot-full (slotsOf d + i) x e h, stageEntry) (ap (λ (y : ℕ). localPosition (partLanes 256 d 0) (planned d y)) e ∙ rw lanes-are)
 
 entry-first : stageEntry 256 d 0 0 0 ≡ 1
-entry-first = entry-full 0 1 pin-one (λ e. omega arith) ∙ rw planned-one local-one
+entry-first = entry-full 0 1 level-one (λ e. omega arith) ∙ rw planned-one local-one
 
 entry-second : stageEntry 256 d 0 0 4096 ≡ 0
-entry-second = entry-full 4096 2 pin-two (λ e. omega arith) ∙ rw planned-two local-two
+entry-second = entry-full 4096 2 level-two (λ e. omega arith) ∙ rw planned-two local-two
 
 entry-other : (x : ℕ) → x < 8192 → (x ≡ 0 → ⊥) → (x ≡ 4096 → ⊥) → stageEntry 256 d 0 0 x ≡ oneAt 0 x
 unfolding stageEntry
