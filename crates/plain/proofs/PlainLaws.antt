@@ -1,4 +1,4 @@
--- The plain laws. Levels: 2^(13−h) is the top power of its slots' positions. Pieces: by induction over the insertions. Lanes: the look goes on by one lane
+-- The plain laws. Levels: 2^(n−h) is the top power of its slots' positions. Pieces: by induction over the insertions. Lanes: the look goes on by one lane
 -- each time. SRAM: in a major stage the part that comes before takes its words first, and of two major stages the earlier one.
 -- Assumes nothing.
 use mathlib.Core.Path.{_≡_, refl, sym, ap, _∙_}
@@ -14,6 +14,7 @@ use lib.Dec.{eqb}
 use lib.Pow.{pow-lt}
 use lib.ListN.{length, getD}
 use Rattle.words.proofs.BitLaws.{lt-or-ge}
+use Rattle.words.proofs.EditionLaws.{levels-most}
 use Rattle.words.specs.Round.{next}
 use Rattle.words.specs.Section.{entryOf}
 use Rattle.words.proofs.RoundLaws.{next-wrap, next-step, next-lt}
@@ -22,7 +23,8 @@ use Rattle.reads.specs.ReadSet.{Pair, total}
 use Rattle.words.proofs.TestLaws.{some-not-none}
 use Rattle.reads.specs.Search.{Lane, insertPiece, ordered, firstRoom}
 use Rattle.reads.proofs.SearchLaws.{room-found}
-use Rattle.plan_record.specs.Record.{countAt, partsBefore, slotAt}
+use Rattle.plan_record.specs.Record.{planLanes, countAt, partsBefore, slotAt}
+use Rattle.plan_record.proofs.RecordLaws.{lanes-known}
 use Rattle.plan_counts.specs.Counts.{srams}
 use Rattle.plan_blocks.specs.Blocks.{blockOf, sramStart}
 use Rattle.plan_blocks.proofs.BlockOrderLaws.{taken-apart}
@@ -30,22 +32,24 @@ use Rattle.plan_blocks.proofs.StateStartLaws.{sram-mono, sram-in}
 use Rattle.plan_blocks.proofs.TotalLaws.{same-or, three-ways}
 use Rattle.plan_slots.specs.Slots.{top}
 use Rattle.plan_slots.proofs.TopLaws.{top-is, top-at}
-use Rattle.plain.specs.Plain.{SlotsBelow, OneLevel, MostFirst, ofTotal, EqualKept, FirstWithRoom, AllLackRoom, EntriesInWords, SramApart}
+use Rattle.plain.specs.Plain.{planLevels, SlotsBelow, OneLevel, MostFirst, ofTotal, EqualKept, FirstWithRoom, AllLackRoom, EntriesInWords, SramApart}
 
 -- ---- levels
 
-top-of : (h j : ℕ) → 1 ≤ h → h ≤ 13 → j < 2 ^ (13 - h) → top (2 ^ (13 - h) + j) ≡ 2 ^ (13 - h)
-top-of h j a b c = top-is 13 (2 ^ (13 - h) + j) (13 - h) (omega arith) (record { least = omega arith; most = omega arith })
+module _ (n : ℕ) where
+  top-of : (h j : ℕ) → n ≤ 13 → 1 ≤ h → h ≤ n → j < 2 ^ (n - h) → top (2 ^ (n - h) + j) ≡ 2 ^ (n - h)
+  top-of h j few a b c = top-is 13 (2 ^ (n - h) + j) (n - h) (omega arith) (record { least = omega arith; most = omega arith })
 
-twice : (h : ℕ) → 1 ≤ h → h ≤ 13 → 2 ^ (13 - (h - 1)) ≡ 2 * 2 ^ (13 - h)
-twice h a b = let e : 13 - (h - 1) ≡ suc (13 - h) = omega arith in rw e (omega arith)
+  twice : (h : ℕ) → 1 ≤ h → h ≤ n → 2 ^ (n - (h - 1)) ≡ 2 * 2 ^ (n - h)
+  twice h a b = let e : n - (h - 1) ≡ suc (n - h) = omega arith in rw e (omega arith)
 
 pub slots-below : SlotsBelow
 slots-below d p s h j a b c =
-    let t = top-of h j a b c in
-    let w = twice h a b in
-    let qa : 2 ^ (13 - h) + j + top (2 ^ (13 - h) + j) ≡ 2 ^ (13 - (h - 1)) + j = omega arith in
-    let qb : 2 ^ (13 - h) + j + 2 * top (2 ^ (13 - h) + j) ≡ 2 ^ (13 - (h - 1)) + (j + 2 ^ (13 - h)) = omega arith in
+    let n : ℕ = planLevels d in
+    let t : top (2 ^ (n - h) + j) ≡ 2 ^ (n - h) = top-of n h j (levels-most (planLanes d) (lanes-known d)) a b c in
+    let w : 2 ^ (n - (h - 1)) ≡ 2 * 2 ^ (n - h) = twice n h a b in
+    let qa : 2 ^ (n - h) + j + top (2 ^ (n - h) + j) ≡ 2 ^ (n - (h - 1)) + j = omega arith in
+    let qb : 2 ^ (n - h) + j + 2 * top (2 ^ (n - h) + j) ≡ 2 ^ (n - (h - 1)) + (j + 2 ^ (n - h)) = omega arith in
     (ap (slotAt d p s) qa, ap (slotAt d p s) qb)
 
 one-power : (i j : ℕ) → 2 ^ i ≡ 2 ^ j → i ≡ j
@@ -55,11 +59,11 @@ one-power i j e =
     (lt-or-ge i j)
 
 pub one-level : OneLevel
-one-level q low high =
-    let (e, i, t) = top-at 13 q low high in
-    let back : 13 - (13 - e) ≡ e = omega arith in
-    let is : top q ≡ 2 ^ e = top-is 13 q e i t in (
-      13 - e,
+one-level n q few low high =
+    let (e, i, t) = top-at n q low high in
+    let back : n - (n - e) ≡ e = omega arith in
+    let is : top q ≡ 2 ^ e = top-is 13 q e (omega arith) t in (
+      n - e,
       q - 2 ^ e,
       record {
         above = omega arith;
@@ -68,8 +72,8 @@ one-level q low high =
         position = rw back (omega (arith, t .least));
       },
       λ h j l.
-          let same : 2 ^ (13 - h) ≡ 2 ^ e = sym (top-of h j (l .above) (l .below) (l .slot)) ∙ ap top (l .position) ∙ is in
-          let level = one-power (13 - h) e same in
+          let same : 2 ^ (n - h) ≡ 2 ^ e = sym (top-of n h j few (l .above) (l .below) (l .slot)) ∙ ap top (l .position) ∙ is in
+          let level = one-power (n - h) e same in
           (omega (arith, l .below), omega (arith, l .position)),
     )
 

@@ -9,35 +9,42 @@ use mathlib.Core.Logic.{_⊎_}
 use Prim.Native.Nat.{ℕ, _+_, _*_, _-_, _/_, _%_, _^_, _≤_, _<_}
 use lib.Dec.{eqb}
 use lib.ListN.{length, getD}
+use Rattle.words.specs.Edition.{levelsFor}
 use Rattle.words.specs.Section.{sectionOf}
 use Rattle.reads.specs.ReadSet.{Pair, total}
 use Rattle.reads.specs.Search.{Lane, ordered, firstRoom}
-use Rattle.plan_record.specs.Record.{countAt, partsBefore, slotAt}
+use Rattle.plan_record.specs.Record.{planLanes, countAt, partsBefore, slotAt}
 use Rattle.plan_counts.specs.Counts.{srams}
 use Rattle.plan_blocks.specs.Blocks.{sramStart}
 use Rattle.plan_slots.specs.Slots.{slotA, slotB}
 
--- ---- "Level h has 2^(13−h) slots; slot j of level h≥1 stands at position 2^(13−h)+j." The record has slot j of level 0 at index 8192 + j
+-- ---- "Level h has 2^(13−h) slots; slot j of level h≥1 stands at position 2^(13−h)+j": 13 is the levels of the full edition. The record has slot j of
+-- level 0 at index 2^13 + j
+
+-- the levels of the plan's edition
+abbrev pub planLevels : List ℕ → ℕ
+planLevels d = levelsFor (planLanes d)
 
 abbrev pub levelSlot : List ℕ → (p s h j : ℕ) → ℕ
-levelSlot d p s h j = slotAt d p s (2 ^ (13 - h) + j)
+levelSlot d p s h j = slotAt d p s (2 ^ (planLevels d - h) + j)
 
 -- "At a .. slot j of level h, with a = slot j and b = slot j+2^(13−h) of the level below"
 abbrev pub SlotsBelow : Type 0
 SlotsBelow =
-    (d : List ℕ) (p s h j : ℕ) → 1 ≤ h → h ≤ 13 → j < 2 ^ (13 - h)
-    → (slotA d p s (2 ^ (13 - h) + j) ≡ levelSlot d p s (h - 1) j) × (slotB d p s (2 ^ (13 - h) + j) ≡ levelSlot d p s (h - 1) (j + 2 ^ (13 - h)))
+    (d : List ℕ) (p s h j : ℕ) → 1 ≤ h → h ≤ planLevels d → j < 2 ^ (planLevels d - h)
+    → (slotA d p s (2 ^ (planLevels d - h) + j) ≡ levelSlot d p s (h - 1) j)
+    × (slotB d p s (2 ^ (planLevels d - h) + j) ≡ levelSlot d p s (h - 1) (j + 2 ^ (planLevels d - h)))
 
--- every position but 0 is one slot of one level
-pub record LevelOf (q h j : ℕ) : Type 0 where
+-- of n levels, every position but 0 is one slot of one level
+pub record LevelOf (n q h j : ℕ) : Type 0 where
   pub above : 1 ≤ h
-  pub below : h ≤ 13
-  pub slot : j < 2 ^ (13 - h)
-  pub position : 2 ^ (13 - h) + j ≡ q
+  pub below : h ≤ n
+  pub slot : j < 2 ^ (n - h)
+  pub position : 2 ^ (n - h) + j ≡ q
 
 abbrev pub OneLevel : Type 0
 OneLevel =
-    (q : ℕ) → 0 < q → q < 8192 → (h : ℕ) × (j : ℕ) × LevelOf q h j × ((h′ j′ : ℕ) → LevelOf q h′ j′ → (h′ ≡ h) × (j′ ≡ j))
+    (n q : ℕ) → n ≤ 13 → 0 < q → q < 2 ^ n → (h : ℕ) × (j : ℕ) × LevelOf n q h j × ((h′ j′ : ℕ) → LevelOf n q h′ j′ → (h′ ≡ h) × (j′ ≡ j))
 
 -- ---- "order pieces by total mask bits, most first"
 

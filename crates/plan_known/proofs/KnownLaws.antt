@@ -197,6 +197,16 @@ rest-is room n = take-all (length room - n) (drop n room) (omega (arith, length-
 pub clear-front : (room : List ℕ) → Clear room → take 32768 room ≡ replicate 32768 0
 clear-front room c = ap (take 32768) (c .is) ∙ zeros-front (length room) 32768 (omega (arith, c .wide))
 
+pub fill-kept : (d : List ℕ) (p : ℕ) (room ys : List ℕ) → Clear room → ys ≡ plannedTable d p (length (take (length room - 32768) (drop 32768 room)))
+    → length (take 32768 room ++ (ys ++ drop (length room - 32768) (drop 32768 room))) ≡ length room
+fill-kept d p room ys c e =
+    let n : length (take 32768 room) ≡ 32768 = length-take-le 32768 room (omega (arith, c .wide)) in
+    let k : drop (length room - 32768) (drop 32768 room) ≡ [] = drop-of-length-le (drop 32768 room) {i = length room - 32768} (omega (arith, length-drop 32768 room)) in
+    let z : ys ++ drop (length room - 32768) (drop 32768 room) ≡ ys = ap (λ (a : List ℕ). ys ++ a) k ∙ append-nil ys in
+    let m : length ys ≡ length (take (length room - 32768) (drop 32768 room)) = ap length e ∙ planned-length d p _ in
+    let r : length (take (length room - 32768) (drop 32768 room)) ≡ length room - 32768 = ap length (rest-is room 32768) ∙ length-drop 32768 room in
+    ap (λ (a : List ℕ). length (take 32768 room ++ a)) z ∙ (length-append (take 32768 room) ys ∙ omega (arith, n, m, r, c .wide))
+
 module _ (d : List ℕ) (p : ℕ) (b : Body) (old new : List ℕ) where
   pub fill-first : (room ys : List ℕ) → BodyOf d p b → 0 < b .stages → Clear room
       → ys ≡ plannedTable d p (length (take (length room - 32768) (drop 32768 room)))

@@ -91,8 +91,8 @@ fn fill_part(d: &[u8], p: usize, body: Body, old: &[u32], new: &[u32], room: &mu
     requires { ⌜ (planForm (now d) ≡ true) × BodyOf (now d) p body × (0 < body .stages) × Clear (now room) ⌝ }
     ensures { λ _. ⌜ take 32768 (now (room .exit)) ≡ filled 32768 (bitPuts (now (d .entry)) p (now (old .entry)) (now (new .entry)) (slotsOf (now (d .entry)))) ⌝ }
 {
-    fill_planned(d, p, body, &mut room[PIN_TABLE..]);
     let slots = 32 * body.lanes;
+    fill_planned(d, p, body, &mut room[PIN_TABLE..]);
     let mut j = 0;
     while j < slots {
         put_slot_bit(d, p, body, old, new, room, j);
