@@ -74,7 +74,7 @@ fn position_in(set: &[u32], table: &[u32], q: AskedBit) -> LocalPosition
     requires { ⌜ BitFindable (now set) (now table) (q .0) ⌝ }
     ensures { λ r. ⌜ r .0 ≡ localBy (now (set .entry)) (beginnings (now (set .entry)) (now (table .entry))) (q .0) ⌝ }
 {
-    let mut bases = [0u32; PAIRS];
+    let mut bases = [0u64; PAIRS];
     reads_local::fill_bases(set, table, Edition::LANES, &mut bases);
     reads_local::local_position(set, &bases, q)
 }
