@@ -43,12 +43,12 @@ extern "C" {
 #define JUOLGESOT_AIGER_GATE 10
 
 /* Bytes of stack: a thread of so much in all can call the function, whatever the arguments (measured: host/compare's
- * measure_stack holds the archive to them). 592 KiB are enough for all. */
+ * measure_stack holds the archive to them). 240 KiB are enough for all. */
 #define JUOLGESOT_READ_ROUNDS_STACK 147456
 #define JUOLGESOT_LOCAL_POSITION_STACK 147456
-#define JUOLGESOT_LIST_STACK 409600
-#define JUOLGESOT_PLAN_SIZES_STACK 344064
-#define JUOLGESOT_BUILD_STACK 606208
+#define JUOLGESOT_LIST_STACK 245760
+#define JUOLGESOT_PLAN_SIZES_STACK 237568
+#define JUOLGESOT_BUILD_STACK 237568
 #define JUOLGESOT_RUN_STACK 32768
 #define JUOLGESOT_VALUE_STACK 32768
 #define JUOLGESOT_READ_AIGER_STACK 32768

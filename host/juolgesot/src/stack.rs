@@ -19,11 +19,11 @@ stacks! {
     /// `local_position_into`.
     LOCAL_POSITION = "local_position", 144;
     /// `list_into`.
-    LIST = "list", 400;
+    LIST = "list", 240;
     /// `plan_sizes_into`.
-    PLAN_SIZES = "plan_sizes", 336;
+    PLAN_SIZES = "plan_sizes", 232;
     /// `build_into`.
-    BUILD = "build", 592;
+    BUILD = "build", 232;
     /// `run_into`.
     RUN = "run", 32;
     /// `value_into`.

@@ -165,4 +165,6 @@ returns-2 c =
 pub build-accepted-spec : {M : Type 1} → statement M
 build-accepted-spec =
     tie.close
-    (tie.spec (λ c κs. search needs) parts-of-requires (λ c κs. search needs) write-pieces-requires write-plan-requires (λ c κs. search needs) same-length same-length-2 same-length-3 same-length-4 same-length-5 same-length-6 same-length-7 returns (λ c κs. search needs) same-length-8 returns-2)
+    (tie.spec (λ c κs. search needs) parts-of-requires (λ c κs. search needs) write-pieces-requires write-plan-requires
+    (λ c κs. search needs) same-length same-length-2 same-length-3 same-length-4 same-length-5 same-length-6 same-length-7 returns
+    (λ c κs. search needs) same-length-8 returns-2)

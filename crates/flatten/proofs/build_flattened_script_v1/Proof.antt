@@ -126,4 +126,6 @@ returns-2 c =
 pub build-flattened-script-v1-spec : {M : Type 1} → statement M
 build-flattened-script-v1-spec =
     tie.close
-    (tie.spec (λ c. search needs) (λ c. search needs) (λ c. search needs) check-plan-requires (λ c. search needs) (λ c. search needs) (λ c. search needs) (λ c. search needs) (λ c. search needs) build-accepted-requires same-length returns same-length-2 same-length-3 same-length-4 same-length-5 returns-2)
+    (tie.spec (λ c. search needs) (λ c. search needs) (λ c. search needs) check-plan-requires (λ c. search needs) (λ c. search needs)
+    (λ c. search needs) (λ c. search needs) (λ c. search needs) build-accepted-requires same-length returns same-length-2 same-length-3
+    same-length-4 same-length-5 returns-2)

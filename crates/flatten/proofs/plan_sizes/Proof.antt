@@ -67,4 +67,5 @@ returns-2 c =
 pub plan-sizes-spec : {M : Type 1} → statement M
 plan-sizes-spec =
     tie.close
-    (tie.spec (λ c. search needs) (λ c. search needs) (λ c. search needs) check-plan-requires (λ c. search needs) (λ c. search needs) size-accepted-requires same-length returns same-length-2 returns-2)
+    (tie.spec (λ c. search needs) (λ c. search needs) (λ c. search needs) check-plan-requires (λ c. search needs) (λ c. search needs)
+    size-accepted-requires same-length returns same-length-2 returns-2)

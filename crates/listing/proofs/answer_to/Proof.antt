@@ -67,10 +67,16 @@ returns-2 c =
     let r = at-read-set-of .read-set-of in
     let s = at-rounds-of .rounds-of in (
       to-said (records (o .args .s .now)) (keys-few _ 8192 0) (o .args .room .now) (o .pre .0) (r .ensures .1) _ (sym (at-n .n .given .1) ∙ r .ensures .0) _ (s .ensures .0),
-      (at-clear2 .clear2 .ensures ∙ ap (λ (n : ℕ). replicate n 0) (room-size (o .args .room .now) (r .last .1 .0) (o .pre .0) (r .kept .1 .0)), to-section (records (o .args .s .now)) (keys-few _ 8192 0) (o .args .room .now) (o .pre .0) (r .ensures .1) _ (sym (at-n .n .given .1) ∙ r .ensures .0) _ _ (s .ensures .1)),
+      (
+        at-clear2 .clear2 .ensures ∙ ap (λ (n : ℕ). replicate n 0) (room-size (o .args .room .now) (r .last .1 .0) (o .pre .0) (r .kept .1 .0)),
+        to-section (records (o .args .s .now)) (keys-few _ 8192 0) (o .args .room .now) (o .pre .0) (r .ensures .1) _ (sym (at-n .n .given .1) ∙ r .ensures .0) _ _ (s .ensures .1),
+      ),
     )
 
 pub answer-to-spec : {M : Type 1} → statement M
 answer-to-spec =
     tie.close
-    (tie.spec (λ c. search needs) slice-aggregate-read-set-of read-set-of-requires (λ c. search needs) (λ c κs. search needs) (λ c. search needs) slice-reshare-prefix-rounds-of slice-aggregate-rounds-of (λ c κs. search needs) (λ c κs. search needs) (λ c. search needs) (λ c. search needs) (λ c. search needs) returns (λ c. search needs) (λ c. search needs) (λ c. search needs) (λ c. search needs) returns-2)
+    (tie.spec (λ c. search needs) slice-aggregate-read-set-of read-set-of-requires (λ c. search needs) (λ c κs. search needs)
+    (λ c. search needs) slice-reshare-prefix-rounds-of slice-aggregate-rounds-of (λ c κs. search needs) (λ c κs. search needs)
+    (λ c. search needs) (λ c. search needs) (λ c. search needs) returns (λ c. search needs) (λ c. search needs) (λ c. search needs)
+    (λ c. search needs) returns-2)

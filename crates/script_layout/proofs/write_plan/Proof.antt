@@ -159,4 +159,6 @@ returns c =
 pub write-plan-spec : {M : Type 1} → statement M
 write-plan-spec =
     tie.close
-    (tie.spec write-stages-requires (λ c κs. search needs) (λ c. search needs) (λ c κs. search needs) (λ c. search needs) mul-last mul-starts slice-write-starts add-clear mul-clear (λ c. search needs) (λ c. search needs) part-clear-end (λ c κs. search needs) same-length same-length-2 same-length-3 same-length-4 same-length-5 same-length-6 returns)
+    (tie.spec write-stages-requires (λ c κs. search needs) (λ c. search needs) (λ c κs. search needs) (λ c. search needs) mul-last
+    mul-starts slice-write-starts add-clear mul-clear (λ c. search needs) (λ c. search needs) part-clear-end (λ c κs. search needs)
+    same-length same-length-2 same-length-3 same-length-4 same-length-5 same-length-6 returns)

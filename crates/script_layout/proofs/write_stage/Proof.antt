@@ -33,7 +33,9 @@ loop-holds : tie.Need-loop-holds Inv-loop μ-loop
 loop-holds c =
     let way = c .before .before .before .before .before in
     let o = way .before .before .before in
-    (omega arith, refl, rank-first (o .args .d .now) (o .args .room .now) _ _ _ _ _ (o .pre .0), at-first (o .args .d .now) (o .args .room .now) _ _ _ _ _ (o .pre .0), starts-first (o .args .d .now) (o .args .room .now) _ _ _ _ _ (o .pre .0) _, words-first (o .args .d .now) (o .args .room .now) _ _ _ _ _ (o .pre .0) _, refl, refl, refl)
+    let d = o .args .d .now in
+    let room = o .args .room .now in
+    (omega arith, refl, rank-first d room _ _ _ _ _ (o .pre .0), at-first d room _ _ _ _ _ (o .pre .0), starts-first d room _ _ _ _ _ (o .pre .0) _, words-first d room _ _ _ _ _ (o .pre .0) _, refl, refl, refl)
 
 slice-write-starts : tie.Need-slice-write-starts Inv-loop μ-loop
 slice-write-starts c =
@@ -56,7 +58,8 @@ write-block-requires c κs =
     let l = at-loop .loop in
     let blocks = at-blocks-of .blocks-of .ensures in
     let more : l .b < blocksOf (o .args .d .now) = omega (arith, blocks, at-loop-test .loop-test .taken) in (
-      block-room (o .args .d .now) (o .args .room .now) _ _ _ _ _ (o .pre .0) (l .b) more (l .next .rank) (l .next .at) (l .inv .2) (l .inv .3) (l .room) (l .inv .1) _ (stores-length (o .args .words .now) (l .words) (o .args .at .at) (stageWords 256 (o .args .d .now) (o .args .s) (l .b)) (l .inv .5)),
+      block-room (o .args .d .now) (o .args .room .now) _ _ _ _ _ (o .pre .0) (l .b) more (l .next .rank) (l .next .at) (l .inv .2) (l .inv .3) (l .room) (l .inv .1) _
+          (stores-length (o .args .words .now) (l .words) (o .args .at .at) (stageWords 256 (o .args .d .now) (o .args .s) (l .b)) (l .inv .5)),
       lists-long (o .pre .1) (l .inv .6) (l .inv .7) (l .inv .8),
     )
 
@@ -140,4 +143,6 @@ returns c =
 pub write-stage-spec : {M : Type 1} → statement M
 write-stage-spec =
     tie.close
-    (tie.spec Inv-loop μ-loop (λ c κs. search needs) (λ c. search needs) loop-holds (λ c. search needs) (λ c. search needs) slice-write-starts write-block-requires (λ c. search needs) (λ c. search needs) loop-again (λ c. search needs) same-length-2 same-length-3 same-length-4 same-length-5 same-length-6 returns)
+    (tie.spec Inv-loop μ-loop (λ c κs. search needs) (λ c. search needs) loop-holds (λ c. search needs) (λ c. search needs)
+    slice-write-starts write-block-requires (λ c. search needs) (λ c. search needs) loop-again (λ c. search needs) same-length-2
+    same-length-3 same-length-4 same-length-5 same-length-6 returns)

@@ -148,4 +148,6 @@ returns c =
 pub write-stages-spec : {M : Type 1} → statement M
 write-stages-spec =
     tie.close
-    (tie.spec Inv-loop μ-loop (λ c κs. search needs) (λ c. search needs) (λ c κs. search needs) (λ c. search needs) loop-holds mul-write-stage write-stage-requires (λ c. search needs) (λ c. search needs) loop-again (λ c. search needs) same-length-2 same-length-3 same-length-4 same-length-5 same-length-6 returns)
+    (tie.spec Inv-loop μ-loop (λ c κs. search needs) (λ c. search needs) (λ c κs. search needs) (λ c. search needs) loop-holds
+    mul-write-stage write-stage-requires (λ c. search needs) (λ c. search needs) loop-again (λ c. search needs) same-length-2 same-length-3
+    same-length-4 same-length-5 same-length-6 returns)

@@ -100,4 +100,5 @@ returns c =
 pub build-script-spec : {M : Type 1} → statement M
 build-script-spec =
     tie.close
-    (tie.spec (λ c. search needs) slice-aggregate-write-words write-words-requires slice-relend-prefix-clear slice-aggregate-clear (λ c κs. search needs) same-length same-length-2 same-length-3 same-length-4 same-length-5 returns)
+    (tie.spec (λ c. search needs) slice-aggregate-write-words write-words-requires slice-relend-prefix-clear slice-aggregate-clear
+    (λ c κs. search needs) same-length same-length-2 same-length-3 same-length-4 same-length-5 returns)

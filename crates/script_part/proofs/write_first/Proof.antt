@@ -136,4 +136,7 @@ same-length-3 c =
 pub write-first-spec : {M : Type 1} → statement M
 write-first-spec =
     tie.close
-    (tie.spec (λ c. search needs) slice-aggregate-first-entries (λ c. search needs) slice-aggregate-first-entries-2 first-entries-requires slice-reshare-prefix-put-entries slice-aggregate-put-entries (λ c. search needs) slice-aggregate-put-entries-2 put-entries-requires slice-reshare-prefix-write-stage slice-aggregate-write-stage write-stage-requires (λ c. search needs) same-length-2 same-length-3 (λ c. search needs))
+    (tie.spec (λ c. search needs) slice-aggregate-first-entries (λ c. search needs) slice-aggregate-first-entries-2 first-entries-requires
+    slice-reshare-prefix-put-entries slice-aggregate-put-entries (λ c. search needs) slice-aggregate-put-entries-2 put-entries-requires
+    slice-reshare-prefix-write-stage slice-aggregate-write-stage write-stage-requires (λ c. search needs) same-length-2 same-length-3
+    (λ c. search needs))

@@ -192,4 +192,7 @@ returns c =
 pub write-front-spec : {M : Type 1} → statement M
 write-front-spec =
     tie.close
-    (tie.spec find-reads-requires mul-reads (λ c. search needs) slice-aggregate-write-reads (λ c. search needs) (λ c. search needs) (λ c. search needs) (λ c. search needs) slice-aggregate-write-reads-2 write-reads-requires (λ c. search needs) slice-aggregate-write-first mul-write-first sub-write-first part-write-first-start (λ c. search needs) write-first-requires same-length (λ c. search needs) same-length-3 same-length-4 same-length-5 returns)
+    (tie.spec find-reads-requires mul-reads (λ c. search needs) slice-aggregate-write-reads (λ c. search needs) (λ c. search needs)
+    (λ c. search needs) (λ c. search needs) slice-aggregate-write-reads-2 write-reads-requires (λ c. search needs)
+    slice-aggregate-write-first mul-write-first sub-write-first part-write-first-start (λ c. search needs) write-first-requires same-length
+    (λ c. search needs) same-length-3 same-length-4 same-length-5 returns)

@@ -126,4 +126,7 @@ same-length-5 c =
 pub write-words-spec : {M : Type 1} → statement M
 write-words-spec =
     tie.close
-    (tie.spec (λ c. search needs) (λ c. search needs) (λ c. search needs) (λ c. search needs) (λ c. search needs) (λ c. search needs) (λ c. search needs) write-front-requires (λ c. search needs) slice-aggregate-write-script slice-relend-prefix-write-script-2 slice-aggregate-write-script-2 write-script-requires same-length same-length-2 same-length-3 same-length-4 same-length-5 (λ c. search needs))
+    (tie.spec (λ c. search needs) (λ c. search needs) (λ c. search needs) (λ c. search needs) (λ c. search needs) (λ c. search needs)
+    (λ c. search needs) write-front-requires (λ c. search needs) slice-aggregate-write-script slice-relend-prefix-write-script-2
+    slice-aggregate-write-script-2 write-script-requires same-length same-length-2 same-length-3 same-length-4 same-length-5
+    (λ c. search needs))

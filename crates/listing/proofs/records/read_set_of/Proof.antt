@@ -47,9 +47,11 @@ returns-2 c =
     let o = at-read-records .before .before .before .before .before .before in
     let r = at-read-records .read-records in
     let s = at-read-set .read-set in
-    set-asked _ _ _ _ _ (told-none (o .args .s .now) (o .args .keys .now) (o .pre .1) (r .ensures .1) _ (sym (at-n .n .given .1) ∙ r .ensures .0)) (told-keys (o .args .s .now) (o .args .keys .now) (o .pre .1) (r .ensures .1) _ (sym (at-n .n .given .1) ∙ r .ensures .0)) (s .ensures .0) (s .ensures .1 .1 .1)
+    set-asked _ _ _ _ _ (told-none (o .args .s .now) (o .args .keys .now) (o .pre .1) (r .ensures .1) _ (sym (at-n .n .given .1) ∙ r .ensures .0))
+    (told-keys (o .args .s .now) (o .args .keys .now) (o .pre .1) (r .ensures .1) _ (sym (at-n .n .given .1) ∙ r .ensures .0)) (s .ensures .0) (s .ensures .1 .1 .1)
 
 pub read-set-of-spec : {M : Type 1} → statement M
 read-set-of-spec =
     tie.close
-    (tie.spec (λ c κs. search needs) (λ c. search needs) (λ c. search needs) slice-relend-prefix-read-set slice-aggregate-read-set read-set-requires (λ c. search needs) returns (λ c. search needs) (λ c. search needs) (λ c. search needs) returns-2)
+    (tie.spec (λ c κs. search needs) (λ c. search needs) (λ c. search needs) slice-relend-prefix-read-set slice-aggregate-read-set
+    read-set-requires (λ c. search needs) returns (λ c. search needs) (λ c. search needs) (λ c. search needs) returns-2)

@@ -95,4 +95,6 @@ returns c =
 pub write-part-spec : {M : Type 1} → statement M
 write-part-spec =
     tie.close
-    (tie.spec (λ c κs. search needs) (λ c κs. search needs) (λ c κs. search needs) add-next mul-build-script (λ c. search needs) (λ c. search needs) part-build-script-end build-script-requires same-length (λ c. search needs) same-length-3 same-length-4 same-length-5 returns)
+    (tie.spec (λ c κs. search needs) (λ c κs. search needs) (λ c κs. search needs) add-next mul-build-script (λ c. search needs)
+    (λ c. search needs) part-build-script-end build-script-requires same-length (λ c. search needs) same-length-3 same-length-4
+    same-length-5 returns)

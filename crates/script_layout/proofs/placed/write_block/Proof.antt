@@ -79,4 +79,6 @@ returns-2 c =
 pub write-block-spec : {M : Type 1} → statement M
 write-block-spec =
     tie.close
-    (tie.spec (λ c κs. search needs) write-parts-requires same-length same-length-2 same-length-3 same-length-4 same-length-5 returns (λ c. search needs) (λ c. search needs) (λ c. search needs) (λ c. search needs) part-write-empty-end (λ c κs. search needs) (λ c. search needs) (λ c. search needs) returns-2)
+    (tie.spec (λ c κs. search needs) write-parts-requires same-length same-length-2 same-length-3 same-length-4 same-length-5 returns
+    (λ c. search needs) (λ c. search needs) (λ c. search needs) (λ c. search needs) part-write-empty-end (λ c κs. search needs)
+    (λ c. search needs) (λ c. search needs) returns-2)

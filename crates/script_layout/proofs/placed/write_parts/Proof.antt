@@ -54,8 +54,11 @@ write-part-requires c κs =
     let way = at-loop .before .before .before .before .before in
     let o = way .before .before in
     let l = at-loop .loop in
-    let k : l .k < firstRank (o .args .d .now) (o .args .s) (o .args .b + 1) = omega (arith, o .pre .2, at-loop-test .loop-test .taken) in
-    (turn-room (o .args .d .now) (o .args .room .now) _ _ _ (o .pre .0 .place) (l .k) (l .inv .0) k (o .args .at) (l .next) (l .inv .3) (l .room) (l .inv .2) _ (at-cell-at .cell-at .ensures) (o .args .words .now) (l .words) (l .inv .4) (o .pre .0 .fits), lists-long (o .pre .3) (l .inv .5) (l .inv .6) (l .inv .7))
+    let k : l .k < firstRank (o .args .d .now) (o .args .s) (o .args .b + 1) = omega (arith, o .pre .2, at-loop-test .loop-test .taken) in (
+      turn-room (o .args .d .now) (o .args .room .now) _ _ _ (o .pre .0 .place) (l .k) (l .inv .0) k (o .args .at) (l .next) (l .inv .3)
+          (l .room) (l .inv .2) _ (at-cell-at .cell-at .ensures) (o .args .words .now) (l .words) (l .inv .4) (o .pre .0 .fits),
+      lists-long (o .pre .3) (l .inv .5) (l .inv .6) (l .inv .7),
+    )
 
 loop-again : tie.Need-loop-again Inv-loop μ-loop
 loop-again c =
@@ -118,4 +121,5 @@ returns c =
 pub write-parts-spec : {M : Type 1} → statement M
 write-parts-spec =
     tie.close
-    (tie.spec Inv-loop μ-loop loop-holds cell-at-requires (λ c. search needs) (λ c κs. search needs) write-part-requires (λ c. search needs) (λ c. search needs) loop-again (λ c. search needs) same-length-2 same-length-3 same-length-4 same-length-5 returns)
+    (tie.spec Inv-loop μ-loop loop-holds cell-at-requires (λ c. search needs) (λ c κs. search needs) write-part-requires (λ c. search needs)
+    (λ c. search needs) loop-again (λ c. search needs) same-length-2 same-length-3 same-length-4 same-length-5 returns)

@@ -69,4 +69,7 @@ returns c =
 pub write-script-spec : {M : Type 1} → statement M
 write-script-spec =
     tie.close
-    (tie.spec (λ c. search needs) (λ c. search needs) (λ c. search needs) (λ c. search needs) (λ c. search needs) (λ c. search needs) slice-aggregate-write-head write-head-requires (λ c. search needs) (λ c. search needs) (λ c. search needs) (λ c. search needs) write-stages-requires (λ c. search needs) (λ c. search needs) (λ c. search needs) (λ c. search needs) write-tables-requires (λ c. search needs) (λ c. search needs) (λ c. search needs) returns)
+    (tie.spec (λ c. search needs) (λ c. search needs) (λ c. search needs) (λ c. search needs) (λ c. search needs) (λ c. search needs)
+    slice-aggregate-write-head write-head-requires (λ c. search needs) (λ c. search needs) (λ c. search needs) (λ c. search needs)
+    write-stages-requires (λ c. search needs) (λ c. search needs) (λ c. search needs) (λ c. search needs) write-tables-requires
+    (λ c. search needs) (λ c. search needs) (λ c. search needs) returns)

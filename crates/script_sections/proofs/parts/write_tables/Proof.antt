@@ -37,4 +37,5 @@ returns c =
 pub write-tables-spec : {M : Type 1} → statement M
 write-tables-spec =
     tie.close
-    (tie.spec (λ c. search needs) slice-aggregate-write-sram write-sram-requires (λ c. search needs) (λ c. search needs) (λ c. search needs) (λ c κs. search needs) (λ c. search needs) (λ c. search needs) returns)
+    (tie.spec (λ c. search needs) slice-aggregate-write-sram write-sram-requires (λ c. search needs) (λ c. search needs) (λ c. search needs)
+    (λ c κs. search needs) (λ c. search needs) (λ c. search needs) returns)

@@ -2,7 +2,6 @@
 -- Assumes nothing.
 use mathlib.Core.Path.{ap, _∙_}
 use Prim.Native.Nat.{_+_}
-use native.Mathlib.Omega.{arith}
 use lib.ListN.{length}
 use Rattle.words.proofs.SectionLaws.{length-listOf}
 use Rattle.plan_record.specs.Record.{tableAt}
@@ -52,4 +51,6 @@ returns c =
 pub write-enables-spec : {M : Type 1} → statement M
 write-enables-spec =
     tie.close
-    (tie.spec (λ c κs. search needs) (λ c. search needs) (λ c κs. search needs) (λ c. search needs) (λ c κs. search needs) (λ c. search needs) (λ c κs. search needs) (λ c. search needs) (λ c. search needs) (λ c. search needs) write-section-requires (λ c. search needs) (λ c. search needs) returns)
+    (tie.spec (λ c κs. search needs) (λ c. search needs) (λ c κs. search needs) (λ c. search needs) (λ c κs. search needs)
+    (λ c. search needs) (λ c κs. search needs) (λ c. search needs) (λ c. search needs) (λ c. search needs) write-section-requires
+    (λ c. search needs) (λ c. search needs) returns)

@@ -23,4 +23,5 @@ write-stage-requires c κs =
 pub write-later-spec : {M : Type 1} → statement M
 write-later-spec =
     tie.close
-    (tie.spec (λ c. search needs) (λ c κs. search needs) later-entries-requires write-stage-requires (λ c. search needs) (λ c. search needs) (λ c. search needs) (λ c. search needs))
+    (tie.spec (λ c. search needs) (λ c κs. search needs) later-entries-requires write-stage-requires (λ c. search needs) (λ c. search needs)
+    (λ c. search needs) (λ c. search needs))
