@@ -13,8 +13,8 @@ use lib.ListN.{length, getD}
 use Rattle.words.specs.Answer.{good}
 use Rattle.words.proofs.AnswerLaws.{refused-good}
 use Rattle.reads.specs.ReadSet.{Pair, pairsOf, broken}
-use Rattle.reads.specs.Search.{Lane, lanesOf}
-use Rattle.reads.specs.Packing.{Packing}
+use Rattle.reads.specs.Search.{Lane, lanesOf, longest}
+use Rattle.reads.specs.Packing.{times, Packing}
 use Rattle.reads.specs.SetAnswer.{Packed}
 use Rattle.reads_try.specs.LaneTable.{tableOf}
 use Rattle.reads_try.specs.TableLanes.{SoundLanes}
@@ -22,6 +22,9 @@ use Rattle.reads_try.proofs.LaneTableLaws.{table-length}
 use Rattle.rounds.specs.Rounds.{SetSearchable}
 use Rattle.rounds.proofs.RoundsAnswerLaws.{win-of, searchable}
 use Rattle.reads.proofs.PackingLaws.{lanes-packing}
+use Rattle.reads.proofs.SetLaws.{pairs-small}
+use Rattle.reads.proofs.RoundCountLaws.{rounds-range}
+use Rattle.reads.proofs.LocalLaws.{OwnPositions, own-positions}
 use Rattle.handed.specs.Handed.{lanesIn, wordsOf, fault, toldItem, judged, handedPacked, handedSet}
 use Rattle.handed.proofs.FaultLaws.{exactly-when, own-passes}
 use Rattle.handed.proofs.LaneWordLaws.{words-back, in-numbered, sound-numbered, packing-sound}
@@ -92,12 +95,32 @@ handed-size n ps ws x e = rw (handed-passed n ps ws x e .is)
 
 -- ---- a lent set
 
+-- what holds of lanes that are placed
+pub record HandedSound (n : ℕ) (ps : List Pair) (ws : List ℕ) (x : Packed) : Type 0 where
+  pub passed : HandedPassed n ps ws x
+  pub packing : Packing n ps (x .lanes)
+  pub rounds : (0 < longest (x .lanes)) × (longest (x .lanes) ≤ 32)
+  pub positions : OwnPositions n ps (x .lanes)
+
 module _ (set : List ℕ) (form : broken (pairsOf set) ≡ none) (small : (x : ℕ) → getD set x 0 < 2 ^ 32) where
   -- accepted lanes are what a table of lanes asks
   pub faultless-sound : (n : ℕ) (ws : List ℕ) → fault n (pairsOf set) (lanesIn (pairsOf set) ws) ≡ none → SoundLanes set n (lanesIn (pairsOf set) ws)
   faultless-sound n ws e =
       let lanes = lanesIn (pairsOf set) ws in
       packing-sound set form small n lanes (in-numbered (pairsOf set) ws) (exactly-when n (pairsOf set) lanes form .0 e)
+
+  -- what is promised of lanes that are placed: as of our own search's
+  pub handed-sound : (n : ℕ) (ws : List ℕ) (x : Packed) → handedSet n (pairsOf set) ws ≡ good x → HandedSound n (pairsOf set) ws x
+  handed-sound n ws x e =
+      let p = handed-passed n (pairsOf set) ws x e in
+      let packs = handed-packing n (pairsOf set) ws x e in
+      let masks : (w m : ℕ) → 0 < times w m (pairsOf set) → m < 2 ^ 32 = λ w m q. pairs-small 0 set (2 ^ 32) small w m q .1 in
+      record {
+        passed = p;
+        packing = packs;
+        rounds = rounds-range n (pairsOf set) (x .lanes) packs form masks (p .nonempty);
+        positions = own-positions n (pairsOf set) (x .lanes) packs form masks;
+      }
 
   module _ (n : ℕ) (few : length set ≤ 16384) (some-lanes : 0 < n) (few-lanes : n ≤ 256) (lanes : List Lane) (own : lanesOf n (pairsOf set) ≡ some lanes) where
     asks : SetSearchable set (32 * n) 8192 8192 n
