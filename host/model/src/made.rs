@@ -3,7 +3,7 @@
 use crate::edition::Edition;
 use crate::record::EMPTY;
 
-/// A part of no endpoints.
+/// A part in plain lists.
 #[derive(Clone)]
 pub struct Part {
     /// For each stage its slots by index, the first one unused, and its locations.
