@@ -235,6 +235,13 @@ mod tests {
             let mut eleven = m10(edition);
             eleven.parts[0].stages[0].0[2 * slots - 1] = 3;
             assert_eq!(refusal(&eleven), Some(Refused::at(11, 0, half)));
+            // Pins 1 and 2 are carried, and the second stage computes 3, which the first reads.
+            let mut later = m10(edition);
+            let mut first = vec![EMPTY; 2 * slots];
+            (first[slots], first[slots + 1], first[slots + 2]) = (1, 2, 3);
+            (first[half], first[half + 1]) = (1, 2);
+            later.parts[0].stages.insert(0, (first, vec![]));
+            assert_eq!(refusal(&later), Some(Refused::at(11, 0, slots + half)));
             let mut twelve = m10(edition);
             twelve.parts[0].stages[0].0[2 * slots - 1] = 7;
             assert_eq!(refusal(&twelve), Some(Refused::at(12, 0, slots - 1)));

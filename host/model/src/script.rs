@@ -133,3 +133,22 @@ fn gate_words(edition: Edition, stage: &Stage<'_>, gates: &Gates) -> Vec<Vec<u32
     }
     lists
 }
+
+#[cfg(test)]
+mod tests {
+    use super::*;
+
+    /// M2: "local positions 1, 0, 32, 64". "Each requested bit has its own, below 8192": 4096 in the small edition.
+    #[test]
+    fn local_positions_are_below_the_slots() {
+        for edition in [Edition::FULL, Edition::SMALL] {
+            let local = |pairs: &[Pair]| local_positions(&rounds::pack(edition, pairs).unwrap().lanes);
+            let m2 = local(&[(0, 3), (1, 0x20), (1 << 31, 1)]);
+            assert_eq!([(0, 0), (0, 1), (1, 5), (1 << 31, 0)].map(|bit| m2[&bit]), [1, 0, 32, 64]);
+            let pairs: Vec<Pair> = (0..edition.slots() as u32).map(|word| (word, 1 << (word % 32))).collect();
+            let mut all: Vec<u16> = local(&pairs).into_values().collect();
+            all.sort_unstable();
+            assert!(all.into_iter().eq(0..edition.slots() as u16));
+        }
+    }
+}
