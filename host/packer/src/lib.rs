@@ -197,7 +197,7 @@ mod tests {
             let edition = EDITIONS[case % 2];
             let pairs = any_set(random, edition);
             let ours = pack(&pairs, edition.lanes()).map(|lanes| accepted(edition, &pairs, &lanes));
-            let searched = rounds::search(edition, &pairs).ok();
+            let searched = rounds::pack(edition, &pairs).ok();
             let searched = searched.map(|packing| accepted(edition, &pairs, &packing.lanes));
             packed += ours.is_some() as u32;
             found += searched.is_some() as u32;
