@@ -1,12 +1,16 @@
 //! The reference of the comparisons where GEM's sources are missing: the model of document 01.
 
+use model::edition::Edition;
+use model::rounds::{Packing, Pair};
 use plan::{Plan, Script};
 use std::collections::BTreeMap;
 use std::time::{Duration, Instant};
 
 pub const NAME: &str = "host/model";
 
-pub use model::rounds::search;
+pub fn search(pairs: &[Pair]) -> Result<Packing, Option<u32>> {
+    model::rounds::search(Edition::FULL, pairs)
+}
 
 pub fn lanes_of_map(set: &BTreeMap<u32, u32>) -> Option<Vec<Vec<(u32, u32)>>> {
     let pairs: Vec<(u32, u32)> = set.iter().map(|(&word, &mask)| (word, mask)).collect();

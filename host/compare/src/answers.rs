@@ -12,6 +12,7 @@
 //!   r = 0:   once     the refusal's number, 3 or 4
 //! ```
 
+use crate::EDITION;
 use model::rounds::{self, Lanes, Packing, Pair};
 
 pub enum Stored {
@@ -27,7 +28,7 @@ pub struct Case {
 impl Case {
     /// What the reference answers for these pairs.
     pub fn ask(pairs: Vec<Pair>) -> Case {
-        let answer = match rounds::outcome(&pairs, reference::search) {
+        let answer = match rounds::outcome(EDITION, &pairs, reference::search) {
             Ok(Packing { lanes, .. }) => {
                 Stored::Packed { rounds: rounds::rounds(&lanes) as u32, places: places(&pairs, &lanes) }
             }

@@ -2,8 +2,9 @@
 
 use crate::lent::{self, LentRead, Room};
 use crate::tally::Tally;
+use crate::EDITION;
 use juolgesot::ffi::{self, Answer};
-use model::rounds::{self, Packing, Pair, ROUND_WORDS, SET_ROOM};
+use model::rounds::{self, Packing, Pair, SET_ROOM};
 use std::time::Instant;
 
 /// What working room and result room a call is lent.
@@ -67,14 +68,14 @@ impl Checker {
 
     fn compare(&mut self, set: &[u32], lent: Lent) -> Result<(), String> {
         let mut trouble = Ok(());
-        let expected = rounds::answer(set, lent.room, usize::MAX, |pairs| {
+        let expected = rounds::answer(set, lent.room, usize::MAX, EDITION.number(), |_, pairs| {
             self.packing(pairs).unwrap_or_else(|what| {
                 trouble = Err(what);
                 Err((0, 0))
             })
         });
         trouble?;
-        let needed = expected.as_ref().map_or(ROUND_WORDS, |answer| answer.words.len());
+        let needed = expected.as_ref().map_or(EDITION.round_words(), |answer| answer.words.len());
         let out_length = match lent.out {
             OutLength::Spare(more) => needed + more,
             OutLength::Short(fewer) => needed.saturating_sub(fewer),
@@ -100,12 +101,12 @@ impl Checker {
     /// search may place.
     fn packing(&mut self, pairs: &[Pair]) -> Result<Result<Packing, (u32, u64)>, String> {
         let found = reference::search(pairs);
-        let modelled = rounds::search(pairs);
+        let modelled = rounds::search(EDITION, pairs);
         if modelled != found {
             let what = format!("host/model differs from {}", reference::NAME);
             return Err(format!("{}: {}, expected {}", what, told(&modelled), told(&found)));
         }
-        let outcome = rounds::outcome(pairs, |_| found.clone());
+        let outcome = rounds::outcome(EDITION, pairs, |_| found.clone());
         match (&outcome, &found) {
             (Err((number, _)), Ok(_)) => return Err(format!("a set that {} refuses was placed", number)),
             (Ok(packing), _) => {
@@ -121,7 +122,7 @@ impl Checker {
     /// By the bits of the set, and by the word that the search stopped at.
     fn count_ended(&mut self, pairs: &[Pair], word: u64) {
         let bits: u32 = pairs.iter().map(|(_, mask)| mask.count_ones()).sum();
-        self.ended.count(if bits == rounds::MOST_BITS { FULL } else { "fewer bits" });
+        self.ended.count(if bits as usize == EDITION.slots() { FULL } else { "fewer bits" });
         self.ended.count(if word >> 31 == 1 { STAGED_STOP } else { UNSTAGED_STOP });
     }
 
@@ -143,7 +144,7 @@ fn told(found: &Result<Packing, Option<u32>>) -> String {
 fn check_answer(answer: Answer, expected: &Result<rounds::Answer, (u32, u64)>) -> Result<(), String> {
     let wanted = match expected {
         Ok(rounds::Answer { words, size }) => {
-            Answer { code: 0, first: (words.len() / ROUND_WORDS) as u64, second: *size as u64 }
+            Answer { code: 0, first: (words.len() / EDITION.round_words()) as u64, second: *size as u64 }
         }
         Err((number, item)) => Answer { code: *number, first: 0, second: *item },
     };

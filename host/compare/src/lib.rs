@@ -34,6 +34,11 @@ pub mod stored_bits;
 pub mod tally;
 pub mod value_checker;
 
+use model::edition::Edition;
+
+/// What is compared is of this edition: until 10/13 lands no call names another.
+pub const EDITION: Edition = Edition::FULL;
+
 /// Panics of the reference are expected and caught: keep them off the terminal.
 pub fn silence_expected_panics() {
     let print = std::panic::take_hook();

@@ -2,6 +2,7 @@
 
 use crate::lent::{Lent, LentRead, Room};
 use crate::tally::Tally;
+use crate::EDITION;
 use juolgesot::ffi::{self, Answer};
 use juolgesot::{LIST_ROOM, LIST_TEXT};
 use model::rounds;
@@ -33,7 +34,7 @@ impl ListChecker {
 
 /// One call: answer, text, room, and what lies behind the text. Gives the answer's name, or the first difference.
 fn difference(records: &[u8], room_length: usize, spare: isize) -> Result<String, String> {
-    let text = model::listing::text(records, |set| rounds::outcome(set, reference::search));
+    let text = model::listing::text(records, |set| rounds::outcome(EDITION, set, reference::search));
     if text.len() > LIST_TEXT {
         return Err("the text is longer than LIST_TEXT".to_string());
     }

@@ -4,6 +4,7 @@
 use crate::lent::{Lent, LentRead, Room};
 use crate::repairs::Case;
 use crate::tally::Tally;
+use crate::EDITION;
 use juolgesot::ffi::{self, Answer};
 use model::repair::{self, room_words, Reached, Repaired};
 use model::Refused;
@@ -24,9 +25,10 @@ impl Work {
 
     fn answer(self, case: &Case, after: usize, room: usize) -> Result<Repaired, Refused> {
         let Case { counts, slots, place, node, .. } = case;
+        let edition = EDITION.number();
         match self {
-            Work::Place => repair::place(case.netlist(), counts, slots, after, room, *place, *node),
-            Work::Clear => repair::clear(counts, slots, after, room, *place),
+            Work::Place => repair::place(case.netlist(), counts, slots, after, room, *place, *node, edition),
+            Work::Clear => repair::clear(counts, slots, after, room, *place, edition),
         }
     }
 }
@@ -119,7 +121,7 @@ fn gem_works(placer: &Placer, stage: &mut PlacerStage, work: Work, case: &Case) 
 fn must_panic(number: u32, case: &Case) -> bool {
     match number {
         25 | 26 => {
-            let reached = Reached::of(case.netlist(), case.place, case.node);
+            let reached = Reached::of(EDITION, case.netlist(), case.place, case.node);
             reached.bad_levels.iter().chain(&reached.no_gates).any(|&level| level > 0)
         }
         number => number == 34,

@@ -2,8 +2,9 @@
 //! damage gives none where it cannot be done.
 
 use crate::repair_checker::{More, Work};
-use crate::repairs::{place_of, Case, LEVELS, NO_LEVEL};
-use model::record::{EMPTY, STAGE_SLOTS};
+use crate::repairs::{place_of, Case, LEVELS, NO_LEVEL, STAGE_SLOTS};
+use crate::EDITION;
+use model::record::EMPTY;
 use model::repair::{clearing, Place, Reached};
 use random::Random;
 
@@ -101,7 +102,7 @@ fn of_placing() -> Vec<Damage> {
                 level: (place.level + 1).min(LEVELS),
                 slot: place.slot & ((1 << (LEVELS - place.level)) / 2).max(1) - 1,
             };
-            (above.level > place.level).then(|| damaged.case.slots[above.word()] = 5)
+            (above.level > place.level).then(|| damaged.case.slots[above.word(EDITION)] = 5)
         }),
         (0, "gates and levels past what is reached", |random, damaged| {
             let most = damaged.case.gates.iter().step_by(3).copied().max().unwrap_or(1);
@@ -146,7 +147,7 @@ fn of_placing() -> Vec<Damage> {
             Some(damaged.case.gates[gate + random.between(1, 2)] = fan_in)
         }),
         (24, "something at the place", |random, damaged| {
-            let word = damaged.case.place.word();
+            let word = damaged.case.place.word(EDITION);
             Some(damaged.case.slots[word] = random.pick(&[0, 1, 1 << 30, OVER_PIN, EMPTY - 1]))
         }),
         (24, "something in the subtree", |random, damaged| {
@@ -161,11 +162,11 @@ fn of_placing() -> Vec<Damage> {
             let step = 1 << (LEVELS - case.place.level);
             let slot = case.place.slot + step * random.below(1 << case.place.level) as u32;
             let place = Place { level: 0, slot };
-            Some(case.slots[place.word()] = random.pick(&[0, 1, 1 << 30, OVER_PIN, EMPTY - 1]))
+            Some(case.slots[place.word(EDITION)] = random.pick(&[0, 1, 1 << 30, OVER_PIN, EMPTY - 1]))
         }),
         (24, "something in a part of the stage", |random, damaged| {
             let case = &mut damaged.case;
-            let word = case.place.word();
+            let word = case.place.word(EDITION);
             case.slots[word] = 3;
             // What is behind is not there, and reads as empty.
             Some(case.slots.truncate(random.between(word + 1, STAGE_SLOTS)))
@@ -199,7 +200,7 @@ fn of_placing() -> Vec<Damage> {
             drop_gate(case, gate);
             let (_, other) = any_reached(random, case, |_| true)?;
             set_level(case, other, NO_LEVEL)?;
-            let reached = Reached::of(case.netlist(), case.place, case.node);
+            let reached = Reached::of(EDITION, case.netlist(), case.place, case.node);
             (!reached.bad_levels.is_empty() && !reached.no_gates.is_empty()).then(|| ())
         }),
         (26, "a node of its level without a gate", |random, damaged| {
@@ -237,7 +238,7 @@ fn of_clearing() -> Vec<Damage> {
         (0, "a slot of level 0 that is no pin", |random, damaged| {
             let case = &mut damaged.case;
             let (place, _) = any_cleared(random, case, |place| place.level == 0)?;
-            Some(case.slots[place.word()] = random.pick(&NO_PINS))
+            Some(case.slots[place.word(EDITION)] = random.pick(&NO_PINS))
         }),
         (0, "larger counts", |_, damaged| {
             damaged
@@ -252,7 +253,7 @@ fn of_clearing() -> Vec<Damage> {
         (34, "a count that is one too small", |random, damaged| {
             let case = &mut damaged.case;
             let (_, node) = any_cleared(random, case, |place| place.level > 0)?;
-            let cleared = clearing(&case.slots, case.place);
+            let cleared = clearing(EDITION, &case.slots, case.place);
             let times = cleared.iter().filter(|(place, other)| place.level > 0 && *other == node).count();
             (times > 1).then(|| set_count(case, node, times as u32 - 1))
         }),
@@ -269,13 +270,13 @@ fn of_clearing() -> Vec<Damage> {
         (34, "a slot of level 1 or up that is no pin", |random, damaged| {
             let case = &mut damaged.case;
             let (place, _) = any_cleared(random, case, |place| place.level > 0)?;
-            Some(case.slots[place.word()] = random.pick(&NO_PINS))
+            Some(case.slots[place.word(EDITION)] = random.pick(&NO_PINS))
         }),
         (34, "a count too small, and too few slots", |random, damaged| {
             let case = &mut damaged.case;
             any_cleared(random, case, |place| place.level > 0)?;
             case.counts.clear();
-            Some(case.slots.truncate(random.between(case.place.word() + 1, STAGE_SLOTS - 1)))
+            Some(case.slots.truncate(random.between(case.place.word(EDITION) + 1, STAGE_SLOTS - 1)))
         }),
     ]
 }
@@ -297,13 +298,13 @@ fn any_gate(random: &mut Random, case: &Case) -> Option<usize> {
 
 /// A slot that placing reaches, and its node.
 fn any_reached(random: &mut Random, case: &Case, wanted: impl Fn(Place) -> bool) -> Option<(Place, u32)> {
-    let reached = Reached::of(case.netlist(), case.place, case.node).slots;
+    let reached = Reached::of(EDITION, case.netlist(), case.place, case.node).slots;
     any_of(random, &reached, wanted)
 }
 
 /// A slot that clearing reaches, and its node.
 fn any_cleared(random: &mut Random, case: &Case, wanted: impl Fn(Place) -> bool) -> Option<(Place, u32)> {
-    any_of(random, &clearing(&case.slots, case.place), wanted)
+    any_of(random, &clearing(EDITION, &case.slots, case.place), wanted)
 }
 
 fn any_of(
@@ -317,13 +318,13 @@ fn any_of(
 
 /// How often placing reaches a node at levels 1 and up.
 fn times_reached(case: &Case, node: u32) -> usize {
-    let reached = Reached::of(case.netlist(), case.place, case.node).slots;
+    let reached = Reached::of(EDITION, case.netlist(), case.place, case.node).slots;
     reached.iter().filter(|(place, other)| place.level > 0 && *other == node).count()
 }
 
 /// A node that placing reaches at its own level, 1 or up.
 fn any_split(random: &mut Random, case: &Case) -> Option<u32> {
-    let mut reached = Reached::of(case.netlist(), case.place, case.node).slots;
+    let mut reached = Reached::of(EDITION, case.netlist(), case.place, case.node).slots;
     reached.retain(|(place, node)| case.levels.get(*node as usize) == Some(&place.level));
     any_of(random, &reached, |place| place.level > 0).map(|(_, node)| node)
 }

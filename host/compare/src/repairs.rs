@@ -1,10 +1,12 @@
 //! Stages to be repaired, made at random: gates with levels, and nodes placed on them.
 
-use model::record::{EMPTY, STAGE_SLOTS};
+use crate::EDITION;
+use model::record::EMPTY;
 use model::repair::{self, Netlist, Place};
 use random::Random;
 
-pub const LEVELS: u32 = 13;
+pub const LEVELS: u32 = EDITION.levels();
+pub const STAGE_SLOTS: usize = EDITION.stage_slots();
 /// The level of a pin that has none: above every place.
 pub const NO_LEVEL: u32 = u32::MAX;
 
@@ -93,11 +95,9 @@ pub fn any(random: &mut Random, nodes: usize) -> Case {
     let mut case = Case { gates, levels, counts: Vec::new(), slots, place, node: 0 };
     for _ in 0..nodes {
         case.aim(random);
-        let lengths = (usize::MAX, usize::MAX);
+        let (all, edition) = (usize::MAX, EDITION.number());
         let Case { counts, slots, place, node, .. } = &case;
-        if let Ok(repaired) =
-            repair::place(case.netlist(), counts, slots, lengths.0, lengths.1, *place, *node)
-        {
+        if let Ok(repaired) = repair::place(case.netlist(), counts, slots, all, all, *place, *node, edition) {
             case.slots = repaired.slots;
             case.counts = repaired.counts;
         }

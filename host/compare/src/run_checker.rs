@@ -3,6 +3,7 @@
 use crate::lent::{Lent, LentRead, Room};
 use crate::run_damage::Case;
 use crate::tally::Tally;
+use crate::EDITION;
 use juolgesot::ffi::{self, Answer};
 use model::run::{self, Ran, BLOCK_ROOM};
 use model::Refused;
@@ -30,7 +31,8 @@ impl RunChecker {
         let start = Instant::now();
         let room = (BLOCK_ROOM * case.starts.len().saturating_sub(1)) as i64 + more_room;
         let room = room.max(0) as usize;
-        let expected = run::answer(&case.words, &case.starts, &case.turns, &case.old, &case.new, room);
+        let expected =
+            run::answer(&case.words, &case.starts, &case.turns, &case.old, &case.new, room, EDITION.number());
         if let Err(what) = compare(case, &expected, Room::new(room, room_is_zero)) {
             println!("DIFFERENCE ({}): {}", kind, what);
             println!("room of {} words, zeros: {}", room, room_is_zero);

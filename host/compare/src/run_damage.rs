@@ -1,10 +1,13 @@
 //! Scripts to run, and damaged copies of them for every clause of refusal 15. What a call is then to answer, the model
 //! says; each damage names the refusal that it is meant to bring about, and the program sees that it comes.
 
+use crate::EDITION;
 use model::build::accept;
 use model::record;
-use model::script::{part_words, HEAD_WORDS, SECTION_WORDS};
 use random::Random;
+
+const HEAD_WORDS: usize = EDITION.head_words();
+const SECTION_WORDS: usize = EDITION.section_words();
 
 /// What a run is given.
 #[derive(Debug, Clone, PartialEq, Eq)]
@@ -32,7 +35,7 @@ impl PartPlace {
     }
 
     pub fn words(&self) -> usize {
-        part_words(self.rounds as u64, self.stages as u64) as usize
+        EDITION.part_words(self.rounds as u64, self.stages as u64) as usize
     }
 
     /// Where word and mask of a lane in a round are.

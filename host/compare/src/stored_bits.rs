@@ -5,7 +5,8 @@
 
 use crate::run_damage;
 use model::build::Accepted;
-use model::record::{Part, EMPTY, LANES, SLOTS};
+use model::edition::Edition;
+use model::record::{Part, EMPTY};
 use model::run::{caught, Caught};
 use model::value::Values;
 use std::ops::AddAssign;
@@ -76,7 +77,7 @@ pub fn check(plan: &Accepted<'_>, words: &[u32], old: &[u32], new: &[u32]) -> St
     let numbers = plan.blocks.parts.iter().flatten().flatten();
     for (&number, place) in numbers.zip(run_damage::parts(words, &starts)) {
         let block = &words[place.at..starts[place.block + 1] as usize];
-        let caught = caught(block, old, new).expect("the script is in form");
+        let caught = caught(plan.plan.edition, block, old, new).expect("the script is in form");
         let stored = Stored::of(plan, number, old, new);
         stored.check_enables(number, &caught);
         seen += stored.check_bits(number, &caught, old, new);
@@ -86,6 +87,7 @@ pub fn check(plan: &Accepted<'_>, words: &[u32], old: &[u32], new: &[u32]) -> St
 
 /// What is stored of a part.
 struct Stored<'a> {
+    edition: Edition,
     part: &'a Part<'a>,
     /// The bits' pins' values by the gates, of those that carry one.
     values: Vec<Option<bool>>,
@@ -104,7 +106,12 @@ impl<'a> Stored<'a> {
                 values.extend(pins.map(|pin| if pin == EMPTY { None } else { Some(by_gates.value(pin)) }));
             }
         }
-        Stored { part, values, first_word: plan.blocks.state_starts[number] as usize }
+        Stored {
+            edition: plan.plan.edition,
+            part,
+            values,
+            first_word: plan.blocks.state_starts[number] as usize,
+        }
     }
 
     fn entry(&self, place: usize) -> usize {
@@ -113,12 +120,12 @@ impl<'a> Stored<'a> {
 
     /// Of a list of the enable table: 0 inv, 1 set0, 2 data inv.
     fn flag(&self, list: usize, place: usize) -> bool {
-        bit(&self.part.enable_table[SLOTS + LANES * list..], place)
+        bit(&self.part.enable_table[self.edition.slots() + self.edition.lanes() * list..], place)
     }
 
-    /// All 8192 enable bits, but those that are gathered from captured bits without a pin.
+    /// All enable bits, but those that are gathered from captured bits without a pin.
     fn check_enables(&self, part: usize, caught: &Caught) {
-        for place in 0..SLOTS {
+        for place in 0..self.edition.slots() {
             let (inv, set0) = (self.flag(0, place), self.flag(1, place));
             let gathered = match self.values.get(self.entry(place)) {
                 None => Some(false),

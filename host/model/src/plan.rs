@@ -2,7 +2,7 @@
 //! place (part, item) of one refusal, if there is any.
 
 use crate::blocks::Blocks;
-use crate::record::{below, is_pin, Part, Plan, EMPTY, SLOTS};
+use crate::record::{below, is_pin, Part, Plan, EMPTY};
 use crate::Refused;
 use std::collections::{HashMap, HashSet};
 
@@ -65,11 +65,12 @@ pub fn bad_gate(gates: &[u32]) -> Option<usize> {
 }
 
 pub fn location_fault(plan: &Plan<'_>, counts: &[Counts]) -> Option<Refused> {
+    let most = plan.edition.lanes();
     for (number, (part, counts)) in plan.parts.iter().zip(counts).enumerate() {
         let mut locations = part.stages.iter().flat_map(|stage| stage.locations);
-        let item = match locations.position(|&location| location > 255) {
+        let item = match locations.position(|&location| location as usize >= most) {
             Some(index) => index,
-            None if counts.write_outs() > 256 => counts.normal as usize,
+            None if counts.write_outs() > most as u64 => counts.normal as usize,
             None => continue,
         };
         return Some(Refused::at(7, number, item));
@@ -93,11 +94,12 @@ impl Gates {
 }
 
 pub fn slot_fault(plan: &Plan<'_>, gates: &Gates) -> Option<Refused> {
+    let slots = plan.edition.slots();
     for (number, part) in plan.parts.iter().enumerate() {
         for (s, stage) in part.stages.iter().enumerate() {
             let good = |index: usize| {
                 let pin = stage.at(index);
-                if pin == EMPTY || !is_pin(pin) || index >= SLOTS {
+                if pin == EMPTY || !is_pin(pin) || index >= slots {
                     return pin == EMPTY || is_pin(pin);
                 }
                 let (a, b) = below(index);
@@ -105,9 +107,9 @@ pub fn slot_fault(plan: &Plan<'_>, gates: &Gates) -> Option<Refused> {
                 pin == a || gates.fan_ins(pin).map_or(false, |(x, y)| (x >> 1, y >> 1) == (a, b))
             };
             // Item x is position x (none for 0) and slot x of level 0.
-            let fault = (0..SLOTS).find(|&x| !good(SLOTS + x) || x > 0 && !good(x));
+            let fault = (0..slots).find(|&x| !good(slots + x) || x > 0 && !good(x));
             if let Some(item) = fault {
-                return Some(Refused::at(9, number, SLOTS * s + item));
+                return Some(Refused::at(9, number, slots * s + item));
             }
         }
     }
@@ -115,13 +117,14 @@ pub fn slot_fault(plan: &Plan<'_>, gates: &Gates) -> Option<Refused> {
 }
 
 pub fn absent_fault(plan: &Plan<'_>) -> Option<Refused> {
+    let slots = plan.edition.slots();
     for (number, part) in plan.parts.iter().enumerate() {
         for (s, stages) in part.stages.windows(2).enumerate() {
             let pins = stages[0].positions().map(|(_, pin)| pin);
             let before: HashSet<u32> = pins.filter(|&pin| pin != EMPTY).collect();
             let absent = |pin: &u32| *pin != EMPTY && !before.contains(pin);
             if let Some(slot) = stages[1].level_0().iter().position(absent) {
-                return Some(Refused::at(10, number, SLOTS * (s + 1) + slot));
+                return Some(Refused::at(10, number, slots * (s + 1) + slot));
             }
         }
     }
@@ -129,6 +132,7 @@ pub fn absent_fault(plan: &Plan<'_>) -> Option<Refused> {
 }
 
 pub fn computed_fault(plan: &Plan<'_>) -> Option<Refused> {
+    let slots = plan.edition.slots();
     for (number, part) in plan.parts.iter().enumerate() {
         let read: HashSet<u32> =
             part.stages[0].level_0().iter().copied().filter(|&pin| pin != EMPTY).collect();
@@ -137,7 +141,7 @@ pub fn computed_fault(plan: &Plan<'_>) -> Option<Refused> {
                 .positions()
                 .find(|&(p, pin)| pin != EMPTY && pin != stage.at(below(p).0) && read.contains(&pin));
             if let Some((position, _)) = computed {
-                return Some(Refused::at(11, number, SLOTS * s + position));
+                return Some(Refused::at(11, number, slots * s + position));
             }
         }
     }
@@ -221,9 +225,10 @@ pub fn position_fault(plan: &Plan<'_>, found: &Found, counts: &[Counts], blocks:
 }
 
 pub fn table_fault(plan: &Plan<'_>) -> Option<Refused> {
+    let slots = plan.edition.slots();
     for (number, part) in plan.parts.iter().enumerate() {
-        let mut entries = part.sram_table[..SLOTS].iter().chain(&part.enable_table[..SLOTS]);
-        if let Some(entry) = entries.position(|&entry| entry > 8191) {
+        let mut entries = part.sram_table[..slots].iter().chain(&part.enable_table[..slots]);
+        if let Some(entry) = entries.position(|&entry| entry as usize >= slots) {
             return Some(Refused::at(13, number, entry));
         }
     }

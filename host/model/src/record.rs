@@ -1,21 +1,19 @@
 //! The plan record, and refusal 5: "a number outside 'Plan ranges', slots excepted; unknown kind; a list not as
 //! long as its count".
 
+use crate::edition::Edition;
+
 pub const EMPTY: u32 = u32::MAX;
 pub const MOST_PIN: u32 = 1 << 30;
 /// An inverted pin number is 2·pin plus 0 or 1.
 pub const MOST_INVERTED_PIN: u32 = 2 * MOST_PIN + 1;
-pub const LEVELS: usize = 13;
-pub const SLOTS: usize = 8192;
-/// Slots of a stage: positions 1..8191, then the 8192 of level 0.
-pub const STAGE_SLOTS: usize = 2 * SLOTS - 1;
-pub const LANES: usize = 256;
 /// Words of a plan's room without those of its parts.
 pub const PLAN_ROOM: u64 = 65536;
 pub const PART_ROOM: u64 = 16;
 
 /// A plan in form, over the words of its record.
 pub struct Plan<'a> {
+    pub edition: Edition,
     pub blocks: usize,
     /// Parts of each major stage.
     pub major_parts: Vec<usize>,
@@ -38,12 +36,13 @@ pub struct Part<'a> {
 }
 
 pub struct Stage<'a> {
+    edition: Edition,
     slots: &'a [u32],
     pub locations: &'a [u32],
 }
 
 impl Stage<'_> {
-    /// The pin at a position 1..8191, or at 8192 + j for slot j of level 0.
+    /// The pin at a position from 1 on, or at the number of slots + j for slot j of level 0.
     pub fn at(&self, index: usize) -> u32 {
         self.slots[index - 1]
     }
@@ -54,12 +53,12 @@ impl Stage<'_> {
     }
 
     pub fn level_0(&self) -> &[u32] {
-        &self.slots[SLOTS - 1..]
+        &self.slots[self.edition.slots() - 1..]
     }
 
-    /// Positions 1..8191 and their pins.
+    /// Positions from 1 on, and their pins.
     pub fn positions(&self) -> impl Iterator<Item = (usize, u32)> + '_ {
-        self.slots[..SLOTS - 1].iter().enumerate().map(|(index, &pin)| (index + 1, pin))
+        self.slots[..self.edition.slots() - 1].iter().enumerate().map(|(index, &pin)| (index + 1, pin))
     }
 }
 
@@ -116,8 +115,13 @@ pub fn plan(record_bytes: usize, words: &[u32]) -> Option<Plan<'_>> {
 const PIN: &str = "a pin, 0 to 2^30";
 const INVERTED_PIN: &str = "twice a pin or 1 more, 0 to 2^31 + 1";
 
-/// The plan, or what it is refused for by 5.
+/// The plan, or what it is refused for by 5. It is of the full edition: the record names none yet.
 pub fn read(record_bytes: usize, words: &[u32]) -> Result<Plan<'_>, String> {
+    read_as(Edition::FULL, record_bytes, words)
+}
+
+/// The same of an edition's plan.
+pub(crate) fn read_as(edition: Edition, record_bytes: usize, words: &[u32]) -> Result<Plan<'_>, String> {
     if record_bytes % 4 != 0 {
         return Err(format!("its {} bytes are no whole words", record_bytes));
     }
@@ -154,13 +158,13 @@ pub fn read(record_bytes: usize, words: &[u32]) -> Result<Plan<'_>, String> {
         if head[1] > 8192 {
             return Err(head_at.fault(1, &format!("the endpoints of part {}", part), "0 to 8192"));
         }
-        parts.push(self::part(&mut cursor, part, head[0], head[1], major)?);
+        parts.push(self::part(edition, &mut cursor, part, head[0], head[1], major)?);
     }
     if cursor.at < words.len() {
         return Err(format!("its lists are {} words, and there are {}", cursor.at, words.len()));
     }
     let major_parts = counts.iter().map(|&count| count as usize).collect();
-    Ok(Plan { blocks: head[0] as usize, major_parts, gates, layout, positions, parts })
+    Ok(Plan { edition, blocks: head[0] as usize, major_parts, gates, layout, positions, parts })
 }
 
 fn part_counts<'a>(cursor: &mut Cursor<'a>, majors: u32) -> Result<&'a [u32], String> {
@@ -228,6 +232,7 @@ fn positions<'a>(cursor: &mut Cursor<'a>, count: u32) -> Result<&'a [u32], Strin
 }
 
 fn part<'a>(
+    edition: Edition,
     cursor: &mut Cursor<'a>,
     part: usize,
     stages: u32,
@@ -244,14 +249,15 @@ fn part<'a>(
         }
     }
     let counts = cursor.take(stages.into(), &of_part("numbers of locations"))?;
-    let slots = cursor.take(stages as u64 * STAGE_SLOTS as u64, &of_part("slots"))?;
+    let stage_slots = edition.stage_slots();
+    let slots = cursor.take(stages as u64 * stage_slots as u64, &of_part("slots"))?;
     let mut stages = Vec::new();
-    for (stage, (slots, &count)) in slots.chunks(STAGE_SLOTS).zip(counts).enumerate() {
+    for (stage, (slots, &count)) in slots.chunks(stage_slots).zip(counts).enumerate() {
         let locations = cursor.take(count.into(), &of_part(&format!("locations of stage {}", stage)))?;
-        stages.push(Stage { slots, locations });
+        stages.push(Stage { edition, slots, locations });
     }
-    let sram_table = cursor.take((SLOTS + 2 * LANES) as u64, &of_part("SRAM table"))?;
-    let enable_table = cursor.take((SLOTS + 3 * LANES) as u64, &of_part("enable table"))?;
+    let sram_table = cursor.take(edition.sram_table_words() as u64, &of_part("SRAM table"))?;
+    let enable_table = cursor.take(edition.enable_table_words() as u64, &of_part("enable table"))?;
     Ok(Part { major, endpoints, stages, sram_table, enable_table })
 }
 

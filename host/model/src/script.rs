@@ -1,18 +1,10 @@
 //! "The script of a part".
 
+use crate::edition::Edition;
 use crate::plan::{Counts, Found, Gates};
-use crate::record::{below, Part, Stage, EMPTY, LANES, SLOTS};
+use crate::record::{below, Part, Stage, EMPTY};
 use crate::rounds::{self, Lanes, Pair};
 use std::collections::{BTreeMap, HashMap};
-
-/// Words of a permutation and its four words a lane.
-pub const SECTION_WORDS: usize = 5120;
-pub const HEAD_WORDS: usize = 256;
-
-/// Length in words.
-pub fn part_words(rounds: u64, stages: u64) -> u64 {
-    10496 + 512 * rounds + 5120 * stages
-}
 
 /// The words and masks that stage 0 of a part asks for.
 pub fn read_set(part: &Part<'_>, found: &Found) -> Vec<Pair> {
@@ -44,6 +36,7 @@ pub fn local_positions(lanes: &Lanes) -> HashMap<(u32, u32), u16> {
 
 /// What the script of a part says of it beside the plan's own lists.
 pub struct Facts<'a> {
+    pub edition: Edition,
     pub counts: Counts,
     pub last_of_block: bool,
     pub state_start: u64,
@@ -52,8 +45,9 @@ pub struct Facts<'a> {
 }
 
 pub fn words(part: &Part<'_>, facts: &Facts<'_>, found: &Found, gates: &Gates) -> Vec<u32> {
+    let (edition, slots, all) = (facts.edition, facts.edition.slots(), facts.edition.lanes());
     let mut words = head(part, facts);
-    words.extend(rounds::section(facts.lanes));
+    words.extend(rounds::section(edition, facts.lanes));
     let local = local_positions(facts.lanes);
     let mut before: HashMap<u32, u16> = HashMap::new();
     for (s, stage) in part.stages.iter().enumerate() {
@@ -68,17 +62,17 @@ pub fn words(part: &Part<'_>, facts: &Facts<'_>, found: &Found, gates: &Gates) -
             }
         };
         let entries: Vec<u16> = stage.level_0().iter().map(entry).collect();
-        push_permutation(&mut words, &entries);
-        push_lanes(&mut words, &gate_words(stage, gates));
+        push_permutation(edition, &mut words, &entries);
+        push_lanes(edition, &mut words, &gate_words(edition, stage, gates));
         // Later positions win: a pin standing twice is found at its highest position.
         let pins = stage.positions().filter(|&(_, pin)| pin != EMPTY);
         before = pins.map(|(position, pin)| (pin, position as u16)).collect();
     }
     for (table, lists) in [(part.sram_table, 2), (part.enable_table, 3)] {
-        let entries: Vec<u16> = table[..SLOTS].iter().map(|&entry| entry as u16).collect();
-        push_permutation(&mut words, &entries);
-        let lists: Vec<&[u32]> = (0..lists).map(|list| &table[SLOTS + LANES * list..][..LANES]).collect();
-        push_lanes(&mut words, &lists);
+        let entries: Vec<u16> = table[..slots].iter().map(|&entry| entry as u16).collect();
+        push_permutation(edition, &mut words, &entries);
+        let lists: Vec<&[u32]> = (0..lists).map(|list| &table[slots + all * list..][..all]).collect();
+        push_lanes(edition, &mut words, &lists);
     }
     words
 }
@@ -94,41 +88,36 @@ fn head(part: &Part<'_>, facts: &Facts<'_>) -> Vec<u32> {
         rounds::rounds(facts.lanes) as u32,
         facts.counts.duplicates as u32,
     ];
-    words.resize(128, 0);
+    words.resize(facts.edition.head_numbers(), 0);
     let mut halves = Vec::new();
     for (s, stage) in part.stages.iter().enumerate() {
         halves.extend(stage.locations.iter().map(|&location| 256 * s as u32 + location));
     }
     words.extend(halves.chunks(2).map(|pair| pair[0] | pair.get(1).unwrap_or(&0xFFFF) << 16));
-    words.resize(HEAD_WORDS, u32::MAX);
+    words.resize(facts.edition.head_words(), u32::MAX);
     words
 }
 
 /// "entry 32t+8k+2h+e in word 1024k+4t+h, low half for e=0".
-fn push_permutation(words: &mut Vec<u32>, entries: &[u16]) {
+fn push_permutation(edition: Edition, words: &mut Vec<u32>, entries: &[u16]) {
     let start = words.len();
-    words.resize(start + SLOTS / 2, 0);
-    for t in 0..256 {
-        for k in 0..4 {
-            for h in 0..4 {
-                let entry = 32 * t + 8 * k + 2 * h;
-                let (low, high) = (entries[entry] as u32, entries[entry + 1] as u32);
-                words[start + 1024 * k + 4 * t + h] = low | high << 16;
-            }
-        }
+    words.resize(start + edition.permutation_words(), 0);
+    for (index, &entry) in entries.iter().enumerate() {
+        let (word, is_high) = edition.entry_place(index);
+        words[start + word] |= u32::from(entry) << if is_high { 16 } else { 0 };
     }
 }
 
 /// Four words a lane: those of the lists, then zeros.
-fn push_lanes<L: AsRef<[u32]>>(words: &mut Vec<u32>, lists: &[L]) {
-    for lane in 0..LANES {
+fn push_lanes<L: AsRef<[u32]>>(edition: Edition, words: &mut Vec<u32>, lists: &[L]) {
+    for lane in 0..edition.lanes() {
         words.extend((0..4).map(|list| lists.get(list).map_or(0, |list| list.as_ref()[lane])));
     }
 }
 
 /// xora, xorb and orb of a stage.
-fn gate_words(stage: &Stage<'_>, gates: &Gates) -> Vec<Vec<u32>> {
-    let mut lists = vec![vec![0; LANES]; 3];
+fn gate_words(edition: Edition, stage: &Stage<'_>, gates: &Gates) -> Vec<Vec<u32>> {
+    let mut lists = vec![vec![0; edition.lanes()]; 3];
     for (position, pin) in stage.positions() {
         if pin == EMPTY {
             continue;
@@ -143,4 +132,23 @@ fn gate_words(stage: &Stage<'_>, gates: &Gates) -> Vec<Vec<u32>> {
         }
     }
     lists
+}
+
+#[cfg(test)]
+mod tests {
+    use super::*;
+
+    /// M2: "local positions 1, 0, 32, 64". "Each requested bit has its own, below 8192": 4096 in the small edition.
+    #[test]
+    fn local_positions_are_below_the_slots() {
+        for edition in [Edition::FULL, Edition::SMALL] {
+            let local = |pairs: &[Pair]| local_positions(&rounds::pack(edition, pairs).unwrap().lanes);
+            let m2 = local(&[(0, 3), (1, 0x20), (1 << 31, 1)]);
+            assert_eq!([(0, 0), (0, 1), (1, 5), (1 << 31, 0)].map(|bit| m2[&bit]), [1, 0, 32, 64]);
+            let pairs: Vec<Pair> = (0..edition.slots() as u32).map(|word| (word, 1 << (word % 32))).collect();
+            let mut all: Vec<u16> = local(&pairs).into_values().collect();
+            all.sort_unstable();
+            assert!(all.into_iter().eq(0..edition.slots() as u16));
+        }
+    }
 }

@@ -4,9 +4,13 @@
 #![deny(unsafe_op_in_unsafe_fn)]
 
 use model::build::{accept, Accepted, Sizes};
+use model::edition::Edition;
 use model::repair::{self, Netlist, Place, Repaired};
 use model::{aiger, joins, listing, record, rounds, run, value, Refused};
 use std::slice::{from_raw_parts, from_raw_parts_mut};
+
+/// Until 10/13 lands no call names an edition.
+const EDITION: Edition = Edition::FULL;
 
 /// Writes the result, or a refusal's place, and gives the code.
 fn tell(answer: Result<u64, Refused>, first: &mut u64, second: &mut u64) -> u32 {
@@ -40,13 +44,13 @@ pub unsafe extern "C" fn juolgesot_read_rounds(
     let (set, room, out) = unsafe {
         (from_raw_parts(set, set_len), from_raw_parts_mut(room, room_len), from_raw_parts_mut(out, out_len))
     };
-    let answer = rounds::answer(set, room_len, out_len, rounds::pack);
+    let answer = rounds::answer(set, room_len, out_len, EDITION.number(), rounds::pack);
     if !matches!(answer, Err((32, _))) {
         room.fill(0);
     }
     let answer = answer.map_err(|(number, item)| Refused { number, part: 0, item }).map(|answer| {
         out[..answer.words.len()].copy_from_slice(&answer.words);
-        ((answer.words.len() / rounds::ROUND_WORDS) as u64, answer.size as u64)
+        ((answer.words.len() / EDITION.round_words()) as u64, answer.size as u64)
     });
     tell_two(answer, first, second)
 }
@@ -93,16 +97,15 @@ pub unsafe extern "C" fn juolgesot_list(
             from_raw_parts_mut(out, out_len),
         )
     };
-    if room_len < listing::LIST_ROOM {
-        return tell(Err(Refused::plain(32)), first, second);
+    let answer = listing::answer(records, room_len, out_len, EDITION.number(), rounds::pack);
+    if !matches!(answer, Err(Refused { number: 32, .. })) {
+        room.fill(0);
     }
-    room.fill(0);
-    let text = listing::text(records, rounds::pack);
-    if out_len < text.len() {
-        return tell(Err(Refused::plain(14)), first, second);
-    }
-    out[..text.len()].copy_from_slice(text.as_bytes());
-    tell(Ok(text.len() as u64), first, second)
+    let answer = answer.map(|text| {
+        out[..text.len()].copy_from_slice(text.as_bytes());
+        text.len() as u64
+    });
+    tell(answer, first, second)
 }
 
 /// Writes sizes, or a refusal's place, and gives the code.
@@ -221,7 +224,7 @@ pub unsafe extern "C" fn juolgesot_run(
         )
     };
     let (new, room) = unsafe { (from_raw_parts_mut(new, new_len), from_raw_parts_mut(room, room_len)) };
-    let answer = run::answer(words, starts, turns, old, new, room.len());
+    let answer = run::answer(words, starts, turns, old, new, room.len(), EDITION.number());
     if !matches!(answer, Err(Refused { number: 32, .. })) {
         room.fill(0);
     }
@@ -395,7 +398,8 @@ pub unsafe extern "C" fn juolgesot_place_bit(
         )
     };
     let netlist = Netlist { gates, levels };
-    let answer = repair::place(netlist, counts, slots, after_len, room_len, Place { level, slot }, node);
+    let (place, edition) = (Place { level, slot }, EDITION.number());
+    let answer = repair::place(netlist, counts, slots, after_len, room_len, place, node, edition);
     tell_repaired(answer, slots, after, room, first, second)
 }
 
@@ -424,6 +428,6 @@ pub unsafe extern "C" fn juolgesot_purge_bit(
             from_raw_parts_mut(room, room_len),
         )
     };
-    let answer = repair::clear(counts, slots, after_len, room_len, Place { level, slot });
+    let answer = repair::clear(counts, slots, after_len, room_len, Place { level, slot }, EDITION.number());
     tell_repaired(answer, slots, after, room, first, second)
 }

@@ -2,6 +2,7 @@
 
 use crate::Failure;
 use juolgesot::Refusal;
+use model::edition::Edition;
 use model::{record, run};
 
 /// A refusal of a plan record; 5 with the word and its list. (Where the counts of a record ask for more room than a plan in
@@ -23,7 +24,7 @@ pub fn plan_sentence(bytes: &[u8], refusal: Refusal) -> String {
 
 /// A refusal of a run; 15 with what is wrong in the block. `states` are the words of the old and the new state.
 pub fn run(words: &[u32], starts: &[u64], states: (usize, usize), refusal: Refusal) -> Failure {
-    Failure::Failed(match run::fault(words, starts, states) {
+    Failure::Failed(match run::fault(Edition::FULL, words, starts, states) {
         Some((block, what)) if refusal.number() == 15 => format!("refused 15: block {}: {}", block, what),
         _ => refusal.to_string(),
     })

@@ -6,9 +6,10 @@ use compare::came::Came;
 use compare::comparison::Comparison;
 use compare::repair_checker::{More, RepairChecker, Work};
 use compare::repair_damage::{self, Damaged};
-use compare::repairs::{self, place_of, Case, LEVELS};
+use compare::repairs::{self, place_of, Case, LEVELS, STAGE_SLOTS};
+use compare::EDITION;
 use juolgesot::{levels, stage_counts, Pin};
-use model::record::{self, EMPTY, STAGE_SLOTS};
+use model::record::{self, EMPTY};
 use model::repair::{Place, Repaired};
 use plan::stored;
 use random::Random;
@@ -199,7 +200,7 @@ fn damaged_stages(checker: &mut RepairChecker, random: &mut Random) {
             for _ in 0..2 {
                 let (_, _, change) = damages[random.below(damages.len())];
                 // Damages find their places on a stage that is whole.
-                if damaged.case.slots.len() >= STAGE_SLOTS && damaged.case.place.is_in_form() {
+                if damaged.case.slots.len() >= STAGE_SLOTS && damaged.case.place.is_in_form(EDITION) {
                     let _ = change(random, &mut damaged);
                 }
             }
@@ -236,7 +237,7 @@ fn netlists(checker: &mut RepairChecker, random: &mut Random, path: &str, all: b
             }
             let placer = Placer::of(&case.gates, &case.levels);
             for place in of_stage {
-                (case.place, case.node) = (place, case.slots[place.word()]);
+                (case.place, case.node) = (place, case.slots[place.word(EDITION)]);
                 match again(checker, placer.as_ref(), &case) {
                     Some(slots) if slots == case.slots => same += 1,
                     Some(_) => changed += 1,
@@ -290,7 +291,7 @@ fn case_of(gates: &[u32], slots: &[u32]) -> Case {
 /// another slot's pin.
 fn roots_of(case: &Case) -> Vec<Place> {
     let is_root = |place: &Place| {
-        if place.level == 0 || case.slots[place.word()] == EMPTY {
+        if place.level == 0 || case.slots[place.word(EDITION)] == EMPTY {
             return false;
         }
         if place.level == LEVELS {
@@ -298,7 +299,7 @@ fn roots_of(case: &Case) -> Vec<Place> {
         }
         let slots_above = 1 << (LEVELS - place.level - 1);
         let above = Place { level: place.level + 1, slot: place.slot % slots_above };
-        let pin = case.slots[above.word()];
+        let pin = case.slots[above.word(EDITION)];
         pin == EMPTY || place.slot >= slots_above && case.levels[pin as usize] < above.level
     };
     (0..STAGE_SLOTS).map(place_of).filter(is_root).collect()

@@ -3,6 +3,7 @@
 use super::{in_two_places, in_words, time_both, timed, Row, Table, Times};
 use crate::{Failure, Outcome};
 use ::compare::sets;
+use model::edition::Edition;
 use model::rounds;
 use random::Random;
 use std::collections::BTreeMap;
@@ -32,9 +33,9 @@ fn read_sets(random: &mut Random) -> Vec<(String, Vec<u32>)> {
     // Pieces of 32 pairs and more have equal bits and keep their order, which leaves a pair of 3 bits without room; pieces of 16 do not.
     let bits = [vec![1; 16], vec![3; 16]].concat().repeat(128);
     let late = sets::with_bits(random, &bits);
-    assert_eq!(rounds::search(&rounds::pairs_of(&late)).map(|packing| packing.tries()), Ok(9));
+    assert_eq!(rounds::search(Edition::FULL, &rounds::pairs_of(&late)).map(|packing| packing.tries()), Ok(9));
     read_sets.push(("8192 bits in 4096 pairs: the ninth size wins".to_string(), late));
-    let ends = |set: &[u32]| matches!(rounds::pack(&rounds::pairs_of(set)), Err((4, _)));
+    let ends = |set: &[u32]| matches!(rounds::pack(Edition::FULL, &rounds::pairs_of(set)), Err((4, _)));
     for (name, set) in [
         ("8192 bits in 259 pairs: no size places them", sets::missed()),
         ("2730 pairs of 3 bits: no size places them", sets::with_bits(random, &[3; 2730])),
@@ -58,6 +59,7 @@ fn times(set: &[u32], time: Duration) -> Result<Times, Failure> {
         let (placed, took) = timed(|| juolgesot::read_rounds_into(set, &mut room, &mut out));
         (placed.ok().map(|placed| out[..juolgesot::ROUND_WORDS * placed.rounds].to_vec()), took)
     };
-    let theirs = || timed(|| reference::lanes_of_map(&map).map(|lanes| rounds::section(&lanes)));
+    let theirs =
+        || timed(|| reference::lanes_of_map(&map).map(|lanes| rounds::section(Edition::FULL, &lanes)));
     time_both(time, ours, theirs)
 }

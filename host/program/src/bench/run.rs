@@ -62,8 +62,9 @@ fn times(
         let mut state = new.to_vec();
         let (left, took) = timed(|| -> Result<u64, model::Refused> {
             let mut left = 0;
+            let edition = model::edition::Edition::FULL.number();
             for MajorStage { starts, turns } in stages {
-                let ran = model::run::answer(words, starts, turns, old, &state, room_length)?;
+                let ran = model::run::answer(words, starts, turns, old, &state, room_length, edition)?;
                 state = ran.new;
                 left += ran.turns_left;
             }
