@@ -2,6 +2,7 @@
 
 use crate::lent::{LentRead, Room};
 use crate::tally::Tally;
+use crate::EDITION;
 use juolgesot::ffi::{self, Answer};
 use juolgesot::{LANES, MOST_ROUNDS, NO_POSITION, ROUND_WORDS, SET_ROOM};
 use model::rounds;
@@ -100,7 +101,7 @@ fn packing(set: &[u32], room: usize) -> Result<(Answer, HashMap<Bit, u64>), Stri
     let places = gathered(&out[..ROUND_WORDS * told.first as usize]);
     let pairs = rounds::pairs_of(set);
     let found = reference::search(&pairs).map_err(|_| format!("{} does not place it", reference::NAME))?;
-    if gathered(&rounds::section(&found.lanes)) != places {
+    if gathered(&rounds::section(EDITION, &found.lanes)) != places {
         return Err(format!("{} gathers bits to other places", reference::NAME));
     }
     let asked: u32 = pairs.iter().map(|(_, mask)| mask.count_ones()).sum();

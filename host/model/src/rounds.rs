@@ -181,13 +181,15 @@ pub fn local_answer(
     room: usize,
     word: u32,
     bit: u32,
-    pack: impl FnOnce(&[Pair]) -> Result<Packing, (u32, u64)>,
+    edition: u32,
+    pack: impl FnOnce(Edition, &[Pair]) -> Result<Packing, (u32, u64)>,
 ) -> Result<Option<u32>, (u32, u64)> {
     if room < SET_ROOM {
         return Err((32, 0));
     }
+    let edition = Edition::numbered(edition).ok_or((29, 0))?;
     check_form(set)?;
-    let Packing { lanes, .. } = pack(&pairs_of(set))?;
+    let Packing { lanes, .. } = pack(edition, &pairs_of(set))?;
     Ok(crate::script::local_positions(&lanes).get(&(word, bit)).map(|&position| position.into()))
 }
 

@@ -69,7 +69,7 @@ pub unsafe extern "C" fn juolgesot_local_position(
     second: &mut u64,
 ) -> u32 {
     let (set, room) = unsafe { (from_raw_parts(set, set_len), from_raw_parts_mut(room, room_len)) };
-    let answer = rounds::local_answer(set, room_len, word, bit, rounds::pack);
+    let answer = rounds::local_answer(set, room_len, word, bit, EDITION.number(), rounds::pack);
     if !matches!(answer, Err((32, _))) {
         room.fill(0);
     }
