@@ -23,9 +23,6 @@ const LANE_ROWS: usize = 32 * Edition::LANES;
 
 const MARKS: usize = 256;
 
-// 27: not a packing of this set.
-const NO_PACKING: u32 = 27;
-
 // A refusal of a read set: its part is 0.
 fn refused(number: u32, item: u64) -> Rounds
     ensures { λ r. ⌜ r ≡ roundsOf (refused (atItem number item)) ⌝ }
@@ -61,7 +58,7 @@ pub fn lanes_over(
         return refused(refusals::NOTHING_TO_READ, 0);
     }
     if let Item::At(i) = fill_lanes(set, lanes, table, seen, n) {
-        return refused(NO_PACKING, i as u64);
+        return refused(refusals::NO_PACKING, i as u64);
     }
     let rounds = reads_section::longest_row(set, table, n);
     if out.len() < 2 * n * rounds {

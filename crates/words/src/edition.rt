@@ -1,7 +1,7 @@
 // The script editions: document 01, "Numbers" and "The script of a part"; 10/13 of document 02. An edition is named by its number of lanes. Code
 // that serves both carries that number.
 ghost use mathlib.Core.Path.{_≡_};
-ghost use Rattle.words.specs.Edition.{partWords};
+ghost use Rattle.words.specs.Edition.{known, levelsFor, partWords};
 
 // The full edition. Its numbers are associated constants.
 pub struct Edition;
@@ -39,4 +39,24 @@ impl SmallEdition {
         let n = SmallEdition::LANES as u64;
         n + 2 * n * rounds as u64 + 20 * n * stages as u64 + 40 * n
     }
+}
+
+// Whether a number names an edition: refusal 29 where not.
+pub fn is_edition(number: u32) -> bool
+    ensures { λ r. ⌜ r ≡ known number ⌝ }
+{
+    if number == Edition::LANES as u32 {
+        return true;
+    }
+    number == SmallEdition::LANES as u32
+}
+
+// The levels above level 0 with so many lanes.
+pub fn levels_for(lanes: usize) -> u32
+    ensures { λ r. ⌜ r ≡ levelsFor lanes ⌝ }
+{
+    if lanes == SmallEdition::LANES {
+        return SmallEdition::LEVELS;
+    }
+    Edition::LEVELS
 }

@@ -1,4 +1,4 @@
-// The numbers of the refusals: document 01, "Numbered refusals", and those that 1/13, 4/13 and 7/13 of document 02 add.
+// The numbers of the refusals: document 01, "Numbered refusals", and those that 1/13, 4/13, 7/13, 8/13 and 10/13 of document 02 add.
 pub const MANY_PAIRS: u32 = 1;
 
 pub const PAIR_FORM: u32 = 2;
@@ -48,6 +48,10 @@ pub const NOT_EMPTY: u32 = 24;
 pub const LEVEL: u32 = 25;
 
 pub const NO_GATE: u32 = 26;
+
+pub const NO_PACKING: u32 = 27;
+
+pub const NO_EDITION: u32 = 29;
 
 pub const ROOM_SHORT: u32 = 32;
 
