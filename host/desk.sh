@@ -142,9 +142,9 @@ try_crew() {
     rm -f "$at"/*.plan "$at"/*.script "$at/bent"
 }
 
-# script_words SCRIPT: the byte where its words begin: 48 of its head, and 8 a start.
+# script_words SCRIPT: the byte where its words begin: 56 of its head, and 8 a start.
 script_words() {
     local starts
-    starts=$(od -An -tu8 -j16 -N8 "$1")
-    echo $((48 + 8 * starts))
+    starts=$(od -An -tu8 -j24 -N8 "$1")
+    echo $((56 + 8 * starts))
 }

@@ -12,7 +12,7 @@ with() {
     tail -c +$(($2 + 5)) "$1"
 }
 
-# bad_files: makes them in the folder at hand; m10.plan is there.
+# bad_files: makes them in the folder at hand; m10.plan and small.plan are there.
 bad_files() {
     verb build m10.plan m10.script >built
     : >empty
@@ -73,23 +73,29 @@ counted() {
 }
 
 bad_plans() {
-    head -c 2 m10.plan >odd.plan
+    head -c -2 m10.plan >odd.plan
     head -c 100 m10.plan >cut.plan
+    head -c 20 m10.plan >head.plan
     { cat m10.plan; word 0; } >long.plan
     with m10.plan 0 0 >blocks.plan
     with m10.plan 4 65 >stages.plan
     with m10.plan 8 4000000000 >gates.plan
-    with m10.plan 24 1073741825 >pin.plan
-    with m10.plan 20 0 >parts.plan
+    with m10.plan 20 257 >edition.plan
+    with m10.plan 20 128 >turned.plan
+    with m10.plan 24 1 >second.plan
+    with m10.plan 36 0 >parts.plan
+    with m10.plan 40 1073741825 >pin.plan
+    with m10.plan 68 1 >design.plan
 }
 
 bad_scripts() {
     head -c 20 m10.script >head.script
     head -c 1000 m10.script >cut.script
-    with m10.script 8 0 >blocks.script
-    with m10.script 8 2 >majors.script
-    with m10.script 36 1 >state.script
-    with m10.script 64 0 >bent.script
+    with m10.script 8 127 >edition.script
+    with m10.script 16 0 >blocks.script
+    with m10.script 16 2 >majors.script
+    with m10.script 44 1 >state.script
+    with m10.script 72 0 >bent.script
     # Plans and scripts in a file: a name cut, a name of one letter and then nothing, and bytes behind none.
     { word 1; word 0; word 5; word 0; echo abc; } >name.made
     { word 1; word 0; word 1; word 0; printf 'a'; word 2; word 0; } >mark.made
@@ -103,6 +109,7 @@ misuse() {
     rm -rf "$at"
     mkdir -p "$at"
     ${RUN[@]+"${RUN[@]}"} "$OUT/m10" "$at/m10.plan"
+    ${RUN[@]+"${RUN[@]}"} "$OUT/m10" small "$at/small.plan"
     cd "$at"
     bad_files
     # $CLOSED is a pipe that nobody reads any more.

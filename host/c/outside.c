@@ -13,7 +13,7 @@ int main(void)
     static const uint32_t set[] = {0, 3, 1, 0x20, 0x80000000u, 1};
     uint64_t first, second;
     uint32_t refused = juolgesot_read_rounds(set, sizeof set / sizeof *set, room, JUOLGESOT_SET_ROOM, out,
-                                             sizeof out / sizeof *out, &first, &second);
+                                             sizeof out / sizeof *out, JUOLGESOT_FULL, &first, &second);
     if (refused != 0) {
         printf("refused %u at %llu\n", refused, (unsigned long long)second);
         return 1;

@@ -24,6 +24,9 @@ use indexmap::IndexMap;
 use std::fs::File;
 use std::io::{self, BufWriter, Write};
 
+/// GEM's lanes, which name the edition.
+const LANES: u32 = 256;
+
 /// Writes BASE.plan and BASE.script.
 pub fn write(
     base: &str,
@@ -41,11 +44,12 @@ pub fn write(
     write_script(&format!("{}.script", base), script)
 }
 
-/// 8 bytes `JUOLGES1`; u64 blocks, starts, words, state words, SRAM words; the starts (u64), the words (u32).
+/// 8 bytes `JUOLGES2`; u64 edition (its lanes), blocks, starts, words, state words, SRAM words; the starts (u64), the words (u32).
 fn write_script(path: &str, script: &FlattenedScriptV1) -> io::Result<()> {
     let mut file = BufWriter::new(File::create(path)?);
-    file.write_all(b"JUOLGES1")?;
+    file.write_all(b"JUOLGES2")?;
     for number in [
+        LANES.into(),
         script.num_blocks as u64,
         script.blocks_start.len() as u64,
         script.blocks_data.len() as u64,
@@ -78,18 +82,23 @@ pub fn record(
         gates.len() as u32,
         script.input_layout.len() as u32,
         (script.input_map.len() + staged_io_map.len()) as u32,
+        LANES,
+        0,
+        0,
+        0,
     ];
     words.extend(parts_in_stages.iter().map(|parts| parts.len() as u32));
     words.extend(gates.iter().flatten());
     words.extend(script.input_layout.iter().map(|&pin| pin_word(pin)));
     for (map, staged) in [(&script.input_map, 0), (&staged_io_map, 1)] {
-        words.extend(map.iter().flat_map(|(&pin, &position)| [pin as u32, position, staged]));
+        words.extend(map.iter().flat_map(|(&pin, &position)| [pin as u32, position, staged, 0]));
     }
     let mut parts: Vec<(&Partition, &StagedAIG)> = Vec::new();
     for (of_stage, staged) in parts_in_stages.iter().zip(stageds) {
         parts.extend(of_stage.iter().map(|part| (part, *staged)));
     }
-    words.extend(parts.iter().flat_map(|(part, _)| [part.stages.len() as u32, part.endpoints.len() as u32]));
+    let head = |part: &Partition| [part.stages.len() as u32, part.endpoints.len() as u32, 0, 0];
+    words.extend(parts.iter().flat_map(|(part, _)| head(part)));
     for ((part, staged), tables) in parts.iter().zip(&tables) {
         push_part(&mut words, aig, staged, part, tables);
     }
@@ -109,10 +118,10 @@ fn gates(aig: &AIG) -> Vec<[u32; 3]> {
 fn push_part(words: &mut Vec<u32>, aig: &AIG, staged: &StagedAIG, part: &Partition, tables: &FlatteningPart) {
     for &endpoint in &part.endpoints {
         words.extend(match staged.get_endpoint_group(aig, endpoint) {
-            EndpointGroup::PrimaryOutput(pin) => [0, pin as u32, 0],
-            EndpointGroup::StagedIOPin(pin) => [1, pin as u32, 0],
-            EndpointGroup::DFF(dff) => [2, dff.d_iv as u32, dff.en_iv as u32],
-            EndpointGroup::RAMBlock(_) => [3, 0, 0],
+            EndpointGroup::PrimaryOutput(pin) => [0, pin as u32, 0, 0],
+            EndpointGroup::StagedIOPin(pin) => [1, pin as u32, 0, 0],
+            EndpointGroup::DFF(dff) => [2, dff.d_iv as u32, dff.en_iv as u32, 0],
+            EndpointGroup::RAMBlock(_) => [3, 0, 0, 0],
         });
     }
     words.extend(part.stages.iter().map(|stage| stage.write_outs.len() as u32));

@@ -1,5 +1,6 @@
 -- What each exported function hands out and leaves, whatever it is given: its numbers, the one that it returns first, then what each slice that it
--- writes holds, in the order of the parameters. Each takes the slices as they were. Document 01, "Numbered refusals": number and place, or 0.
+-- writes holds, in the order of the parameters. Each takes the slices as they were, and the number of the edition last; a plan names its own. Document
+-- 01, "Numbered refusals": number and place, or 0.
 -- Assumes nothing.
 use mathlib.Core.Option.{Option, none, some}
 use mathlib.Core.List.{List, [], _∷_}
@@ -7,7 +8,10 @@ use Prim.Native.Nat.{ℕ}
 use lib.ListN.{length}
 use Rattle.words.specs.Answer.{handed}
 use Rattle.reads.specs.Search.{longest}
-use Rattle.reads.specs.SetAnswer.{Packed, setAnswer as rounds, resultAfter, setRoomAfter}
+use Rattle.words.specs.Edition.{levelsFor}
+use Rattle.reads.specs.SetAnswer.{Packed, resultAfter, setRoomAfter}
+use Rattle.rounds.specs.RoundsAnswer.{roundsAnswer as rounds}
+use Rattle.plan_record.specs.Record.{planLanes}
 use Rattle.listing.specs.Listing.{listed, textAfter}
 use Rattle.values.specs.Values.{Bits, valueAnswer as valued, bitsAfter, valueRoomAfter as planRoomAfter}
 use Rattle.run_machine.specs.Run.{Ran, runAnswer as ranAs, newAfter, runRoomAfter}
@@ -18,7 +22,7 @@ use Rattle.aiger.specs.Writing.{writeAiger}
 use Rattle.aiger.specs.AigerAnswer.{fitting, gateListAfter as gatesAfter, holding, fileAfter as aigerAfter}
 use Rattle.repair_nodes.specs.RepairAnswer.{Repair, placed, cleared, slotsAfter, countListAfter, repairRoomAfter}
 use Rattle.reads.specs.ReadSet.{pairsOf}
-use Rattle.joins.specs.Join.{joining, joinAfter}
+use Rattle.joins_sets.specs.Join.{joining, joinAfter}
 use Rattle.locals.specs.LocalAnswer.{localAnswer}
 
 -- ---- the numbers of a good answer, after 0
@@ -65,17 +69,17 @@ bitPosition none = noPosition ∷ []
 
 -- ---- the functions
 
-unfoldable pub afterReadRounds : (set room out : List ℕ) → List (List ℕ)
-afterReadRounds set room out =
-    let o = rounds 256 set (length out) (length room) in
+unfoldable pub afterReadRounds : (set room out : List ℕ) (edition : ℕ) → List (List ℕ)
+afterReadRounds set room out edition =
+    let o = rounds edition set (length out) (length room) in
     handed 2 roundsAndSize o ∷ setRoomAfter room ∷ resultAfter o out ∷ []
 
-unfoldable pub afterLocalPosition : (set room : List ℕ) (word bit : ℕ) → List (List ℕ)
-afterLocalPosition set room word bit = handed 2 bitPosition (localAnswer 256 set (length room) word bit) ∷ setRoomAfter room ∷ []
+unfoldable pub afterLocalPosition : (set room : List ℕ) (word bit edition : ℕ) → List (List ℕ)
+afterLocalPosition set room word bit edition = handed 2 bitPosition (localAnswer edition set (length room) word bit) ∷ setRoomAfter room ∷ []
 
-unfoldable pub afterList : (records room out : List ℕ) → List (List ℕ)
-afterList records room out =
-    let o = listed records (length out) (length room) in
+unfoldable pub afterList : (records room out : List ℕ) (edition : ℕ) → List (List ℕ)
+afterList records room out edition =
+    let o = listed edition records (length out) (length room) in
     handed 2 textLength o ∷ setRoomAfter room ∷ textAfter o out ∷ []
 
 unfoldable pub afterValue : (plan room old new bits : List ℕ) (part pin : ℕ) → List (List ℕ)
@@ -83,28 +87,29 @@ afterValue plan room old new bits part pin =
     let o = valued plan part old new (length room) (length bits) pin in
     handed 2 ownBit o ∷ planRoomAfter plan room ∷ bitsAfter o bits ∷ []
 
-unfoldable pub afterRun : (words starts turns old new room : List ℕ) → List (List ℕ)
-afterRun words starts turns old new room =
-    let o = ranAs 256 13 words starts turns old new (length room) in
+unfoldable pub afterRun : (words starts turns old new room : List ℕ) (edition : ℕ) → List (List ℕ)
+afterRun words starts turns old new room edition =
+    let o = ranAs edition (levelsFor edition) words starts turns old new (length room) in
     handed 2 turnCount o ∷ newAfter o new ∷ runRoomAfter starts room ∷ []
 
 unfoldable pub afterPlanSizes : (plan room : List ℕ) → List (List ℕ)
-afterPlanSizes plan room = handed 4 planSize (sizing 256 plan (length room)) ∷ builtRoomAfter plan room ∷ []
+afterPlanSizes plan room = handed 4 planSize (sizing (planLanes plan) plan (length room)) ∷ builtRoomAfter plan room ∷ []
 
 unfoldable pub afterBuild : (plan room starts words pieces : List ℕ) → List (List ℕ)
 afterBuild plan room starts words pieces =
-    let o = building 256 plan (length room) (length starts) (length words) (length pieces) in
+    let n = planLanes plan in
+    let o = building n plan (length room) (length starts) (length words) (length pieces) in
     handed 4 planSize o
-    ∷ builtRoomAfter plan room ∷ laid o (scriptStarts 256 plan) starts ∷ laid o (scriptWords 256 plan) words ∷ laid o (pieceSizes 256 plan) pieces ∷ []
+    ∷ builtRoomAfter plan room ∷ laid o (scriptStarts n plan) starts ∷ laid o (scriptWords n plan) words ∷ laid o (pieceSizes n plan) pieces ∷ []
 
-unfoldable pub afterPlaceBit : (gates levels counts slots after room : List ℕ) (level slot node : ℕ) → List (List ℕ)
-afterPlaceBit gates levels counts slots after room level slot node =
-    let o = placed 13 gates levels counts slots (length after) (length room) level slot node in
+unfoldable pub afterPlaceBit : (gates levels counts slots after room : List ℕ) (level slot node edition : ℕ) → List (List ℕ)
+afterPlaceBit gates levels counts slots after room level slot node edition =
+    let o = placed edition gates levels counts slots (length after) (length room) level slot node in
     handed 2 entryCount o ∷ slotsAfter o slots ∷ countListAfter o after ∷ repairRoomAfter counts room ∷ []
 
-unfoldable pub afterPurgeBit : (counts slots after room : List ℕ) (level slot : ℕ) → List (List ℕ)
-afterPurgeBit counts slots after room level slot =
-    let o = cleared 13 counts slots (length after) (length room) level slot in
+unfoldable pub afterPurgeBit : (counts slots after room : List ℕ) (level slot edition : ℕ) → List (List ℕ)
+afterPurgeBit counts slots after room level slot edition =
+    let o = cleared edition counts slots (length after) (length room) level slot in
     handed 2 entryCount o ∷ slotsAfter o slots ∷ countListAfter o after ∷ repairRoomAfter counts room ∷ []
 
 unfoldable pub afterReadAiger : (bytes out : List ℕ) → List (List ℕ)

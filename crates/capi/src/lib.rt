@@ -1,5 +1,6 @@
 // The functions that a host calls, over words, bytes and numbers. Each returns 0 or the refusal's number, and two or four numbers more through what is
 // lent for them: what a good answer says, or the refusal's place. Each contract is one equation: the numbers, then every slice that is written.
+// An edition is named by its number of lanes, the last number before those; a plan names its own.
 ghost use mathlib.Core.Path.{_≡_};
 ghost use mathlib.Core.List.{[], _∷_};
 ghost use Rattle.capi.specs.Exported.{afterReadRounds, afterLocalPosition, afterList, afterValue, afterRun, afterPlanSizes, afterBuild, afterPlaceBit, afterPurgeBit, afterReadAiger, afterWriteAiger, afterJoin};
@@ -17,7 +18,6 @@ use run::Ran;
 use values::Valued;
 use words::answer::hand_good;
 use words::answer::hand_refusal;
-use words::edition::Edition;
 use words::units::Pin;
 
 fn tell_rounds(answer: Rounds, first: &mut u64, second: &mut u64) -> u32
@@ -39,13 +39,14 @@ pub extern "C" fn juolgesot_read_rounds(
     set: &[u32],
     room: &mut [u32],
     out: &mut [u32],
+    edition: u32,
     first: &mut u64,
     second: &mut u64,
 ) -> u32
-    ensures { λ r. ⌜ ((r ∷ now (first .exit) ∷ now (second .exit) ∷ []) ∷ now (room .exit) ∷ now (out .exit) ∷ []) ≡ afterReadRounds (now (set .entry)) (now (room .entry)) (now (out .entry)) ⌝ }
+    ensures { λ r. ⌜ ((r ∷ now (first .exit) ∷ now (second .exit) ∷ []) ∷ now (room .exit) ∷ now (out .exit) ∷ []) ≡ afterReadRounds (now (set .entry)) (now (room .entry)) (now (out .entry)) edition ⌝ }
 {
     tell_rounds(
-        rounds::map_global_read_to_rounds(set, room, out),
+        rounds::map_global_read_to_rounds(set, room, out, edition),
         first,
         second,
     )
@@ -72,12 +73,17 @@ pub extern "C" fn juolgesot_local_position(
     room: &mut [u32],
     word: u32,
     bit: u32,
+    edition: u32,
     first: &mut u64,
     second: &mut u64,
 ) -> u32
-    ensures { λ r. ⌜ ((r ∷ now (first .exit) ∷ now (second .exit) ∷ []) ∷ now (room .exit) ∷ []) ≡ afterLocalPosition (now (set .entry)) (now (room .entry)) word bit ⌝ }
+    ensures { λ r. ⌜ ((r ∷ now (first .exit) ∷ now (second .exit) ∷ []) ∷ now (room .exit) ∷ []) ≡ afterLocalPosition (now (set .entry)) (now (room .entry)) word bit edition ⌝ }
 {
-    tell_brought(locals::local_position(set, room, word, bit), first, second)
+    tell_brought(
+        locals::local_position(set, room, word, bit, edition),
+        first,
+        second,
+    )
 }
 
 fn tell_listed(answer: Listed, first: &mut u64, second: &mut u64) -> u32
@@ -95,12 +101,13 @@ pub extern "C" fn juolgesot_list(
     records: &[u8],
     room: &mut [u32],
     out: &mut [u8],
+    edition: u32,
     first: &mut u64,
     second: &mut u64,
 ) -> u32
-    ensures { λ r. ⌜ ((r ∷ now (first .exit) ∷ now (second .exit) ∷ []) ∷ now (room .exit) ∷ now (out .exit) ∷ []) ≡ afterList (now (records .entry)) (now (room .entry)) (now (out .entry)) ⌝ }
+    ensures { λ r. ⌜ ((r ∷ now (first .exit) ∷ now (second .exit) ∷ []) ∷ now (room .exit) ∷ now (out .exit) ∷ []) ≡ afterList (now (records .entry)) (now (room .entry)) (now (out .entry)) edition ⌝ }
 {
-    tell_listed(listing::list(records, room, out), first, second)
+    tell_listed(listing::list(records, room, out, edition), first, second)
 }
 
 fn tell_valued(answer: Valued, first: &mut u64, second: &mut u64) -> u32
@@ -153,14 +160,15 @@ pub extern "C" fn juolgesot_run(
     old: &[u32],
     new: &mut [u32],
     room: &mut [u32],
+    edition: u32,
     first: &mut u64,
     second: &mut u64,
 ) -> u32
-    ensures { λ r. ⌜ ((r ∷ now (first .exit) ∷ now (second .exit) ∷ []) ∷ now (new .exit) ∷ now (room .exit) ∷ []) ≡ afterRun (now (words .entry)) (now (starts .entry)) (now (turns .entry)) (now (old .entry)) (now (new .entry)) (now (room .entry)) ⌝ }
-    ensures promise { λ r. ⌜ Promised (now (words .entry)) (now (starts .entry)) (now (old .entry)) (now (new .entry)) r (now (first .exit)) (now (new .exit)) ⌝ }
+    ensures { λ r. ⌜ ((r ∷ now (first .exit) ∷ now (second .exit) ∷ []) ∷ now (new .exit) ∷ now (room .exit) ∷ []) ≡ afterRun (now (words .entry)) (now (starts .entry)) (now (turns .entry)) (now (old .entry)) (now (new .entry)) (now (room .entry)) edition ⌝ }
+    ensures promise { λ r. ⌜ Promised (now (words .entry)) (now (starts .entry)) (now (old .entry)) (now (new .entry)) edition r (now (first .exit)) (now (new .exit)) ⌝ }
 {
     tell_ran(
-        run::run(words, Edition::LANES, starts, turns, old, new, room),
+        run::run(words, starts, turns, old, new, room, edition),
         first,
         second,
     )
@@ -257,10 +265,11 @@ pub extern "C" fn juolgesot_place_bit(
     level: u32,
     slot: u32,
     node: u32,
+    edition: u32,
     first: &mut u64,
     second: &mut u64,
 ) -> u32
-    ensures { λ r. ⌜ ((r ∷ now (first .exit) ∷ now (second .exit) ∷ []) ∷ now (slots .exit) ∷ now (after .exit) ∷ now (room .exit) ∷ []) ≡ afterPlaceBit (now (gates .entry)) (now (levels .entry)) (now (counts .entry)) (now (slots .entry)) (now (after .entry)) (now (room .entry)) level slot node ⌝ }
+    ensures { λ r. ⌜ ((r ∷ now (first .exit) ∷ now (second .exit) ∷ []) ∷ now (slots .exit) ∷ now (after .exit) ∷ now (room .exit) ∷ []) ≡ afterPlaceBit (now (gates .entry)) (now (levels .entry)) (now (counts .entry)) (now (slots .entry)) (now (after .entry)) (now (room .entry)) level slot node edition ⌝ }
 {
     let answer = repair::place_bit(
         gates,
@@ -272,6 +281,7 @@ pub extern "C" fn juolgesot_place_bit(
         level,
         slot,
         Pin(node),
+        edition,
     );
     tell_repaired(answer, first, second)
 }
@@ -285,13 +295,14 @@ pub extern "C" fn juolgesot_purge_bit(
     room: &mut [u32],
     level: u32,
     slot: u32,
+    edition: u32,
     first: &mut u64,
     second: &mut u64,
 ) -> u32
-    ensures { λ r. ⌜ ((r ∷ now (first .exit) ∷ now (second .exit) ∷ []) ∷ now (slots .exit) ∷ now (after .exit) ∷ now (room .exit) ∷ []) ≡ afterPurgeBit (now (counts .entry)) (now (slots .entry)) (now (after .entry)) (now (room .entry)) level slot ⌝ }
+    ensures { λ r. ⌜ ((r ∷ now (first .exit) ∷ now (second .exit) ∷ []) ∷ now (slots .exit) ∷ now (after .exit) ∷ now (room .exit) ∷ []) ≡ afterPurgeBit (now (counts .entry)) (now (slots .entry)) (now (after .entry)) (now (room .entry)) level slot edition ⌝ }
 {
     tell_repaired(
-        repair::purge_bit(counts, slots, after, room, level, slot),
+        repair::purge_bit(counts, slots, after, room, level, slot, edition),
         first,
         second,
     )

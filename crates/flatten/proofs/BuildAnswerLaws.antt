@@ -16,7 +16,7 @@ use Rattle.words.specs.Section.{listOf}
 use Rattle.words.proofs.ListLaws.{sets-append}
 use Rattle.words.proofs.SectionLaws.{length-listOf}
 use Rattle.words.specs.declared.refusals.Refusal.{Refusal}
-use Rattle.plan_record.specs.Record.{blocksOf, majorsOf, partsOf}
+use Rattle.plan_record.specs.Record.{planLanes, blocksOf, majorsOf, partsOf}
 use Rattle.plan_record.specs.Form.{planRoomWords}
 use Rattle.words.proofs.TestLaws.{and-true}
 use Rattle.plan_reads.specs.PartReads.{partSize}
@@ -57,17 +57,17 @@ module _ (d room : List ℕ) where
   room-refused true (some x) z q e = refl
   room-refused true none z q e = absurd (some-not-none (sym e))
 
-  module _ (q : Refusal) (e : planVerdict 256 d (length room) ≡ some q) where
+  module _ (q : Refusal) (e : planVerdict d (length room) ≡ some q) where
     refused-room : (after : List ℕ) → after ≡ roomLeft d room → after ≡ buildRoomAfter d room
     unfolding planVerdict roomLeft buildRoomAfter
-    refused-room after is = is ∙ room-refused (leb (planRoomWords d) (length room)) (planRefusal 256 d) (readyRoom d (length room)) q e
+    refused-room after is = is ∙ room-refused (leb (planRoomWords d) (length room)) (planRefusal d) (readyRoom d (length room)) q e
 
-    refused-sizing : refused q ≡ sizing 256 d (length room)
+    refused-sizing : refused q ≡ sizing (planLanes d) d (length room)
     unfolding sizing
     refused-sizing = rw (e, sizing)
 
     module _ (s w k : ℕ) where
-      refused-building : refused q ≡ building 256 d (length room) s w k
+      refused-building : refused q ≡ building (planLanes d) d (length room) s w k
       unfolding building
       refused-building = rw (e, building)
 
@@ -77,10 +77,10 @@ module _ (d room : List ℕ) where
   none-both true o e = (refl, e)
   none-both false o e = absurd (some-not-none e)
 
-  module _ (e : planVerdict 256 d (length room) ≡ none) where
-    accepted : (leb (planRoomWords d) (length room) ≡ true) × (planRefusal 256 d ≡ none)
+  module _ (e : planVerdict d (length room) ≡ none) where
+    accepted : (leb (planRoomWords d) (length room) ≡ true) × (planRefusal d ≡ none)
     unfolding planVerdict
-    accepted = none-both (leb (planRoomWords d) (length room)) (planRefusal 256 d) e
+    accepted = none-both (leb (planRoomWords d) (length room)) (planRefusal d) e
 
     pub sound : (after : List ℕ) → PlanReady d after → AcceptedTabled d after
     sound after r = record { accepted = accepted .1; ready = r }
@@ -89,30 +89,30 @@ module _ (d room : List ℕ) where
     unfolding buildRoomAfter
     cleared-room after m k z = z ∙ ap (λ (n : ℕ). replicate n 0) k ∙ (rw (accepted .0, buildRoomAfter))
 
-    pub accepted-sizing : good (sizesOf 256 d) ≡ sizing 256 d (length room)
+    pub accepted-sizing : good (sizesOf (planLanes d) d) ≡ sizing (planLanes d) d (length room)
     unfolding sizing
     accepted-sizing = rw (e, sizing)
 
-    pub accepted-building : (s w k : ℕ) → fitted 256 d s w k ≡ building 256 d (length room) s w k
+    pub accepted-building : (s w k : ℕ) → fitted (planLanes d) d s w k ≡ building (planLanes d) d (length room) s w k
     unfolding building
     accepted-building s w k = rw (e, building)
 
 -- ---- refusal 14
 
-module _ (d : List ℕ) (s w k : ℕ) (x : Sizes) (are : x ≡ sizesIn (sizesOf 256 d)) (parts : ℕ) (count : parts ≡ partsOf d) (t : Bool) (test : t ≡ (leb parts k && (leb (x .starts) s && leb (x .words) w))) where
-  fits-is : fits (sizesOf 256 d) (partsOf d) s w k ≡ t
+module _ (d : List ℕ) (s w k : ℕ) (x : Sizes) (are : x ≡ sizesIn (sizesOf (planLanes d) d)) (parts : ℕ) (count : parts ≡ partsOf d) (t : Bool) (test : t ≡ (leb parts k && (leb (x .starts) s && leb (x .words) w))) where
+  fits-is : fits (sizesOf (planLanes d) d) (partsOf d) s w k ≡ t
   unfolding fits
   fits-is = sym (test ∙ ap₂ (λ (n : ℕ) (y : Sizes). leb n k && (leb (y .starts) s && leb (y .words) w)) count are)
 
-  pub long-enough : t ≡ true → fitted 256 d s w k ≡ good (sizesOf 256 d)
-  long-enough e = ap (λ (b : Bool). ifFits b (sizesOf 256 d)) (fits-is ∙ e)
+  pub long-enough : t ≡ true → fitted (planLanes d) d s w k ≡ good (sizesOf (planLanes d) d)
+  long-enough e = ap (λ (b : Bool). ifFits b (sizesOf (planLanes d) d)) (fits-is ∙ e)
 
-  pub too-short : t ≡ false → fitted 256 d s w k ≡ refused (nowhere 14)
-  too-short e = ap (λ (b : Bool). ifFits b (sizesOf 256 d)) (fits-is ∙ e)
+  pub too-short : t ≡ false → fitted (planLanes d) d s w k ≡ refused (nowhere 14)
+  too-short e = ap (λ (b : Bool). ifFits b (sizesOf (planLanes d) d)) (fits-is ∙ e)
 
-  all-fit : t ≡ true → (leb (partsOf d) k ≡ true) × ((leb (sizesOf 256 d .starts) s && leb (sizesOf 256 d .words) w) ≡ true)
+  all-fit : t ≡ true → (leb (partsOf d) k ≡ true) × ((leb (sizesOf (planLanes d) d .starts) s && leb (sizesOf (planLanes d) d .words) w) ≡ true)
   unfolding fits
-  all-fit e = and-true (leb (partsOf d) k) (leb (sizesOf 256 d .starts) s && leb (sizesOf 256 d .words) w) (fits-is ∙ e)
+  all-fit e = and-true (leb (partsOf d) k) (leb (sizesOf (planLanes d) d .starts) s && leb (sizesOf (planLanes d) d .words) w) (fits-is ∙ e)
 
   pub pieces-room : t ≡ true → partsOf d ≤ k
   pieces-room e = leb-true (partsOf d) k (all-fit e .0)
@@ -120,22 +120,22 @@ module _ (d : List ℕ) (s w k : ℕ) (x : Sizes) (are : x ≡ sizesIn (sizesOf 
   pub plan-room : (room : List ℕ) → AcceptedTabled d room → t ≡ true → PlanRoom d room s w
   unfolding sizesOf
   plan-room room h e =
-      let r = and-true (leb (sizesOf 256 d .starts) s) (leb (sizesOf 256 d .words) w) (all-fit e .1) in
+      let r = and-true (leb (sizesOf (planLanes d) d .starts) s) (leb (sizesOf (planLanes d) d .words) w) (all-fit e .1) in
       record {
         sound = h;
-        starts = omega (arith, leb-true (blocksOf d * majorsOf d + 1) s (r .0), starts-length 256 d);
-        words = leb-true (length (scriptWords 256 d)) w (r .1);
+        starts = omega (arith, leb-true (blocksOf d * majorsOf d + 1) s (r .0), starts-length (planLanes d) d);
+        words = leb-true (length (scriptWords (planLanes d) d)) w (r .1);
       }
 
 -- one piece size more
-pub pieces-more : (d before so-far : List ℕ) (p v : ℕ) → so-far ≡ sets before 0 (listOf (partSize 256 d) p) → v ≡ partSize 256 d p
-    → set so-far p v ≡ sets before 0 (listOf (partSize 256 d) (p + 1))
+pub pieces-more : (d before so-far : List ℕ) (p v : ℕ) → so-far ≡ sets before 0 (listOf (partSize (planLanes d) d) p) → v ≡ partSize (planLanes d) d p
+    → set so-far p v ≡ sets before 0 (listOf (partSize (planLanes d) d) (p + 1))
 unfolding listOf
 pieces-more d before so-far p v e is =
-    let sizes = listOf (partSize 256 d) p in
-    let last : sets before 0 (listOf (partSize 256 d) (p + 1)) ≡ set (sets before 0 sizes) (0 + length sizes) (partSize 256 d p) =
-    rw add-one (sets-append before 0 sizes (partSize 256 d p ∷ [])) in
-    rw (e, is) (sym (last ∙ ap (λ (n : ℕ). set (sets before 0 sizes) n (partSize 256 d p)) (omega (arith, length-listOf (partSize 256 d) p))))
+    let sizes = listOf (partSize (planLanes d) d) p in
+    let last : sets before 0 (listOf (partSize (planLanes d) d) (p + 1)) ≡ set (sets before 0 sizes) (0 + length sizes) (partSize (planLanes d) d p) =
+    rw add-one (sets-append before 0 sizes (partSize (planLanes d) d p ∷ [])) in
+    rw (e, is) (sym (last ∙ ap (λ (n : ℕ). set (sets before 0 sizes) n (partSize (planLanes d) d p)) (omega (arith, length-listOf (partSize (planLanes d) d) p))))
 
 -- what a result slice then holds
 pub laid-built : (o : Answer flat.Sizes) (x : flat.Sizes) → o ≡ good x → (l before after : List ℕ) → after ≡ sets before 0 l → after ≡ laid o l before
@@ -148,21 +148,21 @@ laid-refused o q e l before = rw (e, laid)
 
 -- ---- a refused plan's answer, and its slices
 
-module _ (d room : List ℕ) (x : Refusal) (v : verdict.Refused x ≡ verdictOf (planVerdict 256 d (length room))) (after : List ℕ) (is : after ≡ roomLeft d room) where
-  pub refused-sized : (flattened.Refused x ≡ flattenedOf (sizing 256 d (length room))) × (after ≡ buildRoomAfter d room)
+module _ (d room : List ℕ) (x : Refusal) (v : verdict.Refused x ≡ verdictOf (planVerdict d (length room))) (after : List ℕ) (is : after ≡ roomLeft d room) where
+  pub refused-sized : (flattened.Refused x ≡ flattenedOf (sizing (planLanes d) d (length room))) × (after ≡ buildRoomAfter d room)
   refused-sized =
-      let e = refused-is (planVerdict 256 d (length room)) x v in
+      let e = refused-is (planVerdict d (length room)) x v in
       (ap flattenedOf (refused-sizing d room x e), refused-room d room x e after is)
 
   module _ (starts words pieces : List ℕ) where
-    pub refused-built : flattened.Refused x ≡ flattenedOf (building 256 d (length room) (length starts) (length words) (length pieces))
-    refused-built = ap flattenedOf (refused-building d room x (refused-is (planVerdict 256 d (length room)) x v) (length starts) (length words) (length pieces))
+    pub refused-built : flattened.Refused x ≡ flattenedOf (building (planLanes d) d (length room) (length starts) (length words) (length pieces))
+    refused-built = ap flattenedOf (refused-building d room x (refused-is (planVerdict d (length room)) x v) (length starts) (length words) (length pieces))
 
-    pub refused-kept : (l before : List ℕ) → before ≡ laid (building 256 d (length room) (length starts) (length words) (length pieces)) l before
+    pub refused-kept : (l before : List ℕ) → before ≡ laid (building (planLanes d) d (length room) (length starts) (length words) (length pieces)) l before
     refused-kept l before =
-        let e = refused-is (planVerdict 256 d (length room)) x v in
+        let e = refused-is (planVerdict d (length room)) x v in
         let same = sym (refused-building d room x e (length starts) (length words) (length pieces)) in
-        laid-refused (building 256 d (length room) (length starts) (length words) (length pieces)) x same l before
+        laid-refused (building (planLanes d) d (length room) (length starts) (length words) (length pieces)) x same l before
 
 -- one test, then the other
 pub test-on : (a b : ℕ) (c : Bool) → a ≤ b → c ≡ (leb a b && c)

@@ -1,6 +1,6 @@
 -- The sums that the sizes are: over the parts by their rows, over the major stages by their counts.
 -- Assumes nothing.
-use mathlib.Core.Path.{_≡_, refl, sym, ap₂, _∙_}
+use mathlib.Core.Path.{_≡_, refl, sym, ap, ap₂, _∙_}
 use mathlib.Core.List.{List}
 use Prim.Native.Nat.{ℕ, _+_, _*_, _-_, _≤_, _<_}
 use native.Mathlib.Nat.{mul-le-mul-left}
@@ -9,11 +9,13 @@ use lib.ListN.{length}
 use Rattle.words.specs.Edition.{partWords}
 use Rattle.words.specs.Sum.{sumTo}
 use Rattle.words.proofs.SumLaws.{sum-more}
-use Rattle.plan_record.specs.Record.{blocksOf, majorsOf, countAt, partsOf, stagesOf}
+use Rattle.plan_record.specs.Record.{planLanes, blocksOf, majorsOf, countAt, partsOf, stagesOf}
+use Rattle.plan_record.proofs.RecordLaws.{lanes-range}
 use Rattle.plan_blocks.specs.Blocks.{stateWords, sramWords}
 use Rattle.plan_rows.specs.Columns as col
 use Rattle.plan_rows.specs.Rows.{cellAt}
 use Rattle.plan_blocks.specs.TableFill.{Tallied}
+use Rattle.script.proofs.PartLengthLaws.{lanes-even}
 use Rattle.script_assembly.specs.Assembly.{scriptWords}
 use Rattle.script_assembly.specs.WrittenSoFar.{lengthOf, emptyBlocks}
 use Rattle.script_assembly.proofs.ScriptLengthLaws.{words-sum}
@@ -49,15 +51,16 @@ module _ (d room : List ℕ) (h : AcceptedTabled d room) where
       let u : majors ≤ 64 = omega (arith, majors-few) in
       omega (arith, mul-le-mul-left blocks u, blocks-few)
 
-  pub parts-none : 0 ≡ sumTo (lengthOf 256 d) 0
+  pub parts-none : 0 ≡ sumTo (lengthOf (planLanes d) d) 0
   unfolding sumTo
   parts-none = refl
 
-  pub parts-next : (p sum more rounds stages : ℕ) → p < partsOf d → sum ≡ sumTo (lengthOf 256 d) p → rounds ≡ cellAt room p col.rounds → stages ≡ stagesOf d p
-      → more ≡ partWords 256 rounds stages → sum + more ≡ sumTo (lengthOf 256 d) (p + 1)
+  pub parts-next : (n p sum more rounds stages : ℕ) → n ≡ planLanes d → p < partsOf d → sum ≡ sumTo (lengthOf (planLanes d) d) p → rounds ≡ cellAt room p col.rounds → stages ≡ stagesOf d p
+      → more ≡ partWords n rounds stages → sum + more ≡ sumTo (lengthOf (planLanes d) d) (p + 1)
   unfolding lengthOf
-  parts-next p sum more rounds stages l a r t b =
-      ap₂ _+_ a (b ∙ ap₂ (partWords 256) (r ∙ h .ready .rounds p l) t) ∙ sym (sum-more (lengthOf 256 d) p)
+  parts-next n p sum more rounds stages lanes l a r t b =
+      let long : more ≡ lengthOf (planLanes d) d p = b ∙ ap (λ (i : ℕ). partWords i rounds stages) lanes ∙ ap₂ (partWords (planLanes d)) (r ∙ h .ready .rounds p l) t in
+      ap₂ _+_ a long ∙ sym (sum-more (lengthOf (planLanes d) d) p)
 
   -- as the totals ask for it
   pub tallied : Tallied d room
@@ -65,10 +68,12 @@ module _ (d room : List ℕ) (h : AcceptedTabled d room) where
 
   -- ---- the whole
 
-  pub script-long : (parts empty : ℕ) → parts ≡ sumTo (lengthOf 256 d) (partsOf d) → empty ≡ emptyBlocks d (majorsOf d) → parts + 256 * empty + 2048 ≡ length (scriptWords 256 d)
-  script-long parts empty a b = omega (arith, a, b, words-sum 256 d (omega arith) refl (plan-formed d room h .head .some-blocks))
+  pub script-long : (n parts empty : ℕ) → n ≡ planLanes d → parts ≡ sumTo (lengthOf (planLanes d) d) (partsOf d) → empty ≡ planLanes d * emptyBlocks d (majorsOf d)
+      → parts + empty + 8 * n ≡ length (scriptWords (planLanes d) d)
+  script-long n parts empty lanes a b =
+      omega (arith, a, b, lanes, words-sum (planLanes d) d (omega (arith, lanes-range d)) (lanes-even d) (plan-formed d room h .head .some-blocks))
 
-  pub sizes-are : (blocks majors words state sram : ℕ) → blocks ≡ blocksOf d → majors ≡ majorsOf d → words ≡ length (scriptWords 256 d) → state ≡ stateWords d → sram ≡ sramWords d
-      → _≡_ {A = Sizes} (record { starts = blocks * majors + 1; words = words; state = state; sram = sram }) (sizesIn (sizesOf 256 d))
+  pub sizes-are : (blocks majors words state sram : ℕ) → blocks ≡ blocksOf d → majors ≡ majorsOf d → words ≡ length (scriptWords (planLanes d) d) → state ≡ stateWords d → sram ≡ sramWords d
+      → _≡_ {A = Sizes} (record { starts = blocks * majors + 1; words = words; state = state; sram = sram }) (sizesIn (sizesOf (planLanes d) d))
   unfolding sizesOf
   sizes-are blocks majors words state sram b m w t r = rw (b, m, w, t, r)

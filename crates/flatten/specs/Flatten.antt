@@ -34,7 +34,7 @@ sizesOf n d = record {
 
 -- "A plan: 5 to 13 .., then 3, 4", 32 before them
 unfoldable pub sizing : ℕ → List ℕ → ℕ → Answer Sizes
-sizing n d r = elim (planVerdict n d r) [ some q ↦ refused q | none ↦ good (sizesOf n d) ]
+sizing n d r = elim (planVerdict d r) [ some q ↦ refused q | none ↦ good (sizesOf n d) ]
 
 -- ---- the build: "then 3, 4, 14". Result slices of s starts, w words and k piece sizes
 
@@ -54,7 +54,7 @@ abbrev pub fitted : ℕ → List ℕ → ℕ → ℕ → ℕ → Answer Sizes
 fitted n d s w k = ifFits (fits (sizesOf n d) (partsOf d) s w k) (sizesOf n d)
 
 unfoldable pub building : ℕ → List ℕ → ℕ → ℕ → ℕ → ℕ → Answer Sizes
-building n d r s w k = elim (planVerdict n d r) [ some q ↦ refused q | none ↦ fitted n d s w k ]
+building n d r s w k = elim (planVerdict d r) [ some q ↦ refused q | none ↦ fitted n d s w k ]
 
 -- what the three result slices then hold, and the room
 unfoldable pub laid : Answer Sizes → List ℕ → List ℕ → List ℕ

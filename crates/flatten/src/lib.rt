@@ -7,6 +7,7 @@ ghost use mathlib.Core.Bool.{_&&_};
 ghost use lib.Dec.{leb};
 ghost use lib.ListN.{length, replicate};
 ghost use Rattle.words.specs.Answer.{good};
+ghost use Rattle.plan_record.specs.Record.{planLanes};
 ghost use Rattle.plan_reads.specs.ReadsReady.{SetRoom};
 ghost use Rattle.script_assembly.specs.Assembly.{scriptWords, scriptStarts};
 ghost use Rattle.script_layout.specs.Layout.{AcceptedTabled};
@@ -37,7 +38,7 @@ pub enum Flattened {
 // The sizes of an accepted plan. The room is clear afterwards.
 fn size_accepted(plan: &[u8], room: &mut [u32]) -> Flattened
     requires { ⌜ AcceptedTabled (now plan) (now room) ⌝ }
-    ensures { λ r. ⌜ r ≡ flattenedOf (good (sizesOf 256 (now (plan .entry)))) ⌝ }
+    ensures { λ r. ⌜ r ≡ flattenedOf (good (sizesOf (planLanes (now (plan .entry))) (now (plan .entry)))) ⌝ }
     ensures { λ _. ⌜ now (room .exit) ≡ replicate (length (now (room .entry))) 0 ⌝ }
 {
     let sizes = sizes_of(plan, room);
@@ -47,7 +48,7 @@ fn size_accepted(plan: &[u8], room: &mut [u32]) -> Flattened
 
 // How much room a plan's result takes.
 pub fn plan_sizes(plan: &[u8], room: &mut [u32]) -> Flattened
-    ensures { λ r. ⌜ r ≡ flattenedOf (sizing 256 (now (plan .entry)) (length (now (room .entry)))) ⌝ }
+    ensures { λ r. ⌜ r ≡ flattenedOf (sizing (planLanes (now (plan .entry))) (now (plan .entry)) (length (now (room .entry)))) ⌝ }
     ensures { λ _. ⌜ now (room .exit) ≡ buildRoomAfter (now (plan .entry)) (now (room .entry)) ⌝ }
 {
     let mut keys = [0u64; Edition::SLOTS];
@@ -88,11 +89,11 @@ fn build_accepted(
     set: &mut [u32],
 ) -> Flattened
     requires { ⌜ AcceptedTabled (now plan) (now room) × SetRoom (length (now keys)) (length (now scratch)) (length (now set)) ⌝ }
-    ensures { λ r. ⌜ r ≡ flattenedOf (fitted 256 (now (plan .entry)) (length (now (starts .entry))) (length (now (words .entry))) (length (now (pieces .entry)))) ⌝ }
+    ensures { λ r. ⌜ r ≡ flattenedOf (fitted (planLanes (now (plan .entry))) (now (plan .entry)) (length (now (starts .entry))) (length (now (words .entry))) (length (now (pieces .entry)))) ⌝ }
     ensures { λ _. ⌜ now (room .exit) ≡ replicate (length (now (room .entry))) 0 ⌝ }
-    ensures { λ _. ⌜ now (starts .exit) ≡ laid (fitted 256 (now (plan .entry)) (length (now (starts .entry))) (length (now (words .entry))) (length (now (pieces .entry)))) (scriptStarts 256 (now (plan .entry))) (now (starts .entry)) ⌝ }
-    ensures { λ _. ⌜ now (words .exit) ≡ laid (fitted 256 (now (plan .entry)) (length (now (starts .entry))) (length (now (words .entry))) (length (now (pieces .entry)))) (scriptWords 256 (now (plan .entry))) (now (words .entry)) ⌝ }
-    ensures { λ _. ⌜ now (pieces .exit) ≡ laid (fitted 256 (now (plan .entry)) (length (now (starts .entry))) (length (now (words .entry))) (length (now (pieces .entry)))) (pieceSizes 256 (now (plan .entry))) (now (pieces .entry)) ⌝ }
+    ensures { λ _. ⌜ now (starts .exit) ≡ laid (fitted (planLanes (now (plan .entry))) (now (plan .entry)) (length (now (starts .entry))) (length (now (words .entry))) (length (now (pieces .entry)))) (scriptStarts (planLanes (now (plan .entry))) (now (plan .entry))) (now (starts .entry)) ⌝ }
+    ensures { λ _. ⌜ now (words .exit) ≡ laid (fitted (planLanes (now (plan .entry))) (now (plan .entry)) (length (now (starts .entry))) (length (now (words .entry))) (length (now (pieces .entry)))) (scriptWords (planLanes (now (plan .entry))) (now (plan .entry))) (now (words .entry)) ⌝ }
+    ensures { λ _. ⌜ now (pieces .exit) ≡ laid (fitted (planLanes (now (plan .entry))) (now (plan .entry)) (length (now (starts .entry))) (length (now (words .entry))) (length (now (pieces .entry)))) (pieceSizes (planLanes (now (plan .entry))) (now (plan .entry))) (now (pieces .entry)) ⌝ }
 {
     let sizes = sizes_of(plan, room);
     let parts = parts_of(plan);
@@ -118,11 +119,11 @@ pub fn build_flattened_script_v1(
     words: &mut [u32],
     pieces: &mut [u32],
 ) -> Flattened
-    ensures { λ r. ⌜ r ≡ flattenedOf (building 256 (now (plan .entry)) (length (now (room .entry))) (length (now (starts .entry))) (length (now (words .entry))) (length (now (pieces .entry)))) ⌝ }
+    ensures { λ r. ⌜ r ≡ flattenedOf (building (planLanes (now (plan .entry))) (now (plan .entry)) (length (now (room .entry))) (length (now (starts .entry))) (length (now (words .entry))) (length (now (pieces .entry)))) ⌝ }
     ensures { λ _. ⌜ now (room .exit) ≡ buildRoomAfter (now (plan .entry)) (now (room .entry)) ⌝ }
-    ensures { λ _. ⌜ now (starts .exit) ≡ startsAfter 256 (now (plan .entry)) (length (now (room .entry))) (now (starts .entry)) (now (words .entry)) (now (pieces .entry)) ⌝ }
-    ensures { λ _. ⌜ now (words .exit) ≡ wordsAfter 256 (now (plan .entry)) (length (now (room .entry))) (now (starts .entry)) (now (words .entry)) (now (pieces .entry)) ⌝ }
-    ensures { λ _. ⌜ now (pieces .exit) ≡ piecesAfter 256 (now (plan .entry)) (length (now (room .entry))) (now (starts .entry)) (now (words .entry)) (now (pieces .entry)) ⌝ }
+    ensures { λ _. ⌜ now (starts .exit) ≡ startsAfter (planLanes (now (plan .entry))) (now (plan .entry)) (length (now (room .entry))) (now (starts .entry)) (now (words .entry)) (now (pieces .entry)) ⌝ }
+    ensures { λ _. ⌜ now (words .exit) ≡ wordsAfter (planLanes (now (plan .entry))) (now (plan .entry)) (length (now (room .entry))) (now (starts .entry)) (now (words .entry)) (now (pieces .entry)) ⌝ }
+    ensures { λ _. ⌜ now (pieces .exit) ≡ piecesAfter (planLanes (now (plan .entry))) (now (plan .entry)) (length (now (room .entry))) (now (starts .entry)) (now (words .entry)) (now (pieces .entry)) ⌝ }
 {
     let mut keys = [0u64; Edition::SLOTS];
     let mut scratch = [0u64; Edition::SLOTS];

@@ -1,9 +1,9 @@
 // The sizes of an accepted plan's result: document 01, "Blocks and offsets".
 ghost use mathlib.Core.Path.{_≡_};
-ghost use Prim.Native.Nat.{_-_, _^_, _≤_};
+ghost use Prim.Native.Nat.{_*_, _-_, _^_, _≤_};
 ghost use lib.ListN.{length};
 ghost use Rattle.words.specs.Sum.{sumTo};
-ghost use Rattle.plan_record.specs.Record.{majorsOf, partsOf};
+ghost use Rattle.plan_record.specs.Record.{planLanes, majorsOf, partsOf};
 ghost use Rattle.script_assembly.specs.Assembly.{scriptWords};
 ghost use Rattle.script_assembly.specs.WrittenSoFar.{lengthOf, emptyBlocks};
 ghost use Rattle.script_layout.specs.Layout.{AcceptedTabled};
@@ -17,14 +17,11 @@ use plan_record::numbers::count_at;
 use plan_record::numbers::majors_of;
 use plan_record::numbers::stages_at;
 use plan_record::places::head_base;
+use plan_record::places::lanes_of;
 use plan_rows::Column;
 use plan_rows::cell_at;
-use words::edition::Edition;
-
-// The words of an empty block, and the zero words that close a script.
-const EMPTY_BLOCK: u64 = Edition::LANES as u64;
-
-const CLOSING_ZEROS: u64 = 8 * EMPTY_BLOCK;
+use script_layout::sizes::CLOSING_ZEROS;
+use script_layout::sizes::part_words;
 
 // How much a plan's result takes: starts, words of the script, words of the state, words of SRAM.
 pub struct Sizes {
@@ -60,32 +57,42 @@ fn empty_blocks(d: &[u8], room: &[u32]) -> u64
 // The words of all parts' scripts.
 fn parts_words(d: &[u8], room: &[u32]) -> u64
     requires { ⌜ AcceptedTabled (now d) (now room) ⌝ }
-    ensures { λ r. ⌜ (r ≡ sumTo (lengthOf 256 (now (d .entry))) (partsOf (now (d .entry)))) × (r ≤ 2 ^ 63) ⌝ }
+    ensures { λ r. ⌜ (r ≡ sumTo (lengthOf (planLanes (now (d .entry))) (now (d .entry))) (partsOf (now (d .entry)))) × (r ≤ 2 ^ 63) ⌝ }
 {
+    let lanes = lanes_of(d);
     let parts = parts_of(d);
     let heads = head_base(d);
     let mut sum: u64 = 0;
     let mut p = 0;
     while p < parts {
         let rounds = cell_at(room, p, Column::ROUNDS);
-        sum += Edition::part_words(rounds, stages_at(d, heads, p));
+        sum += part_words(lanes, rounds, stages_at(d, heads, p));
         p += 1;
     }
     sum
 }
 
+// The words of the empty blocks: a word a lane each.
+fn empty_words(d: &[u8], room: &[u32]) -> u64
+    requires { ⌜ AcceptedTabled (now d) (now room) ⌝ }
+    ensures { λ r. ⌜ (r ≡ planLanes (now (d .entry)) * emptyBlocks (now (d .entry)) (majorsOf (now (d .entry)))) × (r ≤ 2 ^ 46) ⌝ }
+{
+    lanes_of(d) as u64 * empty_blocks(d, room)
+}
+
 // The words of the whole script.
 fn script_words(d: &[u8], room: &[u32]) -> u64
     requires { ⌜ AcceptedTabled (now d) (now room) ⌝ }
-    ensures { λ r. ⌜ r ≡ length (scriptWords 256 (now (d .entry))) ⌝ }
+    ensures { λ r. ⌜ r ≡ length (scriptWords (planLanes (now (d .entry))) (now (d .entry))) ⌝ }
 {
-    parts_words(d, room) + EMPTY_BLOCK * empty_blocks(d, room) + CLOSING_ZEROS
+    let zeros = CLOSING_ZEROS * lanes_of(d);
+    parts_words(d, room) + empty_words(d, room) + zeros as u64
 }
 
 // The sizes of an accepted plan, whose part table stands in the room.
 pub fn sizes_of(d: &[u8], room: &[u32]) -> Sizes
     requires { ⌜ AcceptedTabled (now d) (now room) ⌝ }
-    ensures { λ r. ⌜ r ≡ sizesIn (sizesOf 256 (now (d .entry))) ⌝ }
+    ensures { λ r. ⌜ r ≡ sizesIn (sizesOf (planLanes (now (d .entry))) (now (d .entry))) ⌝ }
 {
     let blocks = blocks_of(d) as u64;
     let majors = majors_of(d) as u64;

@@ -31,10 +31,10 @@ use Rattle.reads_section.specs.Readout.{TableReadable}
 use Rattle.rounds.specs.declared.Rounds.{Rounds}
 use Rattle.rounds.specs.Rounds.{roundsOf}
 use Rattle.handed.specs.declared.fill.Judged.the-variants.{Bad, Lanes}
-use Rattle.handed.specs.Handed.{numberOf, lanesIn, badPair, allStand, whole, fault, toldItem, judged, handedPacked, handedSet, handedAnswer}
+use Rattle.handed_lanes.specs.Handed.{numberOf, lanesIn, badPair, allStand, whole, fault, toldItem, judged, handedPacked, handedSet, handedAnswer}
 use Rattle.handed.specs.Fill.{judgedOf, tableHanded, PairsFilled}
-use Rattle.handed.proofs.FaultLaws.{exactly-when, none-fault, bad-fault, count-fault, stand-at, at-stand}
-use Rattle.handed.proofs.LaneWordLaws.{pair-times, found-pair}
+use Rattle.handed_lanes.proofs.FaultLaws.{exactly-when, none-fault, bad-fault, count-fault, stand-at, at-stand}
+use Rattle.handed_lanes.proofs.LaneWordLaws.{pair-times, found-pair}
 use Rattle.handed.proofs.HandedLaws.{faultless-judged, faultless-sound}
 
 -- ---- the judgement of the pairs, then the number of lanes and the marks

@@ -25,9 +25,9 @@ use Rattle.reads.proofs.PackingLaws.{lanes-packing}
 use Rattle.reads.proofs.SetLaws.{pairs-small}
 use Rattle.reads.proofs.RoundCountLaws.{rounds-range}
 use Rattle.reads.proofs.LocalLaws.{OwnPositions, own-positions}
-use Rattle.handed.specs.Handed.{lanesIn, wordsOf, fault, toldItem, judged, handedPacked, handedSet}
-use Rattle.handed.proofs.FaultLaws.{exactly-when, own-passes}
-use Rattle.handed.proofs.LaneWordLaws.{words-back, in-numbered, sound-numbered, packing-sound}
+use Rattle.handed_lanes.specs.Handed.{lanesIn, wordsOf, fault, toldItem, judged, handedPacked, handedSet}
+use Rattle.handed_lanes.proofs.FaultLaws.{exactly-when, own-passes}
+use Rattle.handed_lanes.proofs.LaneWordLaws.{words-back, in-numbered, sound-numbered, packing-sound}
 
 -- ---- 27, or placed
 

@@ -30,10 +30,11 @@ use Rattle.reads_try.specs.TableLanes.{pairAt, putInLane}
 use Rattle.reads_try.proofs.LaneTableLaws.{table-put, table-empty, table-length}
 use Rattle.handed.specs.declared.fill.Judged.{Judged}
 use Rattle.handed.specs.declared.fill.Judged.the-variants.{Bad, Lanes}
-use Rattle.handed.specs.Handed.{numberOf, pairFor, inFront, pairMore, lanesIn, belongs, badFrom, badPair}
-use Rattle.handed.specs.Fill.{judgedOf, fittingPair, tabled, PairsFilled}
-use Rattle.handed.proofs.FaultLaws.{times-one, one-is, Belongs, belongs-is, bad-next, bad-here}
-use Rattle.handed.proofs.LaneWordLaws.{number-nowhere, more-end, more-pair, pairs-count, pair-number, found-pair}
+use Rattle.handed_lanes.specs.Handed.{numberOf, pairFor, inFront, pairMore, lanesIn, belongs, badFrom, badPair}
+use Rattle.handed_pairs.specs.HandedPair.{fittingPair, tabled}
+use Rattle.handed.specs.Fill.{judgedOf, PairsFilled}
+use Rattle.handed_lanes.proofs.FaultLaws.{times-one, one-is, Belongs, belongs-is, bad-next, bad-here}
+use Rattle.handed_lanes.proofs.LaneWordLaws.{number-nowhere, more-end, more-pair, pairs-count, pair-number, found-pair}
 
 -- ---- what is left of the lanes: the first of them has `place` pairs already, of b bits
 

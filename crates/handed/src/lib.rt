@@ -7,7 +7,7 @@ ghost use Rattle.reads.specs.ReadSet.{pairsOf};
 ghost use Rattle.reads.specs.SetAnswer.{setFitted, resultAfter, setRoomAfter};
 ghost use Rattle.rounds.specs.Rounds.{roundsOf};
 ghost use Rattle.words.specs.Answer.{refused, atItem};
-ghost use Rattle.handed.specs.Handed.{handedSet, handedAnswer};
+ghost use Rattle.handed_lanes.specs.Handed.{handedSet, handedAnswer};
 ghost use Rattle.handed.specs.Fill.{LanesSolvable};
 use fill::fill_lanes;
 use rounds::Rounds;

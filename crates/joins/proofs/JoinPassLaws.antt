@@ -14,10 +14,10 @@ use lib.Seq.{sets, take-all, drop-drop}
 use Rattle.reads_asked.specs.Rising.{Rising}
 use Rattle.reads_asked.proofs.AskLaws.{Compared, less, same, more, compared}
 use Rattle.reads_asked.proofs.AskedFormLaws.{rising-even}
-use Rattle.joins.specs.Join.{putPair, join}
+use Rattle.joins_sets.specs.Join.{putPair, join}
 use Rattle.joins.specs.Merge.{ofFirst, ofSecond, ofBoth, firstPair, HasPair, Joinable}
 use Rattle.joins.specs.declared.merging.Step.{Step}
-use Rattle.joins.proofs.JoinPutLaws.{put-in-front, put-same, put-above, rising-lower, rising-join}
+use Rattle.joins_sets.proofs.JoinPutLaws.{put-in-front, put-same, put-above, rising-lower, rising-join}
 
 -- ---- the first pair, by which set it comes from
 

@@ -1,6 +1,2 @@
-pub mod JoinPutLaws
-pub mod JoinMaskLaws
-pub mod JoinKeptLaws
-pub mod JoinLaws
-pub mod JoinAnswerLaws
+pub mod JoinCodeLaws
 pub mod JoinPassLaws

@@ -12,7 +12,7 @@ use Rattle.words.specs.Answer.{Answer, good, refused}
 use Rattle.words.specs.declared.refusals.Refusal.{Refusal}
 use Rattle.reads.specs.ReadSet.{pairsOf}
 use Rattle.reads_asked.specs.Rising.{Rising}
-use Rattle.joins.specs.Join.{join}
+use Rattle.joins_sets.specs.Join.{join}
 use Rattle.joins.specs.declared.Joined.{Joined}
 use Rattle.joins.specs.declared.Joined.the-variants.{Pairs, Refused as NotJoined}
 use Rattle.joins.specs.declared.Tested.{Tested}

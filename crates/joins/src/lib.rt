@@ -5,7 +5,7 @@ ghost use mathlib.Core.Path.{_≡_};
 ghost use mathlib.Core.Bool.{_&&_};
 ghost use lib.Dec.{leb};
 ghost use lib.ListN.{length};
-ghost use Rattle.joins.specs.Join.{setRefusal, joining, joinAfter};
+ghost use Rattle.joins_sets.specs.Join.{setRefusal, joining, joinAfter};
 ghost use Rattle.joins.specs.Merge.{joinedOf, testedOf};
 use merging::count_words;
 use merging::write_pairs;

@@ -2,7 +2,7 @@
 ghost use mathlib.Core.Path.{_≡_};
 ghost use lib.ListN.{length};
 ghost use lib.Seq.{sets};
-ghost use Rattle.joins.specs.Join.{join};
+ghost use Rattle.joins_sets.specs.Join.{join};
 ghost use Rattle.joins.specs.Merge.{firstPair, PairOfEach, HasPair, Joinable, RoomForJoin};
 
 // A pair of the join, and how many words of each set it takes.

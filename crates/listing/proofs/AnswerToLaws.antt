@@ -12,22 +12,22 @@ use Rattle.reads.specs.ReadSet.{pairsOf}
 use Rattle.reads.specs.Search.{longest}
 use Rattle.reads.specs.Asked.{readSetOf}
 use Rattle.words.specs.Answer.{Answer, good, refused}
-use Rattle.reads.specs.SetAnswer.{Packed, readSet, setFitted, setAnswer, resultAfter}
+use Rattle.reads.specs.SetAnswer.{Packed, readSet, setFitted, resultAfter}
 use Rattle.reads_asked.proofs.AskedFormLaws.{set-length-le}
 use Rattle.reads_asked.proofs.FrontStoreLaws.{take-front}
 use Rattle.rounds.specs.Rounds.{roundsOf}
 use Rattle.rounds.specs.declared.Rounds.the-variants.{Placed, Refused as Denied}
-use Rattle.listing.specs.Records.{Parsed}
-use Rattle.listing.specs.RecordsRead.{setOf, setAfter}
+use Rattle.listing_records.specs.Records.{Parsed}
+use Rattle.listing_records.specs.RecordsRead.{setOf, setAfter}
 use Rattle.listing.specs.ListingAnswer.{answered, answerTo, sectionAfter}
-use Rattle.listing.specs.declared.records.Read.the-variants.{Asked}
+use Rattle.listing_records.specs.declared.Read.the-variants.{Asked}
 use Rattle.listing.specs.declared.answer.Said.{Said}
 use Rattle.listing.specs.declared.answer.Said.the-variants.{Rounds, Refused, Bad}
-use Rattle.listing.proofs.RecordBitLaws.{read-asked}
+use Rattle.listing_records.proofs.RecordBitLaws.{read-asked}
 
-pub to-bad : (p : Parsed) (b : ℕ) (section : List ℕ) → p .fault ≡ some b → (Bad b ≡ answerTo p) × (section ≡ sectionAfter p section)
+pub to-bad : (lanes : ℕ) (p : Parsed) (b : ℕ) (section : List ℕ) → p .fault ≡ some b → (Bad b ≡ answerTo lanes p) × (section ≡ sectionAfter lanes p section)
 unfolding answerTo sectionAfter
-to-bad p b section t = (rw (t, answerTo), rw (t, sectionAfter))
+to-bad lanes p b section t = (rw (t, answerTo), rw (t, sectionAfter))
 
 as-rounds : (o : Answer Packed) (n k : ℕ) → Placed n k ≡ roundsOf o → Rounds n ≡ answered o
 unfolding answered
@@ -40,18 +40,17 @@ as-refused (good x) f e = let z : _≡_ {A = ℕ} 0 1 = cc in absurd (omega arit
 as-refused (refused q) f e = let s : f ≡ q = cc in ap (λ (g : Refusal). Refused (g .number)) s
 
 -- `rounds_of`: the answer to a read set, in a section of 16384 words
-module _ (ws : List ℕ) (o : ℕ) (size : o ≡ 16384) where
-  fitted-is : setFitted 256 o (readSet 256 (pairsOf ws)) ≡ setAnswer 256 ws 16384 16384
-  unfolding setAnswer
+module _ (lanes : ℕ) (ws : List ℕ) (o : ℕ) (size : o ≡ 16384) where
+  fitted-is : setFitted lanes o (readSet lanes (pairsOf ws)) ≡ setFitted lanes 16384 (readSet lanes (pairsOf ws))
   fitted-is = rw size
 
-  pub of-rounds : (k won : ℕ) → Placed k won ≡ roundsOf (setFitted 256 o (readSet 256 (pairsOf ws))) → Rounds k ≡ answered (setAnswer 256 ws 16384 16384)
-  of-rounds k won e = as-rounds (setAnswer 256 ws 16384 16384) k won (e ∙ ap roundsOf fitted-is)
+  pub of-rounds : (k won : ℕ) → Placed k won ≡ roundsOf (setFitted lanes o (readSet lanes (pairsOf ws))) → Rounds k ≡ answered (setFitted lanes 16384 (readSet lanes (pairsOf ws)))
+  of-rounds k won e = as-rounds (setFitted lanes 16384 (readSet lanes (pairsOf ws))) k won (e ∙ ap roundsOf fitted-is)
 
-  pub of-refused : (f : Refusal) → Denied f ≡ roundsOf (setFitted 256 o (readSet 256 (pairsOf ws))) → Refused (f .number) ≡ answered (setAnswer 256 ws 16384 16384)
-  of-refused f e = as-refused (setAnswer 256 ws 16384 16384) f (e ∙ ap roundsOf fitted-is)
+  pub of-refused : (f : Refusal) → Denied f ≡ roundsOf (setFitted lanes o (readSet lanes (pairsOf ws))) → Refused (f .number) ≡ answered (setFitted lanes 16384 (readSet lanes (pairsOf ws)))
+  of-refused f e = as-refused (setFitted lanes 16384 (readSet lanes (pairsOf ws))) f (e ∙ ap roundsOf fitted-is)
 
-  pub of-section : (s new : List ℕ) → new ≡ resultAfter (setFitted 256 o (readSet 256 (pairsOf ws))) s → new ≡ resultAfter (setAnswer 256 ws 16384 16384) s
+  pub of-section : (s new : List ℕ) → new ≡ resultAfter (setFitted lanes o (readSet lanes (pairsOf ws))) s → new ≡ resultAfter (setFitted lanes 16384 (readSet lanes (pairsOf ws))) s
   of-section s new e = e ∙ ap (λ (x : Answer Packed). resultAfter x s) fitted-is
 
 pub room-size : (room set : List ℕ) → 16384 ≤ length room → length set ≡ length (take 16384 room) → length (set ++ drop 16384 room) ≡ length room
@@ -88,10 +87,10 @@ module _ (p : Parsed) (small : length (p .keys) ≤ 8192) (room : List ℕ) (wid
       ∙ (ap (λ (m : ℕ). take m set) (told .1)
       ∙ (ap (take (length (readSetOf (p .keys)))) is ∙ take-front (take 16384 room) (readSetOf (p .keys)) (omega (arith, lent, set-length-le (p .keys)))))
 
-  pub to-said : (a : Said) → a ≡ answered (setAnswer 256 (take n (set ++ drop 16384 room)) 16384 16384) → a ≡ answerTo p
+  pub to-said : (lanes : ℕ) (a : Said) → a ≡ answered (setFitted lanes 16384 (readSet lanes (pairsOf (take n (set ++ drop 16384 room))))) → a ≡ answerTo lanes p
   unfolding answerTo
-  to-said a e = e ∙ (rw (to-set, told .0, answerTo))
+  to-said lanes a e = e ∙ (rw (to-set, told .0, answerTo))
 
-  pub to-section : (s new : List ℕ) → new ≡ resultAfter (setAnswer 256 (take n (set ++ drop 16384 room)) 16384 16384) s → new ≡ sectionAfter p s
+  pub to-section : (lanes : ℕ) (s new : List ℕ) → new ≡ resultAfter (setFitted lanes 16384 (readSet lanes (pairsOf (take n (set ++ drop 16384 room))))) s → new ≡ sectionAfter lanes p s
   unfolding sectionAfter
-  to-section s new e = e ∙ (rw (to-set, told .0, sectionAfter))
+  to-section lanes s new e = e ∙ (rw (to-set, told .0, sectionAfter))

@@ -8,10 +8,10 @@ use Rattle.reads.specs.ReadSet.{total, pairsFrom, pairForm, brokenFrom}
 use Rattle.reads.specs.Asked.{ask, readSetOf}
 use Rattle.reads.specs.Search.{piecesIn, insertPiece, ordered, joined, firstRoom, tryFrom, firstWin, longest}
 use Rattle.reads.specs.Packing.{weigh, wideMask}
-use Rattle.reads.specs.SetAnswer.{searched, packed, readSet, setFitted, setAnswer}
-use Rattle.listing.specs.Records.{numberAt, positionAt, endRecordAt, kindAt, recordAt, recordsFrom}
+use Rattle.reads.specs.SetAnswer.{searched, packed, readSet, setFitted}
+use Rattle.listing_records.specs.Records.{numberAt, positionAt, endRecordAt, kindAt, recordAt, recordsFrom}
 use Rattle.text.specs.Text.{decimalIn}
-use Rattle.listing.specs.Line.{hexDigit, hexIn, kindLetter, line}
+use Rattle.listing_line.specs.Line.{hexDigit, hexIn, kindLetter, line}
 use Rattle.listing.specs.Listing.{laneLines, lines, printed, printedAt, said, listing}
 
 pub example : List ℕ
@@ -25,7 +25,7 @@ exactly =
     ++ (49 ∷ 32 ∷ 48 ∷ 32 ∷ 110 ∷ 32 ∷ 49 ∷ 32 ∷ 48 ∷ 48 ∷ 48 ∷ 48 ∷ 48 ∷ 48 ∷ 50 ∷ 48 ∷ 10 ∷ [])
     ++ (50 ∷ 32 ∷ 48 ∷ 32 ∷ 115 ∷ 32 ∷ 48 ∷ 32 ∷ 48 ∷ 48 ∷ 48 ∷ 48 ∷ 48 ∷ 48 ∷ 48 ∷ 49 ∷ 10 ∷ [])
 
-pub example-right : listing example ≡ exactly
+pub example-right : listing 256 example ≡ exactly
 unfolding example exactly popIn withBit total pairsFrom pairForm brokenFrom ask readSetOf piecesIn insertPiece ordered joined firstRoom tryFrom firstWin longest weigh wideMask searched packed
-    readSet setFitted setAnswer numberAt positionAt endRecordAt kindAt recordAt recordsFrom decimalIn hexDigit hexIn kindLetter line laneLines lines printed printedAt said listing
+    readSet setFitted numberAt positionAt endRecordAt kindAt recordAt recordsFrom decimalIn hexDigit hexIn kindLetter line laneLines lines printed printedAt said listing
 example-right = refl

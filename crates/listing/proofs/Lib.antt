@@ -1,12 +1,7 @@
-pub mod LineLaws
-pub mod ListingRecordLaws
 pub mod SectionLineLaws
 pub mod AnswerTextLaws
 pub mod LaneLaws
-pub mod PrefixLaws
 pub mod ExampleLaws
-pub mod RecordBitLaws
 pub mod ListedTextLaws
 pub mod AnswerToLaws
 pub mod TextLengthLaws
-pub mod RefusalLaws

@@ -2,12 +2,17 @@
 -- Assumes nothing.
 use mathlib.Core.Path.{_≡_, _∙_}
 use mathlib.Core.List.{List, [], _++_}
-use Prim.Native.Nat.{ℕ, suc, _+_, _-_, _≤_, _<_}
+use Prim.Native.Nat.{ℕ, suc, _+_, _-_, _^_, _≤_, _<_}
+use native.Mathlib.Nat.{mul-le-mul-left}
 use native.Mathlib.Omega.{arith}
 use borrow.Author.Tests.{eq-eqb, ne-eqb}
 use lib.ListN.{getD}
-use Rattle.listing.specs.Line.{line}
+use Rattle.listing_line.specs.Line.{line}
 use Rattle.listing.specs.SectionLines.{pairStart, pairLine, laneRoundLines, sectionLines}
+
+-- a place in a section is a number
+pub place-small : (n i r : ℕ) → n ≤ 256 → i < 2 ^ 32 → r < 2 ^ 32 → pairStart n i r + 1 < 2 ^ 42
+place-small n i r h k l = omega (arith, mul-le-mul-left {m = n} {n = 256} r h)
 
 module _ (n : ℕ) (s : List ℕ) where
   pub no-line : (i r : ℕ) → getD s (pairStart n i r + 1) 0 ≡ 0 → [] ≡ pairLine n s i r

@@ -1,7 +1,8 @@
--- No text is longer than 237578 bytes: a line has at most 29, there are at most 32 in each of the 256 lanes, and the first line has at most 10.
+-- No text of the full edition is longer than 237578 bytes: a line has at most 29, there are at most 32 in each of the 256 lanes, and the first line has at most 10.
 -- Assumes nothing.
 use mathlib.Core.Path.{_≡_, refl, sym, ap, _∙_}
 use mathlib.Core.Bool.{Bool, true, false}
+use mathlib.Core.Logic.{inl}
 use mathlib.Core.Option.{Option, none, some}
 use mathlib.Core.List.{List, [], _∷_, _++_}
 use Prim.Native.Nat.{ℕ, zero, suc, _+_, _*_, _/_, _%_, _^_, _≤_, _<_}
@@ -12,21 +13,22 @@ use lib.Dec.{ltb}
 use lib.ListN.{length, getD, take, length-append}
 use lib.Seq.{sets, length-sets, length-take-le}
 use Rattle.words.specs.declared.refusals.Refusal.{Refusal}
+use Rattle.words.proofs.EditionLaws.{known-passes}
 use Rattle.reads.specs.ReadSet.{pairsOf}
 use Rattle.reads.specs.Search.{Lane, longest}
 use Rattle.reads.specs.Asked.{readSetOf}
 use Rattle.reads.specs.Packing.{Packing}
 use Rattle.words.specs.Answer.{Answer, good, refused}
-use Rattle.reads.specs.SetAnswer.{Packed, readSet, setAnswer}
+use Rattle.reads.specs.SetAnswer.{Packed, readSet, setFitted}
 use Rattle.reads.proofs.RoundCountLaws.{longest-ge}
 use Rattle.reads.proofs.SetAnswerLaws.{placed-packing, placed-passed, fitted-placed}
-use Rattle.listing.specs.Records.{records}
+use Rattle.listing_records.specs.Records.{records}
 use Rattle.text.specs.Text.{decimalIn, decimal, field}
-use Rattle.listing.specs.Line.{hex, kindLetter, line}
-use Rattle.listing.specs.Listing.{laneLines, lines, refusedWord, printed, printedAt, said, listing, listed, listedOf, textAfter}
+use Rattle.listing_line.specs.Line.{hex, kindLetter, line}
+use Rattle.listing.specs.Listing.{laneLines, lines, refusedWord, recordsAnswer, printed, printedAt, said, listing, listed, listedOf, textAfter}
 use Rattle.listing.specs.declared.Listed.the-variants.{Text, Refused}
 use Rattle.text.proofs.TextLaws.{decimal-one, decimal-more, decimal-short}
-use Rattle.listing.proofs.LineLaws.{hex-length}
+use Rattle.listing_line.proofs.LineLaws.{hex-length}
 use Rattle.listing.proofs.ListedTextLaws.{is-text}
 
 -- a number below 10^(k+1) has at most k+1 digits
@@ -81,8 +83,8 @@ lines-length i (l ∷ ls) a b =
       lines-length (i + 1) ls (omega arith) (λ j. b (suc j)),
     )
 
-printed-length : (ws : List ℕ) (o : Answer Packed) → setAnswer 256 ws 16384 16384 ≡ o → length (printed o) ≤ 237578
-unfolding printed setAnswer
+printed-length : (ws : List ℕ) (o : Answer Packed) → setFitted 256 16384 (readSet 256 (pairsOf ws)) ≡ o → length (printed o) ≤ 237578
+unfolding printed
 printed-length ws (refused q) e =
     let n = q .number in
     omega (arith, length-append refusedWord (decimal n ++ (10 ∷ [])), length-append (decimal n) (10 ∷ []), decimal-short 20 n)
@@ -103,33 +105,33 @@ bad-length : (b : ℕ) → length (printedAt b) ≤ 237578
 unfolding printedAt
 bad-length b = omega (arith, length-append (decimal b) (10 ∷ []), decimal-short 20 b)
 
-pub listing-length : (bs : List ℕ) → length (listing bs) ≤ 237578
+pub listing-length : (bs : List ℕ) → length (listing 256 bs) ≤ 237578
 unfolding listing said
 listing-length bs = go (records bs .fault) refl
   where
-    go : (f : Option ℕ) → records bs .fault ≡ f → length (said (records bs)) ≤ 237578
-    go none t = rw (t, said) (printed-length (readSetOf (records bs .keys)) (setAnswer 256 (readSetOf (records bs .keys)) 16384 16384) refl)
+    go : (f : Option ℕ) → records bs .fault ≡ f → length (said 256 (records bs)) ≤ 237578
+    go none t = rw (t, said) (printed-length (readSetOf (records bs .keys)) (recordsAnswer 256 (records bs)) refl)
     go (some b) t = rw (t, said) (bad-length b)
 
 -- so with such bytes and enough working room `list` gives the text
 module _ (bs out : List ℕ) (r : ℕ) (h : 237578 ≤ length out) (k : 16384 ≤ r) where
-  text-listed : listed bs (length out) r ≡ good (listing bs)
-  text-listed = is-text bs out r k (omega (arith, listing-length bs))
+  text-listed : listed 256 bs (length out) r ≡ good (listing 256 bs)
+  text-listed = is-text 256 bs out r k (known-passes 256 (inl refl)) (omega (arith, listing-length bs))
 
-  pub text-never : (f : Refusal) → Refused f ≡ listedOf (listed bs (length out) r) → ⊥
+  pub text-never : (f : Refusal) → Refused f ≡ listedOf (listed 256 bs (length out) r) → ⊥
   text-never f e =
-      let q : Refused f ≡ Text (length (listing bs)) = e ∙ ap listedOf text-listed in
+      let q : Refused f ≡ Text (length (listing 256 bs)) = e ∙ ap listedOf text-listed in
       let z : _≡_ {A = ℕ} 0 1 = cc in
       omega arith
 
   -- what a caller then holds: n bytes of text at the front
-  pub text-given : (n : ℕ) (new : List ℕ) → Text n ≡ listedOf (listed bs (length out) r) → new ≡ textAfter (listed bs (length out) r) out
-      → ((n ≤ length new) × (n ≡ length (take n new))) × ((n ≡ length (listing bs)) × (new ≡ sets out 0 (listing bs)))
+  pub text-given : (n : ℕ) (new : List ℕ) → Text n ≡ listedOf (listed 256 bs (length out) r) → new ≡ textAfter (listed 256 bs (length out) r) out
+      → ((n ≤ length new) × (n ≡ length (take n new))) × ((n ≡ length (listing 256 bs)) × (new ≡ sets out 0 (listing 256 bs)))
   unfolding textAfter
   text-given n new e g =
-      let q : Text n ≡ Text (length (listing bs)) = e ∙ ap listedOf text-listed in
-      let s : n ≡ length (listing bs) = cc in
-      let w : new ≡ sets out 0 (listing bs) = g ∙ (rw text-listed) in
-      let l : length new ≡ length out = ap length w ∙ length-sets out 0 (listing bs) in
+      let q : Text n ≡ Text (length (listing 256 bs)) = e ∙ ap listedOf text-listed in
+      let s : n ≡ length (listing 256 bs) = cc in
+      let w : new ≡ sets out 0 (listing 256 bs) = g ∙ (rw text-listed) in
+      let l : length new ≡ length out = ap length w ∙ length-sets out 0 (listing 256 bs) in
       let m : n ≤ length new = omega (arith, listing-length bs) in
       ((m, sym (length-take-le n new m)), (s, w))

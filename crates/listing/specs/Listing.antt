@@ -1,4 +1,5 @@
--- What the listing program prints for any standard input: document 01, "Listing program".
+-- What the listing program prints for any standard input: document 01, "Listing program". n is the number of lanes: 256 of the program, and that of
+-- the edition that `list` is given (10/13 of document 02).
 -- Assumes nothing.
 use mathlib.Core.Bool.{true, false}
 use mathlib.Core.Option.{none, some}
@@ -10,10 +11,12 @@ use lib.Seq.{sets}
 use Rattle.reads.specs.Search.{Lane, longest}
 use Rattle.reads.specs.Asked.{readSetOf}
 use Rattle.words.specs.Answer.{Answer, good, refused, nowhere}
-use Rattle.reads.specs.SetAnswer.{Packed, setAnswer}
-use Rattle.listing.specs.Records.{Parsed, records}
+use Rattle.words.specs.Edition.{known}
+use Rattle.reads.specs.ReadSet.{pairsOf}
+use Rattle.reads.specs.SetAnswer.{Packed, readSet, setFitted}
+use Rattle.listing_records.specs.Records.{Parsed, records}
 use Rattle.text.specs.Text.{decimal}
-use Rattle.listing.specs.Line.{line}
+use Rattle.listing_line.specs.Line.{line}
 use Rattle.listing.specs.declared.Listed.{Listed}
 use Rattle.listing.specs.declared.Listed.the-variants.{Text, Refused}
 
@@ -46,19 +49,26 @@ printed (good x) = roundsWord ++ (decimal (longest (x .lanes)) ++ ((10 ∷ []) +
 unfoldable pub printedAt : ℕ → List ℕ
 printedAt b = refusedWord ++ (atWord ++ (decimal b ++ (10 ∷ [])))
 
--- The text that records give. Rounds are at most 32, so 16384 result words and the working room that a read set asks for are enough.
-unfoldable pub said : Parsed → List ℕ
-said p = elim (p .fault) [ some b ↦ printedAt b | none ↦ printed (setAnswer 256 (readSetOf (p .keys)) 16384 16384) ]
+-- what the read set of records gets. Rounds are at most 32, so 16384 result words are enough.
+abbrev pub recordsAnswer : ℕ → Parsed → Answer Packed
+recordsAnswer n p = setFitted n 16384 (readSet n (pairsOf (readSetOf (p .keys))))
 
-unfoldable pub listing : List ℕ → List ℕ
-listing bs = said (records bs)
+-- The text that records give.
+unfoldable pub said : ℕ → Parsed → List ℕ
+said n p = elim (p .fault) [ some b ↦ printedAt b | none ↦ printed (recordsAnswer n p) ]
 
--- What `list` answers where it is lent o bytes for the text and r words of working room: 32, then 14, else the text.
-unfoldable pub listed : List ℕ → ℕ → ℕ → Answer (List ℕ)
-listed bs o r =
+unfoldable pub listing : ℕ → List ℕ → List ℕ
+listing n bs = said n (records bs)
+
+-- What `list` answers where it is lent o bytes for the text and r words of working room: 32, then 29, then 14, else the text.
+unfoldable pub listed : ℕ → List ℕ → ℕ → ℕ → Answer (List ℕ)
+listed n bs o r =
     elim (leb 16384 r) [
       | false ↦ refused (nowhere 32)
-      | true ↦ elim (leb (length (listing bs)) o) [ false ↦ refused (nowhere 14) | true ↦ good (listing bs) ]
+      | true ↦ elim (known n) [
+        | false ↦ refused (nowhere 29)
+        | true ↦ elim (leb (length (listing n bs)) o) [ false ↦ refused (nowhere 14) | true ↦ good (listing n bs) ]
+      ]
     ]
 
 -- the code tells the text's length

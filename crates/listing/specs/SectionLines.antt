@@ -6,7 +6,7 @@ use mathlib.Core.List.{List, [], _++_}
 use Prim.Native.Nat.{ℕ, zero, suc, _+_, _*_}
 use lib.Dec.{eqb}
 use lib.ListN.{getD}
-use Rattle.listing.specs.Line.{line}
+use Rattle.listing_line.specs.Line.{line}
 
 abbrev pub pairStart : ℕ → ℕ → ℕ → ℕ
 pairStart n i r = 2 * n * r + 2 * i

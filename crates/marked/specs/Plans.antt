@@ -26,7 +26,7 @@ stagesIn (suc (suc i)) = 1
 
 -- two blocks, one major stage, an input layout of 40, four parts: the head of such a record, which is what the first state word and the blocks are taken from
 unfoldable pub fourParts : List ℕ
-fourParts = bytesOf (2 ∷ 1 ∷ 0 ∷ 40 ∷ 0 ∷ 4 ∷ [])
+fourParts = bytesOf (2 ∷ 1 ∷ 0 ∷ 40 ∷ 0 ∷ 256 ∷ 0 ∷ 0 ∷ 0 ∷ 4 ∷ [])
 
 unfoldable pub blocksOfParts : List ℕ
 blocksOfParts = listOf (blockIn (blocksOf fourParts) stagesIn) (countAt fourParts 0)

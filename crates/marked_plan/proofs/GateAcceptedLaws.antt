@@ -9,15 +9,16 @@ use mathlib.Core.List.{List, [], _∷_, _++_, append-nil}
 use Prim.Native.Nat.{ℕ, zero, suc, _+_, _*_, _/_, _%_, _≤_, _<_}
 use native.Mathlib.Omega.{arith}
 use borrow.Author.Tests.{lt-ltb, ne-eqb}
-use lib.Dec.{leb, ltb, eqb}
+use lib.Dec.{ltb, eqb}
 use lib.ListN.{replicate}
 use Rattle.words.proofs.BitLaws.{lt-or-ge}
+use Rattle.words.specs.Edition.{known}
 use Rattle.words.specs.Pins.{empty}
 use Rattle.words.specs.Sum.{sumTo}
 use Rattle.words.specs.Tests.{allBelow, firstFrom, firstNot, lowestFrom, lowest}
 use Rattle.words.proofs.TestLaws.{none-not, not-is, some-false}
 use Rattle.plan_record.specs.Record.{wordAt, partsBefore, gateBase, layoutBase, positionBase, headBase, bodyAt, partsOf, planLanes, slotsOf, slotAt, levelAt, tableAt, gatePin, gateFirst, gateSecond, locationsOf, locationAt, layoutPin}
-use Rattle.plan_record.specs.Form.{headForm, countsForm, partHeadForm, lengthForm, gateForm, layoutForm, listsForm, planForm}
+use Rattle.plan_record.specs.Form.{restForm, headForm, countsForm, partHeadForm, lengthForm, gateForm, layoutForm, listsForm, planForm}
 use Rattle.gatelist.specs.GateList.{beforeOver, rightOver, badOver, gateOver}
 use Rattle.reads.specs.ReadSet.{pairsOf, pairsFrom, total}
 use Rattle.reads.specs.Search.{Lane, piecesIn, insertPiece, ordered, joined, firstRoom, tryFrom, firstWin}
@@ -40,8 +41,8 @@ use Rattle.plan_reads.specs.PartReads.{askedBy, askedTo, readWords, partReads, 
 use Rattle.plan_refusals.specs.Refusals.{planRefusal}
 use Rattle.promise.specs.Promise.{Accepted}
 use Rattle.marked_plan.specs.GatePlan.{bytesOf, slotPin, tableWord, gateRecord, noParts}
-use Rattle.marked_plan.proofs.GateRecordLaws.{gate-lanes, record-length, blocks-one, majors-one, gates-one, layout-two, positions-none, parts-one, none-earlier, one-earlier, one-part, gate-base, gate-pin}
-use Rattle.marked_plan.proofs.GateRecordLaws.{gate-first, gate-second, layout-base, layout-first, layout-second, stages-one, endpoints-none, locations-one, body-end, slot-is, location-is, table-is}
+use Rattle.marked_plan.proofs.GateRecordLaws.{edition-full, gate-lanes, second-gates, second-layout, check-none, record-length, blocks-one, majors-one, gates-one, layout-two, positions-none, parts-one, none-earlier, one-earlier, one-part, gate-base, gate-pin}
+use Rattle.marked_plan.proofs.GateRecordLaws.{gate-first, gate-second, layout-base, layout-first, layout-second, stages-one, endpoints-none, design-first, handed-none, locations-one, body-end, slot-is, location-is, table-is}
 
 abbrev d : List ℕ
 d = gateRecord
@@ -49,8 +50,8 @@ d = gateRecord
 -- ---- 5
 
 head-right : headForm d ≡ true
-unfolding headForm
-head-right = rw (blocks-one, majors-one, layout-two, positions-none)
+unfolding headForm restForm
+head-right = rw (blocks-one, majors-one, layout-two, positions-none, second-gates, second-layout, check-none)
 
 counts-right : countsForm d ≡ true
 unfolding countsForm allBelow
@@ -58,7 +59,7 @@ counts-right = rw (majors-one, parts-one)
 
 part-head-right : allBelow (partHeadForm d) (partsOf d) ≡ true
 unfolding allBelow partHeadForm
-part-head-right = rw (one-part, stages-one, endpoints-none)
+part-head-right = rw (one-part, stages-one, endpoints-none, design-first, handed-none)
 
 length-right : lengthForm d ≡ true
 unfolding lengthForm
@@ -103,8 +104,9 @@ one-of bad e = ap (lowest bad) one-part ∙ lowest-one bad e
 counts-fine : badCounts d 0 ≡ none
 unfolding badCounts
 counts-fine =
-    let located : firstNot (λ l. leb (locationAt d 0 l) 255) (locationsOf d 0) ≡ none = rw locations-one (one-test (λ l. leb (locationAt d 0 l) 255) (rw location-is)) in
-    rw (located, write-outs-one, badCounts)
+    let located : firstNot (λ l. ltb (locationAt d 0 l) (planLanes d)) (locationsOf d 0) ≡ none =
+    rw locations-one (one-test (λ l. ltb (locationAt d 0 l) (planLanes d)) (rw (location-is, gate-lanes))) in
+    rw (located, write-outs-one, gate-lanes, badCounts)
 
 seven : refusal7 d ≡ none
 unfolding refusal7
@@ -274,8 +276,8 @@ twelve-other x l a b = rw (below-empty x l a b)
 twelve : refusal12 d ≡ none
 unfolding refusal12
 twelve =
-    one-of (λ p. firstNot (twelveRight d p) 8192)
-    (none-not (twelveRight d 0) 8192 (each (λ x. twelveRight d 0 x ≡ true) twelve-first twelve-second twelve-other))
+    one-of (λ p. firstNot (twelveRight d p) (slotsOf d))
+    (none-not (twelveRight d 0) (slotsOf d) (λ x l. each (λ x. twelveRight d 0 x ≡ true) twelve-first twelve-second twelve-other x (omega (arith, gate-lanes))))
 
 pub table-zero : (i : ℕ) → i < 16896 → tableAt d 0 i ≡ 0
 unfolding tableWord
@@ -336,7 +338,7 @@ packing = refl
 
 pub reads-are : partReads 256 d 0 ≡ good gatePacked
 unfolding partReads readWords
-reads-are = rw (asked-all, packing)
+reads-are = rw (gate-lanes, asked-all, packing)
 
 reads-fine : (k : ℕ) → refusedReads 256 k d ≡ none
 unfolding refusedReads badReads
@@ -344,11 +346,11 @@ reads-fine k = one-of (λ p. badReads k (partReads 256 d p)) (rw reads-are)
 
 -- M10'S PLAN IS ACCEPTED
 pub gate-accepted : Accepted gateRecord
-unfolding planRefusal
-gate-accepted = rw (form-right, gates-right, seven, eight, nine, ten, eleven, twelve, thirteen, reads-fine 3, reads-fine 21, reads-fine 22, reads-fine 4)
+unfolding planRefusal known
+gate-accepted = rw (edition-full, gate-lanes, form-right, gates-right, seven, eight, nine, ten, eleven, twelve, thirteen, reads-fine 3, reads-fine 21, reads-fine 22, reads-fine 4)
 
 -- THE PLAN OF NO PARTS IS ACCEPTED
 pub none-accepted : Accepted noParts
-unfolding noParts bytesOf planRefusal planForm headForm countsForm lengthForm listsForm allBelow wordAt partsBefore sumTo gateBase layoutBase positionBase headBase bodyAt badGate
+unfolding noParts bytesOf known planLanes planRefusal planForm restForm headForm countsForm lengthForm listsForm allBelow wordAt partsBefore sumTo gateBase layoutBase positionBase headBase bodyAt badGate
     badOver firstFrom refusal7 lowestFrom stateOf sramOf totalsFit refusal9 refusal10 refusal11 refusal12 refusal13 refusedReads
 none-accepted = refl

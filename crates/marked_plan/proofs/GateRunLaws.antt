@@ -10,6 +10,7 @@ use lib.Dec.{eqb}
 use lib.ListN.{length, getD, replicate}
 use Rattle.words.specs.Bit.{bit, bitAt, wordOf}
 use Rattle.words.specs.Count.{same, count}
+use Rattle.words.specs.Edition.{levelsFor}
 use Rattle.words.specs.Sum.{sumTo}
 use Rattle.words.specs.Section.{wordOfEntry, halfOf, listOf}
 use Rattle.words.proofs.ListLaws.{zeros-at}
@@ -22,13 +23,13 @@ use Rattle.script_assembly.specs.WrittenSoFar.{partsIn}
 use Rattle.script_assembly.proofs.BlockRankLaws.{early-block}
 use Rattle.run_machine.specs.Part.{normalAt, endAt, locationIn, readWordAt, readMaskAt, sectionAt, entryAt, laneWordAt}
 use Rattle.run_machine.specs.Turn.{stateWord, readRow, gate, gateAt, levelBit, positionBit, stageRow, captured, begins, ended, afterRead, afterStage, afterStore, chosenBits, storedWord, stored, turned, written}
-use Rattle.run_machine.specs.Run.{blocksFrom, step, runFrom, runTurns, ran}
+use Rattle.run_machine.specs.Run.{blocksFrom, step, runFrom, runTurns, ran, runAnswer}
 use Rattle.promise.specs.Promise.{assembled, startsOf, stageRun, turnsOf, Kept}
 use Rattle.promise.proofs.FinishLaws.{finished}
 use Rattle.marked_plan.specs.GatePlan.{gateRecord}
-use Rattle.marked_plan.specs.GateScript.{headWords, placeWords, oneRound, gateSection, alwaysOn, gateThree}
+use Rattle.marked_plan.specs.GateScript.{gateNumbers, placeWords, oneRound, gateSection, alwaysOn, gateThree}
 use Rattle.marked_plan.specs.GateRun.{threeTurns, gateAnswer}
-use Rattle.marked_plan.proofs.GateRecordLaws.{blocks-one, majors-one, parts-one, none-earlier, stages-one}
+use Rattle.marked_plan.proofs.GateRecordLaws.{gate-lanes, blocks-one, majors-one, parts-one, none-earlier, stages-one}
 use Rattle.marked_plan.proofs.GateAcceptedLaws.{state-first, state-two, gate-accepted}
 use Rattle.marked_plan.proofs.GateScriptLaws.{gate-script}
 
@@ -76,10 +77,10 @@ majors-are = rw (blocks-one, stage-is)
 
 words-are : assembled d ≡ gateThree ++ replicate 2048 0
 unfolding scriptWords
-words-are = rw (majors-one, majors-are)
+words-are = rw (gate-lanes, majors-one, majors-are)
 
 gate-length : length gateThree ≡ 16128
-unfolding gateThree headWords placeWords oneRound gateSection alwaysOn
+unfolding gateThree gateNumbers placeWords oneRound gateSection alwaysOn
 gate-length = refl
 
 start-zero : blockStart 256 d 0 0 ≡ 0
@@ -88,7 +89,7 @@ start-zero = refl
 
 starts-are : startsOf d 0 ≡ 0 ∷ 16128 ∷ []
 unfolding scriptStarts majorStarts stageStarts
-starts-are = rw (majors-one, blocks-one, majors-are, gate-length, start-zero)
+starts-are = rw (gate-lanes, majors-one, blocks-one, majors-are, gate-length, start-zero)
 
 -- ---- the run
 
@@ -112,23 +113,27 @@ named i l = omega (arith, blocks-one, zeros-at 3 i)
 pub not-refused : (old : ℕ)
     → (gateAnswer old ≡ ran 0 (stageRun d 0 threeTurns (old ∷ 0 ∷ []) (0 ∷ 0 ∷ []) .new))
     × Kept d 0 (old ∷ 0 ∷ []) (0 ∷ 0 ∷ []) (stageRun d 0 threeTurns (old ∷ 0 ∷ []) (0 ∷ 0 ∷ []) .new)
-unfolding gateAnswer
+unfolding gateAnswer levelsFor
 not-refused old =
-    finished d 0 threeTurns (old ∷ 0 ∷ []) (0 ∷ 0 ∷ []) 1024 gate-accepted (omega (arith, majors-one)) (sym state-two) (sym state-two) (omega (arith, blocks-one)) named enough
+    let edition = ap (λ (n : ℕ). runAnswer n (levelsFor n) (assembled d) (startsOf d 0) threeTurns (old ∷ 0 ∷ []) (0 ∷ 0 ∷ []) 1024) (sym gate-lanes) in
+    let (answer, kept) =
+    finished d 0 threeTurns (old ∷ 0 ∷ []) (0 ∷ 0 ∷ []) 1024 gate-accepted (omega (arith, majors-one)) (sym state-two) (sym state-two) (omega (arith, blocks-one)) named enough in
+    (edition ∙ answer, kept)
 
 stage-run : (old : ℕ) → stageRun d 0 threeTurns (old ∷ 0 ∷ []) (0 ∷ 0 ∷ []) .new
     ≡ runTurns 256 13 (gateThree ++ replicate 2048 0) (0 ∷ 16128 ∷ []) threeTurns (old ∷ 0 ∷ []) (0 ∷ 0 ∷ []) .new
-stage-run old = rw (words-are, starts-are)
+unfolding levelsFor
+stage-run old = rw (words-are, starts-are, gate-lanes)
 
 run-one : runTurns 256 13 (gateThree ++ replicate 2048 0) (0 ∷ 16128 ∷ []) threeTurns (1 ∷ 0 ∷ []) (0 ∷ 0 ∷ []) .new ≡ 0 ∷ 1 ∷ []
 unfolding bit bitAt wordOf wordOfEntry halfOf listOf sumTo appended laneWord normalAt endAt locationIn readWordAt readMaskAt sectionAt entryAt laneWordAt stateWord readRow gate gateAt
-    levelBit positionBit stageRow captured begins ended afterRead afterStage afterStore chosenBits storedWord stored turned written blocksFrom step runFrom gateThree headWords placeWords
+    levelBit positionBit stageRow captured begins ended afterRead afterStage afterStore chosenBits storedWord stored turned written blocksFrom step runFrom gateThree gateNumbers placeWords
     oneRound gateSection alwaysOn
 run-one = refl
 
 run-three : runTurns 256 13 (gateThree ++ replicate 2048 0) (0 ∷ 16128 ∷ []) threeTurns (3 ∷ 0 ∷ []) (0 ∷ 0 ∷ []) .new ≡ 0 ∷ 0xFFFFFFFE ∷ []
 unfolding bit bitAt wordOf wordOfEntry halfOf listOf sumTo appended laneWord normalAt endAt locationIn readWordAt readMaskAt sectionAt entryAt laneWordAt stateWord readRow gate gateAt
-    levelBit positionBit stageRow captured begins ended afterRead afterStage afterStore chosenBits storedWord stored turned written blocksFrom step runFrom gateThree headWords placeWords
+    levelBit positionBit stageRow captured begins ended afterRead afterStage afterStore chosenBits storedWord stored turned written blocksFrom step runFrom gateThree gateNumbers placeWords
     oneRound gateSection alwaysOn
 run-three = refl
 

@@ -33,7 +33,7 @@ use Rattle.words.specs.Answer.{Answer}
 use Rattle.script.specs.Script.{numbers, halfIn, locationStage, locationHalf, locationWords, pinEntry, stageEntry, firstInversion, secondInversion, orbBit, xoraBit, xorbBit, maskWord, laneList, stageSection, stageSections, sramSection, enableSection, partScript}
 use Rattle.script.proofs.SectionsLaws.{lanes-ext}
 use Rattle.marked_plan.specs.GatePlan.{tableWord, gateRecord}
-use Rattle.marked_plan.specs.GateScript.{alwaysOn, headWords, placeWords, oneRound, gateSection, gateThree}
+use Rattle.marked_plan.specs.GateScript.{alwaysOn, gateNumbers, placeWords, oneRound, gateSection, gateThree}
 use Rattle.marked_plan.proofs.GateRecordLaws.{gate-base, gate-first, gate-second, stages-one, endpoints-none, stage-location, locations-one, location-is, table-is}
 use Rattle.marked_plan.proofs.GateAcceptedLaws.{level-one, level-two, no-duplicates, write-outs-one, gate-three, planned-one, planned-two, pin-one, pin-three, each, below-empty, above-empty, table-zero, gateLanes, reads-are}
 
@@ -79,8 +79,8 @@ no-entries = sym (listOf-is (λ w. 0 * 2 ^ 16 + 0) 4096 (replicate 4096 0) (leng
 lanes-are : partLanes 256 d 0 ≡ gateLanes
 lanes-are = ap (λ (o : Answer Packed). packedIn o .lanes) reads-are
 
-numbers-are : numbers 256 d 0 1 1 0 ≡ headWords
-unfolding numbers headWords sumTo longest
+numbers-are : numbers 256 d 0 1 1 0 ≡ gateNumbers
+unfolding numbers gateNumbers sumTo longest
 numbers-are = rw (stages-one, write-outs-one, endpoints-none, lanes-are, no-duplicates)
 
 location-first : (l : ℕ) → locationHalf d 0 l ≡ elim (ltb l 1) [ true ↦ 128 | false ↦ 65535 ]

@@ -12,10 +12,10 @@ unfoldable pub bytesOf : List ℕ → List ℕ
 bytesOf [] = []
 bytesOf (w ∷ ws) = (w % 256) ∷ (w / 256 % 256) ∷ (w / 65536 % 256) ∷ (w / 16777216) ∷ bytesOf ws
 
--- one block, one major stage, one gate, an input layout of two, no positions; one part; gate 3 = 1 and not 2; pins 1, 2 at state 0, 1; the part has one
--- stage and no endpoints; its stage has one location
+-- one block, one major stage, one gate, an input layout of two, no positions, the full edition; one part; gate 3 = 1 and not 2; pins 1, 2 at state 0, 1;
+-- the part has one stage and no endpoints; its stage has one location
 unfoldable pub recordHead : List ℕ
-recordHead = 1 ∷ 1 ∷ 1 ∷ 2 ∷ 0 ∷ 1 ∷ 3 ∷ 2 ∷ 5 ∷ 1 ∷ 2 ∷ 1 ∷ 0 ∷ 1 ∷ []
+recordHead = 1 ∷ 1 ∷ 1 ∷ 2 ∷ 0 ∷ 256 ∷ 0 ∷ 0 ∷ 0 ∷ 1 ∷ 3 ∷ 2 ∷ 5 ∷ 1 ∷ 2 ∷ 1 ∷ 0 ∷ 0 ∷ 0 ∷ 1 ∷ []
 
 -- the pin at index q: pin 3 at position 4096, which is level 1 slot 0; below it pins 1 and 2, in slots 0 and 4096 of level 0
 unfoldable pub slotPin : ℕ → ℕ
@@ -32,6 +32,6 @@ recordWords = recordHead ++ (listOf (λ i. slotPin (i + 1)) 16383 ++ (128 ∷ li
 unfoldable pub gateRecord : List ℕ
 gateRecord = bytesOf recordWords
 
--- a plan of one block, one major stage and no parts: the six words of its head
+-- a plan of one block, one major stage and no parts, of the full edition: the nine words of its head, and its count of parts
 unfoldable pub noParts : List ℕ
-noParts = bytesOf (1 ∷ 1 ∷ 0 ∷ 0 ∷ 0 ∷ 0 ∷ [])
+noParts = bytesOf (1 ∷ 1 ∷ 0 ∷ 0 ∷ 0 ∷ 256 ∷ 0 ∷ 0 ∷ 0 ∷ 0 ∷ [])

@@ -5,8 +5,8 @@ use Prim.Native.Nat.{ℕ, zero, suc}
 use lib.ListN.{replicate}
 
 -- one stage, the last part of its block, one word at state start 1, no SRAM, one round, no duplicate words
-unfoldable pub headWords : List ℕ
-headWords = 1 ∷ 1 ∷ 1 ∷ 1 ∷ 0 ∷ 0 ∷ 1 ∷ 0 ∷ replicate 120 0
+unfoldable pub gateNumbers : List ℕ
+gateNumbers = 1 ∷ 1 ∷ 1 ∷ 1 ∷ 0 ∷ 0 ∷ 1 ∷ 0 ∷ replicate 120 0
 
 -- location 128 of stage 0, a last odd one
 unfoldable pub placeWords : List ℕ
@@ -27,4 +27,4 @@ alwaysOn (suc m) = 0xFFFFFFFF ∷ 0xFFFFFFFF ∷ 0 ∷ 0 ∷ alwaysOn m
 
 unfoldable pub gateThree : List ℕ
 gateThree =
-    headWords ++ (placeWords ++ (oneRound ++ (gateSection ++ ((replicate 4096 0 ++ replicate 1024 0) ++ (replicate 4096 0 ++ alwaysOn 256)))))
+    gateNumbers ++ (placeWords ++ (oneRound ++ (gateSection ++ ((replicate 4096 0 ++ replicate 1024 0) ++ (replicate 4096 0 ++ alwaysOn 256)))))

@@ -10,11 +10,13 @@ use Prim.Native.Nat.{ℕ, zero, suc, _+_, _*_, _-_, _/_, _%_, _^_, _≤_, _<_}
 use native.Mathlib.Nat.{mod-eq-of-lt, add-mod-left, add-mod-right}
 use native.Mathlib.Omega.{arith}
 use borrow.Author.Tests.{le-leb, lt-leb, eq-eqb, ne-eqb}
+use lib.Arith.{digits-div, digits-mod}
 use lib.Dec.{eqb}
 use lib.Pow.{pow-lt}
 use lib.ListN.{length, getD}
 use Rattle.words.proofs.BitLaws.{lt-or-ge}
-use Rattle.words.proofs.EditionLaws.{levels-most}
+use Rattle.words.specs.Edition.{Known}
+use Rattle.words.proofs.EditionLaws.{known-number, levels-most, runs-in}
 use Rattle.words.specs.Round.{next}
 use Rattle.words.specs.Section.{entryOf}
 use Rattle.words.proofs.RoundLaws.{next-wrap, next-step, next-lt}
@@ -23,8 +25,8 @@ use Rattle.reads.specs.ReadSet.{Pair, total}
 use Rattle.words.proofs.TestLaws.{some-not-none}
 use Rattle.reads.specs.Search.{Lane, insertPiece, ordered, firstRoom}
 use Rattle.reads.proofs.SearchLaws.{room-found}
-use Rattle.plan_record.specs.Record.{planLanes, countAt, partsBefore, slotAt}
-use Rattle.plan_record.proofs.RecordLaws.{lanes-known}
+use Rattle.plan_record.specs.Record.{editionOf, planLanes, countAt, partsBefore, slotAt}
+use Rattle.plan_record.proofs.RecordLaws.{lanes-known, lanes-small, lanes-other}
 use Rattle.plan_counts.specs.Counts.{srams}
 use Rattle.plan_blocks.specs.Blocks.{blockOf, sramStart}
 use Rattle.plan_blocks.proofs.BlockOrderLaws.{taken-apart}
@@ -32,7 +34,16 @@ use Rattle.plan_blocks.proofs.StateStartLaws.{sram-mono, sram-in}
 use Rattle.plan_blocks.proofs.TotalLaws.{same-or, three-ways}
 use Rattle.plan_slots.specs.Slots.{top}
 use Rattle.plan_slots.proofs.TopLaws.{top-is, top-at}
-use Rattle.plain.specs.Plain.{planLevels, SlotsBelow, OneLevel, MostFirst, ofTotal, EqualKept, FirstWithRoom, AllLackRoom, EntriesInWords, SramApart}
+use Rattle.plain.specs.Plain.{NamedLanes, planLevels, SlotsBelow, OneLevel, MostFirst, ofTotal, EqualKept, FirstWithRoom, AllLackRoom, EntriesInWords, SramApart}
+
+-- ---- lanes
+
+pub named-lanes : NamedLanes
+named-lanes d h = by (known-number (editionOf d) h)
+  where
+    by : Known (editionOf d) → planLanes d ≡ editionOf d
+    by (inl e) = sym (lanes-other d (editionOf d) refl (λ s. omega arith)) ∙ sym e
+    by (inr e) = sym (lanes-small d (editionOf d) refl e) ∙ sym e
 
 -- ---- levels
 
@@ -266,27 +277,30 @@ all-lack-room n lanes b j l e i u = let (m, below, is) = met n j i l u in rw (�
 
 pub entries-in-words : EntriesInWords
 unfolding entryOf
-entries-in-words f small t k h a b c =
-    let w : ℕ = 1024 * k + 4 * t + h in
-    let in-lane = lane-digits t k h a c in
-    let quarter = quarter-digit t k h a c in
-    let low : entryOf 256 w 0 ≡ 32 * t + 8 * k + 2 * h + 0 = rw (in-lane, quarter, lane-of t h c, place-of t h c) (omega arith) in
-    let high : entryOf 256 w 1 ≡ 32 * t + 8 * k + 2 * h + 1 = rw (in-lane, quarter, lane-of t h c, place-of t h c) (omega arith) in
-    let word = section-word 256 f w (word-lt t k h a b c) in
-    let fits = small (32 * t + 8 * k + 2 * h + 0) (entry-lt t k h a b c) in
+entries-in-words n f small t k h a b c =
+    let w : ℕ = 4 * n * k + 4 * t + h in
+    let in-lane = lane-digits n t k h a c in
+    let quarter = quarter-digit n t k h a c in
+    let low : entryOf n w 0 ≡ 32 * t + 8 * k + 2 * h + 0 = rw (in-lane, quarter, lane-of t h c, place-of t h c) (omega arith) in
+    let high : entryOf n w 1 ≡ 32 * t + 8 * k + 2 * h + 1 = rw (in-lane, quarter, lane-of t h c, place-of t h c) (omega arith) in
+    let word = section-word n f w (word-lt n t k h a b c) in
+    let fits = small (32 * t + 8 * k + 2 * h + 0) (entry-lt n t k h a b c) in
     rw (word, low, high) (low-half _ _ fits, high-half _ _ fits)
   where
-    lane-digits : (t k h : ℕ) → t < 256 → h < 4 → (1024 * k + 4 * t + h) % 1024 ≡ 4 * t + h
-    lane-digits t k h a c = omega arith
+    digits : (n t k h : ℕ) → 4 * n * k + 4 * t + h ≡ k * (4 * n) + (4 * t + h)
+    digits n t k h = omega arith
 
-    quarter-digit : (t k h : ℕ) → t < 256 → h < 4 → (1024 * k + 4 * t + h) / 1024 ≡ k
-    quarter-digit t k h a c = omega arith
+    lane-digits : (n t k h : ℕ) → t < n → h < 4 → (4 * n * k + 4 * t + h) % (4 * n) ≡ 4 * t + h
+    lane-digits n t k h a c = ap (λ (x : ℕ). x % (4 * n)) (digits n t k h) ∙ digits-mod k (omega arith)
 
-    word-lt : (t k h : ℕ) → t < 256 → k < 4 → h < 4 → 1024 * k + 4 * t + h < 4096
-    word-lt t k h a b c = omega arith
+    quarter-digit : (n t k h : ℕ) → t < n → h < 4 → (4 * n * k + 4 * t + h) / (4 * n) ≡ k
+    quarter-digit n t k h a c = ap (λ (x : ℕ). x / (4 * n)) (digits n t k h) ∙ digits-div k {r = 4 * t + h} (omega arith)
 
-    entry-lt : (t k h : ℕ) → t < 256 → k < 4 → h < 4 → 32 * t + 8 * k + 2 * h + 0 < 8192
-    entry-lt t k h a b c = omega arith
+    word-lt : (n t k h : ℕ) → t < n → k < 4 → h < 4 → 4 * n * k + 4 * t + h < 16 * n
+    word-lt n t k h a b c = omega (arith, runs-in (4 * n) k 4 b)
+
+    entry-lt : (n t k h : ℕ) → t < n → k < 4 → h < 4 → 32 * t + 8 * k + 2 * h + 0 < 32 * n
+    entry-lt n t k h a b c = omega arith
 
     lane-of : (t h : ℕ) → h < 4 → (4 * t + h) / 4 ≡ t
     lane-of t h l = omega arith

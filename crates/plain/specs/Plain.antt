@@ -9,14 +9,19 @@ use mathlib.Core.Logic.{_⊎_}
 use Prim.Native.Nat.{ℕ, _+_, _*_, _-_, _/_, _%_, _^_, _≤_, _<_}
 use lib.Dec.{eqb}
 use lib.ListN.{length, getD}
-use Rattle.words.specs.Edition.{levelsFor}
+use Rattle.words.specs.Edition.{known, levelsFor}
 use Rattle.words.specs.Section.{sectionOf}
 use Rattle.reads.specs.ReadSet.{Pair, total}
 use Rattle.reads.specs.Search.{Lane, ordered, firstRoom}
-use Rattle.plan_record.specs.Record.{planLanes, countAt, partsBefore, slotAt}
+use Rattle.plan_record.specs.Record.{editionOf, planLanes, countAt, partsBefore, slotAt}
 use Rattle.plan_counts.specs.Counts.{srams}
 use Rattle.plan_blocks.specs.Blocks.{sramStart}
 use Rattle.plan_slots.specs.Slots.{slotA, slotB}
+
+-- ---- a plan that 29 lets pass has as many lanes as its edition's number says
+
+abbrev pub NamedLanes : Type 0
+NamedLanes = (d : List ℕ) → known (editionOf d) ≡ true → planLanes d ≡ editionOf d
 
 -- ---- "Level h has 2^(13−h) slots; slot j of level h≥1 stands at position 2^(13−h)+j": 13 is the levels of the full edition. The record has slot j of
 -- level 0 at index 2^13 + j
@@ -75,13 +80,14 @@ FirstWithRoom = (n : ℕ) (lanes : List Lane) (b j i : ℕ) → j < n → firstR
 abbrev pub AllLackRoom : Type 0
 AllLackRoom = (n : ℕ) (lanes : List Lane) (b j : ℕ) → j < n → firstRoom n n lanes b j ≡ none → (i : ℕ) → i < n → 32 < total (getD lanes i []) + b
 
--- ---- "a permutation of 8192 halves (entry 32t+8k+2h+e in word 1024k+4t+h, low half for e=0)"
+-- ---- "a permutation of 8192 halves (entry 32t+8k+2h+e in word 1024k+4t+h, low half for e=0)"; with n lanes 32n halves, and 4n·k for 1024k, which
+-- "reads 512k" in the small edition
 
 abbrev pub EntriesInWords : Type 0
 EntriesInWords =
-    (f : ℕ → ℕ) → ((i : ℕ) → i < 8192 → f i < 2 ^ 16) → (t k h : ℕ) → t < 256 → k < 4 → h < 4
-    → (getD (sectionOf 256 f) (1024 * k + 4 * t + h) 0 % 2 ^ 16 ≡ f (32 * t + 8 * k + 2 * h + 0))
-    × (getD (sectionOf 256 f) (1024 * k + 4 * t + h) 0 / 2 ^ 16 ≡ f (32 * t + 8 * k + 2 * h + 1))
+    (n : ℕ) (f : ℕ → ℕ) → ((i : ℕ) → i < 32 * n → f i < 2 ^ 16) → (t k h : ℕ) → t < n → k < 4 → h < 4
+    → (getD (sectionOf n f) (4 * n * k + 4 * t + h) 0 % 2 ^ 16 ≡ f (32 * t + 8 * k + 2 * h + 0))
+    × (getD (sectionOf n f) (4 * n * k + 4 * t + h) 0 / 2 ^ 16 ≡ f (32 * t + 8 * k + 2 * h + 1))
 
 -- ---- "SRAM start by 8192 per SRAM": the ranges of two parts lie apart
 

@@ -9,7 +9,7 @@ use native.Mathlib.Omega.{arith}
 use borrow.Author.Tests.{le-leb, lt-leb}
 use lib.ListN.{length, getD, take, drop, replicate, length-replicate, getD-replicate, take-append-drop}
 use lib.Seq.{length-take-le, getD-take, ext-getD}
-use Rattle.plan_record.specs.Record.{partsOf}
+use Rattle.plan_record.specs.Record.{planLanes, partsOf}
 use Rattle.plan_record.specs.Form.{planRoomWords}
 use Rattle.plan_blocks.specs.Blocks.{totalsFit}
 use Rattle.plan_rows.specs.Columns as col
@@ -103,10 +103,10 @@ module _ (d room₀ : List ℕ) (c : Cleared d room₀) (lists : listRefusal d �
     pub may-search : placeRefusal d ≡ none → ReadsSearchable d room
     may-search places = record { form = lists-passed d lists .0; planned = places-passed d places .0; cleared = stays-clear }
 
-    pub room-ready : (last : List ℕ) → last ≡ searchedRoom d room → planRefusal 256 d ≡ none → last ≡ readyRoom d (length room₀)
+    pub room-ready : (last : List ℕ) → last ≡ searchedRoom d room → planRefusal d ≡ none → last ≡ readyRoom d (length room₀)
     unfolding searchedRoom readyRoom
     room-ready last e h =
-        e ∙ (ap (λ (o : Option Place). readRows d room (partsUpTo o (partsOf d))) (passed 256 d h .nothing) ∙ ap (λ (l : List ℕ). readRows d l (partsOf d)) table-is)
+        e ∙ (ap (λ (o : Option Place). readRows d room (partsUpTo o (partsOf d))) (passed d h .nothing) ∙ ap (λ (l : List ℕ). readRows d l (partsOf d)) table-is)
 
 -- ---- what the room of an accepted plan holds
 
@@ -161,7 +161,7 @@ module _ (d : List ℕ) (n : ℕ) (h : rowBase (partsOf d) ≤ n) where
   unfolding readyRoom
   ready-rounds p l = read-rounds d table (partsOf d) p l (omega (arith, table-length d n some-room))
 
-  ready-sizes : (p : ℕ) → p < partsOf d → cellAt (readyRoom d n) p col.pieceSize ≡ partSize 256 d p
+  ready-sizes : (p : ℕ) → p < partsOf d → cellAt (readyRoom d n) p col.pieceSize ≡ partSize (planLanes d) d p
   unfolding readyRoom
   ready-sizes p l = read-size d table (partsOf d) p l (omega (arith, table-length d n some-room))
 
@@ -180,28 +180,28 @@ module _ (d room : List ℕ) where
   short-room h = rw (roomLeft, lt-leb _ _ h)
 
   module _ (enough : planRoomWords d ≤ length room) where
-    left : roomLeft d room ≡ elim (planRefusal 256 d) [ some x ↦ replicate (length room) 0 | none ↦ readyRoom d (length room) ]
+    left : roomLeft d room ≡ elim (planRefusal d) [ some x ↦ replicate (length room) 0 | none ↦ readyRoom d (length room) ]
     unfolding roomLeft
     left = rw (roomLeft, le-leb _ _ enough)
 
-    pub refused-room : (planRefusal 256 d ≡ none → ⊥) → replicate (length room) 0 ≡ roomLeft d room
-    refused-room h = go (planRefusal 256 d) refl
+    pub refused-room : (planRefusal d ≡ none → ⊥) → replicate (length room) 0 ≡ roomLeft d room
+    refused-room h = go (planRefusal d) refl
       where
-        go : (o : Option Refusal) → planRefusal 256 d ≡ o → replicate (length room) 0 ≡ roomLeft d room
+        go : (o : Option Refusal) → planRefusal d ≡ o → replicate (length room) 0 ≡ roomLeft d room
         go none e = absurd (h e)
         go (some x) e = sym (rw e at left)
 
-    pub ready-room : planRefusal 256 d ≡ none → readyRoom d (length room) ≡ roomLeft d room
+    pub ready-room : planRefusal d ≡ none → readyRoom d (length room) ≡ roomLeft d room
     ready-room e = sym (rw e at left)
 
     -- the room is cleared once more, or has what an accepted plan leaves
-    pub again-room : (z a b : List ℕ) → z ≡ replicate (length room) 0 → length a ≡ length z → b ≡ replicate (length a) 0 → (planRefusal 256 d ≡ none → ⊥)
+    pub again-room : (z a b : List ℕ) → z ≡ replicate (length room) 0 → length a ≡ length z → b ≡ replicate (length a) 0 → (planRefusal d ≡ none → ⊥)
         → b ≡ roomLeft d room
     again-room z a b e n f h =
         let m : length a ≡ length room = n ∙ (ap length e ∙ length-replicate (length room) 0) in
         f ∙ (ap (λ (k : ℕ). replicate k 0) m ∙ refused-room h)
 
-    module _ (z last : List ℕ) (e : z ≡ replicate (length room) 0) (h : planRefusal 256 d ≡ none) (is : last ≡ readyRoom d (length z)) where
+    module _ (z last : List ℕ) (e : z ≡ replicate (length room) 0) (h : planRefusal d ≡ none) (is : last ≡ readyRoom d (length z)) where
       last-is : last ≡ readyRoom d (length room)
       last-is = is ∙ ap (readyRoom d) (ap length e ∙ length-replicate (length room) 0)
 
@@ -210,5 +210,5 @@ module _ (d room : List ℕ) where
 
       pub last-ready : PlanReady d last
       last-ready =
-          let s = passed 256 d h in
+          let s = passed d h in
           rw last-is (ready d (length room) (fillable d room (s .form) (s .counts) enough .ready .inside))

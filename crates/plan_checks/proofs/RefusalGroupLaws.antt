@@ -5,6 +5,8 @@ use mathlib.Core.Bool.{Bool, true}
 use mathlib.Core.Option.{Option, none}
 use mathlib.Core.List.{List}
 use Prim.Native.Nat.{ℕ}
+use Rattle.words.specs.Edition.{known}
+use Rattle.plan_record.specs.Record.{editionOf}
 use Rattle.plan_record.specs.Form.{planForm}
 use Rattle.plan_gates.specs.Gates.{badGate}
 use Rattle.plan_counts.specs.Counts.{refusal7}
@@ -22,17 +24,22 @@ use Rattle.plan_checks.proofs.VerdictLaws.{stopped, stopped-at, stopped
 -- ---- a later step of a group, those before it being passed
 
 module _ (d : List ℕ) (v : Verdict) where
-  pub list-five : (t : Bool) → v ≡ verdictOf (unless 5 (planForm d) none) → t ≡ isRefused v → t ≡ true → v ≡ verdictOf (listRefusal d)
+  pub list-edition : (t : Bool) → v ≡ verdictOf (unless 29 (known (editionOf d)) none) → t ≡ isRefused v → t ≡ true → v ≡ verdictOf (listRefusal d)
   unfolding listRefusal
-  list-five t is told h = stopped-by 5 (planForm d) v is t told h _
+  list-edition t is told h = stopped-by 29 (known (editionOf d)) v is t told h _
 
-  pub list-six : planForm d ≡ true → (t : Bool) → v ≡ verdictOf (orElse 6 (gatePlace (badGate d)) none) → t ≡ isRefused v → t ≡ true → v ≡ verdictOf (listRefusal d)
-  unfolding listRefusal
-  list-six form t is told h = rw (listRefusal, form) (stopped-at 6 (gatePlace (badGate d)) v is t told h _)
+  module _ (edition : known (editionOf d) ≡ true) where
+    pub list-five : (t : Bool) → v ≡ verdictOf (unless 5 (planForm d) none) → t ≡ isRefused v → t ≡ true → v ≡ verdictOf (listRefusal d)
+    unfolding listRefusal
+    list-five t is told h = rw (listRefusal, edition) (stopped-by 5 (planForm d) v is t told h _)
 
-  pub list-seven : planForm d ≡ true → gatePlace (badGate d) ≡ none → v ≡ verdictOf (orElse 7 (refusal7 d) none) → v ≡ verdictOf (listRefusal d)
-  unfolding listRefusal
-  list-seven form gates is = rw (listRefusal, form, gates) is
+    pub list-six : planForm d ≡ true → (t : Bool) → v ≡ verdictOf (orElse 6 (gatePlace (badGate d)) none) → t ≡ isRefused v → t ≡ true → v ≡ verdictOf (listRefusal d)
+    unfolding listRefusal
+    list-six form t is told h = rw (listRefusal, edition, form) (stopped-at 6 (gatePlace (badGate d)) v is t told h _)
+
+    pub list-seven : planForm d ≡ true → gatePlace (badGate d) ≡ none → v ≡ verdictOf (orElse 7 (refusal7 d) none) → v ≡ verdictOf (listRefusal d)
+    unfolding listRefusal
+    list-seven form gates is = rw (listRefusal, edition, form, gates) is
 
   pub pin-nine : (t : Bool) → v ≡ verdictOf (orElse 9 (refusal9 d) none) → t ≡ isRefused v → t ≡ true → v ≡ verdictOf (pinRefusal d)
   unfolding pinRefusal
@@ -57,29 +64,29 @@ module _ (d : List ℕ) (v : Verdict) where
 -- ---- a group that ends the checks
 
 module _ (d : List ℕ) (v : Verdict) where
-  pub plan-lists : (t : Bool) → v ≡ verdictOf (listRefusal d) → t ≡ isRefused v → t ≡ true → v ≡ verdictOf (planRefusal 256 d)
-  plan-lists t is told h = stopped (listRefusal d) v is t told h (fromTotals 256 d) ∙ ap verdictOf (sym (plan-first 256 d))
+  pub plan-lists : (t : Bool) → v ≡ verdictOf (listRefusal d) → t ≡ isRefused v → t ≡ true → v ≡ verdictOf (planRefusal d)
+  plan-lists t is told h = stopped (listRefusal d) v is t told h (fromTotals d) ∙ ap verdictOf (sym (plan-first d))
 
   module _ (lists : listRefusal d ≡ none) where
-    past-lists : v ≡ verdictOf (fromTotals 256 d) → v ≡ verdictOf (planRefusal 256 d)
-    past-lists is = is ∙ ap verdictOf (ap (λ (o : Option Refusal). first o (fromTotals 256 d)) (sym lists) ∙ sym (plan-first 256 d))
+    past-lists : v ≡ verdictOf (fromTotals d) → v ≡ verdictOf (planRefusal d)
+    past-lists is = is ∙ ap verdictOf (ap (λ (o : Option Refusal). first o (fromTotals d)) (sym lists) ∙ sym (plan-first d))
 
-    pub plan-totals : (t : Bool) → v ≡ verdictOf (totalRefusal d) → t ≡ isRefused v → t ≡ true → v ≡ verdictOf (planRefusal 256 d)
-    plan-totals t is told h = past-lists (stopped (totalRefusal d) v is t told h (fromPins 256 d))
+    pub plan-totals : (t : Bool) → v ≡ verdictOf (totalRefusal d) → t ≡ isRefused v → t ≡ true → v ≡ verdictOf (planRefusal d)
+    plan-totals t is told h = past-lists (stopped (totalRefusal d) v is t told h (fromPins d))
 
     module _ (totals : totalRefusal d ≡ none) where
-      past-totals : v ≡ verdictOf (fromPins 256 d) → v ≡ verdictOf (planRefusal 256 d)
-      past-totals is = past-lists (is ∙ ap verdictOf (ap (λ (o : Option Refusal). first o (fromPins 256 d)) (sym totals)))
+      past-totals : v ≡ verdictOf (fromPins d) → v ≡ verdictOf (planRefusal d)
+      past-totals is = past-lists (is ∙ ap verdictOf (ap (λ (o : Option Refusal). first o (fromPins d)) (sym totals)))
 
-      pub plan-pins : (t : Bool) → v ≡ verdictOf (pinRefusal d) → t ≡ isRefused v → t ≡ true → v ≡ verdictOf (planRefusal 256 d)
-      plan-pins t is told h = past-totals (stopped (pinRefusal d) v is t told h (fromPlaces 256 d))
+      pub plan-pins : (t : Bool) → v ≡ verdictOf (pinRefusal d) → t ≡ isRefused v → t ≡ true → v ≡ verdictOf (planRefusal d)
+      plan-pins t is told h = past-totals (stopped (pinRefusal d) v is t told h (fromPlaces d))
 
       module _ (pins : pinRefusal d ≡ none) where
-        past-pins : v ≡ verdictOf (fromPlaces 256 d) → v ≡ verdictOf (planRefusal 256 d)
-        past-pins is = past-totals (is ∙ ap verdictOf (ap (λ (o : Option Refusal). first o (fromPlaces 256 d)) (sym pins)))
+        past-pins : v ≡ verdictOf (fromPlaces d) → v ≡ verdictOf (planRefusal d)
+        past-pins is = past-totals (is ∙ ap verdictOf (ap (λ (o : Option Refusal). first o (fromPlaces d)) (sym pins)))
 
-        pub plan-places : (t : Bool) → v ≡ verdictOf (placeRefusal d) → t ≡ isRefused v → t ≡ true → v ≡ verdictOf (planRefusal 256 d)
-        plan-places t is told h = past-pins (stopped (placeRefusal d) v is t told h (readRefusal 256 d))
+        pub plan-places : (t : Bool) → v ≡ verdictOf (placeRefusal d) → t ≡ isRefused v → t ≡ true → v ≡ verdictOf (planRefusal d)
+        plan-places t is told h = past-pins (stopped (placeRefusal d) v is t told h (readRefusal d))
 
-        pub plan-reads : placeRefusal d ≡ none → v ≡ verdictOf (readRefusal 256 d) → v ≡ verdictOf (planRefusal 256 d)
-        plan-reads places is = past-pins (is ∙ ap verdictOf (ap (λ (o : Option Refusal). first o (readRefusal 256 d)) (sym places)))
+        pub plan-reads : placeRefusal d ≡ none → v ≡ verdictOf (readRefusal d) → v ≡ verdictOf (planRefusal d)
+        plan-reads places is = past-pins (is ∙ ap verdictOf (ap (λ (o : Option Refusal). first o (readRefusal d)) (sym places)))

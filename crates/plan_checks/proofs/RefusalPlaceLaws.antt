@@ -6,7 +6,7 @@ use mathlib.Core.Option.{Option, none, some}
 use mathlib.Core.List.{List}
 use Prim.Native.Nat.{ℕ}
 use native.Mathlib.Omega.{arith}
-use Rattle.plan_record.specs.Record.{partsOf}
+use Rattle.plan_record.specs.Record.{planLanes, partsOf}
 use Rattle.words.specs.Tests.{Place, lowest}
 use Rattle.plan_record.specs.Form.{planForm}
 use Rattle.words.proofs.TestLaws.{lowest-at}
@@ -57,7 +57,7 @@ module _ (d : List ℕ) (form : planForm d ≡ true) where
   unfolding refusal13
   few13 = lowest-few _
 
-  pub few-reads : (k : ℕ) → Few (refusedReads 256 k d)
+  pub few-reads : (k : ℕ) → Few (refusedReads (planLanes d) k d)
   unfolding refusedReads
   few-reads k = lowest-few _
 
@@ -76,7 +76,7 @@ few-same o p e h x f = h x (sym e ∙ f)
 
 -- ---- 3, 21 and 22 are told at item 0, 4 at its word
 
-reads-item : (k : ℕ) → (4 ≡ k → ⊥) → (d : List ℕ) (x : Place) → refusedReads 256 k d ≡ some x → x .item ≡ 0
+reads-item : (k : ℕ) → (4 ≡ k → ⊥) → (d : List ℕ) (x : Place) → refusedReads (planLanes d) k d ≡ some x → x .item ≡ 0
 unfolding refusedReads
 reads-item k other d x e = zero-item k other d (x .part) (x .item) (lowest-at _ (partsOf d) 0 x e .refused)
 
@@ -90,15 +90,15 @@ checked-told none none none none h g l = refl
 
 -- what the pass over the parts answers for plan d
 abbrev pub checkedReads : List ℕ → Checked
-checkedReads d = checkedOf (refusedReads 256 3 d) (refusedReads 256 21 d) (refusedReads 256 22 d) (refusedReads 256 4 d)
+checkedReads d = checkedOf (refusedReads (planLanes d) 3 d) (refusedReads (planLanes d) 21 d) (refusedReads (planLanes d) 22 d) (refusedReads (planLanes d) 4 d)
 
-pub reads-told : (d : List ℕ) (r : Checked) → r ≡ checkedReads d → checkedRefusal r ≡ readRefusal 256 d
+pub reads-told : (d : List ℕ) (r : Checked) → r ≡ checkedReads d → checkedRefusal r ≡ readRefusal d
 unfolding readRefusal
 reads-told d r e =
     let three = reads-item 3 (λ f. omega arith) d in
     let bits = reads-item 21 (λ f. omega arith) d in
     let wide = reads-item 22 (λ f. omega arith) d in
-    ap checkedRefusal e ∙ checked-told (refusedReads 256 3 d) (refusedReads 256 21 d) (refusedReads 256 22 d) (refusedReads 256 4 d) three bits wide
+    ap checkedRefusal e ∙ checked-told (refusedReads (planLanes d) 3 d) (refusedReads (planLanes d) 21 d) (refusedReads (planLanes d) 22 d) (refusedReads (planLanes d) 4 d) three bits wide
 
 -- the part of a place that stands for another
 same-part : (x y : Place) (i : ℕ) → some (record { part = x .part; item = i }) ≡ some y → x .part ≡ y .part

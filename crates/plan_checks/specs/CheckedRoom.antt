@@ -8,7 +8,7 @@ use Prim.Native.Nat.{ℕ, _≤_, _<_}
 use lib.Dec.{leb}
 use lib.ListN.{length, take, replicate}
 use Rattle.reads.specs.Search.{longest}
-use Rattle.plan_record.specs.Record.{partsOf}
+use Rattle.plan_record.specs.Record.{planLanes, partsOf}
 use Rattle.plan_record.specs.Form.{planRoomWords}
 use Rattle.plan_rows.specs.Columns as col
 use Rattle.plan_rows.specs.Rows.{rowBase, cellAt}
@@ -22,8 +22,8 @@ use Rattle.plan_refusals.specs.Refusals.{planRefusal}
 pub record PlanReady (d room : List ℕ) : Type 0 where
   pub wide : rowBase (partsOf d) ≤ length room
   pub tabled : Tabled d room
-  pub rounds : (p : ℕ) → p < partsOf d → cellAt room p col.rounds ≡ longest (partLanes 256 d p)
-  pub sizes : (p : ℕ) → p < partsOf d → cellAt room p col.pieceSize ≡ partSize 256 d p
+  pub rounds : (p : ℕ) → p < partsOf d → cellAt room p col.rounds ≡ longest (partLanes (planLanes d) d p)
+  pub sizes : (p : ℕ) → p < partsOf d → cellAt room p col.pieceSize ≡ partSize (planLanes d) d p
   pub front : take 65536 room ≡ replicate 65536 0
 
 -- which words these are, of a room of n words: the part table with the rounds and the piece sizes, and zeros
@@ -35,7 +35,7 @@ unfoldable pub roomLeft : List ℕ → List ℕ → List ℕ
 roomLeft d room =
     elim (leb (planRoomWords d) (length room)) [
       | false ↦ room
-      | true ↦ elim (planRefusal 256 d) [ some x ↦ replicate (length room) 0 | none ↦ readyRoom d (length room) ]
+      | true ↦ elim (planRefusal d) [ some x ↦ replicate (length room) 0 | none ↦ readyRoom d (length room) ]
     ]
 
 -- a room that is wide enough for the plan, and clear

@@ -38,8 +38,8 @@ fn check_all(
     set: &mut [u32],
 ) -> Verdict
     requires { ⌜ Cleared (now plan) (now room) × SetRoom (length (now keys)) (length (now scratch)) (length (now set)) ⌝ }
-    ensures { λ r. ⌜ r ≡ verdictOf (planRefusal 256 (now (plan .entry))) ⌝ }
-    ensures { λ _. ⌜ (planRefusal 256 (now (plan .entry)) ≡ none → now (room .exit) ≡ readyRoom (now (plan .entry)) (length (now (room .entry)))) ⌝ }
+    ensures { λ r. ⌜ r ≡ verdictOf (planRefusal (now (plan .entry))) ⌝ }
+    ensures { λ _. ⌜ (planRefusal (now (plan .entry)) ≡ none → now (room .exit) ≡ readyRoom (now (plan .entry)) (length (now (room .entry)))) ⌝ }
 {
     let lists = check_lists(plan, keys, scratch);
     if is_refused(lists) {
@@ -69,9 +69,9 @@ pub fn check_plan(
     set: &mut [u32],
 ) -> Verdict
     requires { ⌜ SetRoom (length (now keys)) (length (now scratch)) (length (now set)) ⌝ }
-    ensures { λ r. ⌜ r ≡ verdictOf (planVerdict 256 (now (plan .entry)) (length (now (room .entry)))) ⌝ }
+    ensures { λ r. ⌜ r ≡ verdictOf (planVerdict (now (plan .entry)) (length (now (room .entry)))) ⌝ }
     ensures { λ _. ⌜ now (room .exit) ≡ roomLeft (now (plan .entry)) (now (room .entry)) ⌝ }
-    ensures { λ _. ⌜ (planVerdict 256 (now (plan .entry)) (length (now (room .entry))) ≡ none → PlanReady (now (plan .entry)) (now (room .exit))) ⌝ }
+    ensures { λ _. ⌜ (planVerdict (now (plan .entry)) (length (now (room .entry))) ≡ none → PlanReady (now (plan .entry)) (now (room .exit))) ⌝ }
 {
     if room.len() < room_words(plan) {
         return Verdict::Refused(Refusal {

@@ -18,7 +18,7 @@ pub fn check_reading(
     set: &mut [u32],
 ) -> Verdict
     requires { ⌜ ReadsSearchable (now plan) (now room) × SetRoom (length (now keys)) (length (now scratch)) (length (now set)) ⌝ }
-    ensures { λ r. ⌜ r ≡ verdictOf (readRefusal 256 (now (plan .entry))) ⌝ }
+    ensures { λ r. ⌜ r ≡ verdictOf (readRefusal (now (plan .entry))) ⌝ }
     ensures { λ _. ⌜ now (room .exit) ≡ searchedRoom (now (plan .entry)) (now (room .entry)) ⌝ }
 {
     of_reads(check_reads(plan, room, keys, scratch, set))

@@ -7,10 +7,10 @@ use mathlib.Core.List.{List}
 use Prim.Native.Nat.{ℕ, _+_, _≤_, _<_}
 use native.Mathlib.Omega.{arith}
 use lib.Dec.{leb}
-use borrow.Author.Tests.{leb-true, le-leb, lt-leb}
+use borrow.Author.Tests.{leb-true, ltb-true, le-leb, lt-leb}
 use Rattle.words.specs.Sum.{sumTo}
 use Rattle.words.proofs.SumLaws.{sum-more}
-use Rattle.plan_record.specs.Record.{partsOf, endpointsOf, locationsOf, locationAt}
+use Rattle.plan_record.specs.Record.{planLanes, partsOf, endpointsOf, locationsOf, locationAt}
 use Rattle.plan_record.specs.Endpoint.{endpointAt}
 use Rattle.plan_record.specs.declared.bodies.Body.{Body}
 use Rattle.plan_record.specs.Form.{planForm}
@@ -45,13 +45,13 @@ module _ (d : List ℕ) (p : ℕ) (r : Item) (looked : r ≡ itemOf (badLocation
   counts-location l h = let e : badLocation d p ≡ some l = item-some _ l (sym looked ∙ h) in rw (e, badCounts)
 
   module _ (fine : r ≡ Fine) where
-    pub counts-fine : writeOuts d p ≤ 256 → Fine ≡ itemOf (badCounts d p)
+    pub counts-fine : writeOuts d p ≤ planLanes d → Fine ≡ itemOf (badCounts d p)
     unfolding badCounts
-    counts-fine h = let e : badLocation d p ≡ none = item-none _ (sym looked ∙ fine) in rw (e, le-leb (writeOuts d p) 256 h, badCounts)
+    counts-fine h = let e : badLocation d p ≡ none = item-none _ (sym looked ∙ fine) in rw (e, le-leb (writeOuts d p) (planLanes d) h, badCounts)
 
-    pub counts-many : (n : ℕ) → n ≡ locationsOf d p → 256 < writeOuts d p → At n ≡ itemOf (badCounts d p)
+    pub counts-many : (n : ℕ) → n ≡ locationsOf d p → planLanes d < writeOuts d p → At n ≡ itemOf (badCounts d p)
     unfolding badCounts
-    counts-many n c h = let e : badLocation d p ≡ none = item-none _ (sym looked ∙ fine) in rw (e, lt-leb (writeOuts d p) 256 h, badCounts) (ap At c)
+    counts-many n c h = let e : badLocation d p ≡ none = item-none _ (sym looked ∙ fine) in rw (e, lt-leb (writeOuts d p) (planLanes d) h, badCounts) (ap At c)
 
 -- ---- what is known of a part
 
@@ -67,17 +67,17 @@ duplicates-few d p h =
 
 -- WHAT A PART THAT PASSED REFUSAL 7 HAS
 pub record CountsPassed (d : List ℕ) (p : ℕ) : Type 0 where
-  pub location : (l : ℕ) → l < locationsOf d p → locationAt d p l ≤ 255
-  pub words : writeOuts d p ≤ 256
-  pub locations : locationsOf d p ≤ 256
-  pub few-srams : srams d p ≤ 256
-  pub few-duplicates : duplicates d p ≤ 256
+  pub location : (l : ℕ) → l < locationsOf d p → locationAt d p l < planLanes d
+  pub words : writeOuts d p ≤ planLanes d
+  pub locations : locationsOf d p ≤ planLanes d
+  pub few-srams : srams d p ≤ planLanes d
+  pub few-duplicates : duplicates d p ≤ planLanes d
 
 part-passed : (d : List ℕ) (p : ℕ) → badCounts d p ≡ none → CountsPassed d p
 unfolding badCounts writeOuts
-part-passed d p h = go (badLocation d p) refl (leb (writeOuts d p) 256) refl
+part-passed d p h = go (badLocation d p) refl (leb (writeOuts d p) (planLanes d)) refl
   where
-    go : (o : Option ℕ) → badLocation d p ≡ o → (b : Bool) → leb (writeOuts d p) 256 ≡ b → CountsPassed d p
+    go : (o : Option ℕ) → badLocation d p ≡ o → (b : Bool) → leb (writeOuts d p) (planLanes d) ≡ b → CountsPassed d p
     go (some l) e b t =
         let q : badCounts d p ≡ some l = rw (e, badCounts) in
         let z : _≡_ {A = ℕ} 0 1 = cc in
@@ -87,9 +87,9 @@ part-passed d p h = go (badLocation d p) refl (leb (writeOuts d p) 256) refl
         let z : _≡_ {A = ℕ} 0 1 = cc in
         absurd (omega arith)
     go none e true t =
-        let w : writeOuts d p ≤ 256 = leb-true _ _ t in
+        let w : writeOuts d p ≤ planLanes d = leb-true _ _ t in
         record {
-          location = λ l k. leb-true _ _ (not-none (locationFits d p) (locationsOf d p) e l k);
+          location = λ l k. ltb-true _ _ (not-none (locationFits d p) (locationsOf d p) e l k);
           words = w;
           locations = omega arith;
           few-srams = omega arith;

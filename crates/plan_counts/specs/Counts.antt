@@ -4,9 +4,9 @@ use mathlib.Core.Bool.{Bool, true, false, _||_}
 use mathlib.Core.Option.{Option, none, some}
 use mathlib.Core.List.{List, [], _∷_, _++_, map}
 use Prim.Native.Nat.{ℕ, zero, suc, _+_, _*_, _-_, _/_, _^_}
-use lib.Dec.{leb, eqb}
+use lib.Dec.{leb, ltb, eqb}
 use Rattle.words.specs.Sum.{sumTo}
-use Rattle.plan_record.specs.Record.{partsOf, endpointsOf, locationsOf, locationAt}
+use Rattle.plan_record.specs.Record.{planLanes, partsOf, endpointsOf, locationsOf, locationAt}
 use Rattle.plan_record.specs.declared.bodies.Endpoint.{Endpoint}
 use Rattle.plan_record.specs.declared.bodies.Endpoint.the-variants.{Output, Staged, Register, Sram}
 use Rattle.plan_record.specs.Endpoint.{endpointAt}
@@ -60,12 +60,13 @@ srams d p = sumTo (λ i. isSram (endpointAt d p i)) (endpointsOf d p)
 unfoldable pub writeOuts : List ℕ → ℕ → ℕ
 writeOuts d p = locationsOf d p + srams d p + duplicates d p
 
--- 7: "location above 255, or write-out words above 256"; the location's index, or the location count if only the sum is too large
+-- 7: "location above 255, or write-out words above 256", in the small edition above 127 and 128; the location's index, or the location count if
+-- only the sum is too large
 unfoldable pub badCounts : List ℕ → ℕ → Option ℕ
 badCounts d p =
-    elim (firstNot (λ l. leb (locationAt d p l) 255) (locationsOf d p)) [
+    elim (firstNot (λ l. ltb (locationAt d p l) (planLanes d)) (locationsOf d p)) [
       | some l ↦ some l
-      | none ↦ elim (leb (writeOuts d p) 256) [ true ↦ none | false ↦ some (locationsOf d p) ]
+      | none ↦ elim (leb (writeOuts d p) (planLanes d)) [ true ↦ none | false ↦ some (locationsOf d p) ]
     ]
 
 unfoldable pub refusal7 : List ℕ → Option Place

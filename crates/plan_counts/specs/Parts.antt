@@ -5,11 +5,11 @@ use mathlib.Core.Bool.{Bool}
 use mathlib.Core.Option.{Option}
 use mathlib.Core.List.{List}
 use Prim.Native.Nat.{ℕ, _^_, _≤_, _<_}
-use lib.Dec.{leb}
+use lib.Dec.{ltb}
 use Rattle.plan_record.specs.declared.bodies.Body.{Body}
 use Rattle.words.specs.declared.units.Pin.{Pin}
 use Rattle.plan_record.specs.declared.bodies.Endpoint.the-variants.{Staged}
-use Rattle.plan_record.specs.Record.{locationsOf, locationAt}
+use Rattle.plan_record.specs.Record.{planLanes, locationsOf, locationAt}
 use Rattle.plan_record.specs.Endpoint.{endpointAt}
 use Rattle.words.specs.Tests.{firstNot}
 use Rattle.plan_record.specs.Body.{BodyOf}
@@ -33,9 +33,9 @@ pub record CountsOf (d : List ℕ) (p : ℕ) (c : Counts) : Type 0 where
   pub few-srams : c .srams ≤ 8192
   pub few-duplicates : c .duplicates ≤ 256
 
--- the first location of part p that is above 255
+-- the first location of part p that is no lane of the plan's edition
 abbrev pub locationFits : List ℕ → ℕ → ℕ → Bool
-locationFits d p l = leb (locationAt d p l) 255
+locationFits d p l = ltb (locationAt d p l) (planLanes d)
 
 abbrev pub badLocation : List ℕ → ℕ → Option ℕ
 badLocation d p = firstNot (locationFits d p) (locationsOf d p)

@@ -17,7 +17,6 @@ use plan_record::bodies::endpoint_at;
 use plan_record::bodies::first_body;
 use plan_record::bodies::location;
 use plan_record::bodies::parts_of;
-use words::edition::Edition;
 use words::found::Item;
 use words::found::Lowest;
 
@@ -69,15 +68,16 @@ pub fn counts_of(d: &[u8], p: usize, body: Body, keys: &mut [u64], scratch: &mut
     }
 }
 
-// The first location of a part that is above 255.
+// The first location of a part that is no lane of the plan's edition.
 fn first_bad_location(d: &[u8], p: usize, body: Body) -> Item
     requires { ⌜ BodyOf (now d) p body ⌝ }
     ensures { λ r. ⌜ r ≡ itemOf (badLocation (now (d .entry)) p) ⌝ }
 {
+    let lanes = body.lanes;
     let locations = body.locations;
     let mut l = 0;
     while l < locations {
-        if Edition::LANES <= location(d, p, body, l) as usize {
+        if lanes <= location(d, p, body, l) as usize {
             return Item::At(l);
         }
         l += 1;
@@ -94,7 +94,7 @@ pub fn bad_counts(d: &[u8], p: usize, body: Body, keys: &mut [u64], scratch: &mu
         return Item::At(l);
     }
     let counts = counts_of(d, p, body, keys, scratch);
-    if counts.words <= Edition::LANES {
+    if counts.words <= body.lanes {
         return Item::Fine;
     }
     Item::At(body.locations)

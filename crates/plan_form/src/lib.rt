@@ -5,10 +5,10 @@ ghost use mathlib.Core.Bool.{_&&_, _||_};
 ghost use Prim.Native.Nat.{_+_, _*_, _/_, _^_, _≤_, _<_};
 ghost use lib.Dec.{leb};
 ghost use lib.ListN.{length};
-ghost use Rattle.plan_record.specs.Record.{majorsOf, partsOf, gatesOf, layoutOf, positionsOf, endpointsOf, gateBase, layoutBase, positionBase, headBase};
+ghost use Rattle.plan_record.specs.Record.{majorsOf, partsOf, gatesOf, layoutOf, positionsOf, endpointsOf, gateBase, layoutBase, positionBase, headBase, positionWords};
 ghost use Rattle.words.specs.Tests.{allBelow};
 ghost use Rattle.words.specs.Pins.{isPin, isPinIv};
-ghost use Rattle.plan_record.specs.Form.{headForm, countsForm, partHeadForm, lengthForm, gateForm, layoutForm, positionForm, numbersForm, endpointForm, listsForm, planForm};
+ghost use Rattle.plan_record.specs.Form.{restForm, headForm, countsForm, partHeadForm, lengthForm, gateForm, layoutForm, positionForm, numbersForm, endpointForm, listsForm, planForm};
 ghost use Rattle.plan_record.specs.Body.{Headed, Measured, BodyOf};
 use plan_record::bodies::Body;
 use plan_record::bodies::Endpoint;
@@ -17,6 +17,9 @@ use plan_record::bodies::endpoint_at;
 use plan_record::bodies::endpoint_word;
 use plan_record::bodies::first_body;
 use plan_record::bodies::parts_of;
+use plan_record::places::HEAD_WORDS;
+use plan_record::places::PART_HEAD_WORDS;
+use plan_record::places::POSITION_WORDS;
 use plan_record::places::body_words;
 use plan_record::places::gate_base;
 use plan_record::places::head_base;
@@ -60,6 +63,16 @@ fn is_pin_iv(x: u32) -> bool
     x <= 2147483649
 }
 
+// The words of the head that are 0.
+fn rest_form(d: &[u8]) -> bool
+    ensures { λ r. ⌜ r ≡ restForm (now (d .entry)) ⌝ }
+{
+    both(
+        word_at(d, 6) == 0,
+        both(word_at(d, 7) == 0, word_at(d, 8) == 0),
+    )
+}
+
 // The head of a record.
 fn head_form(d: &[u8]) -> bool
     ensures { λ r. ⌜ r ≡ headForm (now (d .entry)) ⌝ }
@@ -68,10 +81,8 @@ fn head_form(d: &[u8]) -> bool
         in_range(word_at(d, 0), 1, 1024),
         in_range(word_at(d, 1), 1, 64),
     );
-    both(
-        sizes,
-        both(word_at(d, 3) <= 1048576, word_at(d, 4) <= 1048576),
-    )
+    let lists = both(word_at(d, 3) <= 1048576, word_at(d, 4) <= 1048576);
+    both(both(sizes, lists), rest_form(d))
 }
 
 // The parts of each major stage.
@@ -80,7 +91,7 @@ fn counts_form(d: &[u8]) -> bool
 {
     let majors = word_at(d, 1) as usize;
     for s in 0..majors {
-        if 4096 < word_at(d, 5 + s) {
+        if 4096 < word_at(d, HEAD_WORDS + s) {
             return false;
         }
     }
@@ -92,9 +103,11 @@ fn part_form(d: &[u8], heads: usize, p: usize) -> bool
     requires { ⌜ (heads ≡ headBase (now d)) × (heads < 2 ^ 37) × (p < 262144) ⌝ }
     ensures { λ r. ⌜ r ≡ partHeadForm (now (d .entry)) p ⌝ }
 {
+    let at = heads + PART_HEAD_WORDS * p;
+    let sizes = both(in_range(word_at(d, at), 1, 255), word_at(d, at + 1) <= 8192);
     both(
-        in_range(word_at(d, heads + 2 * p), 1, 255),
-        word_at(d, heads + 2 * p + 1) <= 8192,
+        sizes,
+        both(word_at(d, at + 2) == 0, word_at(d, at + 3) == 0),
     )
 }
 
@@ -126,8 +139,8 @@ fn length_form(d: &[u8]) -> bool
         if words < at {
             return false;
         }
-        let stages = word_at(d, heads + 2 * p) as usize;
-        let endpoints = word_at(d, heads + 2 * p + 1) as usize;
+        let stages = word_at(d, heads + PART_HEAD_WORDS * p) as usize;
+        let endpoints = word_at(d, heads + PART_HEAD_WORDS * p + 1) as usize;
         at += body_words(d, at, stages, endpoints);
     }
     both(d.len() % 4 == 0, at == words)
@@ -186,11 +199,14 @@ fn layouts_form(d: &[u8]) -> bool
 
 // Position i, given where the positions begin.
 fn position_form(d: &[u8], positions: usize, i: usize) -> bool
-    requires { ⌜ (positions ≡ positionBase (now d)) × (positions + 3 * i + 2 < length (now d) / 4) ⌝ }
+    requires { ⌜ (positions ≡ positionBase (now d)) × (positions + positionWords * i + 3 < length (now d) / 4) ⌝ }
     ensures { λ r. ⌜ r ≡ positionForm (now (d .entry)) i ⌝ }
 {
-    let at = positions + 3 * i;
-    both(is_pin(word_in(d, at)), word_in(d, at + 2) <= 1)
+    let at = positions + POSITION_WORDS * i;
+    both(
+        both(is_pin(word_in(d, at)), word_in(d, at + 2) <= 1),
+        word_in(d, at + 3) == 0,
+    )
 }
 
 // The position list.

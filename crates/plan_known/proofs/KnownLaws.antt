@@ -19,7 +19,7 @@ use Rattle.pinmap.proofs.PinMapLaws.{replaced-same, replaced-other}
 use Rattle.pinmap.proofs.HoldsLaws.{last-snoc, puts-look}
 use Rattle.plan_record.specs.declared.bodies.Body.{Body}
 use Rattle.plan_record.specs.Record.{slotsOf, partsOf, levelAt}
-use Rattle.plan_record.proofs.RecordLaws.{lanes-full, lanes-range}
+use Rattle.plan_record.proofs.RecordLaws.{lanes-range}
 use Rattle.words.specs.Pins.{empty}
 use Rattle.plan_record.specs.Body.{BodyOf}
 use Rattle.words.specs.Tests.{someBelow}
@@ -167,7 +167,7 @@ module _ (d : List ℕ) (p : ℕ) (b : Body) (old new room : List ℕ) (ready : 
     slot-look : look t x ≡ some (winner d x)
     slot-look =
         ap (λ (a : List ℕ). look a x) (part ∙ ready .winners)
-        ∙ planned-look d p x (length (drop 32768 room)) (omega (arith, length-drop 32768 room, ready .wide)) held (ap (readsPin d p) read ∙ slot-read d p j (omega (arith, lanes-full d)))
+        ∙ planned-look d p x (length (drop 32768 room)) (omega (arith, length-drop 32768 room, ready .wide)) held (ap (readsPin d p) read ∙ slot-read d p j l)
 
     pub bit-value : (f : Found) (w : ℕ) (u : List ℕ) → f ≡ lookAnswer (look t x) → f ≡ Value w
         → u ≡ afterPuts (take 32768 room) (foundPut x (plannedBit old new (plannedBy d w)))

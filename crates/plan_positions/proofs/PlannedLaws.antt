@@ -16,7 +16,6 @@ use Rattle.pinmap.specs.declared.Found.the-variants.{Value, Missing}
 use Rattle.pinmap.specs.PinMap.{look, lookAnswer}
 use Rattle.plan_record.specs.declared.bodies.Body.{Body}
 use Rattle.plan_record.specs.Record.{slotsOf, partsBefore, partsOf, levelAt}
-use Rattle.plan_record.proofs.RecordLaws.{lanes-full}
 use Rattle.words.specs.Pins.{empty}
 use Rattle.plan_record.specs.Body.{BodyOf}
 use Rattle.words.specs.Tests.{allBelow, someBelow}
@@ -73,9 +72,9 @@ module _ (d : List ℕ) (p j : ℕ) where
   unfolding twelveRight
   slot-held h = rw (ne-eqb _ _ h, planned-winner d (levelAt d p 0 j), place-in d (majorOf d p))
 
-  pub slot-read : j < 8192 → readsPin d p (levelAt d p 0 j) ≡ true
+  pub slot-read : j < slotsOf d → readsPin d p (levelAt d p 0 j) ≡ true
   unfolding readsPin
-  slot-read l = some-at (λ k. eqb (levelAt d p 0 k) (levelAt d p 0 j)) (slotsOf d) j (omega (arith, lanes-full d)) (eq-eqb (levelAt d p 0 j) _ refl)
+  slot-read l = some-at (λ k. eqb (levelAt d p 0 k) (levelAt d p 0 j)) (slotsOf d) j l (eq-eqb (levelAt d p 0 j) _ refl)
 
 -- ---- what the table of a part has for a pin
 
@@ -114,7 +113,7 @@ module _ (d room : List ℕ) (n x : ℕ) (held : WinnerHeld d room x) where
 
 -- the pins of a part whose table is there: slot j's is x, and all of them, listed
 module _ (d : List ℕ) (p : ℕ) (b : Body) (room : List ℕ) (state n : ℕ) (ready : SlotsReady d p b room state n) where
-  pub slot-there : (j x : ℕ) → j < 8192 → x ≡ levelAt d p 0 j → (x ≡ empty → ⊥) → x < 2 ^ 32 → WinnerHeld d room x
+  pub slot-there : (j x : ℕ) → j < slotsOf d → x ≡ levelAt d p 0 j → (x ≡ empty → ⊥) → x < 2 ^ 32 → WinnerHeld d room x
   slot-there j x l read full s = record {
     small = omega (arith, full);
     found = ap (λ (t : List ℕ). look t x) (ready .table) ∙ planned-look d p x 32768 (omega arith) full (ap (readsPin d p) read ∙ slot-read d p j l);
@@ -130,17 +129,17 @@ module _ (d : List ℕ) (p : ℕ) (b : Body) (room : List ℕ) (state n : ℕ) (
     list-held small i l =
         let f : FromSlot (readPin d p) (slotsOf d) (getD (firstPins (readPin d p) (slotsOf d)) i 0) = listed-from (readPin d p) (slotsOf d) i (rw is at l) in
         let e : getD list i 0 ≡ readPin d p (f .slot) = ap (λ (t : List ℕ). getD t i 0) is ∙ f .is in
-        slot-there (f .slot) (getD list i 0) (omega (arith, f .below, lanes-full d)) e (λ z. f .full (sym e ∙ z)) (omega (arith, small i l))
+        slot-there (f .slot) (getD list i 0) (f .below) e (λ z. f .full (sym e ∙ z)) (omega (arith, small i l))
 
     -- where they all are right, each slot is
-    all-right : allBelow (listedPinRight d n list) (length list) ≡ true → (j : ℕ) → j < 8192 → twelveRight d p j ≡ true
+    all-right : allBelow (listedPinRight d n list) (length list) ≡ true → (j : ℕ) → j < slotsOf d → twelveRight d p j ≡ true
     unfolding readPins
     all-right right j l = go (eqb (readPin d p j) empty) refl
       where
         go : (t : Bool) → eqb (readPin d p j) empty ≡ t → twelveRight d p j ≡ true
         go true e = sym (slot-empty d p j (eqb-true _ _ e))
         go false e =
-            let a : Among (readPin d p) (slotsOf d) (readPin d p j) = listed-among (readPin d p) (slotsOf d) j (omega (arith, lanes-full d)) (eqb-false _ _ e) in
+            let a : Among (readPin d p) (slotsOf d) (readPin d p j) = listed-among (readPin d p) (slotsOf d) j l (eqb-false _ _ e) in
             let x : getD list (a .at) 0 ≡ readPin d p j = ap (λ (t : List ℕ). getD t (a .at) 0) is ∙ a .is in
             let k : a .at < length list = omega (arith, a .inside, ap length is) in
             sym (slot-by j (getD list (a .at) 0) true x (λ z. eqb-false _ _ e (sym x ∙ z)) (sym (all-at (listedPinRight d n list) (length list) (a .at) right k)))
@@ -151,7 +150,7 @@ module _ (d : List ℕ) (p : ℕ) (b : Body) (room : List ℕ) (state n : ℕ) (
         go : (o : Option ℕ) → badSlot d p ≡ o → none ≡ o
         go none e = refl
         go (some k) e =
-            let (below, wrong, before) = not-at (twelveRight d p) 8192 k e in
+            let (below, wrong, before) = not-at (twelveRight d p) (slotsOf d) k e in
             absurd (not-both _ (all-right right k below) wrong)
 
 -- the list from the start of lent words

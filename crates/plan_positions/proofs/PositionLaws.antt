@@ -11,7 +11,6 @@ use borrow.Author.Tests.{eq-eqb, ne-eqb, eqb-true, leb-true, ltb-true, lt-ltb}
 use lib.Dec.{leb, ltb, eqb}
 use Rattle.words.specs.Bit.{bitAt}
 use Rattle.plan_record.specs.Record.{slotsOf, majorsOf, partsBefore, partsOf, positionState, locationsOf, levelAt}
-use Rattle.plan_record.proofs.RecordLaws.{lanes-full}
 use Rattle.words.specs.Pins.{empty}
 use Rattle.words.proofs.TestLaws.{and-true, not-both, some-found, not-none, lowest-none}
 use Rattle.plan_counts.specs.Counts.{writeOuts}
@@ -97,9 +96,9 @@ unfolding positionRight
 right-some d s none h = absurd (not-both false h refl)
 right-some d s (some y) h = (y, refl)
 
-twelve-at : (d : List ℕ) → refusal12 d ≡ none → (p j : ℕ) → p < partsOf d → j < 8192 → twelveRight d p j ≡ true
+twelve-at : (d : List ℕ) → refusal12 d ≡ none → (p j : ℕ) → p < partsOf d → j < slotsOf d → twelveRight d p j ≡ true
 unfolding refusal12
-twelve-at d h p j l u = not-none (twelveRight d p) 8192 (lowest-none _ (partsOf d) h p l) j u
+twelve-at d h p j l u = not-none (twelveRight d p) (slotsOf d) (lowest-none _ (partsOf d) h p l) j u
 
 twelve-place : (d : List ℕ) (p j x : ℕ) → twelveRight d p j ≡ true → levelAt d p 0 j ≡ x → (x ≡ empty → ⊥) → positionRight d (majorOf d p) (planned d x) ≡ true
 unfolding twelveRight
@@ -111,8 +110,7 @@ pub read-planned : (d : List ℕ) → refusal12 d ≡ none → (p x : ℕ) → p
 unfolding readsPin
 read-planned d none-refused p x l r n =
     let (j, inside, e) = some-found _ (slotsOf d) r in
-    let u : j < 8192 = omega (arith, lanes-full d) in
-    let right : positionRight d (majorOf d p) (planned d x) ≡ true = twelve-place d p j x (twelve-at d none-refused p j l u) (eqb-true _ _ e) n in
+    let right : positionRight d (majorOf d p) (planned d x) ≡ true = twelve-place d p j x (twelve-at d none-refused p j l inside) (eqb-true _ _ e) n in
     let (y, is) = right-some d (majorOf d p) (planned d x) right in
     let given : positionRight d (majorOf d p) (some y) ≡ true = rw is at right in
     let normal : y .staged ≡ 1 → NormalAt d (partsBefore d (majorOf d p)) (y .place / 32) = λ m. normal-at d _ _ (right-staged d (majorOf d p) y given m) in

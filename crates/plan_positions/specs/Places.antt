@@ -11,7 +11,7 @@ use lib.ListN.{length, getD, take, replicate}
 use Rattle.pinmap.specs.PinMap.{look, afterRenewals}
 use Rattle.plan_record.specs.declared.bodies.Body.{Body}
 use Rattle.words.specs.Tests.{firstNot, someBelow}
-use Rattle.plan_record.specs.Record.{partsOf, partsBefore}
+use Rattle.plan_record.specs.Record.{slotsOf, partsOf, partsBefore}
 use Rattle.plan_record.specs.Form.{planForm}
 use Rattle.plan_record.specs.Body.{BodyOf}
 use Rattle.plan_blocks.specs.Blocks.{stateWords}
@@ -25,7 +25,7 @@ use Rattle.plan_winners.specs.Winners.{winner, plannedBy, winnerPuts, ListsInRa
 
 -- the lowest slot of part p that is refused
 abbrev pub badSlot : List ℕ → ℕ → Option ℕ
-badSlot d p = firstNot (twelveRight d p) 8192
+badSlot d p = firstNot (twelveRight d p) (slotsOf d)
 
 -- the part that is k-th in the order of the state, its start and its locations
 abbrev pub rankedPart : List ℕ → ℕ → ℕ

@@ -5,7 +5,7 @@ use mathlib.Core.Option.{Option, none, some}
 use mathlib.Core.List.{List}
 use Prim.Native.Nat.{ℕ, zero, suc, _+_, _-_, _/_}
 use lib.Dec.{leb, ltb, eqb}
-use Rattle.plan_record.specs.Record.{partsOf, majorsOf, partsBefore, levelAt, locationsOf}
+use Rattle.plan_record.specs.Record.{slotsOf, partsOf, majorsOf, partsBefore, levelAt, locationsOf}
 use Rattle.words.specs.Pins.{empty}
 use Rattle.words.specs.Tests.{firstNot, someBelow, lowest, Place}
 use Rattle.plan_winners.specs.Planned.{Planned, planned}
@@ -37,4 +37,4 @@ unfoldable pub twelveRight : List ℕ → ℕ → ℕ → Bool
 twelveRight d p j = eqb (levelAt d p 0 j) empty || positionRight d (majorOf d p) (planned d (levelAt d p 0 j))
 
 unfoldable pub refusal12 : List ℕ → Option Place
-refusal12 d = lowest (λ p. firstNot (twelveRight d p) 8192) (partsOf d)
+refusal12 d = lowest (λ p. firstNot (twelveRight d p) (slotsOf d)) (partsOf d)

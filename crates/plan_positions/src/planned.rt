@@ -1,6 +1,6 @@
 // Planned positions of the pins that parts read: refusal 12.
 ghost use mathlib.Core.Path.{_≡_};
-ghost use Prim.Native.Nat.{_≤_, _<_};
+ghost use Prim.Native.Nat.{_*_, _≤_, _<_};
 ghost use lib.ListN.{length};
 ghost use lib.Seq.{sets};
 ghost use Rattle.words.specs.Tests.{allBelow};
@@ -88,7 +88,7 @@ fn slot_right(
     n: usize,
     j: usize,
 ) -> bool
-    requires { ⌜ SlotsReady (now d) p body (now room) state n × (j < 8192) ⌝ }
+    requires { ⌜ SlotsReady (now d) p body (now room) state n × (j < 32 * body .lanes) ⌝ }
     ensures { λ r. ⌜ r ≡ twelveRight (now (d .entry)) p j ⌝ }
 {
     let pin = level_slot(d, p, body, 0, j);
@@ -103,8 +103,9 @@ fn bad_slot(d: &[u8], p: usize, body: Body, room: &[u32], state: usize, n: usize
     requires { ⌜ SlotsReady (now d) p body (now room) state n ⌝ }
     ensures { λ r. ⌜ r ≡ itemOf (badSlot (now (d .entry)) p) ⌝ }
 {
+    let slots = 32 * body.lanes;
     let mut j = 0;
-    while j < Edition::SLOTS {
+    while j < slots {
         if !slot_right(d, p, body, room, state, n, j) {
             return Item::At(j);
         }

@@ -4,7 +4,7 @@ use mathlib.Core.Path.{_≡_, refl, sym, ap, _∙_}
 use mathlib.Core.Bool.{Bool, true, false}
 use mathlib.Core.Option.{Option, none, some}
 use mathlib.Core.List.{List, _++_}
-use Prim.Native.Nat.{ℕ, _+_, _-_, _≤_, _<_}
+use Prim.Native.Nat.{ℕ, _+_, _*_, _-_, _≤_, _<_}
 use native.Mathlib.Omega.{arith}
 use borrow.Author.Tests.{eqb-true, eqb-false, eq-eqb, ne-eqb}
 use lib.Dec.{eqb}
@@ -17,7 +17,7 @@ use Rattle.reads.specs.SetAnswer.{Packed, searched, packed}
 use Rattle.reads.proofs.SetAnswerLaws.{Came, at-three, at-bits, at-wide, at-search, came}
 use Rattle.reads_asked.proofs.FrontStoreLaws.{take-front}
 use Rattle.rounds.specs.Rounds.{Solvable}
-use Rattle.plan_record.specs.Record.{partsOf, bodyAt}
+use Rattle.plan_record.specs.Record.{planLanes, slotsOf, partsOf, bodyAt}
 use Rattle.words.specs.Tests.{Place, lowestFrom}
 use Rattle.words.proofs.TestLaws.{some-not-none, lowest-fault, lowest-next, lowest-end}
 use Rattle.plan_rows.specs.Columns as col
@@ -43,16 +43,17 @@ module _ (d : List ℕ) (p : ℕ) (set₀ set′ : List ℕ) (n : ℕ) (count : 
   pub set-size : n ≡ length (take n set′)
   set-size = count .0 ∙ sym (ap length set-front)
 
-  pub set-in-form : AllNarrow (askedTo d p 8192) → SetInForm (take n set′)
+  pub set-in-form : AllNarrow (askedTo d p (slotsOf d)) → SetInForm (take n set′)
   set-in-form narrow = rw set-front (words-form d p narrow)
 
-  pub set-reads : (r : Reads) → r ≡ readsOf (packed 256 (pairsOf (take n set′))) → r ≡ readsOf (partReads 256 d p)
+  pub set-reads : (lanes : ℕ) → lanes ≡ planLanes d → (r : Reads) → r ≡ readsOf (packed lanes (pairsOf (take n set′))) → r ≡ readsOf (partReads (planLanes d) d p)
   unfolding partReads
-  set-reads r e = rw set-front at e
+  set-reads lanes are r e = (rw set-front at e) ∙ ap (λ (k : ℕ). readsOf (packed k (pairsOf (readWords d p)))) are
 
-pub part-solvable : (room : List ℕ) (K S K′ S′ : ℕ) (set : ℕ) → length room ≡ 32768 → SetRoom K S set → K′ ≡ K → S′ ≡ S → Solvable (length (take 8192 room)) K′ S′ 256
-part-solvable room K S K′ S′ set n r k s =
-    let t : length (take 8192 room) ≡ 8192 = length-take-le 8192 room (omega arith) in
+pub part-solvable : (lanes : ℕ) → 128 ≤ lanes → lanes ≤ 256 → (room : List ℕ) (K S K′ S′ : ℕ) (set : ℕ) → length room ≡ 32768 → SetRoom K S set → K′ ≡ K → S′ ≡ S
+    → Solvable (length (take (32 * lanes) room)) K′ S′ lanes
+part-solvable lanes least few room K S K′ S′ set n r k s =
+    let t : length (take (32 * lanes) room) ≡ 32 * lanes = length-take-le (32 * lanes) room (omega arith) in
     record { room = t; some-lanes = omega arith; few-lanes = omega arith; keys-room = omega (arith, r .keys-room); scratch-room = omega (arith, r .scratch-room) }
 
 -- ---- what an outcome says of the four numbers
@@ -80,7 +81,7 @@ answered n ps = go (came n ps)
     go (at-search h l m q) = searching q (foundOf n ps) refl
 
 abbrev pub bad : ℕ → List ℕ → ℕ → Option ℕ
-bad k d p = badReads k (partReads 256 d p)
+bad k d p = badReads k (partReads (planLanes d) d p)
 
 -- a part that none refuses has lanes
 pub placed-part : (n : ℕ) (d : List ℕ) (p : ℕ) → badReads 3 (partReads n d p) ≡ none → badReads 21 (partReads n d p) ≡ none → badReads 22 (partReads n d p) ≡ none
@@ -99,8 +100,8 @@ placed-part n d p a b w f = go (answered n (pairsOf (readWords d p)))
 
 -- the first part refused with k, and its item, are told by `first` and `item`, or are to be found from part p on
 pub record Late (k : ℕ) (d : List ℕ) (parts first item p : ℕ) : Type 0 where
-  pub unknown : first ≡ parts → lowestFrom (bad k d) (partsOf d - p) p ≡ refusedReads 256 k d
-  pub known : (first ≡ parts → ⊥) → refusedReads 256 k d ≡ some (record { part = first; item = item })
+  pub unknown : first ≡ parts → lowestFrom (bad k d) (partsOf d - p) p ≡ refusedReads (planLanes d) k d
+  pub known : (first ≡ parts → ⊥) → refusedReads (planLanes d) k d ≡ some (record { part = first; item = item })
 
 module _ (k : ℕ) (d : List ℕ) (parts first item p : ℕ) (here : p < partsOf d) (among : p < parts) (pass : Late k d parts first item p) where
   pub late-same : bad k d p ≡ none → Late k d parts first item (p + 1)
@@ -118,11 +119,11 @@ module _ (k : ℕ) (d : List ℕ) (parts first item p : ℕ) (here : p < partsOf
 -- what part p does to the first part refused with k, where its item becomes item′
 late-on : (k : ℕ) (d : List ℕ) (parts first item p item′ : ℕ) → p < partsOf d → p < parts → Late k d parts first item p
     → ((i : ℕ) → bad k d p ≡ some i → first ≡ parts → item′ ≡ i) → (bad k d p ≡ none → item′ ≡ item) → ((first ≡ parts → ⊥) → item′ ≡ item)
-    → Late k d parts (firstAfter k first parts p (readsOf (partReads 256 d p))) item′ (p + 1)
+    → Late k d parts (firstAfter k first parts p (readsOf (partReads (planLanes d) d p))) item′ (p + 1)
 unfolding badReads firstAfter earlierOf
-late-on k d parts first item p item′ here among pass new same kept = go (partReads 256 d p) refl
+late-on k d parts first item p item′ here among pass new same kept = go (partReads (planLanes d) d p) refl
   where
-    go : (o : Answer Packed) → partReads 256 d p ≡ o → Late k d parts (firstAfter k first parts p (readsOf o)) item′ (p + 1)
+    go : (o : Answer Packed) → partReads (planLanes d) d p ≡ o → Late k d parts (firstAfter k first parts p (readsOf o)) item′ (p + 1)
     go (good x) e =
         let fine : bad k d p ≡ none = rw (e, badReads) in
         rw (same fine) (late-same k d parts first item p here among pass fine)
@@ -148,9 +149,9 @@ chosen false j i e = let z : _≡_ {A = ℕ} 0 1 = cc in absurd (omega arith)
 
 pub zero-item : (k : ℕ) → (4 ≡ k → ⊥) → (d : List ℕ) (p i : ℕ) → bad k d p ≡ some i → i ≡ 0
 unfolding badReads partReads
-zero-item k other d p i e = go (answered 256 (pairsOf (readWords d p)))
+zero-item k other d p i e = go (answered (planLanes d) (pairsOf (readWords d p)))
   where
-    go : Answered (partReads 256 d p) → i ≡ 0
+    go : Answered (partReads (planLanes d) d p) → i ≡ 0
     go (three q) = sym (chosen (eqb 3 k) 0 i (rw (q, badReads) at e) .1)
     go (bits q) = sym (chosen (eqb 21 k) 0 i (rw (q, badReads) at e) .1)
     go (wide q) = sym (chosen (eqb 22 k) 0 i (rw (q, badReads) at e) .1)
@@ -202,7 +203,7 @@ module _ (word first parts : ℕ) where
 pub record Passing (d : List ℕ) (parts at : ℕ) (f : Firsts) (p : ℕ) : Type 0 where
   pub so-far : p ≤ parts
   pub place : at ≡ bodyAt d p
-  pub early : lowestFrom (bad 3 d) (partsOf d - p) p ≡ refusedReads 256 3 d
+  pub early : lowestFrom (bad 3 d) (partsOf d - p) p ≡ refusedReads (planLanes d) 3 d
   pub many-bits : Late 21 d parts (f .bits) 0 p
   pub many-wide : Late 22 d parts (f .wide) 0 p
   pub late : Late 4 d parts (f .stuck) (f .word) p
@@ -221,16 +222,16 @@ passing-start d parts at e =
 
 -- the four tests of a plan, in their order
 abbrev pub allChecked : List ℕ → Checked
-allChecked d = checkedOf (refusedReads 256 3 d) (refusedReads 256 21 d) (refusedReads 256 22 d) (refusedReads 256 4 d)
+allChecked d = checkedOf (refusedReads (planLanes d) 3 d) (refusedReads (planLanes d) 21 d) (refusedReads (planLanes d) 22 d) (refusedReads (planLanes d) 4 d)
 
 module _ (d : List ℕ) (parts at : ℕ) (f : Firsts) (p : ℕ) (count : parts ≡ partsOf d) (among : p < parts) (pass : Passing d parts at f p) (r : Reads)
-    (is : r ≡ readsOf (partReads 256 d p)) where
+    (is : r ≡ readsOf (partReads (planLanes d) d p)) where
   here : p < partsOf d
   here = omega arith
 
-  pub passing-place : (t : Bool) → t ≡ isNothing r → t ≡ true → refusedReads 256 3 d ≡ some (record { part = p; item = 0 })
+  pub passing-place : (t : Bool) → t ≡ isNothing r → t ≡ true → refusedReads (planLanes d) 3 d ≡ some (record { part = p; item = 0 })
   passing-place t e h =
-      let found = nothing-bad (partReads 256 d p) (sym (ap isNothing is) ∙ (sym e ∙ h)) in
+      let found = nothing-bad (partReads (planLanes d) d p) (sym (ap isNothing is) ∙ (sym e ∙ h)) in
       let zero : found .0 ≡ 0 = zero-item 3 (λ z. absurd (omega arith)) d p (found .0) (found .1) in
       sym (pass .early) ∙ (lowest-fault (bad 3 d) (partsOf d) p (found .0) here (found .1) ∙ ap (λ (i : ℕ). some (record { part = p; item = i })) zero)
 
@@ -239,7 +240,7 @@ module _ (d : List ℕ) (parts at : ℕ) (f : Firsts) (p : ℕ) (count : parts �
 
   pub passing-on : (t : Bool) → t ≡ isNothing r → t ≡ false → (g : Firsts) (at′ : ℕ) → FirstsAfter f parts p r g → at′ ≡ bodyAt d (p + 1) → Passing d parts at′ g (p + 1)
   passing-on t e h g at′ after ea =
-      let o = partReads 256 d p in
+      let o = partReads (planLanes d) d p in
       let other : isNothing (readsOf o) ≡ false = sym (ap isNothing is) ∙ (sym e ∙ h) in
       record {
         so-far = omega arith;
@@ -257,7 +258,7 @@ module _ (d : List ℕ) (parts at : ℕ) (f : Firsts) (p : ℕ) (count : parts �
       s = f .stuck
 
       o : Answer Packed
-      o = partReads 256 d p
+      o = partReads (planLanes d) d p
 
       stuck-on : Late 4 d parts (firstAfter 4 s parts p (readsOf o)) (wordAfter w s parts (readsOf o)) (p + 1)
       stuck-on =
@@ -265,20 +266,20 @@ module _ (d : List ℕ) (parts at : ℕ) (f : Firsts) (p : ℕ) (count : parts �
           (λ z. word-kept w s parts o z)
 
 module _ (d : List ℕ) (parts at : ℕ) (f : Firsts) (p : ℕ) (count : parts ≡ partsOf d) (all : parts ≤ p) (pass : Passing d parts at f p) where
-  pub none-early : refusedReads 256 3 d ≡ none
+  pub none-early : refusedReads (planLanes d) 3 d ≡ none
   none-early = sym (pass .early) ∙ lowest-end (bad 3 d) (partsOf d) p (omega arith)
 
-  none-of : (k first item : ℕ) → Late k d parts first item p → first ≡ parts → refusedReads 256 k d ≡ none
+  none-of : (k first item : ℕ) → Late k d parts first item p → first ≡ parts → refusedReads (planLanes d) k d ≡ none
   none-of k first item l e = sym (l .unknown e) ∙ lowest-end (bad k d) (partsOf d) p (omega arith)
 
   pub passed-told : firstsTold f parts ≡ allChecked d
   unfolding firstsTold
   passed-told = at-bits (eqb (f .bits) parts) refl
     where
-      no-bits : f .bits ≡ parts → refusedReads 256 21 d ≡ none
+      no-bits : f .bits ≡ parts → refusedReads (planLanes d) 21 d ≡ none
       no-bits = none-of 21 (f .bits) 0 (pass .many-bits)
 
-      no-wide : f .wide ≡ parts → refusedReads 256 22 d ≡ none
+      no-wide : f .wide ≡ parts → refusedReads (planLanes d) 22 d ≡ none
       no-wide = none-of 22 (f .wide) 0 (pass .many-wide)
 
       tellStuck : Bool → Checked
@@ -410,18 +411,18 @@ module _ (d room₀ room : List ℕ) (p : ℕ) (is : room ≡ readRows d room₀
   pub row-inside : ClearRoom d room₀ → p < partsOf d → cell p col.pieceSize < length room
   row-inside c l = omega (arith, rows-long, c .wide)
 
-  pub rows-more : (r : Reads) → r ≡ readsOf (partReads 256 d p)
+  pub rows-more : (r : Reads) → r ≡ readsOf (partReads (planLanes d) d p)
       → set (set room (cell p col.rounds) (roundsKept r)) (cell p col.pieceSize) (sizeKept r) ≡ readRows d room₀ (p + 1)
   rows-more r e =
-      let m : roundsKept r ≡ roundsIn d p = ap roundsKept e ∙ rounds-are (partReads 256 d p) in
-      let k : sizeKept r ≡ partSize 256 d p = ap sizeKept e ∙ size-is (partReads 256 d p) in
+      let m : roundsKept r ≡ roundsIn d p = ap roundsKept e ∙ rounds-are (partReads (planLanes d) d p) in
+      let k : sizeKept r ≡ partSize (planLanes d) d p = ap sizeKept e ∙ size-is (partReads (planLanes d) d p) in
       rw (is, m, k) (sym (read-more d room₀ p))
 
 -- the parts that were searched, all of them or those before the first with nothing to read
-pub rows-fault : (d room₀ room : List ℕ) (p : ℕ) → room ≡ readRows d room₀ p → refusedReads 256 3 d ≡ some (record { part = p; item = 0 }) → room ≡ searchedRoom d room₀
+pub rows-fault : (d room₀ room : List ℕ) (p : ℕ) → room ≡ readRows d room₀ p → refusedReads (planLanes d) 3 d ≡ some (record { part = p; item = 0 }) → room ≡ searchedRoom d room₀
 unfolding searchedRoom
 rows-fault d room₀ room p is e = is ∙ ap (λ (o : Option Place). readRows d room₀ (partsUpTo o (partsOf d))) (sym e)
 
-pub rows-all : (d room₀ room : List ℕ) (p : ℕ) → room ≡ readRows d room₀ p → p ≡ partsOf d → refusedReads 256 3 d ≡ none → room ≡ searchedRoom d room₀
+pub rows-all : (d room₀ room : List ℕ) (p : ℕ) → room ≡ readRows d room₀ p → p ≡ partsOf d → refusedReads (planLanes d) 3 d ≡ none → room ≡ searchedRoom d room₀
 unfolding searchedRoom
 rows-all d room₀ room p is n e = is ∙ (ap (readRows d room₀) n ∙ ap (λ (o : Option Place). readRows d room₀ (partsUpTo o (partsOf d))) (sym e))

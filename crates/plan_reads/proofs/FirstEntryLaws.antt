@@ -24,7 +24,8 @@ use Rattle.reads_asked.proofs.RequestLaws.{set-requests}
 use Rattle.reads_try.specs.TableLanes.{lanesAt}
 use Rattle.rounds.specs.Rounds.{tableAfter, Solvable}
 use Rattle.rounds.proofs.RoundsAnswerLaws.{Win, win-of}
-use Rattle.plan_record.specs.Record.{levelAt, partsOf}
+use Rattle.plan_record.specs.Record.{planLanes, slotsOf, levelAt, partsOf}
+use Rattle.plan_record.proofs.RecordLaws.{lanes-range}
 use Rattle.words.specs.Pins.{empty}
 use Rattle.words.proofs.TestLaws.{lowest-none, not-none}
 use Rattle.plan_positions.specs.Positions.{positionRight, twelveRight, refusal12}
@@ -39,16 +40,16 @@ use Rattle.reads_local.proofs.LocalPositionLaws.{local-is}
 
 -- ---- the set of a part is in form
 
-pub words-form : (d : List ℕ) (p : ℕ) → AllNarrow (askedTo d p 8192) → SetInForm (readWords d p)
+pub words-form : (d : List ℕ) (p : ℕ) → AllNarrow (askedTo d p (slotsOf d)) → SetInForm (readWords d p)
 unfolding readWords
 words-form d p narrow = record {
-  few = omega (arith, set-length-le (askedTo d p 8192), asked-to-few d p 8192);
-  form = set-form (askedTo d p 8192) (λ i l. omega (arith, narrow i l .place, narrow i l .small));
+  few = omega (arith, set-length-le (askedTo d p (slotsOf d)), asked-to-few d p (slotsOf d), lanes-range d);
+  form = set-form (askedTo d p (slotsOf d)) (λ i l. omega (arith, narrow i l .place, narrow i l .small));
 }
 
-pub words-small : (d : List ℕ) (p : ℕ) → AllNarrow (askedTo d p 8192) → (x : ℕ) → getD (readWords d p) x 0 < 2 ^ 32
+pub words-small : (d : List ℕ) (p : ℕ) → AllNarrow (askedTo d p (slotsOf d)) → (x : ℕ) → getD (readWords d p) x 0 < 2 ^ 32
 unfolding readWords
-words-small d p narrow = set-small (askedTo d p 8192) (λ i l. narrow i l .small)
+words-small d p narrow = set-small (askedTo d p (slotsOf d)) (λ i l. narrow i l .small)
 
 -- ---- a slot's bit is asked for
 
@@ -80,7 +81,7 @@ is-planned : (o : Option Planned) → (o ≡ none → ⊥) → (y : Planned) × 
 is-planned none h = absurd (h refl)
 is-planned (some y) h = (y, refl)
 
-module _ (d : List ℕ) (p : ℕ) (narrow : AllNarrow (askedTo d p 8192)) {K S n : ℕ} {t : ℕ} (s : Solvable t K S n) (x : Packed) (found : partReads n d p ≡ good x) where
+module _ (d : List ℕ) (p : ℕ) (narrow : AllNarrow (askedTo d p (slotsOf d))) {K S n : ℕ} {t : ℕ} (s : Solvable t K S n) (x : Packed) (found : partReads n d p ≡ good x) where
   pub part-found : lanesOf n (pairsOf (readWords d p)) ≡ some (x .lanes)
   unfolding partReads
   part-found = placed-lanes n (pairsOf (readWords d p)) x found
@@ -106,8 +107,8 @@ module _ (d : List ℕ) (p : ℕ) (narrow : AllNarrow (askedTo d p 8192)) {K S n
       let at = lanesAt ws table n in
       let sound : Sound n (pairsOf ws) (record { size = sizeOf n (pairsOf ws); lanes = at }) = rw (w .same) (won-sound (words-form d p narrow) s (words-small d p narrow) (w .lanes) (w .found)) in
       let (y, is) = is-planned (planned d (levelAt d p 0 j)) (all j l full) in
-      let (i, k, g) = asked-in d p 8192 j y l full is in
-      let asked : Requested (pairsOf ws) (bitNumber y / 32) (bitNumber y % 32) = rw g at (set-requests (askedTo d p 8192) i k) in
+      let (i, k, g) = asked-in d p (slotsOf d) j y l full is in
+      let asked : Requested (pairsOf ws) (bitNumber y / 32) (bitNumber y % 32) = rw g at (set-requests (askedTo d p (slotsOf d)) i k) in
       let here = local-is n ws at (s .few-lanes) sound (w .readable .filled .kept) bases room (bitNumber y) asked in
       let same : at ≡ partLanes n d p = part-lanes table e long in
       record {
@@ -118,20 +119,20 @@ module _ (d : List ℕ) (p : ℕ) (narrow : AllNarrow (askedTo d p 8192)) {K S n
 
 -- ---- the entries
 
-pub entry-empty : (d : List ℕ) (p i : ℕ) → levelAt d p 0 i ≡ empty → (0 ≡ firstEntry 256 d p i) × (0 < 8192)
+pub entry-empty : (d : List ℕ) (p i : ℕ) → levelAt d p 0 i ≡ empty → (0 ≡ firstEntry (planLanes d) d p i) × (0 < slotsOf d)
 unfolding firstEntry
-entry-empty d p i h = (rw (eq-eqb _ _ h, firstEntry), omega arith)
+entry-empty d p i h = (rw (eq-eqb _ _ h, firstEntry), omega (arith, lanes-range d))
 
-pub entry-local : (d set bases : List ℕ) (p i x q r : ℕ) → x ≡ levelAt d p 0 i → (x ≡ empty → ⊥) → NumberedAt 256 d p set bases i → q ≡ plannedNumber (planned d x) → r ≡ localBy set bases q
-    → (r ≡ firstEntry 256 d p i) × (r < 8192)
+pub entry-local : (d set bases : List ℕ) (p i x q r : ℕ) → x ≡ levelAt d p 0 i → (x ≡ empty → ⊥) → NumberedAt (planLanes d) d p set bases i → q ≡ plannedNumber (planned d x) → r ≡ localBy set bases q
+    → (r ≡ firstEntry (planLanes d) d p i) × (r < slotsOf d)
 unfolding firstEntry
 entry-local d set bases p i x q r is full at eq er =
     let e : r ≡ localBy set bases (plannedNumber (planned d (levelAt d p 0 i))) = er ∙ ap (localBy set bases) (eq ∙ ap (λ (y : ℕ). plannedNumber (planned d y)) is) in
     (e ∙ (at .is ∙ rw (ne-eqb (levelAt d p 0 i) empty (λ z. full (is ∙ z)), firstEntry)), omega (arith, e, at .below))
 
-pub entries-on : (f : ℕ → ℕ) (l : List ℕ) (i v : ℕ) → i < length l → ((k : ℕ) → k < i → (getD l k 0 ≡ f k) × (f k < 8192)) → (v ≡ f i) × (v < 8192)
-    → (k : ℕ) → k < i + 1 → (getD (set l i v) k 0 ≡ f k) × (f k < 8192)
-entries-on f l i v room so-far new k h = ⊎-elim
+pub entries-on : (f : ℕ → ℕ) (m : ℕ) (l : List ℕ) (i v : ℕ) → i < length l → ((k : ℕ) → k < i → (getD l k 0 ≡ f k) × (f k < m)) → (v ≡ f i) × (v < m)
+    → (k : ℕ) → k < i + 1 → (getD (set l i v) k 0 ≡ f k) × (f k < m)
+entries-on f m l i v room so-far new k h = ⊎-elim
     (λ s. (getD-set-other l i k v 0 (λ e. omega arith) ∙ so-far k s .0, so-far k s .1))
     (λ s.
     let e : k ≡ i = omega arith in
@@ -143,7 +144,7 @@ entries-on f l i v room so-far new k h = ⊎-elim
 pub all-planned : (d : List ℕ) → refusal12 d ≡ none → (p : ℕ) → p < partsOf d → AllPlanned d p
 unfolding refusal12 twelveRight positionRight
 all-planned d h p l j k full e =
-    let right = not-none (twelveRight d p) 8192 (lowest-none _ (partsOf d) h p l) j k in
+    let right = not-none (twelveRight d p) (slotsOf d) (lowest-none _ (partsOf d) h p l) j k in
     let wrong : twelveRight d p j ≡ false = rw (ne-eqb _ _ full, e, twelveRight, positionRight) in
     let z : true ≡ false = sym right ∙ wrong in
     let q : _≡_ {A = ℕ} 0 1 = cc in

@@ -20,7 +20,6 @@ use Rattle.reads_asked.proofs.FrontStoreLaws.{take-front}
 use Rattle.reads_asked.proofs.AskedFormLaws.{set-length-le}
 use Rattle.words.specs.Pins.{empty}
 use Rattle.plan_record.specs.Record.{slotsOf}
-use Rattle.plan_record.proofs.RecordLaws.{lanes-full}
 use Rattle.plan_slots.specs.Puts.{readPin, firstPins, readPins, AllPins}
 use Rattle.plan_slots.proofs.ListedLaws.{Step, vacant, again, fresh, step, Among, listed-among, FromSlot, listed-from}
 use Rattle.plan_winners.specs.Planned.{Planned, planned}
@@ -111,7 +110,7 @@ module _ (d : List ℕ) (p : ℕ) (keys : List ℕ) (n : ℕ) (list : List ℕ) 
       (λ i l. (
         small i l,
         (let f : FromSlot (readPin d p) (slotsOf d) (getD (firstPins (readPin d p) (slotsOf d)) i 0) = listed-from (readPin d p) (slotsOf d) i l in
-            rw (f .is) (won (f .slot) (omega (arith, f .below, lanes-full d)) (f .full))),
+            rw (f .is) (won (f .slot) (f .below) (f .full))),
       ))
 
   pub bits-count : n ≡ length (partBits d p)
@@ -145,7 +144,7 @@ module _ (d : List ℕ) (p : ℕ) (all : AllPlanned d p) where
     pub is : planned d (readPin d p j) ≡ some position
     pub one : slotAsks d p j ≡ plannedNumber (planned d (readPin d p j)) ∷ []
 
-  asks-one : (j : ℕ) → j < 8192 → (readPin d p j ≡ empty → ⊥) → Asks j
+  asks-one : (j : ℕ) → j < slotsOf d → (readPin d p j ≡ empty → ⊥) → Asks j
   unfolding askedBy
   asks-one j l k = go (planned d (readPin d p j)) refl
     where
@@ -154,7 +153,7 @@ module _ (d : List ℕ) (p : ℕ) (all : AllPlanned d p) where
       go (some y) e = record { position = y; is = e; one = rw (ne-eqb _ _ k, e, askedBy) }
 
   -- one slot more: s is the set of those before it
-  same-step : (n : ℕ) → n < 8192 → readSetOf (bitsOf d (firstPins (readPin d p) n)) ≡ readSetOf (askedTo d p n) → Step (readPin d p) n
+  same-step : (n : ℕ) → n < slotsOf d → readSetOf (bitsOf d (firstPins (readPin d p) n)) ≡ readSetOf (askedTo d p n) → Step (readPin d p) n
       → readSetOf (bitsOf d (firstPins (readPin d p) (suc n))) ≡ readSetOf (askedTo d p n ++ slotAsks d p n)
   same-step n h r (vacant k e) =
       ap (λ (l : List ℕ). readSetOf (bitsOf d l)) e
@@ -175,7 +174,7 @@ module _ (d : List ℕ) (p : ℕ) (all : AllPlanned d p) where
       ∙ (set-snoc (bitsOf d (firstPins (readPin d p) n)) q
       ∙ (ap (ask q) r ∙ sym (ap (λ (l : List ℕ). readSetOf (askedTo d p n ++ l)) (b .one) ∙ set-snoc (askedTo d p n) q))))
 
-  same-to : (n : ℕ) → n ≤ 8192 → readSetOf (bitsOf d (firstPins (readPin d p) n)) ≡ readSetOf (askedTo d p n)
+  same-to : (n : ℕ) → n ≤ slotsOf d → readSetOf (bitsOf d (firstPins (readPin d p) n)) ≡ readSetOf (askedTo d p n)
   unfolding askedTo firstPins
   same-to zero h = refl
   same-to (suc n) h = same-step n h (same-to n (omega arith)) (step (readPin d p) n)
@@ -183,9 +182,7 @@ module _ (d : List ℕ) (p : ℕ) (all : AllPlanned d p) where
   -- THE SAME SET
   pub same-set : readSetOf (partBits d p) ≡ readWords d p
   unfolding readWords partBits readPins
-  same-set =
-      let full : slotsOf d ≡ 8192 = omega (arith, lanes-full d) in
-      same-to (slotsOf d) (omega arith) ∙ ap (λ (m : ℕ). readSetOf (askedTo d p m)) full
+  same-set = same-to (slotsOf d) (omega arith)
 
   -- ---- narrow bits
 
@@ -195,30 +192,30 @@ module _ (d : List ℕ) (p : ℕ) (all : AllPlanned d p) where
   map-at f (x ∷ l) (suc i) h = map-at f l i (omega arith)
 
   module _ (narrow : AllNarrow (partBits d p)) where
-    slot-bit : (j : ℕ) → j < 8192 → (readPin d p j ≡ empty → ⊥) → Narrow (plannedNumber (planned d (readPin d p j)))
+    slot-bit : (j : ℕ) → j < slotsOf d → (readPin d p j ≡ empty → ⊥) → Narrow (plannedNumber (planned d (readPin d p j)))
     unfolding partBits readPins
     slot-bit j l k =
-        let a : Among (readPin d p) (slotsOf d) (readPin d p j) = listed-among (readPin d p) (slotsOf d) j (omega (arith, lanes-full d)) k in
+        let a : Among (readPin d p) (slotsOf d) (readPin d p j) = listed-among (readPin d p) (slotsOf d) j l k in
         let pins : List ℕ = firstPins (readPin d p) (slotsOf d) in
         let e : getD (bitsOf d pins) (a .at) 0 ≡ plannedNumber (planned d (readPin d p j)) =
         map-at (λ x. plannedNumber (planned d x)) pins (a .at) (a .inside) ∙ ap (λ (x : ℕ). plannedNumber (planned d x)) (a .is)
         in
         rw e at (narrow (a .at) (omega (arith, a .inside, length-map pins (λ x. plannedNumber (planned d x)))))
 
-    slot-narrow : (j : ℕ) → j < 8192 → AllNarrow (slotAsks d p j)
+    slot-narrow : (j : ℕ) → j < slotsOf d → AllNarrow (slotAsks d p j)
     slot-narrow j l = go (eqb (readPin d p j) empty) refl
       where
         go : (b : Bool) → eqb (readPin d p j) empty ≡ b → AllNarrow (slotAsks d p j)
         go true e = rw (asks-none j (eqb-true _ _ e)) (λ i h. absurd (omega arith))
         go false e = rw (asks-one j l (eqb-false _ _ e) .one) (one-narrow _ (slot-bit j l (eqb-false _ _ e)))
 
-    narrow-to : (n : ℕ) → n ≤ 8192 → AllNarrow (askedTo d p n)
+    narrow-to : (n : ℕ) → n ≤ slotsOf d → AllNarrow (askedTo d p n)
     unfolding askedTo
     narrow-to zero h = λ i l. absurd (omega arith)
     narrow-to (suc n) h = narrow-append (askedTo d p n) (slotAsks d p n) (narrow-to n (omega arith)) (slot-narrow n h)
 
-    pub asked-narrow : AllNarrow (askedTo d p 8192)
-    asked-narrow = narrow-to 8192 (omega arith)
+    pub asked-narrow : AllNarrow (askedTo d p (slotsOf d))
+    asked-narrow = narrow-to (slotsOf d) (omega arith)
 
 -- ---- the read set
 
@@ -246,5 +243,5 @@ module _ (d : List ℕ) (p : ℕ) (keys scratch set₀ : List ℕ) (n : ℕ) (ke
     pub asked-count : (r ≡ length (readWords d p)) × (r ≤ 16384)
     asked-count = (c ∙ ap length words, omega (arith, set-length-le ks, ap length (e ∙ asked-front), count .0, count .1, c))
 
-    pub asked-set : (set′ ≡ sets set₀ 0 (readWords d p)) × AllNarrow (askedTo d p 8192)
+    pub asked-set : (set′ ≡ sets set₀ 0 (readWords d p)) × AllNarrow (askedTo d p (slotsOf d))
     asked-set = (h ∙ ap (sets set₀ 0) words, asked-narrow d p all narrow)

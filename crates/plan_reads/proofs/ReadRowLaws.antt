@@ -6,6 +6,7 @@ use Prim.Native.Nat.{ℕ, zero, suc, _+_, _<_}
 use native.Mathlib.Omega.{arith}
 use lib.ListN.{length, getD, set}
 use lib.Seq.{set-comm}
+use Rattle.plan_record.specs.Record.{planLanes}
 use Rattle.plan_rows.specs.Columns as col
 use Rattle.plan_rows.specs.Rows.{cell}
 use Rattle.plan_blocks.specs.TableFill.{putCells}
@@ -28,35 +29,35 @@ module _ (d room : List ℕ) where
   withRounds n = putCells room col.rounds (λ p. p) (roundsIn d) n
 
   pub read-none : readRows d room 0 ≡ room
-  read-none = put-none (withRounds 0) col.pieceSize (λ p. p) (partSize 256 d) ∙ put-none room col.rounds (λ p. p) (roundsIn d)
+  read-none = put-none (withRounds 0) col.pieceSize (λ p. p) (partSize (planLanes d) d) ∙ put-none room col.rounds (λ p. p) (roundsIn d)
 
-  pub read-more : (p : ℕ) → readRows d room (p + 1) ≡ set (set (readRows d room p) (cell p col.rounds) (roundsIn d p)) (cell p col.pieceSize) (partSize 256 d p)
+  pub read-more : (p : ℕ) → readRows d room (p + 1) ≡ set (set (readRows d room p) (cell p col.rounds) (roundsIn d p)) (cell p col.pieceSize) (partSize (planLanes d) d p)
   read-more p =
-      let sizes : List ℕ → List ℕ = λ l. putCells l col.pieceSize (λ q. q) (partSize 256 d) p in
+      let sizes : List ℕ → List ℕ = λ l. putCells l col.pieceSize (λ q. q) (partSize (planLanes d) d) p in
       let before = ap sizes (put-more room col.rounds (λ q. q) (roundsIn d) p) in
-      let after = put-set (withRounds p) col.pieceSize (λ q. q) (partSize 256 d) p (cell p col.rounds) (roundsIn d p) (λ i l e. omega arith) in
-      put-more (withRounds (p + 1)) col.pieceSize (λ q. q) (partSize 256 d) p
-      ∙ ap (λ (l : List ℕ). set l (cell p col.pieceSize) (partSize 256 d p)) (before ∙ sym after)
+      let after = put-set (withRounds p) col.pieceSize (λ q. q) (partSize (planLanes d) d) p (cell p col.rounds) (roundsIn d p) (λ i l e. omega arith) in
+      put-more (withRounds (p + 1)) col.pieceSize (λ q. q) (partSize (planLanes d) d) p
+      ∙ ap (λ (l : List ℕ). set l (cell p col.pieceSize) (partSize (planLanes d) d p)) (before ∙ sym after)
 
   pub read-long : (n : ℕ) → length (readRows d room n) ≡ length room
-  read-long n = put-long (withRounds n) col.pieceSize (λ p. p) (partSize 256 d) n ∙ put-long room col.rounds (λ p. p) (roundsIn d) n
+  read-long n = put-long (withRounds n) col.pieceSize (λ p. p) (partSize (planLanes d) d) n ∙ put-long room col.rounds (λ p. p) (roundsIn d) n
 
   -- another word of any row, and words before the table
   pub read-word : (n p k : ℕ) → k < 16 → (k ≡ col.rounds → ⊥) → (k ≡ col.pieceSize → ⊥) → getD (readRows d room n) (cell p k) 0 ≡ getD room (cell p k) 0
   read-word n p k b h g =
-      put-word (withRounds n) col.pieceSize (λ q. q) (partSize 256 d) n p k (omega arith) b g
+      put-word (withRounds n) col.pieceSize (λ q. q) (partSize (planLanes d) d) n p k (omega arith) b g
       ∙ put-word room col.rounds (λ q. q) (roundsIn d) n p k (omega arith) b h
 
   pub read-low : (n x : ℕ) → x < 65536 → getD (readRows d room n) x 0 ≡ getD room x 0
-  read-low n x h = put-low (withRounds n) col.pieceSize (λ q. q) (partSize 256 d) n x h ∙ put-low room col.rounds (λ q. q) (roundsIn d) n x h
+  read-low n x h = put-low (withRounds n) col.pieceSize (λ q. q) (partSize (planLanes d) d) n x h ∙ put-low room col.rounds (λ q. q) (roundsIn d) n x h
 
   -- the two words of a row
   pub read-rounds : (n p : ℕ) → p < n → cell p col.pieceSize < length room → getD (readRows d room n) (cell p col.rounds) 0 ≡ roundsIn d p
   read-rounds n p l u =
-      put-word (withRounds n) col.pieceSize (λ q. q) (partSize 256 d) n p col.rounds (omega arith) (omega arith) (λ e. omega arith)
+      put-word (withRounds n) col.pieceSize (λ q. q) (partSize (planLanes d) d) n p col.rounds (omega arith) (omega arith) (λ e. omega arith)
       ∙ put-here room col.rounds (λ q. q) (roundsIn d) n p l (omega arith) (λ j a b e. omega arith)
 
-  pub read-size : (n p : ℕ) → p < n → cell p col.pieceSize < length room → getD (readRows d room n) (cell p col.pieceSize) 0 ≡ partSize 256 d p
+  pub read-size : (n p : ℕ) → p < n → cell p col.pieceSize < length room → getD (readRows d room n) (cell p col.pieceSize) 0 ≡ partSize (planLanes d) d p
   read-size n p l u =
       let there : cell p col.pieceSize < length (withRounds n) = omega (arith, put-long room col.rounds (λ q. q) (roundsIn d) n) in
-      put-here (withRounds n) col.pieceSize (λ q. q) (partSize 256 d) n p l there (λ j a b e. omega arith)
+      put-here (withRounds n) col.pieceSize (λ q. q) (partSize (planLanes d) d) n p l there (λ j a b e. omega arith)

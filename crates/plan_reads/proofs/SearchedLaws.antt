@@ -22,7 +22,6 @@ use Rattle.rounds.specs.Rounds.{SetSearchable, Solvable}
 use Rattle.rounds.proofs.RoundsAnswerLaws.{searchable, is-read, Win}
 use Rattle.pinmap.specs.PinMap.{look}
 use Rattle.plan_record.specs.Record.{slotsOf, levelAt}
-use Rattle.plan_record.proofs.RecordLaws.{lanes-full}
 use Rattle.words.proofs.TestLaws.{some-at}
 use Rattle.plan_slots.specs.Slots.{readsPin}
 use Rattle.plan_slots.specs.Puts.{readPuts, filled, foundIf}
@@ -81,9 +80,9 @@ lost-reads n ws q e = rw e
 
 -- ---- the table of pins
 
-pub reads-slot : (d : List ℕ) (p j : ℕ) → j < 8192 → readsPin d p (levelAt d p 0 j) ≡ true
+pub reads-slot : (d : List ℕ) (p j : ℕ) → j < slotsOf d → readsPin d p (levelAt d p 0 j) ≡ true
 unfolding readsPin
-reads-slot d p j h = some-at (λ i. eqb (levelAt d p 0 i) (levelAt d p 0 j)) (slotsOf d) j (omega (arith, lanes-full d)) (eq-eqb (levelAt d p 0 j) _ refl)
+reads-slot d p j h = some-at (λ i. eqb (levelAt d p 0 i) (levelAt d p 0 j)) (slotsOf d) j h (eq-eqb (levelAt d p 0 j) _ refl)
 
 planned-winning : (d : List ℕ) (x : ℕ) → (planned d x ≡ none → ⊥) → 0 < winner d x
 planned-winning d x h = go (winner d x) refl

@@ -5,7 +5,7 @@ use mathlib.Core.Bool.{true, false}
 use mathlib.Core.List.{List}
 use Prim.Native.Nat.{ℕ, _*_, _<_}
 use lib.Dec.{eqb}
-use Rattle.plan_record.specs.Record.{levelAt}
+use Rattle.plan_record.specs.Record.{slotsOf, levelAt}
 use Rattle.words.specs.Pins.{empty}
 use Rattle.plan_winners.specs.Planned.{planned}
 use Rattle.plan_reads.specs.PartReads.{partLanes, localPosition}
@@ -25,4 +25,4 @@ pub record NumberedAt (n : ℕ) (d : List ℕ) (p : ℕ) (set bases : List ℕ) 
 
 -- so it is for each that is not empty
 abbrev pub AllNumbered : ℕ → List ℕ → ℕ → List ℕ → List ℕ → Type 0
-AllNumbered n d p set bases = (j : ℕ) → j < 8192 → (levelAt d p 0 j ≡ empty → ⊥) → NumberedAt n d p set bases j
+AllNumbered n d p set bases = (j : ℕ) → j < slotsOf d → (levelAt d p 0 j ≡ empty → ⊥) → NumberedAt n d p set bases j

@@ -9,7 +9,7 @@ use lib.Dec.{eqb}
 use Rattle.reads.specs.Search.{longest}
 use Rattle.words.specs.Answer.{Answer, good, refused}
 use Rattle.reads.specs.SetAnswer.{Packed}
-use Rattle.plan_record.specs.Record.{partsOf}
+use Rattle.plan_record.specs.Record.{planLanes, partsOf}
 use Rattle.words.specs.Tests.{Place}
 use Rattle.plan_rows.specs.Columns as col
 use Rattle.plan_blocks.specs.TableFill.{putCells}
@@ -77,7 +77,7 @@ sizeKept (Refused q) = 0
 sizeKept (Rounds n k) = k
 
 abbrev pub roundsIn : List ℕ → ℕ → ℕ
-roundsIn d p = longest (partLanes 256 d p)
+roundsIn d p = longest (partLanes (planLanes d) d p)
 
 -- the parts up to the first with nothing to read
 abbrev pub partsUpTo : Option Place → ℕ → ℕ
@@ -86,8 +86,8 @@ partsUpTo (some x) n = x .part
 
 -- the room with the rounds and the piece sizes of the first n parts in their rows
 abbrev pub readRows : List ℕ → List ℕ → ℕ → List ℕ
-readRows d room n = putCells (putCells room col.rounds (λ p. p) (roundsIn d) n) col.pieceSize (λ p. p) (partSize 256 d) n
+readRows d room n = putCells (putCells room col.rounds (λ p. p) (roundsIn d) n) col.pieceSize (λ p. p) (partSize (planLanes d) d) n
 
 -- and after all parts were searched
 unfoldable pub searchedRoom : List ℕ → List ℕ → List ℕ
-searchedRoom d room = readRows d room (partsUpTo (refusedReads 256 3 d) (partsOf d))
+searchedRoom d room = readRows d room (partsUpTo (refusedReads (planLanes d) 3 d) (partsOf d))

@@ -12,7 +12,7 @@ use Rattle.reads.specs.Search.{Lane}
 use Rattle.reads.specs.Local.{localOf}
 use Rattle.words.specs.Answer.{Answer, good, refused}
 use Rattle.reads.specs.SetAnswer.{Packed, packed}
-use Rattle.plan_record.specs.Record.{levelAt, partsOf}
+use Rattle.plan_record.specs.Record.{slotsOf, levelAt, partsOf}
 use Rattle.words.specs.Pins.{empty}
 use Rattle.words.specs.Tests.{lowest, Place}
 use Rattle.plan_winners.specs.Planned.{Planned, planned}
@@ -33,7 +33,7 @@ askedTo d p (suc j) = askedTo d p j ++ askedBy (eqb (levelAt d p 0 j) empty) (pl
 
 -- the read set, and what the search makes of it
 unfoldable pub readWords : List ℕ → ℕ → List ℕ
-readWords d p = readSetOf (askedTo d p 8192)
+readWords d p = readSetOf (askedTo d p (slotsOf d))
 
 unfoldable pub partReads : ℕ → List ℕ → ℕ → Answer Packed
 partReads n d p = packed n (pairsOf (readWords d p))

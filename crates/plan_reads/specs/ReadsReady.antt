@@ -8,7 +8,7 @@ use Prim.Native.Nat.{ℕ, _-_, _%_, _^_, _≤_, _<_}
 use lib.ListN.{length, getD, take, replicate}
 use Rattle.reads.specs.ReadSet.{pairsOf, broken}
 use Rattle.pinmap.specs.PinMap.{look}
-use Rattle.plan_record.specs.Record.{partsOf, levelAt}
+use Rattle.plan_record.specs.Record.{slotsOf, partsOf, levelAt}
 use Rattle.words.specs.Pins.{empty}
 use Rattle.plan_record.specs.Form.{planForm}
 use Rattle.plan_rows.specs.Rows.{rowBase}
@@ -50,7 +50,7 @@ pub record Won (d pins : List ℕ) (x : ℕ) : Type 0 where
 
 -- so it has those of all pins that part p reads
 abbrev pub AllWon : List ℕ → ℕ → List ℕ → Type 0
-AllWon d p pins = (j : ℕ) → j < 8192 → (levelAt d p 0 j ≡ empty → ⊥) → Won d pins (levelAt d p 0 j)
+AllWon d p pins = (j : ℕ) → j < slotsOf d → (levelAt d p 0 j ≡ empty → ⊥) → Won d pins (levelAt d p 0 j)
 
 -- so it has those of all listed pins
 abbrev pub ListWon : List ℕ → List ℕ → List ℕ → Type 0
@@ -64,7 +64,7 @@ pub record SetRoom (keys scratch set : ℕ) : Type 0 where
 
 -- every pin that part p reads has a planned position
 abbrev pub AllPlanned : List ℕ → ℕ → Type 0
-AllPlanned d p = (j : ℕ) → j < 8192 → (levelAt d p 0 j ≡ empty → ⊥) → planned d (levelAt d p 0 j) ≡ none → ⊥
+AllPlanned d p = (j : ℕ) → j < slotsOf d → (levelAt d p 0 j ≡ empty → ⊥) → planned d (levelAt d p 0 j) ≡ none → ⊥
 
 -- a read set as the search takes it: 8192 pairs at most, in form
 pub record SetInForm (ws : List ℕ) : Type 0 where

@@ -4,6 +4,7 @@ ghost use Prim.Native.Nat.{_-_, _^_, _≤_, _<_};
 ghost use lib.ListN.{length};
 ghost use lib.Seq.{sets};
 ghost use Rattle.pinmap.specs.PinMap.{look};
+ghost use Rattle.plan_record.specs.Record.{slotsOf};
 ghost use Rattle.plan_record.specs.Body.{BodyOf};
 ghost use Rattle.plan_winners.specs.Planned.{planned};
 ghost use Rattle.plan_winners.specs.Winners.{ListsInRange, plannedBy};
@@ -90,7 +91,7 @@ pub fn part_set(
     ensures { λ r. ⌜ (r ≡ length (readWords (now (d .entry)) p)) × (r ≤ 16384) ⌝ }
     ensures { λ _. ⌜ now (pins .exit) ≡ plannedTable (now (d .entry)) p (length (now (pins .entry))) ⌝ }
     ensures { λ _. ⌜ now (set .exit) ≡ sets (now (set .entry)) 0 (readWords (now (d .entry)) p) ⌝ }
-    ensures { λ _. ⌜ AllNarrow (askedTo (now (d .entry)) p 8192) ⌝ }
+    ensures { λ _. ⌜ AllNarrow (askedTo (now (d .entry)) p (slotsOf (now (d .entry)))) ⌝ }
 {
     let n = list_bits(d, p, body, pins, keys);
     reads_asked::read_set(&mut keys[..n], scratch, set)

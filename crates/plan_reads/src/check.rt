@@ -2,6 +2,7 @@
 ghost use mathlib.Core.Path.{_≡_};
 ghost use Prim.Native.Nat.{_<_};
 ghost use lib.ListN.{length, set};
+ghost use Rattle.plan_record.specs.Record.{planLanes};
 ghost use Rattle.plan_record.specs.Body.{BodyOf};
 ghost use Rattle.plan_rows.specs.Columns as col;
 ghost use Rattle.plan_rows.specs.Rows.{cell};
@@ -20,11 +21,7 @@ use plan_record::bodies::parts_of;
 use plan_rows::Column;
 use plan_rows::put_cell;
 use words::clear::clear;
-use words::edition::Edition;
 use words::refusals;
-
-// The search's table: a row of 32 entries for each lane.
-const LANE_ROWS: usize = 32 * Edition::LANES;
 
 // The first part with nothing to read, else with too many bits, else with too many wide words, else without room, with the word.
 pub enum Checked {
@@ -43,7 +40,8 @@ pub struct Firsts {
     pub word: u64,
 }
 
-// The reads of part p, with its table of pins in a lent room. What the lent slices hold afterwards is left open.
+// The reads of part p. A lent room has its table of pins, and then in its first words the search's table, a row of 32 for each lane. What the
+// lent slices hold afterwards is left open.
 fn search_part(
     d: &[u8],
     p: usize,
@@ -54,16 +52,12 @@ fn search_part(
     set: &mut [u32],
 ) -> Reads
     requires { ⌜ BodyOf (now d) p body × (0 < body .stages) × ListsInRange (now d) × AllPlanned (now d) p × SetRoom (length (now keys)) (length (now scratch)) (length (now set)) × (length (now room) ≡ 32768) ⌝ }
-    ensures { λ r. ⌜ r ≡ readsOf (partReads 256 (now (d .entry)) p) ⌝ }
+    ensures { λ r. ⌜ r ≡ readsOf (partReads (planLanes (now (d .entry))) (now (d .entry)) p) ⌝ }
 {
+    let lanes = body.lanes;
+    let rows = 32 * lanes;
     let n = part_set(d, p, body, room, keys, scratch, set);
-    search_set(
-        &set[..n],
-        &mut room[..LANE_ROWS],
-        keys,
-        scratch,
-        Edition::LANES,
-    )
+    search_set(&set[..n], &mut room[..rows], keys, scratch, lanes)
 }
 
 // The same with the first words of a room, which are clear before and after.
@@ -77,7 +71,7 @@ fn check_part(
     set: &mut [u32],
 ) -> Reads
     requires { ⌜ BodyOf (now d) p body × (0 < body .stages) × ListsInRange (now d) × AllPlanned (now d) p × SetRoom (length (now keys)) (length (now scratch)) (length (now set)) × ClearRoom (now d) (now room) ⌝ }
-    ensures { λ r. ⌜ r ≡ readsOf (partReads 256 (now (d .entry)) p) ⌝ }
+    ensures { λ r. ⌜ r ≡ readsOf (partReads (planLanes (now (d .entry))) (now (d .entry)) p) ⌝ }
     ensures { λ _. ⌜ now (room .exit) ≡ now (room .entry) ⌝ }
 {
     let reads = search_part(d, p, body, &mut room[..PIN_TABLE], keys, scratch, set);
@@ -203,7 +197,7 @@ pub fn check_reads(
     set: &mut [u32],
 ) -> Checked
     requires { ⌜ ReadsSearchable (now d) (now room) × SetRoom (length (now keys)) (length (now scratch)) (length (now set)) ⌝ }
-    ensures { λ r. ⌜ r ≡ checkedOf (refusedReads 256 3 (now (d .entry))) (refusedReads 256 21 (now (d .entry))) (refusedReads 256 22 (now (d .entry))) (refusedReads 256 4 (now (d .entry))) ⌝ }
+    ensures { λ r. ⌜ r ≡ checkedOf (refusedReads (planLanes (now (d .entry))) 3 (now (d .entry))) (refusedReads (planLanes (now (d .entry))) 21 (now (d .entry))) (refusedReads (planLanes (now (d .entry))) 22 (now (d .entry))) (refusedReads (planLanes (now (d .entry))) 4 (now (d .entry))) ⌝ }
     ensures { λ _. ⌜ now (room .exit) ≡ searchedRoom (now (d .entry)) (now (room .entry)) ⌝ }
 {
     let parts = parts_of(d);

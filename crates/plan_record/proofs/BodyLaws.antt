@@ -7,15 +7,15 @@ use native.Mathlib.Omega.{arith}
 use lib.ListN.{length}
 use Rattle.words.specs.Edition.{Known}
 use Rattle.words.proofs.EditionLaws.{known-least, known-most}
-use Rattle.plan_record.specs.Record.{planLanes, slotWords, tableWords, wordAt, headBase, stagesOf, endpointsOf, locationsIn, bodyAt, countBase, slotBase, locationBase, tableBase}
+use Rattle.plan_record.specs.Record.{partHeadWords, endpointWords, planLanes, slotWords, tableWords, wordAt, headBase, stagesOf, endpointsOf, locationsIn, bodyAt, countBase, slotBase, locationBase, tableBase}
 use Rattle.plan_record.specs.Body.{BodyReady, BodyOf}
-use Rattle.plan_record.proofs.RecordLaws.{lanes-full, lanes-known, body-long, tables-end, stages-at, endpoints-at}
+use Rattle.plan_record.proofs.RecordLaws.{lanes-known, body-long, tables-end, stages-at, endpoints-at}
 
 module _ (d : List ℕ) (p at : ℕ) (ready : BodyReady d p at) where
   pub body-inside : at ≤ length d / 4
   body-inside = omega (arith, ready .place, ready .inside, body-long d p)
 
-  module _ (h n e : ℕ) (head : h ≡ headBase d) (stages : n ≡ wordAt d (h + 2 * p)) (endpoints : e ≡ wordAt d (h + 2 * p + 1)) where
+  module _ (h n e : ℕ) (head : h ≡ headBase d) (stages : n ≡ wordAt d (h + partHeadWords * p)) (endpoints : e ≡ wordAt d (h + partHeadWords * p + 1)) where
     stages-is : n ≡ stagesOf d p
     stages-is = stages ∙ stages-at d h p head
 
@@ -33,18 +33,18 @@ module _ (d : List ℕ) (p at : ℕ) (ready : BodyReady d p at) where
           endpoints = e;
           locations = l;
           at = at;
-          counts = at + 3 * e;
-          slots = at + 3 * e + n;
-          places = at + 3 * e + n + w;
-          tables = at + 3 * e + n + w + l;
-          end = at + 3 * e + n + w + l + tableWords k;
+          counts = at + endpointWords * e;
+          slots = at + endpointWords * e + n;
+          places = at + endpointWords * e + n + w;
+          tables = at + endpointWords * e + n + w + l;
+          end = at + endpointWords * e + n + w + l + tableWords k;
         })
     unfolding tableBase locationBase slotBase countBase
     body-made k l w lanes locations words =
         let ls : l ≡ locationsIn d (bodyAt d p) (stagesOf d p) (endpointsOf d p) = cc (stages-is, endpoints-is, ready .place) in
         let edition : Known k = subst Known (sym lanes) (lanes-known d) in
         let slots-are : w ≡ slotWords (planLanes d) * stagesOf d p = words ∙ ap₂ (λ (a b : ℕ). slotWords a * b) lanes stages-is in
-        let end-is : at + 3 * e + n + w + l + tableWords k ≡ bodyAt d (p + 1) = omega (arith, ready .place, endpoints-is, stages-is, slots-are, tables-end d p) in
+        let end-is : at + endpointWords * e + n + w + l + tableWords k ≡ bodyAt d (p + 1) = omega (arith, ready .place, endpoints-is, stages-is, slots-are, tables-end d p) in
         record {
           lanes = lanes;
           stages = stages-is;
@@ -60,7 +60,6 @@ module _ (d : List ℕ) (p at : ℕ) (ready : BodyReady d p at) where
             edition = edition;
             some-lanes = known-least k edition;
             lanes = known-most k edition;
-            full = lanes ∙ lanes-full d;
             stages = body-sizes .1;
             endpoints = body-sizes .2;
             counts = refl;

@@ -38,7 +38,8 @@ pub record HeadRanges (d : List ℕ) : Type 0 where
 pub head-ranges : (d : List ℕ) → headForm d ≡ true → HeadRanges d
 unfolding headForm
 head-ranges d h =
-    let (a, b) = and-true (leb 1 (blocksOf d) && leb (blocksOf d) 1024 && (leb 1 (majorsOf d) && leb (majorsOf d) 64)) _ h in
+    let (g, rest) = and-true (leb 1 (blocksOf d) && leb (blocksOf d) 1024 && (leb 1 (majorsOf d) && leb (majorsOf d) 64) && (leb (layoutOf d) (2 ^ 20) && leb (positionsOf d) (2 ^ 20))) _ h in
+    let (a, b) = and-true (leb 1 (blocksOf d) && leb (blocksOf d) 1024 && (leb 1 (majorsOf d) && leb (majorsOf d) 64)) _ g in
     let (k, m) = and-true (leb 1 (blocksOf d) && leb (blocksOf d) 1024) _ a in
     let (k1, k2) = and-true (leb 1 (blocksOf d)) _ k in
     let (m1, m2) = and-true (leb 1 (majorsOf d)) _ m in
@@ -79,7 +80,8 @@ pub record PartRanges (d : List ℕ) (p : ℕ) : Type 0 where
 pub part-ranges : (d : List ℕ) (p : ℕ) → partHeadForm d p ≡ true → PartRanges d p
 unfolding partHeadForm
 part-ranges d p h =
-    let (s, e) = and-true (leb 1 (stagesOf d p) && leb (stagesOf d p) 255) _ h in
+    let (g, rest) = and-true (leb 1 (stagesOf d p) && leb (stagesOf d p) 255 && leb (endpointsOf d p) 8192) _ h in
+    let (s, e) = and-true (leb 1 (stagesOf d p) && leb (stagesOf d p) 255) _ g in
     let (s1, s2) = and-true (leb 1 (stagesOf d p)) _ s in
     record { some-stages = leb-true _ _ s1; stages = leb-true _ _ s2; endpoints = leb-true _ _ e }
 
@@ -142,7 +144,8 @@ pub record PositionRanges (d : List ℕ) (i : ℕ) : Type 0 where
 position-ranges : (d : List ℕ) (i : ℕ) → positionForm d i ≡ true → PositionRanges d i
 unfolding positionForm
 position-ranges d i h =
-    let (a, b) = and-true (leb (positionPin d i) (2 ^ 30)) _ h in
+    let (g, rest) = and-true (leb (positionPin d i) (2 ^ 30) && leb (positionStaged d i) 1) _ h in
+    let (a, b) = and-true (leb (positionPin d i) (2 ^ 30)) _ g in
     record { pin = leb-true _ _ a; staged = leb-true _ _ b }
 
 -- an endpoint's kind, and the numbers that it holds

@@ -1,19 +1,21 @@
 -- Laws of the record's words: a word is there or it is 0; the numbers of a plan stand in their order.
 -- Assumes nothing.
-use mathlib.Core.Path.{_≡_, refl, ap}
-use mathlib.Core.Logic.{inl, ⊎-elim}
+use mathlib.Core.Path.{_≡_, refl, sym, ap}
+use mathlib.Core.Bool.{Bool, true, false}
+use mathlib.Core.Logic.{inl, inr, ⊎-elim}
 use mathlib.Core.List.{List}
 use Prim.Native.Nat.{ℕ, zero, suc, _+_, _*_, _-_, _≤_, _<_}
 use native.Mathlib.Nat.{mul-le-mul}
 use native.Mathlib.Omega.{arith}
 use native.Mathlib.Numerals.{add-one}
-use borrow.Author.Tests.{le-leb, lt-leb}
+use borrow.Author.Tests.{le-leb, lt-leb, eq-eqb, ne-eqb}
+use lib.Dec.{eqb}
 use lib.ListN.{length, getD}
 use Rattle.words.specs.Edition.{Known}
 use Rattle.words.proofs.EditionLaws.{known-least, known-most, runs-in}
 use Rattle.words.proofs.SumLaws.{sum-more}
 use Rattle.words.proofs.BitLaws.{lt-or-ge}
-use Rattle.plan_record.specs.Record.{planLanes, slotsOf, slotWords, tableWords}
+use Rattle.plan_record.specs.Record.{positionWords, partHeadWords, endpointWords, slotWords, tableWords, editionOf, planLanes, slotsOf}
 use Rattle.plan_record.specs.Record.{wordAt, gatesOf, layoutOf, positionsOf, gateBase, layoutBase, positionBase, countAt, partsBefore, partsOf, headBase, stagesOf, endpointsOf, locationsIn, bodyWords, bodyAt, countBase, slotBase, locationBase, tableBase}
 
 pub word-there : (d : List ℕ) (i : ℕ) → 4 * i + 4 ≤ length d
@@ -27,13 +29,22 @@ word-missing d i h = rw (lt-leb _ _ h, wordAt)
 
 -- ---- the lanes
 
--- every plan is of the full edition: what is stated over 256 lanes alone stands on this law, which goes with 10/13
-pub lanes-full : (d : List ℕ) → planLanes d ≡ 256
-unfolding planLanes
-lanes-full d = refl
-
+-- they are an edition's, whatever the word says
 pub lanes-known : (d : List ℕ) → Known (planLanes d)
-lanes-known d = inl (lanes-full d)
+unfolding planLanes
+lanes-known d = go (eqb (editionOf d) 128) refl
+  where
+    go : (b : Bool) → eqb (editionOf d) 128 ≡ b → Known (planLanes d)
+    go true e = inr (rw (e, planLanes))
+    go false e = inl (rw (e, planLanes))
+
+pub lanes-small : (d : List ℕ) (x : ℕ) → x ≡ editionOf d → x ≡ 128 → 128 ≡ planLanes d
+unfolding planLanes
+lanes-small d x h e = sym (rw (eq-eqb (editionOf d) 128 (omega arith), planLanes))
+
+pub lanes-other : (d : List ℕ) (x : ℕ) → x ≡ editionOf d → (x ≡ 128 → ⊥) → 256 ≡ planLanes d
+unfolding planLanes
+lanes-other d x h n = sym (rw (ne-eqb (editionOf d) 128 (λ e. n (omega arith)), planLanes))
 
 pub lanes-range : (d : List ℕ) → (128 ≤ planLanes d) × (planLanes d ≤ 256)
 lanes-range d = (known-least (planLanes d) (lanes-known d), known-most (planLanes d) (lanes-known d))
@@ -65,23 +76,23 @@ pub layout-before : (d : List ℕ) (i : ℕ) → i < layoutOf d → layoutBase d
 unfolding headBase positionBase
 layout-before d i h = omega arith
 
-pub position-before : (d : List ℕ) (i : ℕ) → i < positionsOf d → positionBase d + 3 * i + 2 < headBase d
+pub position-before : (d : List ℕ) (i : ℕ) → i < positionsOf d → positionBase d + positionWords * i + 3 < headBase d
 unfolding headBase
 position-before d i h = omega arith
 
 -- ---- sums over the record's counts: one more
 
-pub parts-more : (d : List ℕ) (s : ℕ) → partsBefore d (s + 1) ≡ partsBefore d s + wordAt d (5 + s)
+pub parts-more : (d : List ℕ) (s : ℕ) → partsBefore d (s + 1) ≡ partsBefore d s + countAt d s
 unfolding partsBefore
 parts-more d s = sum-more (countAt d) s
 
-pub locations-more : (d : List ℕ) (b n e : ℕ) → locationsIn d b (n + 1) e ≡ locationsIn d b n e + wordAt d (b + 3 * e + n)
+pub locations-more : (d : List ℕ) (b n e : ℕ) → locationsIn d b (n + 1) e ≡ locationsIn d b n e + wordAt d (b + endpointWords * e + n)
 unfolding locationsIn
-locations-more d b n e = sum-more (λ s. wordAt d (b + 3 * e + s)) n
+locations-more d b n e = sum-more (λ s. wordAt d (b + endpointWords * e + s)) n
 
 -- ---- bodies: each begins where the one before ends
 
-pub body-first : (d : List ℕ) → bodyAt d 0 ≡ headBase d + 2 * partsOf d
+pub body-first : (d : List ℕ) → bodyAt d 0 ≡ headBase d + partHeadWords * partsOf d
 unfolding bodyAt
 body-first d = refl
 
@@ -104,11 +115,11 @@ pub body-step : (d : List ℕ) (p at n e w : ℕ) → at ≡ bodyAt d p → n �
 body-step d p at n e w a b g h = cc (body-more d p)
 
 -- the numbers of a part's head, read from where the heads begin
-pub stages-at : (d : List ℕ) (h p : ℕ) → h ≡ headBase d → wordAt d (h + 2 * p) ≡ stagesOf d p
-stages-at d h p e = ap (λ (x : ℕ). wordAt d (x + 2 * p)) e
+pub stages-at : (d : List ℕ) (h p : ℕ) → h ≡ headBase d → wordAt d (h + partHeadWords * p) ≡ stagesOf d p
+stages-at d h p e = ap (λ (x : ℕ). wordAt d (x + partHeadWords * p)) e
 
-pub endpoints-at : (d : List ℕ) (h p : ℕ) → h ≡ headBase d → wordAt d (h + 2 * p + 1) ≡ endpointsOf d p
-endpoints-at d h p e = ap (λ (x : ℕ). wordAt d (x + 2 * p + 1)) e
+pub endpoints-at : (d : List ℕ) (h p : ℕ) → h ≡ headBase d → wordAt d (h + partHeadWords * p + 1) ≡ endpointsOf d p
+endpoints-at d h p e = ap (λ (x : ℕ). wordAt d (x + partHeadWords * p + 1)) e
 
 -- the lists of a body, one after the other
 pub tables-end : (d : List ℕ) (p : ℕ) → bodyAt d (p + 1) ≡ tableBase d p + tableWords (planLanes d)

@@ -8,7 +8,7 @@ use lib.ListN.{length}
 use Rattle.plan_record.specs.declared.bodies.Body.{Body}
 use Rattle.words.specs.Edition.{Known}
 use Rattle.words.specs.Tests.{allBelow}
-use Rattle.plan_record.specs.Record.{planLanes, slotWords, tableWords, majorsOf, partsOf, stagesOf, endpointsOf, locationsOf, bodyAt, countBase, slotBase, locationBase, tableBase}
+use Rattle.plan_record.specs.Record.{endpointWords, planLanes, slotWords, tableWords, majorsOf, partsOf, stagesOf, endpointsOf, locationsOf, bodyAt, countBase, slotBase, locationBase, tableBase}
 use Rattle.plan_record.specs.Form.{partHeadForm, lengthForm}
 
 -- the numbers of stages and endpoints are in range
@@ -30,16 +30,14 @@ pub record BodyReady (d : List ℕ) (p at : ℕ) : Type 0 where
   pub stages : stagesOf d p ≤ 255
   pub endpoints : endpointsOf d p ≤ 8192
 
--- the lists of a body follow one another, and end inside m words; the lanes are an edition's. `full` goes with 10/13: what is stated over 256 lanes
--- alone stands on it.
+-- the lists of a body follow one another, and end inside m words; the lanes are an edition's
 pub record Laid (m : ℕ) (b : Body) : Type 0 where
   pub edition : Known (b .lanes)
   pub some-lanes : 128 ≤ b .lanes
   pub lanes : b .lanes ≤ 256
-  pub full : b .lanes ≡ 256
   pub stages : b .stages ≤ 255
   pub endpoints : b .endpoints ≤ 8192
-  pub counts : b .counts ≡ b .at + 3 * b .endpoints
+  pub counts : b .counts ≡ b .at + endpointWords * b .endpoints
   pub slots : b .slots ≡ b .counts + b .stages
   pub places : b .places ≡ b .slots + slotWords (b .lanes) * b .stages
   pub tables : b .tables ≡ b .places + b .locations

@@ -5,6 +5,8 @@ ghost use Prim.Native.Nat.{_*_, _^_, _≤_, _<_};
 ghost use Rattle.plan_record.specs.Record.{tableWords, majorsOf, partsOf, bodyAt, endpointWord, stageLocations, slotAt, levelAt, locationAt, tableAt};
 ghost use Rattle.plan_record.specs.Body.{BodyReady, BodyOf};
 ghost use Rattle.plan_record.specs.Endpoint.{endpointAt};
+use crate::places::ENDPOINT_WORDS;
+use crate::places::PART_HEAD_WORDS;
 use crate::places::TABLE_WORDS;
 use crate::places::head_base;
 use crate::places::lanes_of;
@@ -50,9 +52,9 @@ pub fn parts_of(d: &[u8]) -> usize
 // Where the first body begins.
 pub fn first_body(d: &[u8]) -> usize
     requires { ⌜ majorsOf (now d) ≤ 64 ⌝ }
-    ensures { λ r. ⌜ (r ≡ bodyAt (now (d .entry)) 0) × (r < 2 ^ 41) ⌝ }
+    ensures { λ r. ⌜ (r ≡ bodyAt (now (d .entry)) 0) × (r < 2 ^ 42) ⌝ }
 {
-    head_base(d) + 2 * parts_of(d)
+    head_base(d) + PART_HEAD_WORDS * parts_of(d)
 }
 
 // The body of part p, which begins at word `at`.
@@ -61,11 +63,11 @@ pub fn body_at(d: &[u8], p: usize, at: usize) -> Body
     ensures { λ r. ⌜ BodyOf (now (d .entry)) p r ⌝ }
 {
     let lanes = lanes_of(d);
-    let head = head_base(d) + 2 * p;
+    let head = head_base(d) + PART_HEAD_WORDS * p;
     let stages = word_at(d, head) as usize;
     let endpoints = word_at(d, head + 1) as usize;
     let locations = locations_in(d, at, stages, endpoints);
-    let counts = at + 3 * endpoints;
+    let counts = at + ENDPOINT_WORDS * endpoints;
     let slots = counts + stages;
     let places = slots + slot_words(lanes, stages);
     let tables = places + locations;
@@ -88,7 +90,7 @@ pub fn endpoint_word(d: &[u8], p: usize, body: Body, i: usize, k: usize) -> u32
     requires { ⌜ BodyOf (now d) p body × (i < body .endpoints) × (k < 3) ⌝ }
     ensures { λ r. ⌜ r ≡ endpointWord (now (d .entry)) p i k ⌝ }
 {
-    word_in(d, body.at + 3 * i + k)
+    word_in(d, body.at + ENDPOINT_WORDS * i + k)
 }
 
 // Endpoint i.

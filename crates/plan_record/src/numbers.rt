@@ -2,7 +2,10 @@
 // look at the head, is asked for once and lent.
 ghost use mathlib.Core.Path.{_≡_};
 ghost use Prim.Native.Nat.{_^_, _<_};
-ghost use Rattle.plan_record.specs.Record.{blocksOf, majorsOf, gatesOf, layoutOf, positionsOf, countAt, gatePin, gateFirst, gateSecond, layoutBase, layoutPin, positionBase, positionPin, positionState, positionStaged, headBase, stagesOf};
+ghost use Rattle.plan_record.specs.Record.{blocksOf, majorsOf, gatesOf, layoutOf, positionsOf, editionOf, countAt, gatePin, gateFirst, gateSecond, layoutBase, layoutPin, positionBase, positionPin, positionState, positionStaged, headBase, stagesOf};
+use crate::places::HEAD_WORDS;
+use crate::places::PART_HEAD_WORDS;
+use crate::places::POSITION_WORDS;
 use crate::places::gate_base;
 use crate::places::word_at;
 use words::units::Pin;
@@ -44,12 +47,19 @@ pub fn positions_of(d: &[u8]) -> u32
     word_at(d, 4)
 }
 
+// The number that names the edition.
+pub fn edition_of(d: &[u8]) -> u32
+    ensures { λ r. ⌜ r ≡ editionOf (now (d .entry)) ⌝ }
+{
+    word_at(d, 5)
+}
+
 // How many parts major stage s has.
 pub fn count_at(d: &[u8], s: usize) -> u32
     requires { ⌜ s < 2 ^ 32 ⌝ }
     ensures { λ r. ⌜ r ≡ countAt (now (d .entry)) s ⌝ }
 {
-    word_at(d, 5 + s)
+    word_at(d, HEAD_WORDS + s)
 }
 
 // The pin of gate g, and its fan-ins.
@@ -84,21 +94,21 @@ pub fn position_pin(d: &[u8], base: usize, i: u32) -> Pin
     requires { ⌜ (base ≡ positionBase (now d)) × (base < 2 ^ 36) ⌝ }
     ensures { λ r. ⌜ r .0 ≡ positionPin (now (d .entry)) i ⌝ }
 {
-    Pin(word_at(d, base + 3 * (i as usize)))
+    Pin(word_at(d, base + POSITION_WORDS * (i as usize)))
 }
 
 pub fn position_place(d: &[u8], base: usize, i: u32) -> StatePosition
     requires { ⌜ (base ≡ positionBase (now d)) × (base < 2 ^ 36) ⌝ }
     ensures { λ r. ⌜ r .0 ≡ positionState (now (d .entry)) i ⌝ }
 {
-    StatePosition(word_at(d, base + 3 * (i as usize) + 1))
+    StatePosition(word_at(d, base + POSITION_WORDS * (i as usize) + 1))
 }
 
 pub fn position_staged(d: &[u8], base: usize, i: u32) -> u32
     requires { ⌜ (base ≡ positionBase (now d)) × (base < 2 ^ 36) ⌝ }
     ensures { λ r. ⌜ r ≡ positionStaged (now (d .entry)) i ⌝ }
 {
-    word_at(d, base + 3 * (i as usize) + 2)
+    word_at(d, base + POSITION_WORDS * (i as usize) + 2)
 }
 
 // How many boomerang stages part p has, of a record whose part heads begin at word `base`.
@@ -106,5 +116,5 @@ pub fn stages_at(d: &[u8], base: usize, p: usize) -> u32
     requires { ⌜ (base ≡ headBase (now d)) × (base < 2 ^ 37) × (p < 262144) ⌝ }
     ensures { λ r. ⌜ r ≡ stagesOf (now (d .entry)) p ⌝ }
 {
-    word_at(d, base + 2 * p)
+    word_at(d, base + PART_HEAD_WORDS * p)
 }

@@ -5,6 +5,16 @@ ghost use lib.ListN.{length};
 ghost use Rattle.plan_record.specs.Record.{planLanes, slotWords, wordAt, partsBefore, gateBase, layoutBase, positionBase, headBase, locationsIn, bodyWords};
 ghost use Rattle.plan_record.specs.Form.{planRoomWords};
 use words::edition::Edition;
+use words::edition::SmallEdition;
+
+// The words of the head, of a position, of a part's head and of an endpoint.
+pub const HEAD_WORDS: usize = 9;
+
+pub const POSITION_WORDS: usize = 4;
+
+pub const PART_HEAD_WORDS: usize = 4;
+
+pub const ENDPOINT_WORDS: usize = 4;
 
 // What a lane has of the two tables: 32 entries in each, and one word in each of five lists.
 pub const TABLE_WORDS: usize = 69;
@@ -31,10 +41,13 @@ pub fn word_at(d: &[u8], i: usize) -> u32
     if i < d.len() / 4 { word_in(d, i) } else { 0 }
 }
 
-// The lanes of a record's edition: every plan is of the full one.
+// The lanes of a record's edition; a number that names none is read as the full edition's.
 pub fn lanes_of(d: &[u8]) -> usize
     ensures { λ r. ⌜ (r ≡ planLanes (now (d .entry))) × (128 ≤ r) × (r ≤ 256) ⌝ }
 {
+    if word_at(d, 5) == SmallEdition::LANES as u32 {
+        return SmallEdition::LANES;
+    }
     Edition::LANES
 }
 
@@ -50,7 +63,7 @@ pub fn slot_words(lanes: usize, s: usize) -> usize
 pub fn gate_base(d: &[u8]) -> usize
     ensures { λ r. ⌜ (r ≡ gateBase (now (d .entry))) × (r < 2 ^ 33) ⌝ }
 {
-    5 + word_at(d, 1) as usize
+    HEAD_WORDS + word_at(d, 1) as usize
 }
 
 // Where the input layout begins.
@@ -71,7 +84,7 @@ pub fn position_base(d: &[u8]) -> usize
 pub fn head_base(d: &[u8]) -> usize
     ensures { λ r. ⌜ (r ≡ headBase (now (d .entry))) × (r < 2 ^ 37) ⌝ }
 {
-    position_base(d) + 3 * (word_at(d, 4) as usize)
+    position_base(d) + POSITION_WORDS * (word_at(d, 4) as usize)
 }
 
 // The parts of the major stages before s.
@@ -81,7 +94,7 @@ pub fn parts_before(d: &[u8], s: usize) -> usize
 {
     let mut sum = 0;
     for i in 0..s {
-        sum += word_at(d, 5 + i) as usize;
+        sum += word_at(d, HEAD_WORDS + i) as usize;
     }
     sum
 }
@@ -105,7 +118,7 @@ pub fn locations_in(d: &[u8], b: usize, m: usize, e: usize) -> usize
 {
     let mut sum = 0;
     for s in 0..m {
-        sum += word_at(d, b + 3 * e + s) as usize;
+        sum += word_at(d, b + ENDPOINT_WORDS * e + s) as usize;
     }
     sum
 }
@@ -116,5 +129,5 @@ pub fn body_words(d: &[u8], b: usize, m: usize, e: usize) -> usize
     ensures { λ r. ⌜ (r ≡ bodyWords (now (d .entry)) b m e) × (r < 2 ^ 42) ⌝ }
 {
     let lanes = lanes_of(d);
-    3 * e + m + slot_words(lanes, m) + locations_in(d, b, m, e) + TABLE_WORDS * lanes
+    ENDPOINT_WORDS * e + m + slot_words(lanes, m) + locations_in(d, b, m, e) + TABLE_WORDS * lanes
 }

@@ -6,7 +6,8 @@ use mathlib.Core.Option.{Option, none, some}
 use mathlib.Core.List.{List}
 use Prim.Native.Nat.{ℕ, _<_}
 use Rattle.words.specs.Answer.{good}
-use Rattle.plan_record.specs.Record.{partsOf}
+use Rattle.words.specs.Edition.{known}
+use Rattle.plan_record.specs.Record.{editionOf, planLanes, partsOf}
 use Rattle.words.specs.Tests.{Place}
 use Rattle.plan_record.specs.Form.{planForm}
 use Rattle.words.proofs.TestLaws.{some-not-none, lowest-none}
@@ -23,7 +24,8 @@ use Rattle.plan_refusals.specs.Refusals.{orElse, unless, gatePlace, plan
 use Rattle.plan_refusals.specs.RefusalGroups.{first, listRefusal, totalRefusal, pinRefusal, placeRefusal, readRefusal}
 use Rattle.plan_refusals.proofs.RefusalOrderLaws.{plan-first}
 
-pub record Passed (n : ℕ) (d : List ℕ) : Type 0 where
+pub record Passed (d : List ℕ) : Type 0 where
+  pub edition : known (editionOf d) ≡ true
   pub form : planForm d ≡ true
   pub gates : badGate d ≡ none
   pub counts : refusal7 d ≡ none
@@ -33,10 +35,10 @@ pub record Passed (n : ℕ) (d : List ℕ) : Type 0 where
   pub eleven : refusal11 d ≡ none
   pub twelve : refusal12 d ≡ none
   pub thirteen : refusal13 d ≡ none
-  pub nothing : refusedReads n 3 d ≡ none
-  pub bits : refusedReads n 21 d ≡ none
-  pub wide : refusedReads n 22 d ≡ none
-  pub no-room : refusedReads n 4 d ≡ none
+  pub nothing : refusedReads (planLanes d) 3 d ≡ none
+  pub bits : refusedReads (planLanes d) 21 d ≡ none
+  pub wide : refusedReads (planLanes d) 22 d ≡ none
+  pub no-room : refusedReads (planLanes d) 4 d ≡ none
 
 -- a test that lets a plan pass
 pub past : (k : ℕ) (o : Option Place) (r : Option Refusal) → orElse k o r ≡ none → (o ≡ none) × (r ≡ none)
@@ -57,10 +59,15 @@ past-first (some x) r e = absurd (some-not-none e)
 
 -- ---- what a group leaves
 
+edition-passed : (d : List ℕ) → listRefusal d ≡ none → known (editionOf d) ≡ true
+unfolding listRefusal
+edition-passed d e = past-unless 29 _ _ e .0
+
 pub lists-passed : (d : List ℕ) → listRefusal d ≡ none → (planForm d ≡ true) × (badGate d ≡ none) × (refusal7 d ≡ none)
 unfolding listRefusal
 lists-passed d e =
-    let five = past-unless 5 _ _ e in
+    let edition = past-unless 29 (known (editionOf d)) _ e in
+    let five = past-unless 5 _ _ (edition .1) in
     let six = past 6 _ _ (five .1) in
     (five .0, no-gate _ (six .0), past 7 _ _ (six .1) .0)
 
@@ -83,10 +90,10 @@ places-passed d e =
 
 -- ---- and all of them
 
-pub passed : (n : ℕ) (d : List ℕ) → planRefusal n d ≡ none → Passed n d
+pub passed : (d : List ℕ) → planRefusal d ≡ none → Passed d
 unfolding readRefusal
-passed n d e =
-    let lists = past-first _ _ (sym (plan-first n d) ∙ e) in
+passed d e =
+    let lists = past-first _ _ (sym (plan-first d) ∙ e) in
     let totals = past-first _ _ (lists .1) in
     let pins = past-first _ _ (totals .1) in
     let places = past-first _ _ (pins .1) in
@@ -98,6 +105,7 @@ passed n d e =
     let stood = pins-passed d (pins .0) in
     let placed = places-passed d (places .0) in
     record {
+      edition = edition-passed d (lists .0);
       form = listed .0;
       gates = listed .1;
       counts = listed .2;
@@ -113,8 +121,8 @@ passed n d e =
       no-room = four .0;
     }
 
-pub placed-reads : (d : List ℕ) → planRefusal 256 d ≡ none → (p : ℕ) → p < partsOf d → partReads 256 d p ≡ good (partPacked 256 d p)
+pub placed-reads : (d : List ℕ) → planRefusal d ≡ none → (p : ℕ) → p < partsOf d → partReads (planLanes d) d p ≡ good (partPacked (planLanes d) d p)
 unfolding refusedReads
 placed-reads d e p h =
-    let s = passed 256 d e in
-    placed-part 256 d p (lowest-none _ _ (s .nothing) p h) (lowest-none _ _ (s .bits) p h) (lowest-none _ _ (s .wide) p h) (lowest-none _ _ (s .no-room) p h)
+    let s = passed d e in
+    placed-part (planLanes d) d p (lowest-none _ _ (s .nothing) p h) (lowest-none _ _ (s .bits) p h) (lowest-none _ _ (s .wide) p h) (lowest-none _ _ (s .no-room) p h)

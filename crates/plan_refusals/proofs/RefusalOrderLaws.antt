@@ -9,6 +9,8 @@ use borrow.Author.Tests.{le-leb, lt-leb}
 use Rattle.words.specs.Answer.{nowhere}
 use Rattle.words.specs.Tests.{Place}
 use Rattle.words.specs.declared.refusals.Refusal.{Refusal}
+use Rattle.words.specs.Edition.{known}
+use Rattle.plan_record.specs.Record.{editionOf}
 use Rattle.plan_record.specs.Form.{planForm, planRoomWords}
 use Rattle.plan_gates.specs.Gates.{badGate}
 use Rattle.plan_counts.specs.Counts.{refusal7}
@@ -21,22 +23,23 @@ use Rattle.plan_refusals.specs.RefusalGroups.{first, listRefusal, totalR
 
 -- ---- a room of r words
 
-pub short-verdict : (n : ℕ) (d : List ℕ) (r : ℕ) → r < planRoomWords d → planVerdict n d r ≡ some (nowhere 32)
+pub short-verdict : (d : List ℕ) (r : ℕ) → r < planRoomWords d → planVerdict d r ≡ some (nowhere 32)
 unfolding planVerdict
-short-verdict n d r h = rw (planVerdict, lt-leb _ _ h)
+short-verdict d r h = rw (planVerdict, lt-leb _ _ h)
 
-pub wide-verdict : (n : ℕ) (d : List ℕ) (r : ℕ) → planRoomWords d ≤ r → planVerdict n d r ≡ planRefusal n d
+pub wide-verdict : (d : List ℕ) (r : ℕ) → planRoomWords d ≤ r → planVerdict d r ≡ planRefusal d
 unfolding planVerdict
-wide-verdict n d r h = rw (planVerdict, le-leb _ _ h)
+wide-verdict d r h = rw (planVerdict, le-leb _ _ h)
 
 -- ---- a group, and what comes after it
 
-five-to-seven : (f : Bool) (a b : Option Place) (r : Option Refusal)
-    → unless 5 f (orElse 6 a (orElse 7 b r)) ≡ first (unless 5 f (orElse 6 a (orElse 7 b none))) r
-five-to-seven false a b r = refl
-five-to-seven true (some x) b r = refl
-five-to-seven true none (some x) r = refl
-five-to-seven true none none r = refl
+edition-to-seven : (e f : Bool) (a b : Option Place) (r : Option Refusal)
+    → unless 29 e (unless 5 f (orElse 6 a (orElse 7 b r))) ≡ first (unless 29 e (unless 5 f (orElse 6 a (orElse 7 b none)))) r
+edition-to-seven false f a b r = refl
+edition-to-seven true false a b r = refl
+edition-to-seven true true (some x) b r = refl
+edition-to-seven true true none (some x) r = refl
+edition-to-seven true true none none r = refl
 
 eight : (f : Bool) (r : Option Refusal) → unless 8 f r ≡ first (unless 8 f none) r
 eight false r = refl
@@ -56,19 +59,19 @@ twelve-thirteen none none r = refl
 
 -- ---- all groups
 
-abbrev pub fromPlaces : ℕ → List ℕ → Option Refusal
-fromPlaces n d = first (placeRefusal d) (readRefusal n d)
+abbrev pub fromPlaces : List ℕ → Option Refusal
+fromPlaces d = first (placeRefusal d) (readRefusal d)
 
-abbrev pub fromPins : ℕ → List ℕ → Option Refusal
-fromPins n d = first (pinRefusal d) (fromPlaces n d)
+abbrev pub fromPins : List ℕ → Option Refusal
+fromPins d = first (pinRefusal d) (fromPlaces d)
 
-abbrev pub fromTotals : ℕ → List ℕ → Option Refusal
-fromTotals n d = first (totalRefusal d) (fromPins n d)
+abbrev pub fromTotals : List ℕ → Option Refusal
+fromTotals d = first (totalRefusal d) (fromPins d)
 
-pub plan-first : (n : ℕ) (d : List ℕ) → planRefusal n d ≡ first (listRefusal d) (fromTotals n d)
+pub plan-first : (d : List ℕ) → planRefusal d ≡ first (listRefusal d) (fromTotals d)
 unfolding planRefusal listRefusal totalRefusal pinRefusal placeRefusal readRefusal
-plan-first n d =
-    five-to-seven (planForm d) (gatePlace (badGate d)) (refusal7 d) _
+plan-first d =
+    edition-to-seven (known (editionOf d)) (planForm d) (gatePlace (badGate d)) (refusal7 d) _
     ∙ ap (first (listRefusal d))
     (eight (totalsFit d) _
     ∙ ap (first (totalRefusal d))

@@ -1,10 +1,12 @@
--- The refusals of a plan in the groups that the code has them in. n is the number of lanes.
+-- The refusals of a plan in the groups that the code has them in.
 -- Assumes nothing.
 use mathlib.Core.Path.{_≡_}
 use mathlib.Core.Option.{Option, none, some}
 use mathlib.Core.List.{List}
 use Prim.Native.Nat.{ℕ, _^_, _<_}
 use Rattle.words.specs.Tests.{Place}
+use Rattle.words.specs.Edition.{known}
+use Rattle.plan_record.specs.Record.{editionOf, planLanes}
 use Rattle.plan_record.specs.Form.{planForm}
 use Rattle.plan_gates.specs.Gates.{badGate}
 use Rattle.plan_counts.specs.Counts.{refusal7}
@@ -21,9 +23,9 @@ abbrev pub first : Option Refusal → Option Refusal → Option Refusal
 first none r = r
 first (some x) r = some x
 
--- 5, 6 and 7: what the record's lists say by themselves
+-- 29, 5, 6 and 7: what the record's edition and its lists say by themselves
 unfoldable pub listRefusal : List ℕ → Option Refusal
-listRefusal d = unless 5 (planForm d) (orElse 6 (gatePlace (badGate d)) (orElse 7 (refusal7 d) none))
+listRefusal d = unless 29 (known (editionOf d)) (unless 5 (planForm d) (orElse 6 (gatePlace (badGate d)) (orElse 7 (refusal7 d) none)))
 
 -- 8
 unfoldable pub totalRefusal : List ℕ → Option Refusal
@@ -38,9 +40,12 @@ unfoldable pub placeRefusal : List ℕ → Option Refusal
 placeRefusal d = orElse 12 (refusal12 d) (orElse 13 (refusal13 d) none)
 
 -- 3, 21, 22 and 4
-unfoldable pub readRefusal : ℕ → List ℕ → Option Refusal
-readRefusal n d =
-    orElse 3 (refusedReads n 3 d) (orElse 21 (refusedReads n 21 d) (orElse 22 (refusedReads n 22 d) (orElse 4 (refusedReads n 4 d) none)))
+unfoldable pub readRefusal : List ℕ → Option Refusal
+readRefusal d =
+    orElse 3 (refusedReads (planLanes d) 3 d)
+    (orElse 21 (refusedReads (planLanes d) 21 d)
+    (orElse 22 (refusedReads (planLanes d) 22 d)
+    (orElse 4 (refusedReads (planLanes d) 4 d) none)))
 
 -- a place whose part is told in one word
 abbrev pub Few : Option Place → Type 0

@@ -1,4 +1,4 @@
--- The order of a plan's refusals: document 01, "Numbered refusals", with 21 and 22 of document 02, 4/13. n is the number of lanes.
+-- The order of a plan's refusals: document 01, "Numbered refusals", with 21 and 22 of document 02, 4/13, and 29 of 10/13.
 -- Assumes nothing.
 use mathlib.Core.Bool.{Bool, true, false}
 use mathlib.Core.Option.{Option, none, some}
@@ -8,6 +8,8 @@ use lib.Dec.{leb}
 use Rattle.words.specs.Answer.{at, nowhere}
 use Rattle.words.specs.Tests.{Place}
 use Rattle.words.specs.declared.refusals.Refusal.{Refusal}
+use Rattle.words.specs.Edition.{known}
+use Rattle.plan_record.specs.Record.{editionOf, planLanes}
 use Rattle.plan_record.specs.Form.{planForm, planRoomWords}
 use Rattle.plan_gates.specs.Gates.{badGate}
 use Rattle.plan_counts.specs.Counts.{refusal7}
@@ -33,9 +35,10 @@ gatePlace none = none
 gatePlace (some g) = some (record { part = 0; item = g })
 
 -- what a plan is refused with, but for room
-unfoldable pub planRefusal : ℕ → List ℕ → Option Refusal
-planRefusal n d =
-    unless 5 (planForm d)
+unfoldable pub planRefusal : List ℕ → Option Refusal
+planRefusal d =
+    unless 29 (known (editionOf d))
+    (unless 5 (planForm d)
     (orElse 6 (gatePlace (badGate d))
     (orElse 7 (refusal7 d)
     (unless 8 (totalsFit d)
@@ -44,11 +47,11 @@ planRefusal n d =
     (orElse 11 (refusal11 d)
     (orElse 12 (refusal12 d)
     (orElse 13 (refusal13 d)
-    (orElse 3 (refusedReads n 3 d)
-    (orElse 21 (refusedReads n 21 d)
-    (orElse 22 (refusedReads n 22 d)
-    (orElse 4 (refusedReads n 4 d) none))))))))))))
+    (orElse 3 (refusedReads (planLanes d) 3 d)
+    (orElse 21 (refusedReads (planLanes d) 21 d)
+    (orElse 22 (refusedReads (planLanes d) 22 d)
+    (orElse 4 (refusedReads (planLanes d) 4 d) none)))))))))))))
 
 -- "working room too short; before all others": a room of r words
-unfoldable pub planVerdict : ℕ → List ℕ → ℕ → Option Refusal
-planVerdict n d r = elim (leb (planRoomWords d) r) [ true ↦ planRefusal n d | false ↦ some (nowhere 32) ]
+unfoldable pub planVerdict : List ℕ → ℕ → Option Refusal
+planVerdict d r = elim (leb (planRoomWords d) r) [ true ↦ planRefusal d | false ↦ some (nowhere 32) ]

@@ -17,6 +17,7 @@ use Rattle.plan_record.specs.Record.{blocksOf, majorsOf, layoutOf, countAt, par
 use Rattle.plan_record.specs.Body.{BodyOf}
 use Rattle.plan_record.specs.Form.{planForm, planRoomWords}
 use Rattle.plan_record.proofs.PlanFormLaws.{formed}
+use Rattle.plan_record.proofs.RecordLaws.{lanes-range}
 use Rattle.plan_counts.specs.declared.Counts.{Counts}
 use Rattle.plan_counts.specs.Counts.{srams, duplicates, writeOuts, refusal7}
 use Rattle.plan_counts.specs.Parts.{CountsOf}
@@ -62,7 +63,7 @@ row-ready d room₀ room p b t e l h =
       part = omega (arith, g .sizes .headed .parts);
       inside = omega (arith, t .ready .inside, ap length e ∙ count-long d room₀ p);
       countable = countable d p b (t .ready .form) l h;
-      few = counts-passed d (t .counts) p l .words;
+      few = omega (arith, counts-passed d (t .counts) p l .words, lanes-range d);
     }
 
 pub locations-few : (d room : List ℕ) (p : ℕ) (b : Body) → RowReady d room p b → b .locations ≤ 256

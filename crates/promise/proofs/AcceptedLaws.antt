@@ -5,7 +5,7 @@ use mathlib.Core.List.{List}
 use Prim.Native.Nat.{ℕ, _+_, _<_}
 use native.Mathlib.Omega.{arith}
 use Rattle.words.specs.Answer.{good}
-use Rattle.plan_record.specs.Record.{blocksOf, majorsOf, countAt, partsBefore, partsOf}
+use Rattle.plan_record.specs.Record.{planLanes, blocksOf, majorsOf, countAt, partsBefore, partsOf}
 use Rattle.plan_record.proofs.PlanFormLaws.{formed}
 use Rattle.plan_blocks.proofs.StateStartLaws.{parts-mono, parts-next}
 use Rattle.plan_reads.specs.PartReads.{partReads, partPacked}
@@ -20,13 +20,13 @@ pub part-there : (d : List ℕ) (s i : ℕ) → s < majorsOf d → i < countAt d
 part-there d s i l h = omega (arith, parts-next d s, parts-mono d (s + 1) (majorsOf d) (omega arith))
 
 module _ (d : List ℕ) (accepted : Accepted d) where
-  abbrev pub tests : Passed 256 d
-  tests = passed 256 d accepted
+  abbrev pub tests : Passed d
+  tests = passed d accepted
 
   pub some-blocks : 0 < blocksOf d
   some-blocks = formed d (tests .form) .head .some-blocks
 
-  pub lanes-found : (p : ℕ) → p < partsOf d → partReads 256 d p ≡ good (partPacked 256 d p)
+  pub lanes-found : (p : ℕ) → p < partsOf d → partReads (planLanes d) d p ≡ good (partPacked (planLanes d) d p)
   lanes-found p h = placed-reads d accepted p h
 
   pub able : (p : ℕ) → p < partsOf d → Decodable d p

@@ -9,7 +9,7 @@ use native.Mathlib.Nat.{zero-add}
 use native.Mathlib.Omega.{arith}
 use lib.ListN.{length, getD}
 use Rattle.reads.specs.Search.{longest}
-use Rattle.plan_record.specs.Record.{blocksOf, majorsOf, countAt, partsBefore, partsOf}
+use Rattle.plan_record.specs.Record.{planLanes, blocksOf, majorsOf, countAt, partsBefore, partsOf}
 use Rattle.plan_counts.specs.Counts.{writeOuts}
 use Rattle.plan_blocks.specs.Blocks.{blockOf, stateOf, stateStart, sramStart}
 use Rattle.plan_blocks.proofs.TotalLaws.{same-or}
@@ -34,34 +34,34 @@ module _ (d : List ℕ) (accepted : Accepted d) (s : ℕ) (stage : s < majorsOf 
   -- ---- the parts that the run finds
 
   abbrev pub RunPart : ℕ → ℕ → ℕ → Type 0
-  RunPart b j o = PartAt 256 W (startsOf d s) (length (startsOf d s) - 1) b j o
+  RunPart b j o = PartAt (planLanes d) W (startsOf d s) (length (startsOf d s) - 1) b j o
 
   -- part j of block b of the plan, at word o
   pub record PlanPart (b j o : ℕ) : Type 0 where
     pub block : b < blocksOf d
     pub inside : j < length (partsIn d s b)
-    pub at : o ≡ partStart 256 d s b j
+    pub at : o ≡ partStart (planLanes d) d s b j
 
   pub planned : (b j o : ℕ) → RunPart b j o → PlanPart b j o
   planned b j o q =
       let h : b < blocksOf d = omega (arith, q .block, Block.starts-are d accepted s stage) in
       let there = Block.start-is d accepted s stage b (omega arith) in
       let found = Block.found d accepted s stage b h in
-      let in-block : j < length (partsIn d s b) = omega (arith, q .inside, ap (λ (x : ℕ). length (partsAt 256 W x)) there, found .many) in
+      let in-block : j < length (partsIn d s b) = omega (arith, q .inside, ap (λ (x : ℕ). length (partsAt (planLanes d) W x)) there, found .many) in
       record {
         block = h;
         inside = in-block;
-        at = q .at ∙ ap (λ (x : ℕ). getD (partsAt 256 W x) j 0) there ∙ found .at j in-block ∙ ap (partStart 256 d s b) (zero-add j);
+        at = q .at ∙ ap (λ (x : ℕ). getD (partsAt (planLanes d) W x) j 0) there ∙ found .at j in-block ∙ ap (partStart (planLanes d) d s b) (zero-add j);
       }
 
-  pub run-part : (b j : ℕ) → b < blocksOf d → j < length (partsIn d s b) → RunPart b j (partStart 256 d s b j)
+  pub run-part : (b j : ℕ) → b < blocksOf d → j < length (partsIn d s b) → RunPart b j (partStart (planLanes d) d s b j)
   run-part b j h l =
       let there = Block.start-is d accepted s stage b (omega arith) in
       let found = Block.found d accepted s stage b h in
       record {
         block = omega (arith, Block.starts-are d accepted s stage);
-        inside = omega (arith, ap (λ (x : ℕ). length (partsAt 256 W x)) there, found .many);
-        at = sym (ap (λ (x : ℕ). getD (partsAt 256 W x) j 0) there ∙ found .at j l ∙ ap (partStart 256 d s b) (zero-add j));
+        inside = omega (arith, ap (λ (x : ℕ). length (partsAt (planLanes d) W x)) there, found .many);
+        at = sym (ap (λ (x : ℕ). getD (partsAt (planLanes d) W x) j 0) there ∙ found .at j l ∙ ap (partStart (planLanes d) d s b) (zero-add j));
       }
 
   -- its number in the stage
@@ -72,9 +72,9 @@ module _ (d : List ℕ) (accepted : Accepted d) (s : ℕ) (stage : s < majorsOf 
   number-lt b j o q = Block.number-lt d accepted s stage b (q .block) j (q .inside)
 
   pub back : (b j o : ℕ) → PlanPart b j o
-      → Decoded 256 d (partsBefore d s + number b j) (lastMark (length (partsIn d s b)) j) (stateStart d s (number b j)) (sramStart d s (number b j)) W o
+      → Decoded (planLanes d) d (partsBefore d s + number b j) (lastMark (length (partsIn d s b)) j) (stateStart d s (number b j)) (sramStart d s (number b j)) W o
   back b j o q =
-      subst (λ (x : ℕ). Decoded 256 d (partsBefore d s + number b j) (lastMark (length (partsIn d s b)) j) (stateStart d s (number b j)) (sramStart d s (number b j)) W x)
+      subst (λ (x : ℕ). Decoded (planLanes d) d (partsBefore d s + number b j) (lastMark (length (partsIn d s b)) j) (stateStart d s (number b j)) (sramStart d s (number b j)) W x)
       (sym (q .at)) (Block.part-back d accepted s stage b (q .block) j (q .inside))
 
   -- ---- what a part stores
@@ -111,13 +111,13 @@ module _ (d : List ℕ) (accepted : Accepted d) (s : ℕ) (stage : s < majorsOf 
 
   -- ---- what a part reads of the new state
 
-  part-reads : (b j o : ℕ) → PlanPart b j o → (r l : ℕ) → r < roundsAt W o → l < 256 → 0 < readMaskAt 256 W o r l → 2 ^ 31 ≤ readWordAt 256 W o r l
-      → readWordAt 256 W o r l - 2 ^ 31 < stateOf d s
+  part-reads : (b j o : ℕ) → PlanPart b j o → (r l : ℕ) → r < roundsAt W o → l < planLanes d → 0 < readMaskAt (planLanes d) W o r l → 2 ^ 31 ≤ readWordAt (planLanes d) W o r l
+      → readWordAt (planLanes d) W o r l - 2 ^ 31 < stateOf d s
   part-reads b j o q r l h k some-bits staged =
       let D = back b j o q in
       let p : ℕ = partsBefore d s + number b j in
       let there : p < partsOf d = Block.plan-part d accepted s stage b (q .block) j (q .inside) in
-      let a : r < longest (partLanes 256 d p) = omega (arith, D .rounds) in
+      let a : r < longest (partLanes (planLanes d) d p) = omega (arith, D .rounds) in
       let e = D .read-word r l a k in
       let major = ap (stateOf d) (major-is d s (number b j) stage (number-lt b j o q)) in
       omega (
@@ -129,7 +129,7 @@ module _ (d : List ℕ) (accepted : Accepted d) (s : ℕ) (stage : s < majorsOf 
       )
 
   -- THE BLOCKS OF A MAJOR STAGE ARE KEPT APART
-  pub apart : Apart 256 W (startsOf d s) (length (startsOf d s) - 1)
+  pub apart : Apart (planLanes d) W (startsOf d s) (length (startsOf d s) - 1)
   apart = record {
     reads = λ b j o q r l h k some-bits staged c i e x st. omega (
       arith,

@@ -10,11 +10,14 @@ use native.Mathlib.Nat.{add-zero, zero-add}
 use native.Mathlib.Omega.{arith}
 use borrow.Author.Tests.{le-leb}
 use lib.ListN.{length, getD}
+use Rattle.words.specs.Edition.{levelsFor}
 use Rattle.words.specs.Sum.{sumTo}
+use Rattle.words.proofs.EditionLaws.{known-passes}
 use Rattle.words.proofs.SumLaws.{sum-ext}
 use Rattle.words.proofs.BitLaws.{lt-or-ge}
 use Rattle.words.specs.Count.{count}
-use Rattle.plan_record.specs.Record.{blocksOf, majorsOf, partsBefore, stagesOf}
+use Rattle.plan_record.specs.Record.{planLanes, blocksOf, majorsOf, partsBefore, stagesOf}
+use Rattle.plan_record.proofs.RecordLaws.{lanes-known}
 use Rattle.plan_blocks.specs.Blocks.{stateWords}
 use Rattle.script_assembly.specs.Assembly.{blockStart}
 use Rattle.script_assembly.specs.WrittenSoFar.{partsIn}
@@ -56,37 +59,37 @@ module _ (d : List ℕ) (accepted : Accepted d) (s : ℕ) (stage : s < majorsOf 
     stages-at j h = Block.part-back d accepted s stage b block j h .stages
 
     -- of the parts from part j on
-    turns-from : (f c j : ℕ) → c < f → j + suc c ≡ parts → turnsFrom 256 W f (place j) ≡ sumTo (λ i. own (j + i)) (suc c)
+    turns-from : (f c j : ℕ) → c < f → j + suc c ≡ parts → turnsFrom (planLanes d) W f (place j) ≡ sumTo (λ i. own (j + i)) (suc c)
     unfolding sumTo
     turns-from zero c j l e = absurd (omega arith)
     turns-from (suc f) zero j l e =
         let mark : lastAt W (place j) ≡ 1 = Block.part-back d accepted s stage b block j (omega arith) .last-mark ∙ mark-last parts j (omega arith) in
-        from-last 256 W 0 f (place j) mark ∙ omega (arith, stages-at j (omega arith), ap own (add-zero j))
+        from-last (planLanes d) W 0 f (place j) mark ∙ omega (arith, stages-at j (omega arith), ap own (add-zero j))
     turns-from (suc f) (suc c) j l e =
         let mark : lastAt W (place j) ≡ 0 = Block.part-back d accepted s stage b block j (omega arith) .last-mark ∙ mark-more parts j (λ q. omega arith) in
-        let next = ap (turnsFrom 256 W f) (Block.part-end d accepted s stage b block j (omega arith)) ∙ turns-from f c (j + 1) (omega arith) (omega arith) in
+        let next = ap (turnsFrom (planLanes d) W f) (Block.part-end d accepted s stage b block j (omega arith)) ∙ turns-from f c (j + 1) (omega arith) (omega arith) in
         let shift : sumTo (λ i. own (j + 1 + i)) (suc c) ≡ sumTo (λ i. own (j + suc i)) (suc c) = sum-ext _ _ (suc c) (λ i _. ap own (omega arith)) in
-        from-more 256 W 0 f (place j) mark
+        from-more (planLanes d) W 0 f (place j) mark
         ∙ omega (arith, next, shift, stages-at j (omega arith), ap own (add-zero j), sum-first (λ i. own (j + i)) (suc c))
 
-    turns-some : 0 < parts → blockTurns 256 W (place 0) ≡ turnsOf d s b
+    turns-some : 0 < parts → blockTurns (planLanes d) W (place 0) ≡ turnsOf d s b
     unfolding turnsOf turnsFrom turnsAfter
     turns-some h =
         let some : 1 ≤ stagesAt W (place 0) = omega (arith, stages-at 0 h, able d accepted _ (Block.plan-part d accepted s stage b block 0 h) .some-stages) in
         let all = turns-from (suc (length W)) (parts - 1) 0 (omega (arith, Block.few-parts d accepted s stage b block)) (omega arith) in
         let many : suc (parts - 1) ≡ parts = omega arith in
-        left-read 256 W (place 0) some ∙ all ∙ ap (sumTo (λ i. own (0 + i))) many ∙ sum-ext _ _ parts (λ i _. ap own (zero-add i))
+        left-read (planLanes d) W (place 0) some ∙ all ∙ ap (sumTo (λ i. own (0 + i))) many ∙ sum-ext _ _ parts (λ i _. ap own (zero-add i))
 
-    turns-none : parts ≡ 0 → blockTurns 256 W (blockStart 256 d s b) ≡ turnsOf d s b
+    turns-none : parts ≡ 0 → blockTurns (planLanes d) W (blockStart (planLanes d) d s b) ≡ turnsOf d s b
     unfolding turnsOf sumTo
     turns-none e =
-        left-none 256 W _ (empty-phase W (blockStart 256 d s b) (Block.empty-stages d accepted s stage b block e)) ∙ ap (sumTo own) (sym e)
+        left-none (planLanes d) W _ (empty-phase W (blockStart (planLanes d) d s b) (Block.empty-stages d accepted s stage b block e)) ∙ ap (sumTo own) (sym e)
 
-    pub turns-are : blockTurns 256 W (getD (startsOf d s) b 0) ≡ turnsOf d s b
+    pub turns-are : blockTurns (planLanes d) W (getD (startsOf d s) b 0) ≡ turnsOf d s b
     turns-are =
-        ap (blockTurns 256 W) (Block.start-is d accepted s stage b (omega arith))
+        ap (blockTurns (planLanes d) W) (Block.start-is d accepted s stage b (omega arith))
         ∙ ⊎-elim
-        (λ (h : 0 < parts). ap (blockTurns 256 W) (sym (part-first 256 d s b)) ∙ turns-some h)
+        (λ (h : 0 < parts). ap (blockTurns (planLanes d) W) (sym (part-first (planLanes d) d s b)) ∙ turns-some h)
         (λ (h : parts ≤ 0). turns-none (omega arith))
         (lt-or-ge 0 parts)
 
@@ -97,26 +100,26 @@ module _ (d : List ℕ) (s : ℕ) (turns old new : List ℕ) (room : ℕ) (accep
   many : length (startsOf d s) - 1 ≡ blocksOf d
   many = omega (arith, Block.starts-are d accepted s stage)
 
-  good-blocks : badBlock 256 (assembled d) (startsOf d s) (length old) (length new) ≡ none
+  good-blocks : badBlock (planLanes d) (assembled d) (startsOf d s) (length old) (length new) ≡ none
   good-blocks = never-refused d s (length old) (length new) accepted stage (omega arith) (omega arith)
 
   good-turns : badTurn (startsOf d s) turns ≡ none
   good-turns = turns-named (startsOf d s) turns (λ i l. omega (arith, named i l, many))
 
-  laid : Laid 256 (assembled d) (startsOf d s) (length old) (length new) new
+  laid : Laid (planLanes d) (assembled d) (startsOf d s) (length old) (length new) new
   laid = record { form = good-blocks; size = refl; apart = apart d accepted s stage }
 
-  left-is : allLeft 256 (assembled d) (stageRun d s turns old new .blocks) ≡ leftOver d s turns
+  left-is : allLeft (planLanes d) (assembled d) (stageRun d s turns old new .blocks) ≡ leftOver d s turns
   unfolding leftOver
   left-is =
-      left-total 256 13 (assembled d) (startsOf d s) (length old) (length new) old new laid turns good-turns
-      ∙ ap (sumTo (λ b. blockTurns 256 (assembled d) (getD (startsOf d s) b 0) - count b turns)) many
+      left-total (planLanes d) (levelsFor (planLanes d)) (assembled d) (startsOf d s) (length old) (length new) old new laid turns good-turns
+      ∙ ap (sumTo (λ b. blockTurns (planLanes d) (assembled d) (getD (startsOf d s) b 0) - count b turns)) many
       ∙ sum-ext _ _ (blocksOf d) (λ b l. ap (λ (x : ℕ). x - count b turns) (turns-are d accepted s stage b l))
 
-  pub finishes-so : runAnswer 256 13 (assembled d) (startsOf d s) turns old new room ≡ ran (leftOver d s turns) (stageRun d s turns old new .new)
+  pub finishes-so : runAnswer (planLanes d) (levelsFor (planLanes d)) (assembled d) (startsOf d s) turns old new room ≡ ran (leftOver d s turns) (stageRun d s turns old new .new)
   unfolding runAnswer
   finishes-so =
-      rw (le-leb (blockRoom * (length (startsOf d s) - 1)) room (omega (arith, many)), runAnswer, good-blocks, good-turns)
+      rw (le-leb (blockRoom * (length (startsOf d s) - 1)) room (omega (arith, many)), known-passes (planLanes d) (lanes-known d), runAnswer, good-blocks, good-turns)
       (ap (λ (x : ℕ). ran x (stageRun d s turns old new .new)) left-is)
 
 -- THE TURNS LEFT ARE THOSE THAT THE TURN LIST DOES NOT NAME

@@ -12,8 +12,9 @@ use lib.ListN.{length, getD, List·getD-eq-default}
 use Rattle.words.specs.Answer.{Answer, refused, atItem, nowhere}
 use Rattle.words.proofs.AnswerLaws.{refused-good}
 use Rattle.words.specs.Bit.{bit, bitAt}
+use Rattle.words.specs.Edition.{known, levelsFor}
 use Rattle.words.proofs.BitLaws.{bit-zero}
-use Rattle.plan_record.specs.Record.{blocksOf, countAt, partsBefore, stagesOf, locationsOf}
+use Rattle.plan_record.specs.Record.{planLanes, slotsOf, blocksOf, countAt, partsBefore, stagesOf, locationsOf}
 use Rattle.plan_blocks.specs.Blocks.{stateStart, sramStart}
 use Rattle.values.specs.Values.{pinValue}
 use Rattle.script_assembly.specs.WrittenSoFar.{lastMark, partsIn, partStart}
@@ -46,42 +47,42 @@ module _ (d : List ℕ) (s : ℕ) (turns old new : List ℕ) (done : Done d s tu
   abbrev after : List ℕ
   after = stageRun d s turns old new .new
 
-  laid : Laid 256 W (startsOf d s) (length old) (length new) new
+  laid : Laid (planLanes d) W (startsOf d s) (length old) (length new) new
   laid = record {
     form = never-refused d s (length old) (length new) (done .accepted) (done .stage) (omega (arith, done .old-size)) (omega (arith, done .new-size));
     size = refl;
     apart = apart d (done .accepted) s (done .stage);
   }
 
-  any-order : after ≡ stageRun d s (oneAfterAnother 256 W (startsOf d s) (blocksOf d)) old new .new
+  any-order : after ≡ stageRun d s (oneAfterAnother (planLanes d) W (startsOf d s) (blocksOf d)) old new .new
   any-order =
       let many : length (startsOf d s) - 1 ≡ blocksOf d = omega (arith, starts-are d (done .accepted) s (done .stage)) in
-      in-any-order 256 13 W (startsOf d s) (length old) (length new) old new laid turns (done .named) (done .all)
-      ∙ ap (λ (m : ℕ). runTurns 256 13 W (startsOf d s) (oneAfterAnother 256 W (startsOf d s) m) old new .new) many
+      in-any-order (planLanes d) (levelsFor (planLanes d)) W (startsOf d s) (length old) (length new) old new laid turns (done .named) (done .all)
+      ∙ ap (λ (m : ℕ). runTurns (planLanes d) (levelsFor (planLanes d)) W (startsOf d s) (oneAfterAnother (planLanes d) W (startsOf d s) m) old new .new) many
 
   unchanged : (w : ℕ) → ((i : ℕ) → StoredBy d s i w → ⊥) → getD after w 0 ≡ getD new w 0
   unchanged w free =
-      untouched 256 13 W (startsOf d s) (length old) (length new) old new laid turns (done .named) w
+      untouched (planLanes d) (levelsFor (planLanes d)) W (startsOf d s) (length old) (length new) old new laid turns (done .named) w
       (λ b j o q h. free _ (stored-by d (done .accepted) s (done .stage) b j o w (planned d (done .accepted) s (done .stage) b j o q) h))
 
   -- ---- part i of the stage, where the run finds it
 
   abbrev captures : ℕ → List ℕ
-  captures o = capturedBy 256 13 W o old new
+  captures o = capturedBy (planLanes d) (levelsFor (planLanes d)) W o old new
 
   record Found (i : ℕ) : Type 0 where
     pub b : ℕ
     pub j : ℕ
     pub last : ℕ
     pub run : RunPart d (done .accepted) s (done .stage) b j (partBeginsAt d s i)
-    pub back : Decoded 256 d (partsBefore d s + i) last (stateStart d s i) (sramStart d s i) W (partBeginsAt d s i)
+    pub back : Decoded (planLanes d) d (partsBefore d s + i) last (stateStart d s i) (sramStart d s i) W (partBeginsAt d s i)
     pub sound : PassedPart d (partsBefore d s + i)
 
-  place-is : (b j : ℕ) → j < length (partsIn d s b) → partBeginsAt d s (getD (partsIn d s b) j 0) ≡ partStart 256 d s b j
+  place-is : (b j : ℕ) → j < length (partsIn d s b) → partBeginsAt d s (getD (partsIn d s b) j 0) ≡ partStart (planLanes d) d s b j
   unfolding partBeginsAt
   place-is b j h =
       let r = part-at d s b (countAt d s) j h in
-      ap (λ (x : ℕ). partStart 256 d s x (inBefore d s x (getD (partsIn d s b) j 0))) (r .block) ∙ ap (partStart 256 d s b) (r .place)
+      ap (λ (x : ℕ). partStart (planLanes d) d s x (inBefore d s x (getD (partsIn d s b) j 0))) (r .block) ∙ ap (partStart (planLanes d) d s b) (r .place)
 
   found-at : (b j : ℕ) → b < blocksOf d → j < length (partsIn d s b) → getD (partsIn d s b) j 0 < countAt d s → Found (getD (partsIn d s b) j 0)
   found-at b j h u there =
@@ -111,7 +112,7 @@ module _ (d : List ℕ) (s : ℕ) (turns old new : List ℕ) (done : Done d s tu
     abbrev o : ℕ
     o = partBeginsAt d s i
 
-    abbrev D : Decoded 256 d p (found i h .last) (stateStart d s i) (sramStart d s i) W o
+    abbrev D : Decoded (planLanes d) d p (found i h .last) (stateStart d s i) (sramStart d s i) W o
     D = found i h .back
 
     captured-bit : (l k : ℕ) → l < locationsOf d p → k < 32 → Carries d p l k → bitAt (captures o) (32 * l + k) ≡ pinValue d p old new (carried d p l k)
@@ -125,37 +126,37 @@ module _ (d : List ℕ) (s : ℕ) (turns old new : List ℕ) (done : Done d s tu
     captured-none : (e : ℕ) → locationsOf d p ≤ e / 32 → bitAt (captures o) e ≡ 0
     unfolding bitAt
     captured-none e g =
-        ap (λ (x : ℕ). bit x (e % 32)) (List·getD-eq-default (captures o) 0 {n = e / 32} (omega (arith, caps-length 256 13 W o (readRow 256 W o old new) (stagesAt W o), D .normal))) ∙ bit-zero (e % 32)
+        ap (λ (x : ℕ). bit x (e % 32)) (List·getD-eq-default (captures o) 0 {n = e / 32} (omega (arith, caps-length (planLanes d) (levelsFor (planLanes d)) W o (readRow (planLanes d) W o old new) (stagesAt W o), D .normal))) ∙ bit-zero (e % 32)
 
-    lane-word : (q k : ℕ) → laneWordAt 256 W o (stagesAt W o + 1) (q / 32) k ≡ laneWordAt 256 W o (stagesOf d p + 1) (q / 32) k
-    lane-word q k = ap (λ (x : ℕ). laneWordAt 256 W o (x + 1) (q / 32) k) (D .stages)
+    lane-word : (q k : ℕ) → laneWordAt (planLanes d) W o (stagesAt W o + 1) (q / 32) k ≡ laneWordAt (planLanes d) W o (stagesOf d p + 1) (q / 32) k
+    lane-word q k = ap (λ (x : ℕ). laneWordAt (planLanes d) W o (x + 1) (q / 32) k) (D .stages)
 
-    enable-is : (q v : ℕ) → q < 8192 → bitAt (captures o) (enableEntry d p q) ≡ v → enabled d s i old new q ≡ taken v (set0Of d p q) (invOf d p q)
+    enable-is : (q v : ℕ) → q < slotsOf d → bitAt (captures o) (enableEntry d p q) ≡ v → enabled d s i old new q ≡ taken v (set0Of d p q) (invOf d p q)
     unfolding enabled gatheredBit enableEntry set0Of invOf
     enable-is q v l e =
-        let entry = ap (λ (x : ℕ). entryAt 256 W o (x + 1) q) (D .stages) ∙ D .enable-entry q l in
+        let entry = ap (λ (x : ℕ). entryAt (planLanes d) W o (x + 1) q) (D .stages) ∙ D .enable-entry q l in
         let set0 = lane-word q 1 ∙ D .enable-set0 (q / 32) (omega arith) in
         let inv = lane-word q 0 ∙ D .enable-inv (q / 32) (omega arith) in
         rw (entry, set0, inv, e)
 
-    data-inv-is : (q : ℕ) → q < 8192 → dataInv 256 W o q ≡ dataInvOf d p q
+    data-inv-is : (q : ℕ) → q < slotsOf d → dataInv (planLanes d) W o q ≡ dataInvOf d p q
     unfolding dataInvOf
     data-inv-is q l = ap (λ (x : ℕ). bit x (q % 32)) (lane-word q 2 ∙ D .data-inv (q / 32) (omega arith))
 
-    few : locationsOf d p ≤ 256
+    few : locationsOf d p ≤ planLanes d
     few = able d (done .accepted) p (part-there d s i (done .stage) h) .locations
 
     -- the stored bit of place 32l + k
     stored-is : (l k : ℕ) → l < locationsOf d p → k < 32
-        → bitAt after (32 * (stateStart d s i + l) + k) ≡ storedBit 256 W o old (captures o) (bitAt (captures o) (32 * l + k)) (32 * l + k)
+        → bitAt after (32 * (stateStart d s i + l) + k) ≡ storedBit (planLanes d) W o old (captures o) (bitAt (captures o) (32 * l + k)) (32 * l + k)
     stored-is l k inside small =
         at-word after (stateStart d s i + l) k small
         ∙ ap (λ (x : ℕ). bit (getD after (x + l) 0) k) (sym (D .start))
         ∙ ap (λ (x : ℕ). bit x k)
-        (stored 256 13 W (startsOf d s) (length old) (length new) old new laid turns (done .named) (done .all) (found i h .b) (found i h .j) o (startAt W o + l) (found i h .run)
+        (stored (planLanes d) (levelsFor (planLanes d)) W (startsOf d s) (length old) (length new) old new laid turns (done .named) (done .all) (found i h .b) (found i h .j) o (startAt W o + l) (found i h .run)
         (stores-in W o _ (omega arith) (omega (arith, D .normal)))
-        ∙ store-at 256 W o old (captures o) l)
-        ∙ stored-word-bit 256 W o old (captures o) l k small
+        ∙ store-at (planLanes d) W o old (captures o) l)
+        ∙ stored-word-bit (planLanes d) W o old (captures o) l k small
 
     pins-are : (l k : ℕ) → l < locationsOf d p → k < 32 → Carries d p l k
         → bitAt after (32 * (stateStart d s i + l) + k)
@@ -166,14 +167,14 @@ module _ (d : List ℕ) (s : ℕ) (turns old new : List ℕ) (done : Done d s tu
         let place : 32 * startAt W o + q ≡ 32 * (stateStart d s i + l) + k = omega (arith, D .start) in
         stored-is l k inside small ∙ rw (captured-bit l k inside small carries, data-inv-is q (omega (arith, few)), place)
 
-    enables-are : (q l k : ℕ) → q < 8192 → enableEntry d p q ≡ 32 * l + k → l < locationsOf d p → k < 32 → Carries d p l k
+    enables-are : (q l k : ℕ) → q < slotsOf d → enableEntry d p q ≡ 32 * l + k → l < locationsOf d p → k < 32 → Carries d p l k
         → enabled d s i old new q ≡ taken (pinValue d p old new (carried d p l k)) (set0Of d p q) (invOf d p q)
     enables-are q l k u e inside small carries = enable-is q _ u (ap (bitAt (captures o)) e ∙ captured-bit l k inside small carries)
 
-    past-is : (q : ℕ) → q < 8192 → locationsOf d p ≤ enableEntry d p q / 32 → enabled d s i old new q ≡ invOf d p q
+    past-is : (q : ℕ) → q < slotsOf d → locationsOf d p ≤ enableEntry d p q / 32 → enabled d s i old new q ≡ invOf d p q
     past-is q u g = enable-is q 0 u (captured-none _ g) ∙ taken-nothing (set0Of d p q) (invOf d p q)
 
-    cleared-is : (q : ℕ) → q < 8192 → set0Of d p q ≡ 1 → enabled d s i old new q ≡ invOf d p q
+    cleared-is : (q : ℕ) → q < slotsOf d → set0Of d p q ≡ 1 → enabled d s i old new q ≡ invOf d p q
     cleared-is q u e = enable-is q _ u refl ∙ rw e (taken-cleared (bitAt (captures o) (enableEntry d p q)) (invOf d p q))
 
 -- DEMAND 3
@@ -189,25 +190,29 @@ demand3 d s turns old new done = record {
 
 -- ---- as a run answers it: an answer with turns left was not refused, and is what the turns made
 
-went : (k : ℕ) (after : List ℕ) (fits : Bool) (block turn : Option ℕ) (r : Answer Ran)
-    → elim fits [ false ↦ refused (nowhere 32) | true ↦ elim block [ some i ↦ refused (atItem 15 i) | none ↦ elim turn [ some i ↦ refused (atItem 16 i) | none ↦ r ] ] ] ≡ ran k after
+went : (k : ℕ) (after : List ℕ) (fits edition : Bool) (block turn : Option ℕ) (r : Answer Ran)
+    → elim fits [
+      | false ↦ refused (nowhere 32)
+      | true ↦ elim edition [ false ↦ refused (nowhere 29) | true ↦ elim block [ some i ↦ refused (atItem 15 i) | none ↦ elim turn [ some i ↦ refused (atItem 16 i) | none ↦ r ] ] ]
+    ] ≡ ran k after
     → (turn ≡ none) × (r ≡ ran k after)
-went k after false block turn r e = refused-good _ _ e
-went k after true (some i) turn r e = refused-good _ _ e
-went k after true none (some i) r e = refused-good _ _ e
-went k after true none none r e = (refl, e)
+went k after false edition block turn r e = refused-good _ _ e
+went k after true false block turn r e = refused-good _ _ e
+went k after true true (some i) turn r e = refused-good _ _ e
+went k after true true none (some i) r e = refused-good _ _ e
+went k after true true none none r e = (refl, e)
 
 pub as-run : AsRun
 unfolding runAnswer
 as-run d s turns old new after room accepted stage old-size new-size e =
     let x = stageRun d s turns old new in
     let q =
-    went 0 after (leb (blockRoom * (length (startsOf d s) - 1)) room) (badBlock 256 (assembled d) (startsOf d s) (length old) (length new))
-    (badTurn (startsOf d s) turns) (ran (allLeft 256 (assembled d) (x .blocks)) (x .new)) e
+    went 0 after (leb (blockRoom * (length (startsOf d s) - 1)) room) (known (planLanes d)) (badBlock (planLanes d) (assembled d) (startsOf d s) (length old) (length new))
+    (badTurn (startsOf d s) turns) (ran (allLeft (planLanes d) (assembled d) (x .blocks)) (x .new)) e
     in
     let f = q .1 in
-    let same : _≡_ {A = Ran} (record { left = allLeft 256 (assembled d) (x .blocks); new = x .new }) (record { left = 0; new = after }) = cc in
-    let none-left : allLeft 256 (assembled d) (stageRun d s turns old new .blocks) ≡ 0 = ap (λ (y : Ran). y .left) same in
+    let same : _≡_ {A = Ran} (record { left = allLeft (planLanes d) (assembled d) (x .blocks); new = x .new }) (record { left = 0; new = after }) = cc in
+    let none-left : allLeft (planLanes d) (assembled d) (stageRun d s turns old new .blocks) ≡ 0 = ap (λ (y : Ran). y .left) same in
     let is : stageRun d s turns old new .new ≡ after = ap (λ (y : Ran). y .new) same in
     rw (← is)
     (demand3 d s turns old new (record { accepted = accepted; stage = stage; old-size = old-size; new-size = new-size; named = q .0; all = none-left }))

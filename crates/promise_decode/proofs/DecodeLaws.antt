@@ -19,13 +19,14 @@ use Rattle.words.proofs.SectionLaws.{getD-listOf, half-two, place-lt}
 use Rattle.reads.specs.Search.{longest}
 use Rattle.reads.specs.Local.{wordIn, maskIn}
 use Rattle.reads.proofs.SectionWordLaws.{section-word, section-mask}
-use Rattle.plan_record.specs.Record.{stagesOf, countBase, stageLocations, locationsIn, locationsOf, locationAt, tableAt}
+use Rattle.plan_record.specs.Record.{planLanes, stagesOf, countBase, stageLocations, locationsIn, locationsOf, locationAt, tableAt}
+use Rattle.plan_record.proofs.RecordLaws.{lanes-range}
 use Rattle.plan_counts.specs.Counts.{srams, duplicates, writeOuts}
 use Rattle.plan_reads.specs.PartReads.{partLanes}
 use Rattle.script.specs.Script.{numbers, locationStage, locationHalf, locationWords, stageEntry, xoraBit, xorbBit, orbBit, maskWord, stageSection, sramSection, enableSection, partScript}
 use Rattle.script.proofs.HeadLaws.{endedBy, half-within}
 use Rattle.script.specs.Writers.{endsBy}
-use Rattle.script.proofs.PartLengthLaws.{script-length}
+use Rattle.script.proofs.PartLengthLaws.{lanes-even, script-length}
 use Rattle.script.proofs.MaskLaws.{xora-lt, xorb-lt, orb-lt}
 use Rattle.run_machine.specs.Part.{stagesAt, lastAt, writeOutsAt, startAt, sramsAt, roundsAt, duplicatesAt, normalAt, endAt, locationIn, readWordAt, readMaskAt, sectionAt, entryAt, laneWordAt}
 use Rattle.promise_decode.specs.Decoded.{StandsAt, Decoded}
@@ -275,10 +276,12 @@ module _ (n : ℕ) (d : List ℕ) (p last state sram : ℕ) (many : 16 ≤ n) (e
   }
 
 -- THE SCRIPT OF A PART, READ BACK
-pub decoded : (d : List ℕ) (p last state sram : ℕ) (W : List ℕ) (o : ℕ) → Decodable d p → StandsAt 256 d p last state sram W o
-    → Decoded 256 d p last state sram W o
+pub decoded : (d : List ℕ) (p last state sram : ℕ) (W : List ℕ) (o : ℕ) → Decodable d p → StandsAt (planLanes d) d p last state sram W o
+    → Decoded (planLanes d) d p last state sram W o
 decoded d p last state sram W o given stands =
-    read-back 256 d p last state sram (omega arith) refl W o stands (given .location) (given .stages) (given .locations) (given .wide)
-    (λ k j h l. omega (arith, given .entry k j h l))
-    (λ j l. omega (arith, given .sram j l))
-    (λ j l. omega (arith, given .enable j l))
+    let most = lanes-range d in
+    read-back (planLanes d) d p last state sram (omega (arith, most)) (lanes-even d) W o stands
+    (λ l h. omega (arith, given .location l h, most)) (given .stages) (given .locations) (given .wide)
+    (λ k j h l. omega (arith, given .entry k j h l, most))
+    (λ j l. omega (arith, given .sram j l, most))
+    (λ j l. omega (arith, given .enable j l, most))

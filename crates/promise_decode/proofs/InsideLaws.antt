@@ -27,7 +27,8 @@ use Rattle.reads_asked.proofs.AskedFormLaws.{EachPair, set-each}
 use Rattle.reads_try.specs.TableLanes.{Each}
 use Rattle.reads_try.proofs.LaneTableLaws.{each-append, each-at}
 use Rattle.rounds.specs.Rounds.{Solvable}
-use Rattle.plan_record.specs.Record.{majorsOf, partsOf, levelAt}
+use Rattle.plan_record.specs.Record.{planLanes, slotsOf, majorsOf, partsOf, levelAt}
+use Rattle.plan_record.proofs.RecordLaws.{lanes-range}
 use Rattle.words.specs.Pins.{empty}
 use Rattle.plan_blocks.specs.Blocks.{stateOf, stateWords, totalsFit}
 use Rattle.plan_blocks.proofs.MajorStageLaws.{totals-fit}
@@ -56,8 +57,8 @@ number-inside m a s b k h l staged =
     ⊎-elim (λ e. (omega arith, omega arith, λ u. absurd (omega arith))) (λ e. (omega arith, omega arith, λ u. omega (arith, staged e))) k
 
 -- the search asks only that it has room
-pub solvable : Solvable 8192 8192 8192 256
-solvable = record { room = refl; some-lanes = omega arith; few-lanes = omega arith; keys-room = omega arith; scratch-room = omega arith }
+pub solvable : (d : List ℕ) → Solvable (slotsOf d) 8192 8192 (planLanes d)
+solvable d = record { room = refl; some-lanes = omega (arith, lanes-range d); few-lanes = lanes-range d .1; keys-room = omega arith; scratch-room = omega arith }
 
 -- what holds of each pair of a set holds of one that stands in it
 each-times : (P : ℕ → ℕ → Type 0) (i : ℕ) (s : List ℕ) (w m : ℕ) → EachPair P s → 0 < times w m (pairsFrom i s) → P w m
@@ -91,7 +92,7 @@ module _ (d : List ℕ) (fit : totalsFit d ≡ true) (twelve : refusal12 d ≡ n
       let (a, b, c) = number-inside (r .position .staged) (r .position .place) (stateWords d) B (r .mark) in-state (totals-fit d fit .0) (r .before) in
       rw (← same) (record { small = a; word = (b, c) })
 
-  slot-inside : (j : ℕ) → j < 8192 → Each (Inside d B) (slotAsks d p j)
+  slot-inside : (j : ℕ) → j < slotsOf d → Each (Inside d B) (slotAsks d p j)
   unfolding askedBy
   slot-inside j h = go (eqb (levelAt d p 0 j) empty) refl (planned d (levelAt d p 0 j)) refl
     where
@@ -101,48 +102,48 @@ module _ (d : List ℕ) (fit : totalsFit d ≡ true) (twelve : refusal12 d ≡ n
       go false e (some y) f =
           (planned-inside (levelAt d p 0 j) y (read-planned d twelve p (levelAt d p 0 j) part (slot-read d p j h) (eqb-false _ _ e)) f, tt)
 
-  asked-inside : (n : ℕ) → n ≤ 8192 → Each (Inside d B) (askedTo d p n)
+  asked-inside : (m : ℕ) → m ≤ slotsOf d → Each (Inside d B) (askedTo d p m)
   unfolding askedTo
   asked-inside zero h = tt
-  asked-inside (suc n) h = each-append (Inside d B) (askedTo d p n) (slotAsks d p n) (asked-inside n (omega arith)) (slot-inside n (omega arith))
+  asked-inside (suc m) h = each-append (Inside d B) (askedTo d p m) (slotAsks d p m) (asked-inside m (omega arith)) (slot-inside m (omega arith))
 
-  asked-at : (i : ℕ) → i < length (askedTo d p 8192) → Inside d B (getD (askedTo d p 8192) i 0)
-  asked-at i h = each-at (Inside d B) (askedTo d p 8192) i 0 (asked-inside 8192 (omega arith)) h
+  asked-at : (i : ℕ) → i < length (askedTo d p (slotsOf d)) → Inside d B (getD (askedTo d p (slotsOf d)) i 0)
+  asked-at i h = each-at (Inside d B) (askedTo d p (slotsOf d)) i 0 (asked-inside (slotsOf d) (omega arith)) h
 
-  pub narrow : AllNarrow (askedTo d p 8192)
+  pub narrow : AllNarrow (askedTo d p (slotsOf d))
   narrow i h =
-      let a : Inside d B (getD (askedTo d p 8192) i 0) = asked-at i h in
+      let a : Inside d B (getD (askedTo d p (slotsOf d)) i 0) = asked-at i h in
       let few : stateWords d ≤ 2 ^ 27 = totals-fit d fit .0 in
       record { small = a .small; place = omega (arith, a .word .0) }
 
   set-inside : EachPair (λ w m. WordInside d B w) (readWords d p)
   unfolding readWords
   set-inside =
-      set-each (λ w m. WordInside d B w) (askedTo d p 8192) (λ i h. record { alone = asked-at i h .word; joins = λ w m e k. k })
+      set-each (λ w m. WordInside d B w) (askedTo d p (slotsOf d)) (λ i h. record { alone = asked-at i h .word; joins = λ w m e k. k })
 
   -- ---- the lanes
 
-  module _ (found : partReads 256 d p ≡ good (partPacked 256 d p)) where
-    pub part-packing : Packing 256 (pairsOf (readWords d p)) (partLanes 256 d p)
+  module _ (found : partReads (planLanes d) d p ≡ good (partPacked (planLanes d) d p)) where
+    pub part-packing : Packing (planLanes d) (pairsOf (readWords d p)) (partLanes (planLanes d) d p)
     unfolding partReads
-    part-packing = placed-packing 256 (pairsOf (readWords d p)) (partPacked 256 d p) found (omega arith)
+    part-packing = placed-packing (planLanes d) (pairsOf (readWords d p)) (partPacked (planLanes d) d p) found (omega (arith, lanes-range d))
 
-    word-inside : (r i : ℕ) → (maskIn (getD (partLanes 256 d p) i []) r ≡ 0 → ⊥) → WordInside d B (wordIn (getD (partLanes 256 d p) i []) r)
+    word-inside : (r i : ℕ) → (maskIn (getD (partLanes (planLanes d) d p) i []) r ≡ 0 → ⊥) → WordInside d B (wordIn (getD (partLanes (planLanes d) d p) i []) r)
     word-inside r i some-bits = ⊎-elim there (λ l. absurd (some-bits (mask-none lane r l))) (lt-or-ge r (length lane))
       where
         lane : Lane
-        lane = getD (partLanes 256 d p) i []
+        lane = getD (partLanes (planLanes d) d p) i []
 
         there : r < length lane → WordInside d B (wordIn lane r)
         there l =
-            let stands = in-lanes (wordIn lane r) (maskIn lane r) (partLanes 256 d p) i (times-in lane r l) in
+            let stands = in-lanes (wordIn lane r) (maskIn lane r) (partLanes (planLanes d) d p) i (times-in lane r l) in
             each-times (λ w m. WordInside d B w) 0 (readWords d p) (wordIn lane r) (maskIn lane r) set-inside
             (omega (arith, part-packing .once (wordIn lane r) (maskIn lane r)))
 
-    pub read-inside : (r i : ℕ) → (maskIn (getD (partLanes 256 d p) i []) r ≡ 0 → ⊥) → wordIn (getD (partLanes 256 d p) i []) r % 2 ^ 31 < stateWords d
+    pub read-inside : (r i : ℕ) → (maskIn (getD (partLanes (planLanes d) d p) i []) r ≡ 0 → ⊥) → wordIn (getD (partLanes (planLanes d) d p) i []) r % 2 ^ 31 < stateWords d
     read-inside r i some-bits = word-inside r i some-bits .0
 
     -- a staged word was stored by an earlier major stage
-    pub read-before : (r i : ℕ) → (maskIn (getD (partLanes 256 d p) i []) r ≡ 0 → ⊥) → 2 ^ 31 ≤ wordIn (getD (partLanes 256 d p) i []) r
-        → wordIn (getD (partLanes 256 d p) i []) r - 2 ^ 31 < stateOf d (majorOf d p)
+    pub read-before : (r i : ℕ) → (maskIn (getD (partLanes (planLanes d) d p) i []) r ≡ 0 → ⊥) → 2 ^ 31 ≤ wordIn (getD (partLanes (planLanes d) d p) i []) r
+        → wordIn (getD (partLanes (planLanes d) d p) i []) r - 2 ^ 31 < stateOf d (majorOf d p)
     read-before r i some-bits staged = word-inside r i some-bits .1 staged

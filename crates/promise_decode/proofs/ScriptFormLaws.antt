@@ -21,7 +21,8 @@ use Rattle.reads.specs.Local.{wordIn, maskIn}
 use Rattle.words.specs.Answer.{good}
 use Rattle.reads.proofs.RoundCountLaws.{longest-ge}
 use Rattle.reads.proofs.ReadTurnLaws.{sum-total}
-use Rattle.plan_record.specs.Record.{majorsOf, partsOf, stagesOf, locationsOf, locationAt}
+use Rattle.plan_record.specs.Record.{planLanes, slotsOf, majorsOf, partsOf, stagesOf, locationsOf, locationAt}
+use Rattle.plan_record.proofs.RecordLaws.{lanes-range}
 use Rattle.words.proofs.TestLaws.{true-and, all-true}
 use Rattle.plan_counts.specs.Counts.{writeOuts}
 use Rattle.plan_blocks.specs.Blocks.{stateWords, totalsFit}
@@ -84,11 +85,11 @@ module _ (n : ℕ) (W : List ℕ) (o : ℕ) where
 
 -- ---- the test
 
-module _ (d : List ℕ) (p last state sram : ℕ) (W : List ℕ) (o : ℕ) (able : Decodable d p) (back : Decoded 256 d p last state sram W o) where
+module _ (d : List ℕ) (p last state sram : ℕ) (W : List ℕ) (o : ℕ) (able : Decodable d p) (back : Decoded (planLanes d) d p last state sram W o) where
   abbrev S : ℕ
   S = stagesOf d p
 
-  entry-below : (k i : ℕ) → k < stagesAt W o + 2 → i < 8192 → entryAt 256 W o k i < 8192
+  entry-below : (k i : ℕ) → k < stagesAt W o + 2 → i < slotsOf d → entryAt (planLanes d) W o k i < slotsOf d
   entry-below k i h l = ⊎-elim
       (λ (a : k < S). omega (arith, back .entry k i a l, able .entry k i a l))
       (λ (a : S ≤ k). ⊎-elim
@@ -97,29 +98,30 @@ module _ (d : List ℕ) (p last state sram : ℕ) (W : List ℕ) (o : ℕ) (able
       (lt-or-ge S k))
       (lt-or-ge k S)
 
-  location-there : (l : ℕ) → l < normalAt W o → (locationIn 256 W o l / 256 < stagesAt W o) × (locationIn 256 W o l % 256 < 256)
+  location-there : (l : ℕ) → l < normalAt W o → (locationIn (planLanes d) W o l / 256 < stagesAt W o) × (locationIn (planLanes d) W o l % 256 < planLanes d)
   location-there l h =
       let a : l < locationsOf d p = omega (arith, back .normal) in
       let e = back .location l a in
       let s : locationStage d p l < stagesOf d p = stage-lt d p l a in
-      let c : locationAt d p l ≤ 255 = able .location l a in
+      let c : locationAt d p l < planLanes d = able .location l a in
+      let most = lanes-range d in
       (omega (arith, back .stages), omega arith)
 
-  lane-light : (i : ℕ) → i < 256 → total (getD (partLanes 256 d p) i []) ≤ 32 → sumTo (λ r. pop (readMaskAt 256 W o r i)) (roundsAt W o) ≤ 32
+  lane-light : (i : ℕ) → i < planLanes d → total (getD (partLanes (planLanes d) d p) i []) ≤ 32 → sumTo (λ r. pop (readMaskAt (planLanes d) W o r i)) (roundsAt W o) ≤ 32
   lane-light i h thin =
-      let lane : Lane = getD (partLanes 256 d p) i [] in
-      let e : sumTo (λ r. pop (readMaskAt 256 W o r i)) (roundsAt W o) ≡ total lane =
-      ap (sumTo (λ r. pop (readMaskAt 256 W o r i))) (back .rounds)
-      ∙ sum-ext _ (λ r. pop (maskIn lane r)) (longest (partLanes 256 d p)) (λ r k. ap pop (back .read-mask r i k h))
-      ∙ sum-total lane (longest (partLanes 256 d p)) (longest-ge (partLanes 256 d p) i) in
+      let lane : Lane = getD (partLanes (planLanes d) d p) i [] in
+      let e : sumTo (λ r. pop (readMaskAt (planLanes d) W o r i)) (roundsAt W o) ≡ total lane =
+      ap (sumTo (λ r. pop (readMaskAt (planLanes d) W o r i))) (back .rounds)
+      ∙ sum-ext _ (λ r. pop (maskIn lane r)) (longest (partLanes (planLanes d) d p)) (λ r k. ap pop (back .read-mask r i k h))
+      ∙ sum-total lane (longest (partLanes (planLanes d) d p)) (longest-ge (partLanes (planLanes d) d p) i) in
       omega arith
 
-  words-there : (s t : ℕ) → ((r i : ℕ) → (maskIn (getD (partLanes 256 d p) i []) r ≡ 0 → ⊥) → wordIn (getD (partLanes 256 d p) i []) r % 2 ^ 31 < s)
-      → ((r i : ℕ) → (maskIn (getD (partLanes 256 d p) i []) r ≡ 0 → ⊥) → wordIn (getD (partLanes 256 d p) i []) r % 2 ^ 31 < t)
-      → (r i : ℕ) → r < roundsAt W o → i < 256 → (readMaskAt 256 W o r i ≡ 0 → ⊥) → (readWordAt 256 W o r i % 2 ^ 31 < s) × (readWordAt 256 W o r i % 2 ^ 31 < t)
+  words-there : (s t : ℕ) → ((r i : ℕ) → (maskIn (getD (partLanes (planLanes d) d p) i []) r ≡ 0 → ⊥) → wordIn (getD (partLanes (planLanes d) d p) i []) r % 2 ^ 31 < s)
+      → ((r i : ℕ) → (maskIn (getD (partLanes (planLanes d) d p) i []) r ≡ 0 → ⊥) → wordIn (getD (partLanes (planLanes d) d p) i []) r % 2 ^ 31 < t)
+      → (r i : ℕ) → r < roundsAt W o → i < planLanes d → (readMaskAt (planLanes d) W o r i ≡ 0 → ⊥) → (readWordAt (planLanes d) W o r i % 2 ^ 31 < s) × (readWordAt (planLanes d) W o r i % 2 ^ 31 < t)
   words-there s t old new r i h l some-bits =
-      let a : r < longest (partLanes 256 d p) = omega (arith, back .rounds) in
-      let m : maskIn (getD (partLanes 256 d p) i []) r ≡ 0 → ⊥ = λ z. some-bits (back .read-mask r i a l ∙ z) in
+      let a : r < longest (partLanes (planLanes d) d p) = omega (arith, back .rounds) in
+      let m : maskIn (getD (partLanes (planLanes d) d p) i []) r ≡ 0 → ⊥ = λ z. some-bits (back .read-mask r i a l ∙ z) in
       rw (back .read-word r i a l) (old r i m, new r i m)
 
   stored-counts : sramsAt W o + duplicatesAt W o ≤ writeOutsAt W o
@@ -127,30 +129,30 @@ module _ (d : List ℕ) (p last state sram : ℕ) (W : List ℕ) (o : ℕ) (able
   stored-counts = omega (arith, back .sram-count, back .duplicate-words, back .write-outs)
 
   -- THE RUN'S TEST OF 15 PASSES
-  pub part-form : (e s t : ℕ) → Fitting d p last state W o e s t → partForm 256 W s t e o ≡ true
+  pub part-form : (e s t : ℕ) → Fitting d p last state W o e s t → partForm (planLanes d) W s t e o ≡ true
   part-form e s t fits =
-      form-of 256 W o s t e
+      form-of (planLanes d) W o s t e
       (omega (arith, back .stages, able .some-stages))
       (omega (arith, back .stages, able .stages))
       (fits .inside)
       (back .last-mark ∙ fits .mark)
-      (stores-form 256 W o s t stored-counts (omega (arith, back .normal, able .locations))
+      (stores-form (planLanes d) W o s t stored-counts (omega (arith, back .normal, able .locations))
       (omega (arith, back .start, back .normal, fits .old-stores)) (omega (arith, back .start, back .normal, fits .new-stores)))
-      (locations-form 256 W o location-there)
-      (lanes-form 256 W o (λ i h. lane-light i h (fits .thin i)))
-      (reads-form 256 W o s t (words-there s t (fits .old-reads) (fits .new-reads)))
-      (entries-form 256 W o entry-below)
+      (locations-form (planLanes d) W o location-there)
+      (lanes-form (planLanes d) W o (λ i h. lane-light i h (fits .thin i)))
+      (reads-form (planLanes d) W o s t (words-there s t (fits .old-reads) (fits .new-reads)))
+      (entries-form (planLanes d) W o entry-below)
 
 -- ---- a part of an accepted plan fits: its state start is the plan's, and both states hold the planned state
 
-module _ (d : List ℕ) (fit : totalsFit d ≡ true) (twelve : refusal12 d ≡ none) (p : ℕ) (part : p < partsOf d) (found : partReads 256 d p ≡ good (partPacked 256 d p)) where
+module _ (d : List ℕ) (fit : totalsFit d ≡ true) (twelve : refusal12 d ≡ none) (p : ℕ) (part : p < partsOf d) (found : partReads (planLanes d) d p ≡ good (partPacked (planLanes d) d p)) where
   stored-inside : partStateStart d p + locationsOf d p ≤ stateWords d
   unfolding writeOuts
   stored-inside =
       let (s, i, a, b, e) = part-split d (majorsOf d) p part in
       omega (arith, ap (partStateStart d) e, ap (locationsOf d) e, start-is d s i a b, state-in d s i b .1, state-mono d (s + 1) (majorsOf d) (omega arith))
 
-  pub fitting : (last : ℕ) (W : List ℕ) (o e s t : ℕ) → endAt 256 W o ≤ e → last ≡ elim (eqb (endAt 256 W o) e) [ true ↦ 1 | false ↦ 0 ] → stateWords d ≤ s → stateWords d ≤ t
+  pub fitting : (last : ℕ) (W : List ℕ) (o e s t : ℕ) → endAt (planLanes d) W o ≤ e → last ≡ elim (eqb (endAt (planLanes d) W o) e) [ true ↦ 1 | false ↦ 0 ] → stateWords d ≤ s → stateWords d ≤ t
       → Fitting d p last (partStateStart d p) W o e s t
   fitting last W o e s t h m u v = record {
     inside = h;

@@ -11,9 +11,10 @@ use lib.Dec.{leb}
 use lib.ListN.{length, take, drop}
 use lib.Seq.{sets, sets-eq, take-at}
 use Rattle.words.specs.Answer.{Answer, good, refused, nowhere}
+use Rattle.words.specs.Edition.{levelsFor}
 use Rattle.words.specs.declared.refusals.Refusal.{Refusal}
 use Rattle.words.proofs.AnswerLaws.{refused-good}
-use Rattle.plan_record.specs.Record.{blocksOf, majorsOf, partsOf}
+use Rattle.plan_record.specs.Record.{planLanes, blocksOf, majorsOf, partsOf}
 use Rattle.plan_record.specs.Form.{planRoomWords}
 use Rattle.words.proofs.TestLaws.{and-true}
 use Rattle.plan_blocks.specs.Blocks.{stateWords}
@@ -49,29 +50,29 @@ front before l k h e = ap (take k) (sets-eq l before 0 (omega arith)) ∙ take-a
 pub build-leaves : BuildLeaves
 unfolding building laid sizesOf fits planVerdict
 build-leaves d r starts words pieces x s e =
-    let B = built-so (planVerdict 256 d r) (fits (sizesOf 256 d) (partsOf d) (length starts) (length words) (length pieces)) (sizesOf 256 d) x e in
+    let B = built-so (planVerdict d r) (fits (sizesOf (planLanes d) d) (partsOf d) (length starts) (length words) (length pieces)) (sizesOf (planLanes d) d) x e in
     let starts-fit = leb (blocksOf d * majorsOf d + 1) (length starts) in
-    let words-fit = leb (length (scriptWords 256 d)) (length words) in
+    let words-fit = leb (length (scriptWords (planLanes d) d)) (length words) in
     let (a, b) = and-true starts-fit words-fit (and-true (leb (partsOf d) (length pieces)) (starts-fit && words-fit) (B .fit) .1) in
-    let ws : x .words ≡ length (scriptWords 256 d) = ap (λ (y : Sizes). y .words) (sym (B .sizes)) in
-    let ss : x .starts ≡ length (scriptStarts 256 d) = ap (λ (y : Sizes). y .starts) (sym (B .sizes)) ∙ sym (starts-length 256 d) in
+    let ws : x .words ≡ length (scriptWords (planLanes d) d) = ap (λ (y : Sizes). y .words) (sym (B .sizes)) in
+    let ss : x .starts ≡ length (scriptStarts (planLanes d) d) = ap (λ (y : Sizes). y .starts) (sym (B .sizes)) ∙ sym (starts-length (planLanes d) d) in
     record {
-      accepted = accepted-so (leb (planRoomWords d) r) (planRefusal 256 d) (B .accepted);
-      words-are = ap (λ (y : Answer Sizes). take (x .words) (laid y (scriptWords 256 d) words)) e ∙ front words (scriptWords 256 d) (x .words) (leb-true _ _ b) ws;
+      accepted = accepted-so (leb (planRoomWords d) r) (planRefusal d) (B .accepted);
+      words-are = ap (λ (y : Answer Sizes). take (x .words) (laid y (scriptWords (planLanes d) d) words)) e ∙ front words (scriptWords (planLanes d) d) (x .words) (leb-true _ _ b) ws;
       starts-are =
           ap (λ (l : List ℕ). take (blocksOf d + 1) (drop (blocksOf d * s) l))
-          (ap (λ (y : Answer Sizes). take (x .starts) (laid y (scriptStarts 256 d) starts)) e
-          ∙ front starts (scriptStarts 256 d) (x .starts) (omega (arith, leb-true (blocksOf d * majorsOf d + 1) (length starts) a, starts-length 256 d)) ss);
+          (ap (λ (y : Answer Sizes). take (x .starts) (laid y (scriptStarts (planLanes d) d) starts)) e
+          ∙ front starts (scriptStarts (planLanes d) d) (x .starts) (omega (arith, leb-true (blocksOf d * majorsOf d + 1) (length starts) a, starts-length (planLanes d) d)) ss);
     }
 
 pub built-run : BuiltRun
 unfolding building sizesOf
 built-run d r starts words pieces x s turns old new room e stage old-size new-size space named all =
-    let B = built-so (planVerdict 256 d r) (fits (sizesOf 256 d) (partsOf d) (length starts) (length words) (length pieces)) (sizesOf 256 d) x e in
+    let B = built-so (planVerdict d r) (fits (sizesOf (planLanes d) d) (partsOf d) (length starts) (length words) (length pieces)) (sizesOf (planLanes d) d) x e in
     let size : x .state ≡ stateWords d = ap (λ (y : Sizes). y .state) (sym (B .sizes)) in
     let L = build-leaves d r starts words pieces x s e in
     let F = finished d s turns old new room (L .accepted) stage (old-size ∙ size) (new-size ∙ size) space named all in (
       stageRun d s turns old new .new,
-      ap₂ (λ (w t : List ℕ). runAnswer 256 13 w t turns old new room) (L .words-are) (L .starts-are) ∙ F .0,
+      ap₂ (λ (w t : List ℕ). runAnswer (planLanes d) (levelsFor (planLanes d)) w t turns old new room) (L .words-are) (L .starts-are) ∙ F .0,
       F .1,
     )

@@ -11,9 +11,9 @@ use native.Mathlib.Omega.{arith}
 use borrow.Author.Tests.{eq-eqb, ne-eqb}
 use lib.ListN.{getD}
 use Rattle.words.specs.Bit.{bitAt}
+use Rattle.words.specs.Edition.{levelsFor}
 use Rattle.words.proofs.BitLaws.{lt-or-ge}
-use Rattle.plan_record.specs.Record.{stagesOf, locationsOf, levelAt}
-use Rattle.plan_record.proofs.RecordLaws.{lanes-full}
+use Rattle.plan_record.specs.Record.{planLanes, stagesOf, locationsOf, levelAt}
 use Rattle.words.specs.Pins.{empty}
 use Rattle.plan_record.proofs.PlanFormLaws.{formed}
 use Rattle.plan_counts.proofs.PartCountLaws.{counts-passed}
@@ -33,15 +33,15 @@ use Rattle.promise_meaning.proofs.StageValueLaws.{stage-values}
 
 -- ---- a word that is captured after stage k stays
 
-module _ (W : List ℕ) (o : ℕ) (row : List ℕ) (l k w : ℕ) (inside : l < normalAt W o) (stage : locationIn 256 W o l / 256 ≡ k) (word : locationIn 256 W o l % 256 ≡ w) where
-  pub kept-word : (m : ℕ) → k < m → getD (capsAfter 256 13 W o row m) l 0 ≡ getD (rowAfter 256 13 W o row (suc k)) w 0
+module _ (n H : ℕ) (W : List ℕ) (o : ℕ) (row : List ℕ) (l k w : ℕ) (inside : l < normalAt W o) (stage : locationIn n W o l / 256 ≡ k) (word : locationIn n W o l % 256 ≡ w) where
+  pub kept-word : (m : ℕ) → k < m → getD (capsAfter n H W o row m) l 0 ≡ getD (rowAfter n H W o row (suc k)) w 0
   unfolding capsAfter
   kept-word zero h = absurd (not-suc-le-zero h)
-  kept-word (suc m) h = captured-word 256 W o m (rowAfter 256 13 W o row (suc m)) (capsAfter 256 13 W o row m) l inside ∙ ⊎-elim
-      (λ b. rw (ne-eqb (locationIn 256 W o l / 256) m (λ e. omega arith)) (kept-word m b))
+  kept-word (suc m) h = captured-word n W o m (rowAfter n H W o row (suc m)) (capsAfter n H W o row m) l inside ∙ ⊎-elim
+      (λ b. rw (ne-eqb (locationIn n W o l / 256) m (λ e. omega arith)) (kept-word m b))
       (λ b.
       let e : k ≡ m = omega arith in
-      rw (eq-eqb (locationIn 256 W o l / 256) m (stage ∙ e), word, e))
+      rw (eq-eqb (locationIn n W o l / 256) m (stage ∙ e), word, e))
       (lt-or-ge k m)
 
 -- ---- the stage of a location
@@ -56,21 +56,21 @@ module _ (d : List ℕ) (p : ℕ) (s : PassedPart d p) where
     word = counts-passed d (s .seven) p (s .part) .location l h;
   }
 
-  module _ (last state sram : ℕ) (W : List ℕ) (o : ℕ) (w : Decoded 256 d p last state sram W o) (old new : List ℕ) where
+  module _ (last state sram : ℕ) (W : List ℕ) (o : ℕ) (w : Decoded (planLanes d) d p last state sram W o) (old new : List ℕ) where
     -- ---- the rows
 
-    later-entry : (k j : ℕ) → (levelAt d p (suc k) j ≡ empty → ⊥) → stageEntry 256 d p (suc k) j ≡ highest d p k (levelAt d p (suc k) j)
+    later-entry : (k j : ℕ) → (levelAt d p (suc k) j ≡ empty → ⊥) → stageEntry (planLanes d) d p (suc k) j ≡ highest d p k (levelAt d p (suc k) j)
     unfolding stageEntry pinEntry
     later-entry k j full = rw (ne-eqb _ _ full, stageEntry, pinEntry)
 
     later-gathers : (k : ℕ) → suc k < stagesOf d p → (row : List ℕ) → HoldsValues d p old new k row → Gathers d p old new W o (suc k) row
     later-gathers k stage row holds j l full =
         let x = levelAt d p (suc k) j in
-        let (some-position, within, there) = rw add-one at (later-highest d (s .ten) p k j (s .part) (rw add-one stage) (omega (arith, lanes-full d)) (rw add-one full)) in
-        let here : entryAt 256 W o (suc k) j ≡ highest d p k x = w .entry (suc k) j stage (omega arith) ∙ later-entry k j full in
-        ap (bitAt row) here ∙ holds (highest d p k x) some-position (omega (arith, within, lanes-full d)) (λ e. full (sym there ∙ e)) ∙ ap (pinValue d p old new) there
+        let (some-position, within, there) = rw add-one at (later-highest d (s .ten) p k j (s .part) (rw add-one stage) l (rw add-one full)) in
+        let here : entryAt (planLanes d) W o (suc k) j ≡ highest d p k x = w .entry (suc k) j stage l ∙ later-entry k j full in
+        ap (bitAt row) here ∙ holds (highest d p k x) some-position within (λ e. full (sym there ∙ e)) ∙ ap (pinValue d p old new) there
 
-    pub row-values : (k : ℕ) → k < stagesOf d p → HoldsValues d p old new k (rowAfter 256 13 W o (readRow 256 W o old new) (suc k))
+    pub row-values : (k : ℕ) → k < stagesOf d p → HoldsValues d p old new k (rowAfter (planLanes d) (levelsFor (planLanes d)) W o (readRow (planLanes d) W o old new) (suc k))
     unfolding rowAfter
     row-values zero stage = stage-values d p s last state sram W o w old new zero stage _ (first-gathers d p s last state sram W o w old new some-stages)
     row-values (suc k) stage =

@@ -21,7 +21,8 @@ use Rattle.reads.proofs.LocalLaws.{Requested, own-positions}
 use Rattle.reads.proofs.SectionWordLaws.{section-word, section-mask}
 use Rattle.reads.proofs.ReadTurnLaws.{ReadBy, read-requested}
 use Rattle.reads_asked.proofs.RequestLaws.{set-requests}
-use Rattle.plan_record.specs.Record.{majorsOf, partsOf, stagesOf, levelAt}
+use Rattle.plan_record.specs.Record.{planLanes, slotsOf, majorsOf, partsOf, stagesOf, levelAt}
+use Rattle.plan_record.proofs.RecordLaws.{lanes-range}
 use Rattle.words.specs.Pins.{empty}
 use Rattle.plan_record.proofs.PlanFormLaws.{formed}
 use Rattle.plan_gates.specs.Gates.{value}
@@ -89,10 +90,10 @@ module _ (d : List ℕ) (p : ℕ) (s : PassedPart d p) where
   unfolding stateOf
   state-small =
       let f = formed d (s .form) in
-      let most = sum-most 256 (writeOuts d) (partsOf d) (λ q l. counts-passed d (s .seven) q l .words) in
+      let most = sum-most 256 (writeOuts d) (partsOf d) (λ q l. omega (arith, counts-passed d (s .seven) q l .words, lanes-range d)) in
       omega (arith, f .head .layout, f .sizes .headed .parts, most)
 
-  slot-planned : (j : ℕ) → j < 8192 → (levelAt d p 0 j ≡ empty → ⊥) → RightlyPlanned d (majorOf d p) (levelAt d p 0 j)
+  slot-planned : (j : ℕ) → j < slotsOf d → (levelAt d p 0 j ≡ empty → ⊥) → RightlyPlanned d (majorOf d p) (levelAt d p 0 j)
   slot-planned j l full = read-planned d (s .twelve) p (levelAt d p 0 j) (s .part) (reads-slot d p j l) full
 
   place-small : (x : ℕ) (r : RightlyPlanned d (majorOf d p) x) → r .position .place < 2 ^ 32
@@ -107,7 +108,7 @@ module _ (d : List ℕ) (p : ℕ) (s : PassedPart d p) where
       (λ e. record { small = omega (arith, place-small x r); place = omega (arith, place-small x r) })
       (r .mark)
 
-  slot-narrow : (j : ℕ) → j < 8192 → AllNarrow (slotAsks d p j)
+  slot-narrow : (j : ℕ) → j < slotsOf d → AllNarrow (slotAsks d p j)
   unfolding askedBy
   slot-narrow j l = by (eqb (levelAt d p 0 j) empty) refl
     where
@@ -121,19 +122,19 @@ module _ (d : List ℕ) (p : ℕ) (s : PassedPart d p) where
           let r = slot-planned j l (eqb-false _ _ e) in
           rw (r .is, askedBy) (one (bitNumber (r .position)) (place-narrow _ r))
 
-  asked-narrow : (n : ℕ) → n ≤ 8192 → AllNarrow (askedTo d p n)
+  asked-narrow : (n : ℕ) → n ≤ slotsOf d → AllNarrow (askedTo d p n)
   unfolding askedTo
   asked-narrow zero h = λ i l. absurd (omega arith)
   asked-narrow (suc n) h = narrow-append (askedTo d p n) (slotAsks d p n) (asked-narrow n (omega arith)) (slot-narrow n (omega arith))
 
   -- ---- so the part's lanes are a packing of its set
 
-  narrow : AllNarrow (askedTo d p 8192)
-  narrow = asked-narrow 8192 (omega arith)
+  narrow : AllNarrow (askedTo d p (slotsOf d))
+  narrow = asked-narrow (slotsOf d) (omega arith)
 
-  packing : Packing 256 (pairsOf (readWords d p)) (partLanes 256 d p)
+  packing : Packing (planLanes d) (pairsOf (readWords d p)) (partLanes (planLanes d) d p)
   unfolding partReads
-  packing = placed-packing 256 (pairsOf (readWords d p)) (partPacked 256 d p) (s .reads) (omega arith)
+  packing = placed-packing (planLanes d) (pairsOf (readWords d p)) (partPacked (planLanes d) d p) (s .reads) (omega (arith, lanes-range d))
 
   in-form : broken (pairsOf (readWords d p)) ≡ none
   in-form = words-form d p narrow .form
@@ -141,39 +142,39 @@ module _ (d : List ℕ) (p : ℕ) (s : PassedPart d p) where
   masks-small : (w m : ℕ) → 0 < times w m (pairsOf (readWords d p)) → m < 2 ^ 32
   masks-small w m h = pairs-small 0 (readWords d p) (2 ^ 32) (words-small d p narrow) w m h .1
 
-  slot-requested : (j : ℕ) (l : j < 8192) (full : levelAt d p 0 j ≡ empty → ⊥)
+  slot-requested : (j : ℕ) (l : j < slotsOf d) (full : levelAt d p 0 j ≡ empty → ⊥)
       → Requested (pairsOf (readWords d p)) (bitNumber (slot-planned j l full .position) / 32) (bitNumber (slot-planned j l full .position) % 32)
   unfolding readWords
   slot-requested j l full =
       let r = slot-planned j l full in
-      let (i, k, g) = asked-in d p 8192 j (r .position) l full (r .is) in
-      rw g at (set-requests (askedTo d p 8192) i k)
+      let (i, k, g) = asked-in d p (slotsOf d) j (r .position) l full (r .is) in
+      rw g at (set-requests (askedTo d p (slotsOf d)) i k)
 
   first-entry : (j : ℕ) → (levelAt d p 0 j ≡ empty → ⊥) → (y : Planned) → planned d (levelAt d p 0 j) ≡ some y
-      → stageEntry 256 d p 0 j ≡ orZero (localOf (partLanes 256 d p) (bitNumber y / 32) (bitNumber y % 32))
+      → stageEntry (planLanes d) d p 0 j ≡ orZero (localOf (partLanes (planLanes d) d p) (bitNumber y / 32) (bitNumber y % 32))
   unfolding stageEntry pinEntry localPosition
   first-entry j full y e = rw (ne-eqb _ _ full, stageEntry, pinEntry, e, localPosition)
 
   -- ---- what the read turn leaves
 
-  module _ (last state sram : ℕ) (W : List ℕ) (o : ℕ) (w : Decoded 256 d p last state sram W o) (old new : List ℕ) where
-    read-turn : ReadBy 256 (partLanes 256 d p) (stateWord old new) (λ i r. stateWord old new (readWordAt 256 W o r i)) (λ i r. readMaskAt 256 W o r i) (readRow 256 W o old new)
+  module _ (last state sram : ℕ) (W : List ℕ) (o : ℕ) (w : Decoded (planLanes d) d p last state sram W o) (old new : List ℕ) where
+    read-turn : ReadBy (planLanes d) (partLanes (planLanes d) d p) (stateWord old new) (λ i r. stateWord old new (readWordAt (planLanes d) W o r i)) (λ i r. readMaskAt (planLanes d) W o r i) (readRow (planLanes d) W o old new)
     read-turn = record {
-      words = λ i r h l. ap (stateWord old new) (w .read-word r i l h ∙ sym (section-word 256 (partLanes 256 d p) (packing .wide) r i h));
-      masks = λ i r h l. w .read-mask r i l h ∙ sym (section-mask 256 (partLanes 256 d p) (packing .wide) r i h);
-      left = λ i h. read-lane 256 W o old new i h ∙ ap (laneWord (λ r. stateWord old new (readWordAt 256 W o r i)) (λ r. readMaskAt 256 W o r i)) (w .rounds);
+      words = λ i r h l. ap (stateWord old new) (w .read-word r i l h ∙ sym (section-word (planLanes d) (partLanes (planLanes d) d p) (packing .wide) r i h));
+      masks = λ i r h l. w .read-mask r i l h ∙ sym (section-mask (planLanes d) (partLanes (planLanes d) d p) (packing .wide) r i h);
+      left = λ i h. read-lane (planLanes d) W o old new i h ∙ ap (laneWord (λ r. stateWord old new (readWordAt (planLanes d) W o r i)) (λ r. readMaskAt (planLanes d) W o r i)) (w .rounds);
     }
 
-    pub first-gathers : 0 < stagesOf d p → Gathers d p old new W o 0 (readRow 256 W o old new)
+    pub first-gathers : 0 < stagesOf d p → Gathers d p old new W o 0 (readRow (planLanes d) W o old new)
     first-gathers some-stages j l full =
         let x = levelAt d p 0 j in
         let r = slot-planned j l full in
         let y = r .position in
         let asked = slot-requested j l full in
-        let (q, at, low) = own-positions 256 (pairsOf (readWords d p)) (partLanes 256 d p) packing in-form masks-small .below (bitNumber y / 32) (bitNumber y % 32) asked in
-        let here : entryAt 256 W o 0 j ≡ q = w .entry 0 j some-stages (omega arith) ∙ first-entry j full y (r .is) ∙ ap orZero at in
-        let left = read-requested 256 (pairsOf (readWords d p)) (partLanes 256 d p) packing in-form masks-small (stateWord old new) (λ i r. stateWord old new (readWordAt 256 W o r i))
-        (λ i r. readMaskAt 256 W o r i) (readRow 256 W o old new) read-turn (bitNumber y / 32) (bitNumber y % 32) q asked at in
+        let (q, at, low) = own-positions (planLanes d) (pairsOf (readWords d p)) (partLanes (planLanes d) d p) packing in-form masks-small .below (bitNumber y / 32) (bitNumber y % 32) asked in
+        let here : entryAt (planLanes d) W o 0 j ≡ q = w .entry 0 j some-stages l ∙ first-entry j full y (r .is) ∙ ap orZero at in
+        let left = read-requested (planLanes d) (pairsOf (readWords d p)) (partLanes (planLanes d) d p) packing in-form masks-small (stateWord old new) (λ i r. stateWord old new (readWordAt (planLanes d) W o r i))
+        (λ i r. readMaskAt (planLanes d) W o r i) (readRow (planLanes d) W o old new) read-turn (bitNumber y / 32) (bitNumber y % 32) q asked at in
         let bits : input d p old new x ≡ some (bit (stateWord old new (bitNumber y / 32)) (bitNumber y % 32)) =
         input-read d p old new x (s .part) (reads-slot d p j l) ∙ ap (plannedBit old new) (r .is) ∙ word-bit old new y (place-small x r) (r .mark) in
-        ap (bitAt (readRow 256 W o old new)) here ∙ left ∙ sym (pin-value d p old new x full ∙ value-read d (input d p old new) x _ bits)
+        ap (bitAt (readRow (planLanes d) W o old new)) here ∙ left ∙ sym (pin-value d p old new x full ∙ value-read d (input d p old new) x _ bits)

@@ -5,10 +5,10 @@ use mathlib.Core.Path.{_≡_}
 use mathlib.Core.Bool.{true}
 use mathlib.Core.Option.{none}
 use mathlib.Core.List.{List}
-use Prim.Native.Nat.{ℕ, _≤_, _<_}
+use Prim.Native.Nat.{ℕ, _<_}
 use Rattle.words.specs.Bit.{bitAt}
 use Rattle.words.specs.Answer.{good}
-use Rattle.plan_record.specs.Record.{partsOf, stagesOf, locationAt, slotAt, levelAt}
+use Rattle.plan_record.specs.Record.{planLanes, slotsOf, partsOf, stagesOf, locationAt, slotAt, levelAt}
 use Rattle.words.specs.Pins.{empty}
 use Rattle.plan_record.specs.Form.{planForm}
 use Rattle.plan_gates.specs.Gates.{badGate}
@@ -30,18 +30,18 @@ pub record PassedPart (d : List ℕ) (p : ℕ) : Type 0 where
   pub eleven : refusal11 d ≡ none
   pub twelve : refusal12 d ≡ none
   pub part : p < partsOf d
-  pub reads : partReads 256 d p ≡ good (partPacked 256 d p)
+  pub reads : partReads (planLanes d) d p ≡ good (partPacked (planLanes d) d p)
 
--- where location l is captured: in a stage of the part, below word 256
+-- where location l is captured: in a stage of the part, at the word of a lane
 pub record LocationAt (d : List ℕ) (p l : ℕ) : Type 0 where
   pub stage : locationStage d p l < stagesOf d p
-  pub word : locationAt d p l ≤ 255
+  pub word : locationAt d p l < planLanes d
 
 -- the bits that stage k gathers from `row`: each slot of level 0 with a pin gets the pin's value
 abbrev pub Gathers : List ℕ → ℕ → List ℕ → List ℕ → List ℕ → ℕ → ℕ → List ℕ → Type 0
 Gathers d p old new W o k row =
-    (j : ℕ) → j < 8192 → (levelAt d p k j ≡ empty → ⊥) → bitAt row (entryAt 256 W o k j) ≡ pinValue d p old new (levelAt d p k j)
+    (j : ℕ) → j < slotsOf d → (levelAt d p k j ≡ empty → ⊥) → bitAt row (entryAt (planLanes d) W o k j) ≡ pinValue d p old new (levelAt d p k j)
 
 -- the positions after stage k: each with a pin holds the pin's value
 abbrev pub HoldsValues : List ℕ → ℕ → List ℕ → List ℕ → ℕ → List ℕ → Type 0
-HoldsValues d p old new k row = (q : ℕ) → 0 < q → q < 8192 → (slotAt d p k q ≡ empty → ⊥) → bitAt row q ≡ pinValue d p old new (slotAt d p k q)
+HoldsValues d p old new k row = (q : ℕ) → 0 < q → q < slotsOf d → (slotAt d p k q ≡ empty → ⊥) → bitAt row q ≡ pinValue d p old new (slotAt d p k q)

@@ -52,9 +52,9 @@ whole-end o a s s₁ out out₁ room₁ counts room e f = (e .answer, (e .slots,
 
 -- ---- refusal 5
 
-pub place-parts : (h j : ℕ) → placeRight 13 h j ≡ true → (h ≤ 13) × (j < width 13 h)
+pub place-parts : (H h j : ℕ) → placeRight H h j ≡ true → (h ≤ H) × (j < width H h)
 unfolding placeRight
-place-parts h j e = let (a, b) = and-true (leb h 13) (ltb j (width 13 h)) e in (leb-true _ _ a, ltb-true _ _ b)
+place-parts H h j e = let (a, b) = and-true (leb h H) (ltb j (width H h)) e in (leb-true _ _ a, ltb-true _ _ b)
 
 module _ (p c : Bool) (x : ℕ) where
   pub form-pin : 2 ^ 30 < x → (p && isPin x && c) ≡ false

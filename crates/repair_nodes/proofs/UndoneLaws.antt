@@ -18,7 +18,8 @@ use Rattle.repair_nodes.specs.Clearing.{clearing}
 use Rattle.repair_nodes.specs.CountList.{Count, countsOf, countsRight, countedNodes, countsMore, countsLess, allCounts, short}
 use Rattle.words.proofs.AnswerLaws.{refused-good}
 use Rattle.words.specs.Answer.{refused, atItem, nowhere}
-use Rattle.repair_nodes.specs.RepairAnswer.{Repair, repaired, repairRoomWords, placeRight, repairFitted, placedAt, placed}
+use Rattle.words.specs.Edition.{known, levelsFor}
+use Rattle.repair_nodes.specs.RepairAnswer.{Repair, repaired, repairRoomWords, placeRight, repairFitted, placedAt, placedForm, placed}
 use Rattle.repair_nodes.proofs.PlacingLaws.{rooted-place}
 use Rattle.repair_nodes.proofs.ReachLaws.{reached, placing-vacant, placed-back}
 use Rattle.repair_nodes.proofs.CountListLaws.{CountsFormed, counts-back, back-not-short}
@@ -79,17 +80,16 @@ module _ (H : ℕ) (gates levels counts s : List ℕ) (a h j x : ℕ) (es : List
       go true e false true f = refused-good _ _ f
       go true e false false f = (e, fitted-passed H s a P es M cs f)
 
-  pub passed : (r : ℕ) → placed H gates levels counts s a r h j x ≡ repaired es cs → PlacingPassed H gates levels counts s h j x es cs
-  unfolding placed
-  passed r = go (leb (repairRoomWords counts) r) (placeRight H h j && isPin x && countsRight counts) refl (badList gates) refl
+  form-passed : placedForm H gates levels counts s a h j x ≡ repaired es cs → PlacingPassed H gates levels counts s h j x es cs
+  unfolding placedForm
+  form-passed = go (placeRight H h j && isPin x && countsRight counts) refl (badList gates) refl
     where
-      go : (b c : Bool) → (placeRight H h j && isPin x && countsRight counts) ≡ c → (o : Option ℕ) → badList gates ≡ o
-          → (elim b [ false ↦ refused (nowhere 32) | true ↦ elim c [ false ↦ refused (nowhere 5) | true ↦ elim o [ some g ↦ refused (atItem 6 g) | none ↦ placedAt H gates levels counts s a h j x ] ] ]) ≡ repaired es cs
+      go : (c : Bool) → (placeRight H h j && isPin x && countsRight counts) ≡ c → (o : Option ℕ) → badList gates ≡ o
+          → (elim c [ false ↦ refused (nowhere 5) | true ↦ elim o [ some g ↦ refused (atItem 6 g) | none ↦ placedAt H gates levels counts s a h j x ] ]) ≡ repaired es cs
           → PlacingPassed H gates levels counts s h j x es cs
-      go false c e o k f = refused-good _ _ f
-      go true false e o k f = refused-good _ _ f
-      go true true e (some g) k f = refused-good _ _ f
-      go true true e none k f =
+      go false e o k f = refused-good _ _ f
+      go true e (some g) k f = refused-good _ _ f
+      go true e none k f =
           let (pq, t) = and-true (placeRight H h j && isPin x) (countsRight counts) e in
           let (p, q) = and-true (placeRight H h j) (isPin x) pq in
           let (l, m) = place-parts H h j p in
@@ -106,6 +106,18 @@ module _ (H : ℕ) (gates levels counts s : List ℕ) (a h j x : ℕ) (es : List
             list = z ∙ ap (λ (l : List Spot). countsMore (countsOf counts) (countedNodes H l)) (sym w);
           }
 
+passed : (n : ℕ) (gates levels counts s : List ℕ) (a h j x : ℕ) (es : List Spot) (cs : List Count) (r : ℕ) → placed n gates levels counts s a r h j x ≡ repaired es cs
+    → PlacingPassed (levelsFor n) gates levels counts s h j x es cs
+unfolding placed
+passed n gates levels counts s a h j x es cs r = go (leb (repairRoomWords counts) r) (known n)
+  where
+    go : (b k : Bool)
+        → (elim b [ false ↦ refused (nowhere 32) | true ↦ elim k [ false ↦ refused (nowhere 29) | true ↦ placedForm (levelsFor n) gates levels counts s a h j x ] ]) ≡ repaired es cs
+        → PlacingPassed (levelsFor n) gates levels counts s h j x es cs
+    go false k f = refused-good _ _ f
+    go true false f = refused-good _ _ f
+    go true true f = form-passed (levelsFor n) gates levels counts s a h j x es cs f
+
 -- ---- cleared again
 
 pub record Undone (H : ℕ) (counts s : List ℕ) (h j : ℕ) (es : List Spot) (cs : List Count) : Type 0 where
@@ -117,10 +129,11 @@ pub record Undone (H : ℕ) (counts s : List ℕ) (h j : ℕ) (es : List Spot) (
   pub slots-back : spotsStored (spotsStored s es) (emptied es) ≡ s
   pub list-back : countsLess cs (countedNodes H es) ≡ countsOf counts
 
-pub undone : (H : ℕ) (gates levels counts s : List ℕ) (a r h j x : ℕ) (es : List Spot) (cs : List Count)
-    → placed H gates levels counts s a r h j x ≡ repaired es cs → Undone H counts s h j es cs
-undone H gates levels counts s a r h j x es cs e =
-    let p = passed H gates levels counts s a h j x es cs r e in
+pub undone : (n : ℕ) (gates levels counts s : List ℕ) (a r h j x : ℕ) (es : List Spot) (cs : List Count)
+    → placed n gates levels counts s a r h j x ≡ repaired es cs → Undone (levelsFor n) counts s h j es cs
+undone n gates levels counts s a r h j x es cs e =
+    let H = levelsFor n in
+    let p = passed n gates levels counts s a h j x es cs r e in
     let P = placing gates levels h (width H h) (indexOf H h j) x in
     let root : Rooted (length s) h (width H h) (indexOf H h j) = rooted-place (length s) H h j (p .level) (p .slot) (p .whole) in
     let reach : clearing (spotsStored s P) h (width H h) (indexOf H h j) ≡ P = reached gates levels (p .gates-right) s h (width H h) (indexOf H h j) x (p .pin) root (p .free) in

@@ -1,6 +1,7 @@
 -- What a placing and a clearing get: the slots that change and the new count list, or a numbered refusal. Document 02, 7/13: "5 place, node or count list out of
 -- form, 6, 24 subtree not empty, 25 no level, level above the place or fan-in level not below its gate's, 26 node at its level, 1 or up, isn't a gate; for
--- clearing, 34 ..; in that order, then 14 (also a count past 2^32−1), before any slot changes". 32 comes before all.
+-- clearing, 34 ..; in that order, then 14 (also a count past 2^32−1), before any slot changes". 32 comes before all, then 29 (10/13): n is the number that is
+-- given for an edition, H are levels above level 0.
 -- Assumes nothing.
 use mathlib.Core.Bool.{Bool, true, false, _&&_}
 use mathlib.Core.Option.{none, some}
@@ -10,6 +11,7 @@ use lib.Dec.{leb, ltb}
 use lib.ListN.{length, replicate}
 use lib.Seq.{sets}
 use Rattle.words.specs.Answer.{Answer, good, refused, atItem, nowhere}
+use Rattle.words.specs.Edition.{known, levelsFor}
 use Rattle.words.specs.Pins.{isPin}
 use Rattle.gatelist.specs.ListWords.{badList}
 use Rattle.repair_nodes.specs.Stage.{Spot, width, indexOf, spotsStored, emptied, emptyBelow}
@@ -54,15 +56,20 @@ placedAt H gates levels counts s a h j x =
       ]
     ]
 
--- 32, 5 and 6 come before: the lent list has a words, the lent room r
+-- 5 and 6 come before
+unfoldable pub placedForm : ℕ → List ℕ → List ℕ → List ℕ → List ℕ → ℕ → ℕ → ℕ → ℕ → Answer Repair
+placedForm H gates levels counts s a h j x =
+    elim (placeRight H h j && isPin x && countsRight counts) [
+      | false ↦ refused (nowhere 5)
+      | true ↦ elim (badList gates) [ some g ↦ refused (atItem 6 g) | none ↦ placedAt H gates levels counts s a h j x ]
+    ]
+
+-- and 32 and 29 before these: the lent list has a words, the lent room r
 unfoldable pub placed : ℕ → List ℕ → List ℕ → List ℕ → List ℕ → ℕ → ℕ → ℕ → ℕ → ℕ → Answer Repair
-placed H gates levels counts s a r h j x =
+placed n gates levels counts s a r h j x =
     elim (leb (repairRoomWords counts) r) [
       | false ↦ refused (nowhere 32)
-      | true ↦ elim (placeRight H h j && isPin x && countsRight counts) [
-        | false ↦ refused (nowhere 5)
-        | true ↦ elim (badList gates) [ some g ↦ refused (atItem 6 g) | none ↦ placedAt H gates levels counts s a h j x ]
-      ]
+      | true ↦ elim (known n) [ false ↦ refused (nowhere 29) | true ↦ placedForm (levelsFor n) gates levels counts s a h j x ]
     ]
 
 -- clearing slot j of level h: 34, then 14
@@ -76,11 +83,14 @@ clearedAt H counts s a h j =
           (countsLess (countsOf counts) (countedNodes H (clearing s h (width H h) (indexOf H h j))))
     ]
 
+unfoldable pub clearedForm : ℕ → List ℕ → List ℕ → ℕ → ℕ → ℕ → Answer Repair
+clearedForm H counts s a h j = elim (placeRight H h j && countsRight counts) [ false ↦ refused (nowhere 5) | true ↦ clearedAt H counts s a h j ]
+
 unfoldable pub cleared : ℕ → List ℕ → List ℕ → ℕ → ℕ → ℕ → ℕ → Answer Repair
-cleared H counts s a r h j =
+cleared n counts s a r h j =
     elim (leb (repairRoomWords counts) r) [
       | false ↦ refused (nowhere 32)
-      | true ↦ elim (placeRight H h j && countsRight counts) [ false ↦ refused (nowhere 5) | true ↦ clearedAt H counts s a h j ]
+      | true ↦ elim (known n) [ false ↦ refused (nowhere 29) | true ↦ clearedForm (levelsFor n) counts s a h j ]
     ]
 
 -- what the lent slots, the lent list and the lent room then hold: a refusal changes neither of the first two, and a room that is too short stays

@@ -42,27 +42,30 @@ repaired-end o n s s₁ out out₁ es cs e f u v = rw e (record { answer = ap Li
 
 -- ---- 14
 
-module _ (s : List ℕ) (a : ℕ) (es : List Spot) (cs : List Count) where
-  fit-by : (b : Bool) → (leb 16383 (length s) && leb (2 * length cs) a && allCounts cs) ≡ b → repairFitted 13 s a es cs ≡ elim b [ false ↦ refused (nowhere 14) | true ↦ repaired es cs ]
+module _ (H : ℕ) (s : List ℕ) (a : ℕ) (es : List Spot) (cs : List Count) where
+  abbrev whole : ℕ
+  whole = 2 ^ (H + 1) - 1
+
+  fit-by : (b : Bool) → (leb whole (length s) && leb (2 * length cs) a && allCounts cs) ≡ b → repairFitted H s a es cs ≡ elim b [ false ↦ refused (nowhere 14) | true ↦ repaired es cs ]
   unfolding repairFitted
   fit-by b e = ap (λ (c : Bool). elim c [ false ↦ refused (nowhere 14) | true ↦ repaired es cs ]) e
 
-  pub short-slots : length s < 16383 → repairFitted 13 s a es cs ≡ refused (nowhere 14)
-  short-slots h = fit-by false (ap (λ (b : Bool). b && leb (2 * length cs) a && allCounts cs) (lt-leb 16383 (length s) h))
+  pub short-slots : length s < whole → repairFitted H s a es cs ≡ refused (nowhere 14)
+  short-slots h = fit-by false (ap (λ (b : Bool). b && leb (2 * length cs) a && allCounts cs) (lt-leb whole (length s) h))
 
-  pub short-list : a < 2 * length cs → repairFitted 13 s a es cs ≡ refused (nowhere 14)
+  pub short-list : a < 2 * length cs → repairFitted H s a es cs ≡ refused (nowhere 14)
   short-list h =
       fit-by false
-      (ap (λ (b : Bool). b && allCounts cs) (ap (λ (b : Bool). leb 16383 (length s) && b) (lt-leb (2 * length cs) a h) ∙ and-false (leb 16383 (length s))))
+      (ap (λ (b : Bool). b && allCounts cs) (ap (λ (b : Bool). leb whole (length s) && b) (lt-leb (2 * length cs) a h) ∙ and-false (leb whole (length s))))
 
-  pub over-full : allCounts cs ≡ false → repairFitted 13 s a es cs ≡ refused (nowhere 14)
+  pub over-full : allCounts cs ≡ false → repairFitted H s a es cs ≡ refused (nowhere 14)
   over-full h =
-      fit-by false (ap (λ (b : Bool). leb 16383 (length s) && leb (2 * length cs) a && b) h ∙ and-false (leb 16383 (length s) && leb (2 * length cs) a))
+      fit-by false (ap (λ (b : Bool). leb whole (length s) && leb (2 * length cs) a && b) h ∙ and-false (leb whole (length s) && leb (2 * length cs) a))
 
-  pub all-fit : 16383 ≤ length s → 2 * length cs ≤ a → allCounts cs ≡ true → repairFitted 13 s a es cs ≡ repaired es cs
+  pub all-fit : whole ≤ length s → 2 * length cs ≤ a → allCounts cs ≡ true → repairFitted H s a es cs ≡ repaired es cs
   all-fit h k e =
       fit-by true
-      (ap₂ (λ (b : Bool) (c : Bool). b && c) (ap₂ (λ (b : Bool) (c : Bool). b && c) (le-leb 16383 (length s) h) (le-leb (2 * length cs) a k)) e)
+      (ap₂ (λ (b : Bool) (c : Bool). b && c) (ap₂ (λ (b : Bool) (c : Bool). b && c) (le-leb whole (length s) h) (le-leb (2 * length cs) a k)) e)
 
 -- ---- counts of a list made of nodes
 
@@ -109,15 +112,15 @@ none-short cs xs (y ∷ ys) h = rw (le-ltb (countIn cs y) (timesAmong xs y) (h y
 held-entries : (t names : List ℕ) (value : ℕ → ℕ) (n : ℕ) → MapHolds t names value n → entriesOf t names ≡ map (λ (y : ℕ). counted y (value y)) names
 held-entries t names value n h = map-among (countInMap t) value names (λ y e. ap countOrZero (held-some t names value n h y e))
 
-module _ (counts map₀ : List ℕ) (n₀ : Entered counts map₀) (spots : List ℕ) (few : length spots ≤ 32768) where
+module _ (H : ℕ) (counts map₀ : List ℕ) (n₀ : Entered counts map₀) (spots : List ℕ) (few : length spots ≤ 32768) where
   abbrev cs : List Count
   cs = countsOf counts
 
   abbrev xs : List ℕ
-  xs = nodesIn spots
+  xs = nodesIn H spots
 
   some-room : length cs + length xs ≤ capacity map₀
-  some-room = omega (arith, n₀ .room, counted-length spots)
+  some-room = omega (arith, n₀ .room, counted-length H spots)
 
   -- ---- placing
 
@@ -190,66 +193,66 @@ module _ (counts map₀ : List ℕ) (n₀ : Entered counts map₀) (spots : List
 
 -- ---- 34, or 14 and the rest
 
-pub is-34 : (counts s : List ℕ) (a : ℕ) (es : List Spot) → short (countsOf counts) (countedNodes 13 es) ≡ true → clearedSpots counts s a es ≡ refused (nowhere 34)
+pub is-34 : (H : ℕ) (counts s : List ℕ) (a : ℕ) (es : List Spot) → short (countsOf counts) (countedNodes H es) ≡ true → clearedSpots H counts s a es ≡ refused (nowhere 34)
 unfolding clearedSpots
-is-34 counts s a es e = rw (e, clearedSpots)
+is-34 H counts s a es e = rw (e, clearedSpots)
 
-pub is-lowered : (counts s : List ℕ) (a : ℕ) (es : List Spot) → short (countsOf counts) (countedNodes 13 es) ≡ false
-    → clearedSpots counts s a es ≡ repairFitted 13 s a (emptied es) (countsLess (countsOf counts) (countedNodes 13 es))
+pub is-lowered : (H : ℕ) (counts s : List ℕ) (a : ℕ) (es : List Spot) → short (countsOf counts) (countedNodes H es) ≡ false
+    → clearedSpots H counts s a es ≡ repairFitted H s a (emptied es) (countsLess (countsOf counts) (countedNodes H es))
 unfolding clearedSpots
-is-lowered counts s a es e = rw (e, clearedSpots)
+is-lowered H counts s a es e = rw (e, clearedSpots)
 
 -- ---- the whole of a placing and of a clearing, from the counting on
 
-module _ (counts map₀ : List ℕ) (n₀ : Entered counts map₀) (spots : List ℕ) (few : length spots ≤ 32768) (s out : List ℕ) where
+module _ (H : ℕ) (counts map₀ : List ℕ) (n₀ : Entered counts map₀) (spots : List ℕ) (few : length spots ≤ 32768) (s out : List ℕ) where
   entries : length (countsOf counts) ≡ length counts / 2
   entries = pairs-length counted counts
 
-  module _ (t fresh₁ : List ℕ) (n : ℕ) (e : through raising (raised map₀ []) (nodesIn spots) ≡ some (raised t (take n fresh₁))) (l : n ≤ length fresh₁) where
-    pub place-short : length out / 2 < length counts / 2 + n → placedSpots counts s (length out) (spotsOf spots) ≡ refused (nowhere 14)
+  module _ (t fresh₁ : List ℕ) (n : ℕ) (e : through raising (raised map₀ []) (nodesIn H spots) ≡ some (raised t (take n fresh₁))) (l : n ≤ length fresh₁) where
+    pub place-short : length out / 2 < length counts / 2 + n → placedSpots H counts s (length out) (spotsOf spots) ≡ refused (nowhere 14)
     place-short h =
-        let k = up-count counts map₀ n₀ spots few t fresh₁ n e l in
+        let k = up-count H counts map₀ n₀ spots few t fresh₁ n e l in
         let m = entries in
-        short-list s (length out) (spotsOf spots) (countsMore (countsOf counts) (nodesIn spots)) (omega arith)
+        short-list H s (length out) (spotsOf spots) (countsMore (countsOf counts) (nodesIn H spots)) (omega arith)
 
-    pub place-end : (s₁ out₁ out₂ : List ℕ) → 16383 ≤ length s → length counts / 2 + n ≤ length out / 2 → out₁ ≡ sets out 0 (countWords (entriesIn t counts))
+    pub place-end : (s₁ out₁ out₂ : List ℕ) → 2 ^ (H + 1) - 1 ≤ length s → length counts / 2 + n ≤ length out / 2 → out₁ ≡ sets out 0 (countWords (entriesIn t counts))
         → out₂ ≡ sets out₁ (2 * (length counts / 2)) (countWords (entriesOf t (take n fresh₁))) → s₁ ≡ spotsStored s (spotsOf spots)
-        → Ended (placedSpots counts s (length out) (spotsOf spots)) (Listed (length counts / 2 + n)) s s₁ out out₂
+        → Ended (placedSpots H counts s (length out) (spotsOf spots)) (Listed (length counts / 2 + n)) s s₁ out out₂
     place-end s₁ out₁ out₂ h g u v w =
-        let k = up-count counts map₀ n₀ spots few t fresh₁ n e l in
+        let k = up-count H counts map₀ n₀ spots few t fresh₁ n e l in
         let m : length (countsOf counts) ≡ length counts / 2 = entries in
         let d : out₂ ≡ sets out₁ (2 * length (countsOf counts)) (countWords (entriesOf t (take n fresh₁))) = rw m v in
-        repaired-end (placedSpots counts s (length out) (spotsOf spots)) (length counts / 2 + n) s s₁ out out₂ (spotsOf spots) (countsMore (countsOf counts) (nodesIn spots))
-        (all-fit s (length out) (spotsOf spots) (countsMore (countsOf counts) (nodesIn spots)) h (omega arith) (up-words counts map₀ n₀ spots few t fresh₁ n e l))
-        (omega arith) w (up-list counts map₀ n₀ spots few t fresh₁ n e l out out₁ out₂ u d)
+        repaired-end (placedSpots H counts s (length out) (spotsOf spots)) (length counts / 2 + n) s s₁ out out₂ (spotsOf spots) (countsMore (countsOf counts) (nodesIn H spots))
+        (all-fit H s (length out) (spotsOf spots) (countsMore (countsOf counts) (nodesIn H spots)) h (omega arith) (up-words H counts map₀ n₀ spots few t fresh₁ n e l))
+        (omega arith) w (up-list H counts map₀ n₀ spots few t fresh₁ n e l out out₁ out₂ u d)
 
-  pub place-over : through raising (raised map₀ []) (nodesIn spots) ≡ none → placedSpots counts s (length out) (spotsOf spots) ≡ refused (nowhere 14)
-  place-over e = over-full s (length out) (spotsOf spots) (countsMore (countsOf counts) (nodesIn spots)) (up-over counts map₀ n₀ spots few e)
+  pub place-over : through raising (raised map₀ []) (nodesIn H spots) ≡ none → placedSpots H counts s (length out) (spotsOf spots) ≡ refused (nowhere 14)
+  place-over e = over-full H s (length out) (spotsOf spots) (countsMore (countsOf counts) (nodesIn H spots)) (up-over H counts map₀ n₀ spots few e)
 
   -- 34
-  pub purge-short : through lowering map₀ (nodesIn spots) ≡ none → clearedSpots counts s (length out) (spotsOf spots) ≡ refused (nowhere 34)
-  purge-short e = is-34 counts s (length out) (spotsOf spots) (down-short counts map₀ n₀ spots few e)
+  pub purge-short : through lowering map₀ (nodesIn H spots) ≡ none → clearedSpots H counts s (length out) (spotsOf spots) ≡ refused (nowhere 34)
+  purge-short e = is-34 H counts s (length out) (spotsOf spots) (down-short H counts map₀ n₀ spots few e)
 
-  module _ (t : List ℕ) (e : through lowering map₀ (nodesIn spots) ≡ some t) where
-    lowered : clearedSpots counts s (length out) (spotsOf spots) ≡ repairFitted 13 s (length out) (emptied (spotsOf spots)) (countsLess (countsOf counts) (nodesIn spots))
-    lowered = is-lowered counts s (length out) (spotsOf spots) (down-fine counts map₀ n₀ spots few t e)
+  module _ (t : List ℕ) (e : through lowering map₀ (nodesIn H spots) ≡ some t) where
+    lowered : clearedSpots H counts s (length out) (spotsOf spots) ≡ repairFitted H s (length out) (emptied (spotsOf spots)) (countsLess (countsOf counts) (nodesIn H spots))
+    lowered = is-lowered H counts s (length out) (spotsOf spots) (down-fine H counts map₀ n₀ spots few t e)
 
-    pub purge-size : length (nonzero (entriesIn t counts)) ≡ length (countsLess (countsOf counts) (nodesIn spots))
-    purge-size = ap length (down-list counts map₀ n₀ spots few t e)
+    pub purge-size : length (nonzero (entriesIn t counts)) ≡ length (countsLess (countsOf counts) (nodesIn H spots))
+    purge-size = ap length (down-list H counts map₀ n₀ spots few t e)
 
-    pub purge-slots : length s < 16383 → clearedSpots counts s (length out) (spotsOf spots) ≡ refused (nowhere 14)
-    purge-slots h = lowered ∙ short-slots s (length out) (emptied (spotsOf spots)) (countsLess (countsOf counts) (nodesIn spots)) h
+    pub purge-slots : length s < 2 ^ (H + 1) - 1 → clearedSpots H counts s (length out) (spotsOf spots) ≡ refused (nowhere 14)
+    purge-slots h = lowered ∙ short-slots H s (length out) (emptied (spotsOf spots)) (countsLess (countsOf counts) (nodesIn H spots)) h
 
-    pub purge-list : (n : ℕ) → n ≡ length (nonzero (entriesIn t counts)) → length out / 2 < n → clearedSpots counts s (length out) (spotsOf spots) ≡ refused (nowhere 14)
+    pub purge-list : (n : ℕ) → n ≡ length (nonzero (entriesIn t counts)) → length out / 2 < n → clearedSpots H counts s (length out) (spotsOf spots) ≡ refused (nowhere 14)
     purge-list n f h =
         let k = purge-size in
-        lowered ∙ short-list s (length out) (emptied (spotsOf spots)) (countsLess (countsOf counts) (nodesIn spots)) (omega arith)
+        lowered ∙ short-list H s (length out) (emptied (spotsOf spots)) (countsLess (countsOf counts) (nodesIn H spots)) (omega arith)
 
-    pub purge-end : (n : ℕ) (s₁ out₁ : List ℕ) → n ≡ length (nonzero (entriesIn t counts)) → 16383 ≤ length s → n ≤ length out / 2
+    pub purge-end : (n : ℕ) (s₁ out₁ : List ℕ) → n ≡ length (nonzero (entriesIn t counts)) → 2 ^ (H + 1) - 1 ≤ length s → n ≤ length out / 2
         → out₁ ≡ sets out 0 (countWords (nonzero (entriesIn t counts))) → s₁ ≡ spotsStored s (emptied (spotsOf spots))
-        → Ended (clearedSpots counts s (length out) (spotsOf spots)) (Listed n) s s₁ out out₁
+        → Ended (clearedSpots H counts s (length out) (spotsOf spots)) (Listed n) s s₁ out out₁
     purge-end n s₁ out₁ f h g u w =
         let k = purge-size in
-        repaired-end (clearedSpots counts s (length out) (spotsOf spots)) n s s₁ out out₁ (emptied (spotsOf spots)) (countsLess (countsOf counts) (nodesIn spots))
-        (lowered ∙ all-fit s (length out) (emptied (spotsOf spots)) (countsLess (countsOf counts) (nodesIn spots)) h (omega arith) (down-words counts map₀ n₀ spots few t e))
-        (omega arith) w (u ∙ ap (λ (cs : List Count). sets out 0 (countWords cs)) (down-list counts map₀ n₀ spots few t e))
+        repaired-end (clearedSpots H counts s (length out) (spotsOf spots)) n s s₁ out out₁ (emptied (spotsOf spots)) (countsLess (countsOf counts) (nodesIn H spots))
+        (lowered ∙ all-fit H s (length out) (emptied (spotsOf spots)) (countsLess (countsOf counts) (nodesIn H spots)) h (omega arith) (down-words H counts map₀ n₀ spots few t e))
+        (omega arith) w (u ∙ ap (λ (cs : List Count). sets out 0 (countWords cs)) (down-list H counts map₀ n₀ spots few t e))

@@ -103,23 +103,23 @@ spots-back es = pairs-words (λ (e : Spot). e .at) (λ (e : Spot). e .node) spot
 -- ---- nodes that a map can have
 
 -- the counted nodes of a list
-pub counted-askable : (spots : List ℕ) → SpotsAskable spots → (y : ℕ) → among (nodesIn spots) y ≡ true → y < 2 ^ 32 - 1
+pub counted-askable : (H : ℕ) (spots : List ℕ) → SpotsAskable spots → (y : ℕ) → among (nodesIn H spots) y ≡ true → y < 2 ^ 32 - 1
 unfolding itemsOfTwo countedNodes among
-counted-askable [] h y e = absurd (not-both false e refl)
-counted-askable (q ∷ []) h y e = absurd (not-both false e refl)
-counted-askable (q ∷ (x ∷ ws)) h y e = go (ltb q (2 ^ 13)) e (λ f. counted-askable ws (λ k l. rw (step-three k) at (h (suc k) (omega arith))) y f)
+counted-askable H [] h y e = absurd (not-both false e refl)
+counted-askable H (q ∷ []) h y e = absurd (not-both false e refl)
+counted-askable H (q ∷ (x ∷ ws)) h y e = go (ltb q (2 ^ H)) e (λ f. counted-askable H ws (λ k l. rw (step-three k) at (h (suc k) (omega arith))) y f)
   where
-    go : (b : Bool) → among (elim b [ true ↦ x ∷ nodesIn ws | false ↦ nodesIn ws ]) y ≡ true → (among (nodesIn ws) y ≡ true → y < 2 ^ 32 - 1) → y < 2 ^ 32 - 1
-    go true f r = ⊎-elim (λ (o : eqb x y ≡ true). let z : x ≡ y = eqb-true x y o in let w : x < 2 ^ 32 - 1 = h 0 (omega arith) in omega arith) r (or-cases (eqb x y) (among (nodesIn ws) y) f)
+    go : (b : Bool) → among (elim b [ true ↦ x ∷ nodesIn H ws | false ↦ nodesIn H ws ]) y ≡ true → (among (nodesIn H ws) y ≡ true → y < 2 ^ 32 - 1) → y < 2 ^ 32 - 1
+    go true f r = ⊎-elim (λ (o : eqb x y ≡ true). let z : x ≡ y = eqb-true x y o in let w : x < 2 ^ 32 - 1 = h 0 (omega arith) in omega arith) r (or-cases (eqb x y) (among (nodesIn H ws) y) f)
     go false f r = r f
 
-pub counted-length : (spots : List ℕ) → 2 * length (nodesIn spots) ≤ length spots
+pub counted-length : (H : ℕ) (spots : List ℕ) → 2 * length (nodesIn H spots) ≤ length spots
 unfolding itemsOfTwo countedNodes
-counted-length [] = omega arith
-counted-length (q ∷ []) = omega arith
-counted-length (q ∷ (x ∷ ws)) = go (ltb q (2 ^ 13)) (counted-length ws)
+counted-length H [] = omega arith
+counted-length H (q ∷ []) = omega arith
+counted-length H (q ∷ (x ∷ ws)) = go (ltb q (2 ^ H)) (counted-length H ws)
   where
-    go : (b : Bool) → 2 * length (nodesIn ws) ≤ length ws → 2 * length {A = ℕ} (elim b [ true ↦ x ∷ nodesIn ws | false ↦ nodesIn ws ]) ≤ length (q ∷ (x ∷ ws))
+    go : (b : Bool) → 2 * length (nodesIn H ws) ≤ length ws → 2 * length {A = ℕ} (elim b [ true ↦ x ∷ nodesIn H ws | false ↦ nodesIn H ws ]) ≤ length (q ∷ (x ∷ ws))
     go true h = omega arith
     go false h = omega arith
 
@@ -143,9 +143,9 @@ at-among [] i h = absurd (omega arith)
 at-among (x ∷ l) zero h = among-head x l
 at-among (x ∷ l) (suc i) h = among-tail x l (getD l i 0) (at-among l i (omega arith))
 
-pub new-askable : (ns spots news : List ℕ) → SpotsAskable spots → news ≡ fresh ns (nodesIn spots) → NewAskable news
-new-askable ns spots news h e i l =
-    counted-askable spots h (getD news i 0) (fresh-from ns (nodesIn spots) (getD news i 0) (rw (← e) (at-among news i l)))
+pub new-askable : (H : ℕ) (ns spots news : List ℕ) → SpotsAskable spots → news ≡ fresh ns (nodesIn H spots) → NewAskable news
+new-askable H ns spots news h e i l =
+    counted-askable H spots h (getD news i 0) (fresh-from ns (nodesIn H spots) (getD news i 0) (rw (← e) (at-among news i l)))
 
 -- the nodes of a count list in form, and its counts
 pub nodes-askable : (ns ws : List ℕ) → entriesRight ns (countsOf ws) ≡ true → NodesAskable ws

@@ -3,7 +3,7 @@
 use mathlib.Core.Path.{_≡_}
 use mathlib.Core.Bool.{true, false}
 use mathlib.Core.List.{List, []}
-use Prim.Native.Nat.{ℕ, _+_, _%_, _^_, _≤_, _<_}
+use Prim.Native.Nat.{ℕ, _+_, _-_, _%_, _^_, _≤_, _<_}
 use lib.ListN.{length}
 use Rattle.pinmap.specs.PinMap.{capacity}
 use Rattle.repair_nodes.specs.Stage.{Spot, emptied}
@@ -26,15 +26,15 @@ pub record Ended (o : Answer Repair) (r : Repaired) (s s₁ out out₁ : List �
   pub slots : s₁ ≡ slotsAfter o s
   pub list : out₁ ≡ countListAfter o out
 
--- the outcome of spots that are placed, and of spots that are cleared: 14; 34, then 14
-abbrev pub placedSpots : List ℕ → List ℕ → ℕ → List Spot → Answer Repair
-placedSpots counts s a es = repairFitted 13 s a es (countsMore (countsOf counts) (countedNodes 13 es))
+-- the outcome of spots that are placed, and of spots that are cleared, with H levels above level 0: 14; 34, then 14
+abbrev pub placedSpots : ℕ → List ℕ → List ℕ → ℕ → List Spot → Answer Repair
+placedSpots H counts s a es = repairFitted H s a es (countsMore (countsOf counts) (countedNodes H es))
 
-unfoldable pub clearedSpots : List ℕ → List ℕ → ℕ → List Spot → Answer Repair
-clearedSpots counts s a es =
-    elim (short (countsOf counts) (countedNodes 13 es)) [
+unfoldable pub clearedSpots : ℕ → List ℕ → List ℕ → ℕ → List Spot → Answer Repair
+clearedSpots H counts s a es =
+    elim (short (countsOf counts) (countedNodes H es)) [
       | true ↦ refused (nowhere 34)
-      | false ↦ repairFitted 13 s a (emptied es) (countsLess (countsOf counts) (countedNodes 13 es))
+      | false ↦ repairFitted H s a (emptied es) (countsLess (countsOf counts) (countedNodes H es))
     ]
 
 -- a count list in form, entered into a map that has room for the nodes of a stage
@@ -46,7 +46,8 @@ pub record Entered (counts map : List ℕ) : Type 0 where
   pub room : length (countsOf counts) + 16384 ≤ capacity map
 
 -- a list of spots that can be counted, and stored where the stage is whole
-pub record Spotted (spots slots : List ℕ) : Type 0 where
+pub record Spotted (H : ℕ) (spots slots : List ℕ) : Type 0 where
+  pub levels : H ≤ 13
   pub few : length spots ≤ 32768
   pub askable : SpotsAskable spots
-  pub inside : 16383 ≤ length slots → AllInside spots slots
+  pub inside : 2 ^ (H + 1) - 1 ≤ length slots → AllInside spots slots

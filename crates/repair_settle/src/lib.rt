@@ -1,5 +1,6 @@
 // Spots placed or cleared, from the counting on: 34 and 14 before anything is written. Document 02, 7/13.
 ghost use mathlib.Core.Path.{_≡_};
+ghost use Prim.Native.Nat.{_+_, _-_, _^_, _≤_};
 ghost use lib.ListN.{length};
 ghost use Rattle.words.specs.Answer.{refused, atItem};
 ghost use Rattle.repair_nodes.specs.Stage.{spotsOf};
@@ -11,14 +12,13 @@ use repair_list::write_left;
 use repair_list::write_new;
 use repair_list::write_old;
 use repair_tally::Tallied;
+use repair_tally::level_slots;
 use repair_tally::tally_down;
 use repair_tally::tally_up;
 use words::edition::Edition;
 use words::refusals;
 
-// The slots of a stage, from index 1 on; and room for as many nodes.
-const STAGE_SLOTS: usize = 2 * Edition::SLOTS - 1;
-
+// Room for as many nodes as a stage of the full edition has slots.
 const NODES: usize = 2 * Edition::SLOTS;
 
 // The entries of the new count list, or the refusal.
@@ -38,6 +38,14 @@ pub fn refused(number: u32, item: u64) -> Repaired
     })
 }
 
+// The slots of a stage, from index 1 on, with so many levels above level 0.
+fn stage_slots(height: u32) -> usize
+    requires { ⌜ height ≤ 13 ⌝ }
+    ensures { λ r. ⌜ r ≡ 2 ^ (height + 1) - 1 ⌝ }
+{
+    2 * level_slots(height) - 1
+}
+
 // Counts spots that are to be placed and, if nothing refuses that, writes the new list and stores them.
 pub fn place_spots(
     counts: &[u32],
@@ -45,15 +53,16 @@ pub fn place_spots(
     after: &mut [u32],
     map: &mut [u32],
     spots: &[u32],
+    height: u32,
 ) -> Repaired
-    requires { ⌜ Entered (now counts) (now map) × Spotted (now spots) (now slots) ⌝ }
-    ensures { λ r. ⌜ Ended (placedSpots (now (counts .entry)) (now (slots .entry)) (length (now (after .entry))) (spotsOf (now (spots .entry)))) r (now (slots .entry)) (now (slots .exit)) (now (after .entry)) (now (after .exit)) ⌝ }
+    requires { ⌜ Entered (now counts) (now map) × Spotted height (now spots) (now slots) ⌝ }
+    ensures { λ r. ⌜ Ended (placedSpots height (now (counts .entry)) (now (slots .entry)) (length (now (after .entry))) (spotsOf (now (spots .entry)))) r (now (slots .entry)) (now (slots .exit)) (now (after .entry)) (now (after .exit)) ⌝ }
 {
     let mut fresh = [0u32; NODES];
-    match tally_up(spots, map, &mut fresh) {
+    match tally_up(spots, map, &mut fresh, height) {
         Tallied::New(n) => {
             let old = counts.len() / 2;
-            if slots.len() < STAGE_SLOTS {
+            if slots.len() < stage_slots(height) {
                 return refused(refusals::RESULT_SHORT, 0);
             }
             if after.len() / 2 < old + n {
@@ -75,13 +84,14 @@ pub fn purge_spots(
     after: &mut [u32],
     map: &mut [u32],
     spots: &[u32],
+    height: u32,
 ) -> Repaired
-    requires { ⌜ Entered (now counts) (now map) × Spotted (now spots) (now slots) ⌝ }
-    ensures { λ r. ⌜ Ended (clearedSpots (now (counts .entry)) (now (slots .entry)) (length (now (after .entry))) (spotsOf (now (spots .entry)))) r (now (slots .entry)) (now (slots .exit)) (now (after .entry)) (now (after .exit)) ⌝ }
+    requires { ⌜ Entered (now counts) (now map) × Spotted height (now spots) (now slots) ⌝ }
+    ensures { λ r. ⌜ Ended (clearedSpots height (now (counts .entry)) (now (slots .entry)) (length (now (after .entry))) (spotsOf (now (spots .entry)))) r (now (slots .entry)) (now (slots .exit)) (now (after .entry)) (now (after .exit)) ⌝ }
 {
-    if tally_down(spots, map) {
+    if tally_down(spots, map, height) {
         let left = left_count(counts, map);
-        if slots.len() < STAGE_SLOTS {
+        if slots.len() < stage_slots(height) {
             return refused(refusals::RESULT_SHORT, 0);
         }
         if after.len() / 2 < left {

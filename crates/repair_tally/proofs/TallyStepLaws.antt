@@ -9,6 +9,7 @@ use native.Mathlib.Numerals.{add-one}
 use native.Mathlib.Omega.{arith}
 use borrow.Author.Tests.{lt-ltb, le-ltb, le-leb, lt-leb, eq-eqb, ne-eqb}
 use lib.Dec.{ltb}
+use lib.Pow.{pow-mono}
 use lib.ListN.{length, getD, take, drop, set, length-set, length-append}
 use lib.Seq.{take-suc-set, length-take-le}
 use Rattle.pinmap.specs.PinMap.{look, putIn, lookAnswer}
@@ -115,40 +116,48 @@ module _ (t : List ℕ) (x : ℕ) where
   unfolding lowering
   lower-there v e h = rw (e, lt-ltb 0 v h, lowering)
 
+-- ---- the slots of level 0
+
+pub slots-most : (H : ℕ) → H ≤ 13 → 2 ^ H ≤ 8192
+slots-most H l = pow-mono l
+
+pub slots-shifted : (H : ℕ) → H ≤ 13 → 1 * 2 ^ H % 2 ^ 64 ≡ 2 ^ H
+slots-shifted H l = let m : 2 ^ H ≤ 8192 = slots-most H l in omega arith
+
 -- ---- the nodes of a list of slots, from slot k on
 
-abbrev pub nodesFrom : List ℕ → ℕ → List ℕ
-nodesFrom spots k = countedNodes 13 (spotsOf (drop (2 * k) spots))
+abbrev pub nodesFrom : ℕ → List ℕ → ℕ → List ℕ
+nodesFrom H spots k = countedNodes H (spotsOf (drop (2 * k) spots))
 
-module _ (spots : List ℕ) (k : ℕ) (l : 2 * k + 1 < length spots) where
-  pub nodes-counted : getD spots (2 * k) 0 < 8192 → nodesFrom spots k ≡ getD spots (2 * k + 1) 0 ∷ nodesFrom spots (k + 1)
+module _ (H : ℕ) (spots : List ℕ) (k : ℕ) (l : 2 * k + 1 < length spots) where
+  pub nodes-counted : getD spots (2 * k) 0 < 2 ^ H → nodesFrom H spots k ≡ getD spots (2 * k + 1) 0 ∷ nodesFrom H spots (k + 1)
   unfolding countedNodes
-  nodes-counted h = rw (pairs-drop spot spots k l, lt-ltb (getD spots (2 * k) 0) (2 ^ 13) h, countedNodes)
+  nodes-counted h = rw (pairs-drop spot spots k l, lt-ltb (getD spots (2 * k) 0) (2 ^ H) h, countedNodes)
 
-  pub nodes-skipped : 8192 ≤ getD spots (2 * k) 0 → nodesFrom spots k ≡ nodesFrom spots (k + 1)
+  pub nodes-skipped : 2 ^ H ≤ getD spots (2 * k) 0 → nodesFrom H spots k ≡ nodesFrom H spots (k + 1)
   unfolding countedNodes
-  nodes-skipped h = rw (pairs-drop spot spots k l, le-ltb (getD spots (2 * k) 0) (2 ^ 13) h, countedNodes)
+  nodes-skipped h = rw (pairs-drop spot spots k l, le-ltb (getD spots (2 * k) 0) (2 ^ H) h, countedNodes)
 
-pub nodes-end : (spots : List ℕ) (k : ℕ) → length spots ≤ 2 * k + 1 → nodesFrom spots k ≡ []
+pub nodes-end : (H : ℕ) (spots : List ℕ) (k : ℕ) → length spots ≤ 2 * k + 1 → nodesFrom H spots k ≡ []
 unfolding countedNodes
-nodes-end spots k l = rw (pairs-end spot spots k l)
+nodes-end H spots k l = rw (pairs-end spot spots k l)
 
 -- ---- a way through the nodes from slot k on, and through the entries from entry i on
 
-module _ {S : Type 0} (step : S → ℕ → Option S) (s : S) (spots : List ℕ) (k : ℕ) where
-  pub way-end : length spots ≤ 2 * k + 1 → through step s (nodesFrom spots k) ≡ some s
-  way-end l = ap (through step s) (nodes-end spots k l) ∙ through-end step s
+module _ {S : Type 0} (step : S → ℕ → Option S) (H : ℕ) (s : S) (spots : List ℕ) (k : ℕ) where
+  pub way-end : length spots ≤ 2 * k + 1 → through step s (nodesFrom H spots k) ≡ some s
+  way-end l = ap (through step s) (nodes-end H spots k l) ∙ through-end step s
 
   module _ (l : 2 * k + 1 < length spots) where
-    pub way-on : (t : S) → getD spots (2 * k) 0 < 8192 → step s (getD spots (2 * k + 1) 0) ≡ some t
-        → through step s (nodesFrom spots k) ≡ through step t (nodesFrom spots (k + 1))
-    way-on t h e = ap (through step s) (nodes-counted spots k l h) ∙ through-on step s (getD spots (2 * k + 1) 0) (nodesFrom spots (k + 1)) t e
+    pub way-on : (t : S) → getD spots (2 * k) 0 < 2 ^ H → step s (getD spots (2 * k + 1) 0) ≡ some t
+        → through step s (nodesFrom H spots k) ≡ through step t (nodesFrom H spots (k + 1))
+    way-on t h e = ap (through step s) (nodes-counted H spots k l h) ∙ through-on step s (getD spots (2 * k + 1) 0) (nodesFrom H spots (k + 1)) t e
 
-    pub way-stop : getD spots (2 * k) 0 < 8192 → step s (getD spots (2 * k + 1) 0) ≡ none → through step s (nodesFrom spots k) ≡ none
-    way-stop h e = ap (through step s) (nodes-counted spots k l h) ∙ through-none step s (getD spots (2 * k + 1) 0) (nodesFrom spots (k + 1)) e
+    pub way-stop : getD spots (2 * k) 0 < 2 ^ H → step s (getD spots (2 * k + 1) 0) ≡ none → through step s (nodesFrom H spots k) ≡ none
+    way-stop h e = ap (through step s) (nodes-counted H spots k l h) ∙ through-none step s (getD spots (2 * k + 1) 0) (nodesFrom H spots (k + 1)) e
 
-    pub way-skip : 8192 ≤ getD spots (2 * k) 0 → through step s (nodesFrom spots k) ≡ through step s (nodesFrom spots (k + 1))
-    way-skip h = ap (through step s) (nodes-skipped spots k l h)
+    pub way-skip : 2 ^ H ≤ getD spots (2 * k) 0 → through step s (nodesFrom H spots k) ≡ through step s (nodesFrom H spots (k + 1))
+    way-skip h = ap (through step s) (nodes-skipped H spots k l h)
 
 module _ (t ws : List ℕ) (i : ℕ) where
   pub check-end : length ws ≤ 2 * i + 1 → through entering t (countsOf (drop (2 * i) ws)) ≡ some t

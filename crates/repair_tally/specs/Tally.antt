@@ -59,9 +59,9 @@ abbrev pub ToldNew : Option Raised → Tallied → List ℕ → List ℕ → Typ
 ToldNew o (New n) t fresh = (o ≡ some (raised t (take n fresh))) × (n ≤ length fresh)
 ToldNew o Over t fresh = o ≡ none
 
--- the nodes of levels 1 and up of a list of slots in words
-abbrev pub nodesIn : List ℕ → List ℕ
-nodesIn spots = countedNodes 13 (spotsOf spots)
+-- the nodes of levels 1 and up of a list of slots in words, with H levels above level 0
+abbrev pub nodesIn : ℕ → List ℕ → List ℕ
+nodesIn H spots = countedNodes H (spotsOf spots)
 
 -- each second word can be looked for in a map
 abbrev pub SpotsAskable : List ℕ → Type 0

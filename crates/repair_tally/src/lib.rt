@@ -1,4 +1,5 @@
 // Counts of nodes in a map: the count list's form, nodes placed, nodes cleared. Document 02, 7/13.
+ghost use mathlib.Core.Path.{_≡_};
 ghost use mathlib.Core.List.{[]};
 ghost use Prim.Native.Nat.{_*_, _-_, _^_, _≤_, _<_};
 ghost use lib.ListN.{length, take};
@@ -7,13 +8,20 @@ ghost use Rattle.repair_tally.specs.Tally.{through, entering, enteringAl
 use pinmap::Found;
 use pinmap::look_up;
 use pinmap::put;
-use words::edition::Edition;
 use words::units::Pin;
 
 // How many new nodes there are; or that a count would pass 2^32−1.
 pub enum Tallied {
     New(usize),
     Over,
+}
+
+// How many slots level 0 has with so many levels above it.
+pub fn level_slots(height: u32) -> usize
+    requires { ⌜ height ≤ 13 ⌝ }
+    ensures { λ r. ⌜ (r ≡ 2 ^ height) × (r ≤ 8192) ⌝ }
+{
+    1 << height
 }
 
 // Enters a node with its count, if both are in form and the node is not there.
@@ -76,15 +84,16 @@ fn raise(map: &mut [u32], fresh: &mut [u32], n: usize, node: Pin) -> Tallied
 }
 
 // One more of each node at level 1 or up.
-pub fn tally_up(spots: &[u32], map: &mut [u32], fresh: &mut [u32]) -> Tallied
-    requires { ⌜ SpotsAskable (now spots) × (length (now spots) ≤ 2 * length (now fresh)) ⌝ }
-    ensures { λ r. ⌜ ToldNew (through raising (raised (now (map .entry)) []) (nodesIn (now (spots .entry)))) r (now (map .exit)) (now (fresh .exit)) ⌝ }
+pub fn tally_up(spots: &[u32], map: &mut [u32], fresh: &mut [u32], height: u32) -> Tallied
+    requires { ⌜ SpotsAskable (now spots) × (length (now spots) ≤ 2 * length (now fresh)) × (height ≤ 13) ⌝ }
+    ensures { λ r. ⌜ ToldNew (through raising (raised (now (map .entry)) []) (nodesIn height (now (spots .entry)))) r (now (map .exit)) (now (fresh .exit)) ⌝ }
 {
+    let slots = level_slots(height);
     let count = spots.len() / 2;
     let mut n = 0;
     let mut k = 0;
     while k < count {
-        if (spots[2 * k] as usize) < Edition::SLOTS {
+        if (spots[2 * k] as usize) < slots {
             match raise(map, fresh, n, Pin(spots[2 * k + 1])) {
                 Tallied::New(more) => {
                     n = more;
@@ -117,14 +126,15 @@ fn lower(map: &mut [u32], node: Pin) -> bool
 }
 
 // One less of each node at level 1 or up.
-pub fn tally_down(spots: &[u32], map: &mut [u32]) -> bool
-    requires { ⌜ SpotsAskable (now spots) ⌝ }
-    ensures { λ r. ⌜ Told (through lowering (now (map .entry)) (nodesIn (now (spots .entry)))) r (now (map .exit)) ⌝ }
+pub fn tally_down(spots: &[u32], map: &mut [u32], height: u32) -> bool
+    requires { ⌜ SpotsAskable (now spots) × (height ≤ 13) ⌝ }
+    ensures { λ r. ⌜ Told (through lowering (now (map .entry)) (nodesIn height (now (spots .entry)))) r (now (map .exit)) ⌝ }
 {
+    let slots = level_slots(height);
     let count = spots.len() / 2;
     let mut k = 0;
     while k < count {
-        if (spots[2 * k] as usize) < Edition::SLOTS {
+        if (spots[2 * k] as usize) < slots {
             if lower(map, Pin(spots[2 * k + 1])) {
                 k += 1;
             } else {

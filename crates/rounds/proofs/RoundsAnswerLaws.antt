@@ -15,8 +15,9 @@ use Rattle.reads.specs.ReadSet.{pairsOf, broken}
 use Rattle.reads.specs.Search.{Lane, Tried, all, lanesOf, sizeOf, longest}
 use Rattle.reads.specs.ReadSection.{roundsFrom}
 use Rattle.words.specs.Answer.{Answer, good, refused, atItem, nowhere}
+use Rattle.words.specs.Edition.{known}
 use Rattle.words.specs.declared.refusals.Refusal.{Refusal}
-use Rattle.reads.specs.SetAnswer.{Packed, packed, readSet, setFitted, setAnswer, resultAfter, setRoomAfter}
+use Rattle.reads.specs.SetAnswer.{Packed, packed, readSet, setFitted, resultAfter, setRoomAfter}
 use Rattle.reads.proofs.SearchLaws.{win-first, size-won}
 use Rattle.reads.proofs.SetAnswerLaws.{packed-placed}
 use Rattle.reads_try.specs.LaneTable.{tableOf}
@@ -31,6 +32,7 @@ use Rattle.reads_section.proofs.PairFormLaws.{form-whole, form-masks}
 use Rattle.rounds.specs.declared.Rounds.{Rounds}
 use Rattle.rounds.specs.declared.Rounds.the-variants.{Placed}
 use Rattle.rounds.specs.declared.Searched.the-variants.{Won, Lost}
+use Rattle.rounds.specs.RoundsAnswer.{editionAnswer, roundsAnswer}
 use Rattle.rounds.specs.Rounds.{roundsOf, searchedOf, tableAfter, SetSearchable, Solvable, RoundsReady}
 use Rattle.rounds.proofs.PieceSizeLaws.{tried-is}
 
@@ -165,25 +167,34 @@ module _ {ws : List ℕ} {t K S n : ℕ} (s : SetSearchable ws t K S n) where
 pub size-fits : (n r : ℕ) → n ≤ 256 → r ≤ 32 → 2 * n * r ≤ 16384
 size-fits n r h l = le-trans (mul-le-mul-left (2 * n) l) (omega arith)
 
--- ---- 32 before all others
+-- ---- 32 before all others, then 29
+
+module _ (n : ℕ) (ws : List ℕ) (o : ℕ) where
+  pub is-unknown : known n ≡ false → editionAnswer n ws o ≡ refused (nowhere 29)
+  unfolding editionAnswer
+  is-unknown h = rw (h, editionAnswer)
+
+  pub is-known : known n ≡ true → editionAnswer n ws o ≡ end n ws o
+  unfolding editionAnswer
+  is-known h = rw (h, editionAnswer)
 
 -- what is promised of an answer, a result and a room
 abbrev pub Promised : (n : ℕ) (ws out room : List ℕ) → Rounds → (out′ room′ : List ℕ) → Type 0
 Promised n ws out room r out′ room′ =
-    (r ≡ roundsOf (setAnswer n ws (length out) (length room))) × ((out′ ≡ resultAfter (setAnswer n ws (length out) (length room)) out) × (room′ ≡ setRoomAfter room))
+    (r ≡ roundsOf (roundsAnswer n ws (length out) (length room))) × ((out′ ≡ resultAfter (roundsAnswer n ws (length out) (length room)) out) × (room′ ≡ setRoomAfter room))
 
 pub short-post : (n : ℕ) (ws out room : List ℕ) (r : Rounds) → length room < 16384 → r ≡ roundsOf (refused (nowhere 32)) → Promised n ws out room r out room
-unfolding setAnswer resultAfter setRoomAfter
+unfolding roundsAnswer resultAfter setRoomAfter
 short-post n ws out room r h e =
     let t : leb 16384 (length room) ≡ false = lt-leb 16384 (length room) h in
-    (rw (t, setAnswer) e, (rw (t, setAnswer, resultAfter), rw (t, setRoomAfter)))
+    (rw (t, roundsAnswer) e, (rw (t, roundsAnswer, resultAfter), rw (t, setRoomAfter)))
 
-pub long-post : (n : ℕ) (ws out room : List ℕ) (r : Rounds) (out′ room′ used : List ℕ) → 16384 ≤ length room → r ≡ roundsOf (end n ws (length out))
-    → out′ ≡ resultAfter (end n ws (length out)) out → room′ ≡ replicate (length used) 0 → length used ≡ length room → Promised n ws out room r out′ room′
-unfolding setAnswer setRoomAfter
+pub long-post : (n : ℕ) (ws out room : List ℕ) (r : Rounds) (out′ room′ used : List ℕ) → 16384 ≤ length room → r ≡ roundsOf (editionAnswer n ws (length out))
+    → out′ ≡ resultAfter (editionAnswer n ws (length out)) out → room′ ≡ replicate (length used) 0 → length used ≡ length room → Promised n ws out room r out′ room′
+unfolding roundsAnswer setRoomAfter
 long-post n ws out room r out′ room′ used h er eo em long =
     let t : leb 16384 (length room) ≡ true = le-leb 16384 (length room) h in
-    let o : setAnswer n ws (length out) (length room) ≡ end n ws (length out) = rw (t, setAnswer) in
+    let o : roundsAnswer n ws (length out) (length room) ≡ editionAnswer n ws (length out) = rw (t, roundsAnswer) in
     (rw o er, (rw o eo, em ∙ rw (t, setRoomAfter, long)))
 
 -- a part comes back as long as it was lent

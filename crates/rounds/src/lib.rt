@@ -7,26 +7,29 @@ ghost use lib.ListN.{length, replicate};
 ghost use Rattle.reads.specs.ReadSet.{pairsOf};
 ghost use Rattle.reads.specs.Search.{try, lanesOf};
 ghost use Rattle.words.specs.Answer.{refused, atItem};
-ghost use Rattle.reads.specs.SetAnswer.{searched, packed, readSet, setFitted, setAnswer, resultAfter, setRoomAfter};
+ghost use Rattle.reads.specs.SetAnswer.{searched, packed, readSet, setFitted, resultAfter, setRoomAfter};
 ghost use Rattle.reads_try.specs.declared.Ending.the-variants.{Stuck};
 ghost use Rattle.reads_try.specs.Late.{lateFull};
 ghost use Rattle.reads_pieces.specs.Keys.{keysOf};
+ghost use Rattle.rounds.specs.RoundsAnswer.{editionAnswer, roundsAnswer};
 ghost use Rattle.rounds.specs.Rounds.{roundsOf, searchedOf, numberBefore, wordTold, toldOf, wonLanes, tableAfter, TrySet, SetSearchable, RoundsReady};
 use reads_try::Ending;
 use words::clear::clear;
 use words::edition::Edition;
+use words::edition::is_edition;
 use words::found::Item;
 use words::refusals;
 
-// The most pairs of a read set, and its words; a row of 32 entries for each lane.
+// The most pairs of a read set, and its words.
 const PAIRS: usize = 8192;
 
 const SET_WORDS: usize = 2 * PAIRS;
 
+// The working room of a read set, in words: a row of 32 entries for each lane finds its place there.
+const ROOM_WORDS: usize = 16384;
+
 // A set of few pairs: its search has shorter keys and scratch, because to clear long ones takes longer than it does.
 const FEW_PAIRS: usize = 1024;
-
-const LANE_ROWS: usize = 32 * Edition::LANES;
 
 // The number of rounds that were written and the piece size that won, or the refusal.
 pub enum Rounds {
@@ -261,42 +264,61 @@ pub fn rounds_over(
     }
 }
 
-// The same at 256 lanes, for a set of few pairs.
-fn rounds_of_few(set: &[u32], table: &mut [u32], out: &mut [u32]) -> Rounds
-    requires { ⌜ (length (now set) ≤ 2048) × (length (now table) ≡ 8192) ⌝ }
-    ensures { λ r. ⌜ r ≡ roundsOf (setFitted 256 (length (now (out .entry))) (readSet 256 (pairsOf (now (set .entry))))) ⌝ }
-    ensures { λ _. ⌜ now (out .exit) ≡ resultAfter (setFitted 256 (length (now (out .entry))) (readSet 256 (pairsOf (now (set .entry))))) (now (out .entry)) ⌝ }
+// The same for a set of few pairs.
+fn rounds_of_few(set: &[u32], table: &mut [u32], out: &mut [u32], lanes: usize) -> Rounds
+    requires { ⌜ (length (now set) ≤ 2048) × (length (now table) ≡ 32 * lanes) × (0 < lanes) × (lanes ≤ 256) ⌝ }
+    ensures { λ r. ⌜ r ≡ roundsOf (setFitted lanes (length (now (out .entry))) (readSet lanes (pairsOf (now (set .entry))))) ⌝ }
+    ensures { λ _. ⌜ now (out .exit) ≡ resultAfter (setFitted lanes (length (now (out .entry))) (readSet lanes (pairsOf (now (set .entry))))) (now (out .entry)) ⌝ }
 {
     let mut keys = [0u64; FEW_PAIRS];
     let mut scratch = [0u64; FEW_PAIRS];
-    rounds_over(set, table, out, &mut keys, &mut scratch, Edition::LANES)
+    rounds_over(set, table, out, &mut keys, &mut scratch, lanes)
 }
 
-// The same at 256 lanes, for any set.
-fn rounds_of_any(set: &[u32], table: &mut [u32], out: &mut [u32]) -> Rounds
-    requires { ⌜ length (now table) ≡ 8192 ⌝ }
-    ensures { λ r. ⌜ r ≡ roundsOf (setFitted 256 (length (now (out .entry))) (readSet 256 (pairsOf (now (set .entry))))) ⌝ }
-    ensures { λ _. ⌜ now (out .exit) ≡ resultAfter (setFitted 256 (length (now (out .entry))) (readSet 256 (pairsOf (now (set .entry))))) (now (out .entry)) ⌝ }
+// The same for any set.
+fn rounds_of_any(set: &[u32], table: &mut [u32], out: &mut [u32], lanes: usize) -> Rounds
+    requires { ⌜ (length (now table) ≡ 32 * lanes) × (0 < lanes) × (lanes ≤ 256) ⌝ }
+    ensures { λ r. ⌜ r ≡ roundsOf (setFitted lanes (length (now (out .entry))) (readSet lanes (pairsOf (now (set .entry))))) ⌝ }
+    ensures { λ _. ⌜ now (out .exit) ≡ resultAfter (setFitted lanes (length (now (out .entry))) (readSet lanes (pairsOf (now (set .entry))))) (now (out .entry)) ⌝ }
 {
     if set.len() <= 2 * FEW_PAIRS {
-        return rounds_of_few(set, table, out);
+        return rounds_of_few(set, table, out, lanes);
     }
     let mut keys = [0u64; PAIRS];
     let mut scratch = [0u64; PAIRS];
-    rounds_over(set, table, out, &mut keys, &mut scratch, Edition::LANES)
+    rounds_over(set, table, out, &mut keys, &mut scratch, lanes)
 }
 
-// The rounds of a read set at 256 lanes: word, mask, word, mask .. in; per round 512 words out. The answer, the lent result and the lent
-// room are as document 01 says.
-pub fn map_global_read_to_rounds(set: &[u32], room: &mut [u32], out: &mut [u32]) -> Rounds
-    ensures { λ r. ⌜ r ≡ roundsOf (setAnswer 256 (now (set .entry)) (length (now (out .entry))) (length (now (room .entry)))) ⌝ }
-    ensures { λ _. ⌜ now (out .exit) ≡ resultAfter (setAnswer 256 (now (set .entry)) (length (now (out .entry))) (length (now (room .entry)))) (now (out .entry)) ⌝ }
+// The same for any number in the place of an edition's. What the room holds afterwards is left open.
+fn rounds_in(set: &[u32], room: &mut [u32], out: &mut [u32], edition: u32) -> Rounds
+    requires { ⌜ 16384 ≤ length (now room) ⌝ }
+    ensures { λ r. ⌜ r ≡ roundsOf (editionAnswer edition (now (set .entry)) (length (now (out .entry)))) ⌝ }
+    ensures { λ _. ⌜ now (out .exit) ≡ resultAfter (editionAnswer edition (now (set .entry)) (length (now (out .entry)))) (now (out .entry)) ⌝ }
+{
+    if !is_edition(edition) {
+        return refused(refusals::NO_EDITION, 0);
+    }
+    let lanes = edition as usize;
+    let rows = 32 * lanes;
+    rounds_of_any(set, &mut room[..rows], out, lanes)
+}
+
+// The rounds of a read set in an edition of n lanes: word, mask, word, mask .. in; per round 2n words out. The answer, the lent result and the
+// lent room are as documents 01 and 02 say.
+pub fn map_global_read_to_rounds(
+    set: &[u32],
+    room: &mut [u32],
+    out: &mut [u32],
+    edition: u32,
+) -> Rounds
+    ensures { λ r. ⌜ r ≡ roundsOf (roundsAnswer edition (now (set .entry)) (length (now (out .entry))) (length (now (room .entry)))) ⌝ }
+    ensures { λ _. ⌜ now (out .exit) ≡ resultAfter (roundsAnswer edition (now (set .entry)) (length (now (out .entry))) (length (now (room .entry)))) (now (out .entry)) ⌝ }
     ensures { λ _. ⌜ now (room .exit) ≡ setRoomAfter (now (room .entry)) ⌝ }
 {
-    if room.len() < 16384 {
+    if room.len() < ROOM_WORDS {
         return refused(refusals::ROOM_SHORT, 0);
     }
-    let answer = rounds_of_any(set, &mut room[..LANE_ROWS], out);
+    let answer = rounds_in(set, room, out, edition);
     clear(room);
     answer
 }

@@ -10,9 +10,10 @@ use borrow.Author.Tests.{le-leb, lt-leb, ltb-true}
 use lib.Dec.{leb}
 use lib.ListN.{length, getD, replicate}
 use Rattle.words.specs.Answer.{refused, atItem, nowhere}
-use Rattle.words.specs.Edition.{Known, levelsFor}
+use Rattle.words.specs.Edition.{known, levelsFor}
 use Rattle.words.specs.Tests.{firstNot}
 use Rattle.words.proofs.TestLaws.{not-none}
+use Rattle.words.proofs.EditionLaws.{known-number}
 use Rattle.run_machine.specs.Turn.{Block}
 use Rattle.run_machine.specs.Room.{blockRoom}
 use Rattle.run_machine.specs.Run.{Running, blocksFrom, runFrom, runTurns, allLeft, badBlock, badTurn, blockForm, runAnswer, newAfter, runRoomAfter}
@@ -93,20 +94,25 @@ module _ (n : ℕ) (W starts turns old new room : List ℕ) where
     unfolding runRoomAfter
     clear = zeros ∙ rw (fits, runRoomAfter)
 
-    pub told-block : (i : ℕ) → badBlock n W starts (length old) (length new) ≡ some i → (r : Ran) → r ≡ ranOf (refused (atItem 15 i)) → Told r new room′
+    pub told-edition : known n ≡ false → (r : Ran) → r ≡ ranOf (refused (nowhere 29)) → Told r new room′
     unfolding runAnswer newAfter
-    told-block i b r e = (e ∙ rw (fits, b, runAnswer), (rw (fits, b, runAnswer), clear))
+    told-edition k r e = (e ∙ rw (fits, k, runAnswer), (rw (fits, k, runAnswer), clear))
 
-    module _ (b : badBlock n W starts (length old) (length new) ≡ none) where
-      pub told-turn : (i : ℕ) → badTurn starts turns ≡ some i → (r : Ran) → r ≡ ranOf (refused (atItem 16 i)) → Told r new room′
+    module _ (k : known n ≡ true) where
+      pub told-block : (i : ℕ) → badBlock n W starts (length old) (length new) ≡ some i → (r : Ran) → r ≡ ranOf (refused (atItem 15 i)) → Told r new room′
       unfolding runAnswer newAfter
-      told-turn i t r e = (e ∙ rw (fits, b, t, runAnswer), (rw (fits, b, t, runAnswer), clear))
+      told-block i b r e = (e ∙ rw (fits, k, b, runAnswer), (rw (fits, k, b, runAnswer), clear))
 
-      module _ (named : badTurn starts turns ≡ none) where
-        pub told-run : (x : ℕ) (new′ : List ℕ) → x ≡ allLeft n W (runTurns n (levelsFor n) W starts turns old new .blocks) → new′ ≡ runTurns n (levelsFor n) W starts turns old new .new → Told (Left x) new′ room′
+      module _ (b : badBlock n W starts (length old) (length new) ≡ none) where
+        pub told-turn : (i : ℕ) → badTurn starts turns ≡ some i → (r : Ran) → r ≡ ranOf (refused (atItem 16 i)) → Told r new room′
         unfolding runAnswer newAfter
-        told-run x new′ e f = (ap Left e ∙ rw (fits, b, named, runAnswer), (f ∙ rw (fits, b, named, runAnswer), clear))
+        told-turn i t r e = (e ∙ rw (fits, k, b, t, runAnswer), (rw (fits, k, b, t, runAnswer), clear))
 
-        pub accepted : Known n → (room₁ : List ℕ) → length room₁ ≡ length room → RunAccepted n W starts turns (length old) (length new) room₁
-        unfolding badTurn
-        accepted known room₁ long = record { lanes = lanes-of n known; wide = omega arith; blocks = blocks-good n W starts (length old) (length new) b; named = λ i l. ltb-true _ _ (not-none (turnGood starts turns) (length turns) named i l) }
+        module _ (named : badTurn starts turns ≡ none) where
+          pub told-run : (x : ℕ) (new′ : List ℕ) → x ≡ allLeft n W (runTurns n (levelsFor n) W starts turns old new .blocks) → new′ ≡ runTurns n (levelsFor n) W starts turns old new .new → Told (Left x) new′ room′
+          unfolding runAnswer newAfter
+          told-run x new′ e f = (ap Left e ∙ rw (fits, k, b, named, runAnswer), (f ∙ rw (fits, k, b, named, runAnswer), clear))
+
+          pub accepted : (room₁ : List ℕ) → length room₁ ≡ length room → RunAccepted n W starts turns (length old) (length new) room₁
+          unfolding badTurn
+          accepted room₁ long = record { lanes = lanes-of n (known-number n k); wide = omega arith; blocks = blocks-good n W starts (length old) (length new) b; named = λ i l. ltb-true _ _ (not-none (turnGood starts turns) (length turns) named i l) }

@@ -1,4 +1,4 @@
-// The run of one major stage, for any arguments: document 01, "The run", and refusals 32, 15 and 16.
+// The run of one major stage, for any arguments: document 01, "The run", and refusals 32, 29, 15 and 16.
 pub mod left;
 pub mod states;
 pub mod taking;
@@ -6,7 +6,7 @@ pub mod taking;
 ghost use mathlib.Core.Path.{_≡_};
 ghost use lib.ListN.{length, replicate};
 ghost use Rattle.words.specs.Answer.{refused, atItem};
-ghost use Rattle.words.specs.Edition.{Known, levelsFor};
+ghost use Rattle.words.specs.Edition.{levelsFor};
 ghost use Rattle.run_machine.specs.Run.{runTurns, allLeft, runAnswer, newAfter, runRoomAfter};
 ghost use Rattle.run.specs.LeftInForm.{RunAccepted};
 ghost use Rattle.run.specs.RanAnswer.{ranOf};
@@ -18,7 +18,9 @@ use run_turns::room::BLOCK_ROOM;
 use states::begin_blocks;
 use taking::take_turns;
 use words::clear::clear;
+use words::edition::is_edition;
 use words::found::Item;
+use words::refusals::NO_EDITION;
 use words::refusals::ROOM_SHORT;
 use words::refusals::Refusal;
 use words::refusals::SCRIPT_FORM;
@@ -64,25 +66,28 @@ fn refuse(number: u32, item: usize) -> Ran
     })
 }
 
-// Each block of a script of n lanes at its first turn, then the turns in their order: the number of each is that of the block that takes it.
+// Each block of a script of that edition at its first turn, then the turns in their order: the number of each is that of the block that takes it.
 pub fn run(
     words: &[u32],
-    n: usize,
     starts: &[u64],
     turns: &[u32],
     old: &[u32],
     new: &mut [u32],
     room: &mut [u32],
+    edition: u32,
 ) -> Ran
-    requires { ⌜ Known n ⌝ }
-    ensures answer { λ r. ⌜ r ≡ ranOf (runAnswer n (levelsFor n) (now (words .entry)) (now (starts .entry)) (now (turns .entry)) (now (old .entry)) (now (new .entry)) (length (now (room .entry)))) ⌝ }
-    ensures state { λ _. ⌜ now (new .exit) ≡ newAfter (runAnswer n (levelsFor n) (now (words .entry)) (now (starts .entry)) (now (turns .entry)) (now (old .entry)) (now (new .entry)) (length (now (room .entry)))) (now (new .entry)) ⌝ }
+    ensures answer { λ r. ⌜ r ≡ ranOf (runAnswer edition (levelsFor edition) (now (words .entry)) (now (starts .entry)) (now (turns .entry)) (now (old .entry)) (now (new .entry)) (length (now (room .entry)))) ⌝ }
+    ensures state { λ _. ⌜ now (new .exit) ≡ newAfter (runAnswer edition (levelsFor edition) (now (words .entry)) (now (starts .entry)) (now (turns .entry)) (now (old .entry)) (now (new .entry)) (length (now (room .entry)))) (now (new .entry)) ⌝ }
     ensures room { λ _. ⌜ now (room .exit) ≡ runRoomAfter (now (starts .entry)) (now (room .entry)) ⌝ }
 {
     if room.len() / BLOCK_ROOM < blocks_of(starts) {
         return refuse(ROOM_SHORT, 0);
     }
     clear(room);
+    if !is_edition(edition) {
+        return refuse(NO_EDITION, 0);
+    }
+    let n = edition as usize;
     match bad_block(words, n, starts, old.len(), new.len()) {
         Item::At(i) => refuse(SCRIPT_FORM, i),
         Item::Fine => match bad_turn(starts, turns) {

@@ -1,4 +1,5 @@
--- A run of one major stage: document 01, "The run" and refusals 15, 16 and 32 of a run.
+-- A run of one major stage: document 01, "The run" and refusals 15, 16 and 32 of a run; document 02, 10/13, refusal 29. n is the number of lanes, H
+-- the levels.
 -- Assumes nothing.
 use mathlib.Core.Bool.{Bool, true, false, _&&_, _||_}
 use mathlib.Core.Option.{Option, none, some}
@@ -7,6 +8,7 @@ use Prim.Native.Nat.{ℕ, zero, suc, _+_, _*_, _-_, _/_, _%_, _^_}
 use lib.Dec.{leb, ltb, eqb}
 use lib.ListN.{length, getD, set, replicate}
 use Rattle.words.specs.Answer.{Answer, good, refused, atItem, nowhere}
+use Rattle.words.specs.Edition.{known}
 use Rattle.words.specs.Sum.{sumTo}
 use Rattle.words.specs.Bit.{pop}
 use Rattle.words.specs.Tests.{allBelow, firstNot}
@@ -121,7 +123,8 @@ badBlock n W starts s t =
 unfoldable pub badTurn : List ℕ → List ℕ → Option ℕ
 badTurn starts turns = firstNot (λ i. ltb (getD turns i 0) (length starts - 1)) (length turns)
 
--- ---- the answer: "A run: 15, 16, all before the first turn", 32 before them: "1024 a block for a run"
+-- ---- the answer: "A run: 15, 16, all before the first turn", 32 before them: "1024 a block for a run"; and 29 between them (10/13): a number of
+-- lanes that names no edition
 
 -- the turns that are left, and the new state
 pub record Ran : Type 0 where
@@ -139,12 +142,16 @@ runAnswer n H W starts turns old new room =
     elim (leb (blockRoom * (length starts - 1)) room) [
       | false ↦ refused (nowhere 32)
       | true ↦
-          elim (badBlock n W starts (length old) (length new)) [
-            | some i ↦ refused (atItem 15 i)
-            | none ↦
-                elim (badTurn starts turns) [
-                  | some i ↦ refused (atItem 16 i)
-                  | none ↦ runWell n H W (runTurns n H W starts turns old new)
+          elim (known n) [
+            | false ↦ refused (nowhere 29)
+            | true ↦
+                elim (badBlock n W starts (length old) (length new)) [
+                  | some i ↦ refused (atItem 15 i)
+                  | none ↦
+                      elim (badTurn starts turns) [
+                        | some i ↦ refused (atItem 16 i)
+                        | none ↦ runWell n H W (runTurns n H W starts turns old new)
+                      ]
                 ]
           ]
     ]

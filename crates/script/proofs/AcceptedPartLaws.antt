@@ -1,14 +1,12 @@
 -- What the refusals leave of a part, as its writers ask for it: 6, 7 and 13 excluded.
 -- Assumes nothing.
-use mathlib.Core.Path.{_≡_, ap}
+use mathlib.Core.Path.{_≡_}
 use mathlib.Core.List.{List}
 use mathlib.Core.Option.{none}
-use Prim.Native.Nat.{ℕ, _+_, _*_, _<_}
-use native.Mathlib.Omega.{arith}
+use Prim.Native.Nat.{ℕ, _<_}
 use Rattle.plan_record.specs.declared.bodies.Body.{Body}
-use Rattle.plan_record.specs.Record.{planLanes, partsOf, tableAt}
+use Rattle.plan_record.specs.Record.{partsOf}
 use Rattle.plan_record.specs.Body.{BodyOf}
-use Rattle.plan_record.proofs.RecordLaws.{lanes-full}
 use Rattle.plan_gates.specs.Gates.{badGate}
 use Rattle.plan_counts.specs.Counts.{refusal7}
 use Rattle.plan_counts.proofs.PartCountLaws.{counts-passed}
@@ -22,8 +20,6 @@ module _ (d : List ℕ) (p : ℕ) (b : Body) (body : BodyOf d p b) (part : p < p
     body = body;
     gates = gates;
     locations = counts-passed d seven p part .location;
-    sram = λ i h. omega (arith, sram-entry d thirteen p i part (omega (arith, lanes-full d)), lanes-full d);
-    enable = λ i h.
-        let at : 34 * planLanes d + i ≡ 8704 + i = omega (arith, lanes-full d) in
-        omega (arith, ap (tableAt d p) at, enable-entry d thirteen p i part (omega (arith, lanes-full d)), lanes-full d);
+    sram = λ i h. sram-entry d thirteen p i part h;
+    enable = λ i h. enable-entry d thirteen p i part h;
   }

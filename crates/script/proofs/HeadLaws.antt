@@ -1,27 +1,34 @@
 -- The numbers and the locations of a part, in the code's terms.
 -- Assumes nothing.
-use mathlib.Core.Path.{_≡_, refl, sym, ap}
+use mathlib.Core.Path.{_≡_, refl, sym, ap, _∙_}
 use mathlib.Core.Bool.{true, false}
 use mathlib.Core.List.{List, _∷_}
-use Prim.Native.Nat.{ℕ, suc, _+_, _*_, _^_, _≤_, _<_}
+use Prim.Native.Nat.{ℕ, zero, suc, _+_, _*_, _-_, _^_, _≤_, _<_}
 use native.Mathlib.Numerals.{add-one}
 use native.Mathlib.Omega.{arith}
 use borrow.Author.Tests.{lt-ltb, le-ltb, le-leb, lt-leb}
-use lib.ListN.{length, set, replicate}
+use lib.ListN.{length, set, replicate, length-replicate}
 use Rattle.words.specs.Sum.{sumTo}
 use Rattle.plan_record.specs.Record.{stagesOf, stageLocations, locationsOf, locationAt}
 use Rattle.script.specs.declared.head.Numbers.{Numbers}
 use Rattle.script.specs.Script.{locationStage, locationHalf}
 use Rattle.script.specs.Writers.{numberWords, endsBy}
 
-pub numbers-wide : (x : Numbers) → length (numberWords x) ≡ 128
+pub numbers-wide : (w : ℕ) (x : Numbers) → 8 ≤ w → length (numberWords w x) ≡ w
 unfolding numberWords
-numbers-wide x = refl
+numbers-wide w x h = omega (arith, length-replicate (w - 8) zero)
 
 -- eight numbers over zeros
-pub numbers-stored : (l : List ℕ) (n a b c d e f g h : ℕ) → l ≡ replicate n 0 → n ≡ 128
-    → set (set (set (set (set (set (set (set l 0 a) 1 b) 2 c) 3 d) 4 e) 5 f) 6 g) 7 h ≡ a ∷ b ∷ c ∷ d ∷ e ∷ f ∷ g ∷ h ∷ replicate 120 0
-numbers-stored l n a b c d e f g h q k = rw (q, k)
+numbers-over : (k a b c d e f g h : ℕ)
+    → set (set (set (set (set (set (set (set (replicate (suc (suc (suc (suc (suc (suc (suc (suc k)))))))) 0) 0 a) 1 b) 2 c) 3 d) 4 e) 5 f) 6 g) 7 h ≡ a ∷ b ∷ c ∷ d ∷ e ∷ f ∷ g ∷ h ∷ replicate k 0
+numbers-over k a b c d e f g h = refl
+
+pub numbers-stored : (l : List ℕ) (w a b c d e f g h : ℕ) → l ≡ replicate w 0 → 8 ≤ w
+    → set (set (set (set (set (set (set (set l 0 a) 1 b) 2 c) 3 d) 4 e) 5 f) 6 g) 7 h ≡ a ∷ b ∷ c ∷ d ∷ e ∷ f ∷ g ∷ h ∷ replicate (w - 8) 0
+numbers-stored l w a b c d e f g h q k =
+    let more : w ≡ suc (suc (suc (suc (suc (suc (suc (suc (w - 8)))))))) = omega arith in
+    let put : List ℕ → List ℕ = λ z. set (set (set (set (set (set (set (set z 0 a) 1 b) 2 c) 3 d) 4 e) 5 f) 6 g) 7 h in
+    ap put (q ∙ ap (λ (i : ℕ). replicate i 0) more) ∙ numbers-over (w - 8) a b c d e f g h
 
 pub ends-yes : (e l : ℕ) → e ≤ l → 1 ≡ endsBy e l
 ends-yes e l h = rw (le-leb e l h, endsBy)

@@ -1,4 +1,4 @@
--- How long each section of a part's script is, and the whole: over the number of lanes n, which is even and at least 16.
+-- How long each section of a part's script is, and the whole: over the number of lanes n, which is even and at least 16, as that of a plan is.
 -- Assumes nothing.
 use mathlib.Core.Path.{_≡_, refl}
 use mathlib.Core.List.{List, [], _++_}
@@ -8,6 +8,7 @@ use native.Mathlib.Nat.{mul-suc}
 use native.Mathlib.Omega.{arith}
 use lib.ListN.{length, length-append, length-replicate}
 use Rattle.words.specs.Edition.{sectionWords, partWords}
+use Rattle.words.proofs.EditionLaws.{by-edition}
 use Rattle.words.specs.Section.{sectionOf}
 use Rattle.words.proofs.SectionLaws.{length-listOf, section-length}
 use Rattle.reads.specs.ReadSet.{Pair, pairsOf}
@@ -17,10 +18,15 @@ use Rattle.words.specs.Answer.{Answer, good, refused}
 use Rattle.reads.specs.SetAnswer.{Packed, packed}
 use Rattle.reads.proofs.SetAnswerLaws.{placed-packing}
 use Rattle.reads.proofs.SectionWordLaws.{section-length as reads-section}
-use Rattle.plan_record.specs.Record.{stagesOf}
+use Rattle.plan_record.specs.Record.{planLanes, stagesOf}
+use Rattle.plan_record.proofs.RecordLaws.{lanes-known}
 use Rattle.plan_reads.specs.PartReads.{readWords, partReads, packedIn, partLanes}
 use Rattle.script.specs.Script.{numbers, locationWords, laneList, stageSection, stageSections, sramSection, enableSection, partScript}
 use Rattle.script.proofs.SectionsLaws.{lanes-length}
+
+-- the lanes of a plan
+pub lanes-even : (d : List ℕ) → planLanes d % 2 ≡ 0
+lanes-even d = by-edition (λ n. n % 2 ≡ 0) refl refl (planLanes d) (lanes-known d)
 
 section-words : (n : ℕ) (e a b c : ℕ → ℕ) → length (sectionOf n e ++ laneList a b c n) ≡ sectionWords n
 section-words n e a b c = omega (arith, length-append (sectionOf n e) (laneList a b c n), section-length n e, lanes-length a b c n)

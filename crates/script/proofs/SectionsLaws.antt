@@ -64,9 +64,15 @@ section-are n e a b c es la lb lc he ha hb hc =
     at : (f : ℕ → ℕ) (l : List ℕ) (m : ℕ) → l ≡ listOf f m → (i : ℕ) → i < m → wordsIn l i ≡ f i
     at f l m q i h = ap (λ (x : List ℕ). wordsIn x i) q ∙ getD-listOf f m i h
 
--- the entries of a table fit a half
-pub entries-small : (f : ℕ → ℕ) (l : List ℕ) (n : ℕ) → l ≡ listOf f n → ((i : ℕ) → i < n → f i ≤ 8191) → (i : ℕ) → i < n → getD l i 0 < 2 ^ 16
-entries-small f l n e small i h = omega (arith, ap (λ (x : List ℕ). getD x i 0) e ∙ getD-listOf f n i h, small i h)
+-- the same of m lanes, which are n
+pub section-at : (m n : ℕ) → m ≡ n → (out : List ℕ) (e a b c : ℕ → ℕ) (es la lb lc : List ℕ) → out ≡ sectionOf m (wordsIn es) ++ laneList (wordsIn la) (wordsIn lb) (wordsIn lc) m
+    → es ≡ listOf e (32 * n) → la ≡ listOf a n → lb ≡ listOf b n → lc ≡ listOf c n → out ≡ sectionOf n e ++ laneList a b c n
+section-at m n q out e a b c es la lb lc is he ha hb hc =
+    is ∙ ap (λ (k : ℕ). sectionOf k (wordsIn es) ++ laneList (wordsIn la) (wordsIn lb) (wordsIn lc) k) q ∙ section-are n e a b c es la lb lc he ha hb hc
+
+-- the entries of a table are below its slots, and fit a half
+pub entries-small : (f : ℕ → ℕ) (l : List ℕ) (n : ℕ) → n ≤ 8192 → l ≡ listOf f n → ((i : ℕ) → i < n → f i < n) → (i : ℕ) → i < n → getD l i 0 < 2 ^ 16
+entries-small f l n few e small i h = omega (arith, ap (λ (x : List ℕ). getD x i 0) e ∙ getD-listOf f n i h, small i h)
 
 pub zeros-are : (n : ℕ) → replicate n 0 ≡ listOf (λ w. 0) n
 zeros-are n = listOf-is (λ w. 0) n (replicate n 0) (length-replicate n 0) (λ i l. getD-replicate n i 0 0 l)

@@ -1,7 +1,8 @@
-// The first 256 words: the part's numbers, and its locations.
+// The first words, one a lane: half of them the part's numbers, half its locations.
 ghost use mathlib.Core.Path.{_≡_};
-ghost use Prim.Native.Nat.{_+_, _*_, _^_, _≤_, _<_};
+ghost use Prim.Native.Nat.{_+_, _*_, _/_, _^_, _≤_, _<_};
 ghost use lib.ListN.{length};
+ghost use Rattle.plan_record.specs.Record.{planLanes};
 ghost use Rattle.script.specs.Script.{locationStage, locationHalf, locationWords};
 ghost use Rattle.script.specs.Writers.{AcceptedPart, numberWords, endsBy};
 use plan_record::bodies::Body;
@@ -23,8 +24,8 @@ pub struct Numbers {
 
 // Writes the eight numbers, and zeros behind them.
 pub fn write_numbers(x: Numbers, out: &mut [u32])
-    requires { ⌜ length (now out) ≡ 128 ⌝ }
-    ensures { λ _. ⌜ now (out .exit) ≡ numberWords x ⌝ }
+    requires { ⌜ 8 ≤ length (now out) ⌝ }
+    ensures { λ _. ⌜ now (out .exit) ≡ numberWords (length (now (out .entry))) x ⌝ }
 {
     clear(out);
     out[0] = x.stages;
@@ -75,7 +76,7 @@ fn location_half(d: &[u8], p: usize, body: Body, l: usize) -> u32
 
 // Word j of the locations: two halves, the first one low.
 fn location_word(d: &[u8], p: usize, body: Body, j: usize) -> u32
-    requires { ⌜ AcceptedPart (now d) p body × (j < 128) ⌝ }
+    requires { ⌜ AcceptedPart (now d) p body × (2 * j < body .lanes) ⌝ }
     ensures { λ r. ⌜ r ≡ locationHalf (now (d .entry)) p (2 * j + 1) * 2 ^ 16 + locationHalf (now (d .entry)) p (2 * j) ⌝ }
 {
     let low = location_half(d, p, body, 2 * j);
@@ -85,8 +86,8 @@ fn location_word(d: &[u8], p: usize, body: Body, j: usize) -> u32
 
 // Writes the locations.
 pub fn write_locations(d: &[u8], p: usize, body: Body, out: &mut [u32])
-    requires { ⌜ AcceptedPart (now d) p body × (length (now out) ≡ 128) ⌝ }
-    ensures { λ _. ⌜ now (out .exit) ≡ locationWords 256 (now (d .entry)) p ⌝ }
+    requires { ⌜ AcceptedPart (now d) p body × (length (now out) ≡ body .lanes / 2) ⌝ }
+    ensures { λ _. ⌜ now (out .exit) ≡ locationWords (planLanes (now (d .entry))) (now (d .entry)) p ⌝ }
 {
     let mut j = 0;
     while j < out.len() {

@@ -2,3 +2,4 @@
 // sections. Each writer takes a slice of exactly its section's length.
 pub mod head;
 pub mod masks;
+pub mod sizes;

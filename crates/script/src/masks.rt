@@ -1,5 +1,5 @@
 // The masks of a stage.
-ghost use Prim.Native.Nat.{_<_};
+ghost use Prim.Native.Nat.{_*_, _<_};
 ghost use Rattle.script.specs.Writers.{AcceptedPart, MaskBits, LaneMasks, MaskLists, MasksRoom};
 use plan_gates::GateFound;
 use plan_gates::find_gate;
@@ -8,7 +8,6 @@ use plan_record::bodies::slot;
 use plan_record::numbers::gate_first;
 use plan_record::numbers::gate_second;
 use plan_slots::tables::top_power;
-use words::edition::Edition;
 use words::units::EMPTY_PIN;
 
 // Mask bits of a position, or mask words of a lane.
@@ -20,7 +19,7 @@ pub struct Masks {
 
 // The mask bits at position q: a slot that equals slot a has orb, a gate the inversions of its fan-ins.
 fn masks_at(d: &[u8], p: usize, body: Body, s: usize, q: usize) -> Masks
-    requires { ⌜ AcceptedPart (now d) p body × (s < body .stages) × (q < 8192) ⌝ }
+    requires { ⌜ AcceptedPart (now d) p body × (s < body .stages) × (q < 32 * body .lanes) ⌝ }
     ensures { λ r. ⌜ MaskBits (now (d .entry)) p s q r ⌝ }
 {
     if q == 0 {
@@ -61,7 +60,7 @@ fn masks_at(d: &[u8], p: usize, body: Body, s: usize, q: usize) -> Masks
 
 // The mask words of lane w, from its 32 positions.
 fn lane_masks(d: &[u8], p: usize, body: Body, s: usize, w: usize) -> Masks
-    requires { ⌜ AcceptedPart (now d) p body × (s < body .stages) × (w < 256) ⌝ }
+    requires { ⌜ AcceptedPart (now d) p body × (s < body .stages) × (w < body .lanes) ⌝ }
     ensures { λ r. ⌜ LaneMasks (now (d .entry)) p s w r ⌝ }
 {
     let mut xora = 0;
@@ -88,11 +87,12 @@ pub fn fill_masks(
     xorb: &mut [u32],
     orb: &mut [u32],
 )
-    requires { ⌜ AcceptedPart (now d) p body × (s < body .stages) × MasksRoom (now xora) (now xorb) (now orb) ⌝ }
+    requires { ⌜ AcceptedPart (now d) p body × (s < body .stages) × MasksRoom (body .lanes) (now xora) (now xorb) (now orb) ⌝ }
     ensures { λ _. ⌜ MaskLists (now (d .entry)) p s (now (xora .exit)) (now (xorb .exit)) (now (orb .exit)) ⌝ }
 {
+    let lanes = body.lanes;
     let mut w = 0;
-    while w < Edition::LANES {
+    while w < lanes {
         let lane = lane_masks(d, p, body, s, w);
         xora[w] = lane.xora;
         xorb[w] = lane.xorb;

@@ -1,9 +1,9 @@
 -- The ranks of a block, one after the other: where they end, and what its words are after each.
 -- Assumes nothing.
-use mathlib.Core.Path.{_≡_, refl, sym, ap, ap₂, _∙_}
+use mathlib.Core.Path.{_≡_, sym, ap, ap₂, _∙_}
 use mathlib.Core.Logic.{⊎-elim}
 use mathlib.Core.List.{List, _++_}
-use Prim.Native.Nat.{ℕ, _+_, _-_, _≤_, _<_}
+use Prim.Native.Nat.{ℕ, suc, _+_, _-_, _≤_, _<_}
 use native.Mathlib.Numerals.{add-one}
 use native.Mathlib.Omega.{arith}
 use borrow.Rule.Slice.PartMut.{putMid, mid-len}
@@ -11,12 +11,13 @@ use lib.ListN.{length, getD, set, take, drop, replicate, length-append}
 use lib.Seq.{sets}
 use Rattle.words.proofs.BitLaws.{lt-or-ge}
 use Rattle.words.proofs.ListLaws.{put-sets}
-use Rattle.plan_record.specs.Record.{blocksOf, countAt, partsBefore, partsOf}
-use Rattle.plan_record.proofs.RecordLaws.{parts-more}
+use Rattle.plan_record.specs.Record.{planLanes, blocksOf, countAt, partsBefore, partsOf}
+use Rattle.plan_record.proofs.RecordLaws.{lanes-range, parts-more}
 use Rattle.plan_record.proofs.PlanFormLaws.{parts-in}
 use Rattle.plan_blocks.specs.TableFill.{blockAt}
 use Rattle.plan_blocks.proofs.TotalLaws.{same-or}
 use Rattle.script.specs.Script.{partScript}
+use Rattle.script.proofs.PartLengthLaws.{lanes-even}
 use Rattle.script_assembly.specs.Assembly.{wordsOfPart, blockWords}
 use Rattle.script_assembly.specs.WrittenSoFar.{lastMark, partsWords, lengthOf, partsIn, firstRank, rankedAt}
 use Rattle.script_assembly.proofs.GrowLaws.{grown-le}
@@ -26,9 +27,11 @@ use Rattle.script_assembly.proofs.ScriptLengthLaws.{part-length, empty-length}
 use Rattle.script_layout.specs.Layout.{rowScript, emptyWords, PartRoom, BlockAt}
 use Rattle.script_layout.proofs.ListStoreLaws.{sets-next, stores-length}
 
-pub empty-made : (l : List ℕ) (m : ℕ) → m ≡ 256 → l ≡ replicate m 0 → set l 1 1 ≡ emptyWords
+pub empty-made : (l : List ℕ) (n : ℕ) → 2 ≤ n → l ≡ replicate n 0 → set l 1 1 ≡ emptyWords n
 unfolding emptyWords
-empty-made l m k e = ap (λ (x : List ℕ). set x 1 1) (e ∙ ap (λ (n : ℕ). replicate n 0) k)
+empty-made l n h e =
+    let more : n ≡ suc (suc (n - 2)) = omega arith in
+    ap (λ (x : List ℕ). set x 1 1) (e ∙ ap (λ (i : ℕ). replicate i 0) more)
 
 module _ (d room : List ℕ) (s b from : ℕ) (q : BlockAt d room s b from) where
   abbrev to : ℕ
@@ -101,98 +104,104 @@ module _ (d room : List ℕ) (s b from : ℕ) (q : BlockAt d room s b from) wher
           (λ (h : k + 1 ≡ to → ⊥). step.mark-more to k h ∙ sym (step.mark-more (length xs) j (λ e. h (omega (arith, parts-are)))))
           (same-or (k + 1) to)
 
-      part-words : rowScript d room (rankedAt room k) (lastMark to k) ≡ wordsOfPart 256 d s i (lastMark (length xs) j)
+      part-words : rowScript d room (rankedAt room k) (lastMark to k) ≡ wordsOfPart (planLanes d) d s i (lastMark (length xs) j)
       unfolding wordsOfPart
       part-words =
           let a = q .sound .ready .tabled .allotted s i (q .stage) (part-at d s b (countAt d s) j j-lt .number) in
           ap₂ (λ (p m : ℕ). rowScript d room p m) part-row mark-same
-          ∙ ap₂ (λ (x y : ℕ). partScript 256 d (partsBefore d s + i) (lastMark (length xs) j) x y) (a .state-start) (a .sram-start)
+          ∙ ap₂ (λ (x y : ℕ). partScript (planLanes d) d (partsBefore d s + i) (lastMark (length xs) j) x y) (a .state-start) (a .sram-start)
 
       next-count : k + 1 - from ≡ j + 1
       next-count = omega arith
 
-      words-more : partsWords 256 d s xs (k + 1 - from) ≡ partsWords 256 d s xs j ++ wordsOfPart 256 d s i (lastMark (length xs) j)
-      words-more = ap (partsWords 256 d s xs) next-count ∙ step.parts-more 256 d s xs j
+      words-more : partsWords (planLanes d) d s xs (k + 1 - from) ≡ partsWords (planLanes d) d s xs j ++ wordsOfPart (planLanes d) d s i (lastMark (length xs) j)
+      words-more = ap (partsWords (planLanes d) d s xs) next-count ∙ step.parts-more (planLanes d) d s xs j
 
       -- the words after one part more
-      module _ (at next : ℕ) (is : next ≡ at + length (partsWords 256 d s xs j)) where
-        part-next : next + lengthOf 256 d (rankedAt room k) ≡ at + length (partsWords 256 d s xs (k + 1 - from))
+      module _ (at next : ℕ) (is : next ≡ at + length (partsWords (planLanes d) d s xs j)) where
+        part-next : next + lengthOf (planLanes d) d (rankedAt room k) ≡ at + length (partsWords (planLanes d) d s xs (k + 1 - from))
         part-next =
             omega (
               arith,
               is,
-              ap length words-more ∙ length-append (partsWords 256 d s xs j) (wordsOfPart 256 d s i (lastMark (length xs) j)),
-              part-length 256 d (omega arith) refl s i (lastMark (length xs) j),
-              ap (lengthOf 256 d) part-row,
+              ap length words-more ∙ length-append (partsWords (planLanes d) d s xs j) (wordsOfPart (planLanes d) d s i (lastMark (length xs) j)),
+              part-length (planLanes d) d (omega (arith, lanes-range d)) (lanes-even d) s i (lastMark (length xs) j),
+              ap (lengthOf (planLanes d) d) part-row,
             )
 
-        part-stored : (l l₁ l₂ : List ℕ) (p mark : ℕ) → p ≡ rankedAt room k → mark ≡ lastMark to k → l₁ ≡ sets l at (partsWords 256 d s xs j)
-            → l₂ ≡ sets l₁ next (rowScript d room p mark) → l₂ ≡ sets l at (partsWords 256 d s xs (k + 1 - from))
+        part-stored : (l l₁ l₂ : List ℕ) (p mark : ℕ) → p ≡ rankedAt room k → mark ≡ lastMark to k → l₁ ≡ sets l at (partsWords (planLanes d) d s xs j)
+            → l₂ ≡ sets l₁ next (rowScript d room p mark) → l₂ ≡ sets l at (partsWords (planLanes d) d s xs (k + 1 - from))
         part-stored l l₁ l₂ p mark e m a c =
-            sets-next l l₁ l₂ (partsWords 256 d s xs j) (wordsOfPart 256 d s i (lastMark (length xs) j)) at next a is
+            sets-next l l₁ l₂ (partsWords (planLanes d) d s xs j) (wordsOfPart (planLanes d) d s i (lastMark (length xs) j)) at next a is
             (c ∙ ap (sets l₁ next) (ap₂ (rowScript d room) e m ∙ part-words))
             ∙ ap (sets l at) (sym words-more)
 
-        part-room : (m : ℕ) → at + length (blockWords 256 d s xs) ≤ m → PartRoom d room (rankedAt room k) next m
+        part-room : (m : ℕ) → at + length (blockWords (planLanes d) d s xs) ≤ m → PartRoom d room (rankedAt room k) next m
         part-room m fits =
             let few : k + 1 - from ≤ length xs = omega (arith, parts-are) in
-            let most : length (partsWords 256 d s xs (k + 1 - from)) ≤ length (partsWords 256 d s xs (length xs)) =
-            grown-le (partsWords 256 d s xs) (λ x. wordsOfPart 256 d s (getD xs x 0) (lastMark (length xs) x))
-            (λ x. ap (partsWords 256 d s xs) (sym (add-one x)) ∙ step.parts-more 256 d s xs x) (length xs) (k + 1 - from) few
+            let most : length (partsWords (planLanes d) d s xs (k + 1 - from)) ≤ length (partsWords (planLanes d) d s xs (length xs)) =
+            grown-le (partsWords (planLanes d) d s xs) (λ x. wordsOfPart (planLanes d) d s (getD xs x 0) (lastMark (length xs) x))
+            (λ x. ap (partsWords (planLanes d) d s xs) (sym (add-one x)) ∙ step.parts-more (planLanes d) d s xs x) (length xs) (k + 1 - from) few
             in
             record {
               sound = q .sound;
               part = part-in;
-              fits = omega (arith, part-next, most, ap length (step.parts-all 256 d s xs (omega (arith, j-lt))));
+              fits = omega (arith, part-next, most, ap length (step.parts-all (planLanes d) d s xs (omega (arith, j-lt))));
             }
 
         -- the same, in a room that is as it was, of part p that its row names
-        module _ (room₁ : List ℕ) (same : room₁ ≡ room) (p : ℕ) (named : p ≡ rankedAt room₁ k) (old new : List ℕ) (stored : new ≡ sets old at (partsWords 256 d s xs j)) where
+        module _ (room₁ : List ℕ) (same : room₁ ≡ room) (p : ℕ) (named : p ≡ rankedAt room₁ k) (old new : List ℕ) (stored : new ≡ sets old at (partsWords (planLanes d) d s xs j)) where
           ranked : p ≡ rankedAt room k
           ranked = named ∙ ap (λ (r : List ℕ). rankedAt r k) same
 
-          pub turn-room : at + length (blockWords 256 d s xs) ≤ length old → PartRoom d room₁ p next (length new)
-          turn-room fits = rw (same, ranked) (part-room (length new) (omega (arith, stores-length old new at (partsWords 256 d s xs j) stored)))
+          pub turn-room : at + length (blockWords (planLanes d) d s xs) ≤ length old → PartRoom d room₁ p next (length new)
+          turn-room fits = rw (same, ranked) (part-room (length new) (omega (arith, stores-length old new at (partsWords (planLanes d) d s xs j) stored)))
 
-          pub turn-next : (end : ℕ) → end ≡ next + lengthOf 256 d p → end ≡ at + length (partsWords 256 d s xs (k + 1 - from))
-          turn-next end e = e ∙ ap (λ (x : ℕ). next + lengthOf 256 d x) ranked ∙ part-next
+          pub turn-next : (end : ℕ) → end ≡ next + lengthOf (planLanes d) d p → end ≡ at + length (partsWords (planLanes d) d s xs (k + 1 - from))
+          turn-next end e = e ∙ ap (λ (x : ℕ). next + lengthOf (planLanes d) d x) ranked ∙ part-next
 
           pub turn-stored : (l₂ : List ℕ) (mark : ℕ) → mark ≡ lastMark to k → l₂ ≡ sets new next (rowScript d room₁ p mark)
-              → l₂ ≡ sets old at (partsWords 256 d s xs (k + 1 - from))
+              → l₂ ≡ sets old at (partsWords (planLanes d) d s xs (k + 1 - from))
           turn-stored l₂ mark m e = part-stored old new l₂ p mark ranked m stored (e ∙ ap (λ (r : List ℕ). sets new next (rowScript d r p mark)) same)
 
   -- before the first part, and after the last
-  pub none-stored : (l : List ℕ) (at : ℕ) → l ≡ sets l at (partsWords 256 d s xs (from - from))
+  pub none-stored : (l : List ℕ) (at : ℕ) → l ≡ sets l at (partsWords (planLanes d) d s xs (from - from))
   none-stored l at =
       let e : from - from ≡ 0 = omega arith in
-      sym (ap (sets l at) (ap (partsWords 256 d s xs) e ∙ step.parts-none 256 d s xs))
+      sym (ap (sets l at) (ap (partsWords (planLanes d) d s xs) e ∙ step.parts-none (planLanes d) d s xs))
 
-  pub none-long : (at : ℕ) → at ≡ at + length (partsWords 256 d s xs (from - from))
+  pub none-long : (at : ℕ) → at ≡ at + length (partsWords (planLanes d) d s xs (from - from))
   none-long at =
       let e : from - from ≡ 0 = omega arith in
-      omega (arith, ap length (ap (partsWords 256 d s xs) e ∙ step.parts-none 256 d s xs))
+      omega (arith, ap length (ap (partsWords (planLanes d) d s xs) e ∙ step.parts-none (planLanes d) d s xs))
 
-  pub all-words : (k : ℕ) → from < to → k ≡ to → partsWords 256 d s xs (k - from) ≡ blockWords 256 d s xs
+  pub all-words : (k : ℕ) → from < to → k ≡ to → partsWords (planLanes d) d s xs (k - from) ≡ blockWords (planLanes d) d s xs
   all-words k u e =
       let c : k - from ≡ length xs = omega (arith, parts-are) in
-      ap (partsWords 256 d s xs) c ∙ step.parts-all 256 d s xs (omega (arith, parts-are))
+      ap (partsWords (planLanes d) d s xs) c ∙ step.parts-all (planLanes d) d s xs (omega (arith, parts-are))
 
   -- a block without parts
   module _ (u : to ≤ from) where
-    empty-words : blockWords 256 d s xs ≡ emptyWords
+    empty-words : blockWords (planLanes d) d s xs ≡ emptyWords (planLanes d)
     unfolding emptyWords
-    empty-words = step.block-none 256 d s xs (omega (arith, parts-are))
+    empty-words = step.block-none (planLanes d) d s xs (omega (arith, parts-are))
 
-    empty-long : length (blockWords 256 d s xs) ≡ 256
-    empty-long = empty-length 256 d (omega arith) refl s xs (omega (arith, parts-are))
+    empty-long : length (blockWords (planLanes d) d s xs) ≡ planLanes d
+    empty-long = empty-length (planLanes d) d (omega (arith, lanes-range d)) (lanes-even d) s xs (omega (arith, parts-are))
 
-    module _ (at : ℕ) (l : List ℕ) (fits : at + length (blockWords 256 d s xs) ≤ length l) where
-      pub empty-next : at + 256 ≡ at + length (blockWords 256 d s xs)
+    -- n words, as many as the plan has lanes
+    module _ (at n : ℕ) (lanes : n ≡ planLanes d) (l : List ℕ) (fits : at + length (blockWords (planLanes d) d s xs) ≤ length l) where
+      pub empty-next : at + n ≡ at + length (blockWords (planLanes d) d s xs)
       empty-next = omega (arith, empty-long)
 
-      pub empty-in : at + 256 ≤ length l
+      pub empty-in : at + n ≤ length l
       empty-in = omega (arith, empty-next)
 
-      pub empty-stored : (z : List ℕ) → length z ≡ length (take (at + 256 - at) (drop at l)) → z ≡ emptyWords → putMid at (at + 256 - at) l z ≡ sets l at (blockWords 256 d s xs)
+      pub empty-room : 2 ≤ length (take (at + n - at) (drop at l))
+      empty-room = omega (arith, mid-len at (at + n) l empty-in, lanes-range d)
+
+      pub empty-stored : (z : List ℕ) → length z ≡ length (take (at + n - at) (drop at l)) → z ≡ emptyWords (length (take (at + n - at) (drop at l)))
+          → putMid at (at + n - at) l z ≡ sets l at (blockWords (planLanes d) d s xs)
       empty-stored z kept e =
-          put-sets l at (at + 256 - at) z (omega (arith, empty-in)) (kept ∙ mid-len at (at + 256) l empty-in) ∙ ap (sets l at) (e ∙ sym empty-words)
+          let words : length (take (at + n - at) (drop at l)) ≡ planLanes d = mid-len at (at + n) l empty-in ∙ omega arith in
+          put-sets l at (at + n - at) z (omega (arith, empty-in)) (kept ∙ mid-len at (at + n) l empty-in) ∙ ap (sets l at) (e ∙ ap emptyWords words ∙ sym empty-words)

@@ -10,7 +10,7 @@ use lib.Seq.{sets}
 use Rattle.words.specs.Edition.{partWords}
 use Rattle.words.proofs.ListLaws.{put-sets}
 use Rattle.plan_record.specs.declared.bodies.Body.{Body}
-use Rattle.plan_record.specs.Record.{partsOf}
+use Rattle.plan_record.specs.Record.{planLanes, partsOf}
 use Rattle.plan_record.specs.Body.{BodyReady, BodyOf}
 use Rattle.plan_record.proofs.PlanFormLaws.{Formed, formed, body-ready}
 use Rattle.plan_rows.specs.Columns as col
@@ -18,14 +18,14 @@ use Rattle.plan_rows.specs.Rows.{cellAt, CellIn}
 use Rattle.script.specs.declared.head.Numbers.{Numbers}
 use Rattle.script.specs.Script.{partScript}
 use Rattle.script.specs.Writers.{NumbersOf}
-use Rattle.script_part.specs.Build.{Buildable}
+use Rattle.script_front.specs.Build.{Buildable}
 use Rattle.plan_refusals.proofs.PassedLaws.{Passed, passed, placed-reads}
 use Rattle.script_assembly.specs.WrittenSoFar.{lengthOf}
 use Rattle.script_layout.specs.Layout.{AcceptedTabled, rowScript}
 
 module _ (d room : List ℕ) (h : AcceptedTabled d room) where
-  pub plan-passed : Passed 256 d
-  plan-passed = passed 256 d (h .accepted)
+  pub plan-passed : Passed d
+  plan-passed = passed d (h .accepted)
 
   pub plan-formed : Formed d
   plan-formed = formed d (plan-passed .form)
@@ -71,24 +71,30 @@ module _ (d room : List ℕ) (h : AcceptedTabled d room) where
     }
 
     module _ (x : Numbers) (are : NumbersOf d p x) where
-      part-long : partWords 256 (x .rounds) (x .stages) ≡ lengthOf 256 d p
+      part-long : partWords (planLanes d) (x .rounds) (x .stages) ≡ lengthOf (planLanes d) d p
       unfolding lengthOf
-      part-long = ap₂ (partWords 256) (are .rounds) (are .stages)
+      part-long = ap₂ (partWords (planLanes d)) (are .rounds) (are .stages)
 
       -- the script in the words from `at` on, which were lent
-      module _ (at next size : ℕ) (words : List ℕ) (sized : size ≡ partWords 256 (x .rounds) (x .stages)) (is : next ≡ at + size) (fits : at + lengthOf 256 d p ≤ length words) where
-        pub next-is : next ≡ at + lengthOf 256 d p
-        next-is = is ∙ ap (λ (n : ℕ). at + n) (sized ∙ part-long)
+      module _ (at next size n : ℕ) (words : List ℕ) (lanes : n ≡ planLanes d) (sized : size ≡ partWords n (x .rounds) (x .stages)) (is : next ≡ at + size) (fits : at + lengthOf (planLanes d) d p ≤ length words) where
+        sized-as : size ≡ partWords (planLanes d) (x .rounds) (x .stages)
+        sized-as = sized ∙ ap (λ (i : ℕ). partWords i (x .rounds) (x .stages)) lanes
+
+        pub next-is : next ≡ at + lengthOf (planLanes d) d p
+        next-is = is ∙ ap (λ (i : ℕ). at + i) (sized-as ∙ part-long)
 
         pub next-in : next ≤ length words
         next-in = omega (arith, next-is)
 
-        pub lent-long : length (take (next - at) (drop at words)) ≡ partWords 256 (x .rounds) (x .stages)
-        lent-long = mid-len at next words next-in ∙ omega (arith, is, sized)
+        between : next - at ≡ size
+        between = omega (arith, is)
+
+        pub lent-long : length (take (next - at) (drop at words)) ≡ partWords (planLanes d) (x .rounds) (x .stages)
+        lent-long = mid-len at next words next-in ∙ (between ∙ sized-as)
 
         pub part-written : (last : ℕ) → (x .last ≡ last) × (x .state ≡ cellAt room p col.stateStart) × (x .sram ≡ cellAt room p col.sramStart) → (out : List ℕ)
-            → length out ≡ length (take (next - at) (drop at words)) → out ≡ partScript 256 d p (x .last) (x .state) (x .sram)
+            → length out ≡ length (take (next - at) (drop at words)) → out ≡ partScript (planLanes d) d p (x .last) (x .state) (x .sram)
             → putMid at (next - at) words out ≡ sets words at (rowScript d room p last)
         part-written last (a, b, c) out kept e =
             put-sets words at (next - at) out (omega (arith, is, next-in)) (kept ∙ mid-len at next words next-in)
-            ∙ ap (sets words at) (e ∙ ap₂ (λ (u v : ℕ). partScript 256 d p u v (x .sram)) a b ∙ ap (partScript 256 d p last (cellAt room p col.stateStart)) c)
+            ∙ ap (sets words at) (e ∙ ap₂ (λ (u v : ℕ). partScript (planLanes d) d p u v (x .sram)) a b ∙ ap (partScript (planLanes d) d p last (cellAt room p col.stateStart)) c)

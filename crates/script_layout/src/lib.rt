@@ -1,12 +1,13 @@
 // The assembled script of an accepted plan, whose part table stands in the room: document 01, "Blocks and offsets", second half.
 pub mod parts;
 pub mod placed;
+pub mod sizes;
 
 ghost use mathlib.Core.Path.{_≡_};
 ghost use Prim.Native.Nat.{_+_};
 ghost use lib.ListN.{length};
 ghost use lib.Seq.{sets};
-ghost use Rattle.plan_record.specs.Record.{blocksOf, majorsOf};
+ghost use Rattle.plan_record.specs.Record.{planLanes, blocksOf, majorsOf};
 ghost use Rattle.plan_reads.specs.ReadsReady.{SetRoom};
 ghost use Rattle.script_assembly.specs.Assembly.{stageWords, majorWords, scriptWords, stageStarts, majorStarts, scriptStarts};
 ghost use Rattle.script_layout.specs.Layout.{NextOf, StageRoom, PlanRoom};
@@ -14,11 +15,9 @@ use placed::Next;
 use placed::write_block;
 use plan_record::numbers::blocks_of;
 use plan_record::numbers::majors_of;
+use plan_record::places::lanes_of;
+use sizes::CLOSING_ZEROS;
 use words::clear::clear;
-use words::edition::Edition;
-
-// The zero words that close a script: eight a lane.
-const CLOSING_ZEROS: usize = 8 * Edition::LANES;
 
 // Writes major stage s, and where its blocks begin, from start number `first` on. What comes next. What keys, scratch and set
 // hold afterwards is left open, here and below.
@@ -37,8 +36,8 @@ fn write_stage(
     requires { ⌜ StageRoom (now d) (now room) s first at (length (now starts)) (length (now words)) × SetRoom (length (now keys)) (length (now scratch)) (length (now set)) ⌝ }
     ensures { λ r. ⌜ NextOf (now (d .entry)) (s + 1) r ⌝ }
     ensures { λ _. ⌜ now (room .exit) ≡ now (room .entry) ⌝ }
-    ensures { λ _. ⌜ now (starts .exit) ≡ sets (now (starts .entry)) first (stageStarts 256 (now (d .entry)) s (blocksOf (now (d .entry)))) ⌝ }
-    ensures { λ _. ⌜ now (words .exit) ≡ sets (now (words .entry)) (at .at) (stageWords 256 (now (d .entry)) s (blocksOf (now (d .entry)))) ⌝ }
+    ensures { λ _. ⌜ now (starts .exit) ≡ sets (now (starts .entry)) first (stageStarts (planLanes (now (d .entry))) (now (d .entry)) s (blocksOf (now (d .entry)))) ⌝ }
+    ensures { λ _. ⌜ now (words .exit) ≡ sets (now (words .entry)) (at .at) (stageWords (planLanes (now (d .entry))) (now (d .entry)) s (blocksOf (now (d .entry)))) ⌝ }
 {
     let blocks = blocks_of(d) as usize;
     let mut next = at;
@@ -62,10 +61,10 @@ fn write_stages(
     set: &mut [u32],
 ) -> usize
     requires { ⌜ PlanRoom (now d) (now room) (length (now starts)) (length (now words)) × SetRoom (length (now keys)) (length (now scratch)) (length (now set)) ⌝ }
-    ensures { λ r. ⌜ r ≡ length (majorWords 256 (now (d .entry)) (majorsOf (now (d .entry)))) ⌝ }
+    ensures { λ r. ⌜ r ≡ length (majorWords (planLanes (now (d .entry))) (now (d .entry)) (majorsOf (now (d .entry)))) ⌝ }
     ensures { λ _. ⌜ now (room .exit) ≡ now (room .entry) ⌝ }
-    ensures { λ _. ⌜ now (starts .exit) ≡ sets (now (starts .entry)) 0 (majorStarts 256 (now (d .entry)) (majorsOf (now (d .entry)))) ⌝ }
-    ensures { λ _. ⌜ now (words .exit) ≡ sets (now (words .entry)) 0 (majorWords 256 (now (d .entry)) (majorsOf (now (d .entry)))) ⌝ }
+    ensures { λ _. ⌜ now (starts .exit) ≡ sets (now (starts .entry)) 0 (majorStarts (planLanes (now (d .entry))) (now (d .entry)) (majorsOf (now (d .entry)))) ⌝ }
+    ensures { λ _. ⌜ now (words .exit) ≡ sets (now (words .entry)) 0 (majorWords (planLanes (now (d .entry))) (now (d .entry)) (majorsOf (now (d .entry)))) ⌝ }
 {
     let blocks = blocks_of(d) as usize;
     let majors = majors_of(d) as usize;
@@ -89,7 +88,7 @@ fn write_stages(
     next.at
 }
 
-// Writes the whole: the major stages, the final start, and 2048 zero words.
+// Writes the whole: the major stages, the final start, and the zero words that close it.
 pub fn write_plan(
     d: &[u8],
     room: &mut [u32],
@@ -101,11 +100,12 @@ pub fn write_plan(
 )
     requires { ⌜ PlanRoom (now d) (now room) (length (now starts)) (length (now words)) × SetRoom (length (now keys)) (length (now scratch)) (length (now set)) ⌝ }
     ensures { λ _. ⌜ now (room .exit) ≡ now (room .entry) ⌝ }
-    ensures { λ _. ⌜ now (starts .exit) ≡ sets (now (starts .entry)) 0 (scriptStarts 256 (now (d .entry))) ⌝ }
-    ensures { λ _. ⌜ now (words .exit) ≡ sets (now (words .entry)) 0 (scriptWords 256 (now (d .entry))) ⌝ }
+    ensures { λ _. ⌜ now (starts .exit) ≡ sets (now (starts .entry)) 0 (scriptStarts (planLanes (now (d .entry))) (now (d .entry))) ⌝ }
+    ensures { λ _. ⌜ now (words .exit) ≡ sets (now (words .entry)) 0 (scriptWords (planLanes (now (d .entry))) (now (d .entry))) ⌝ }
 {
     let end = write_stages(d, room, starts, words, keys, scratch, set);
     let last = blocks_of(d) as usize * (majors_of(d) as usize);
     starts[last] = end as u64;
-    clear(&mut words[end..end + CLOSING_ZEROS]);
+    let zeros = CLOSING_ZEROS * lanes_of(d);
+    clear(&mut words[end..end + zeros]);
 }

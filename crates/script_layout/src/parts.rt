@@ -3,7 +3,7 @@ ghost use mathlib.Core.Path.{_≡_};
 ghost use Prim.Native.Nat.{_+_, _<_};
 ghost use lib.ListN.{length};
 ghost use lib.Seq.{sets};
-ghost use Rattle.plan_record.specs.Record.{partsOf};
+ghost use Rattle.plan_record.specs.Record.{planLanes, partsOf};
 ghost use Rattle.plan_record.specs.Body.{BodyOf};
 ghost use Rattle.plan_rows.specs.Columns as col;
 ghost use Rattle.plan_rows.specs.Rows.{cellAt};
@@ -11,13 +11,13 @@ ghost use Rattle.plan_reads.specs.ReadsReady.{SetRoom};
 ghost use Rattle.script.specs.Writers.{NumbersOf};
 ghost use Rattle.script_assembly.specs.WrittenSoFar.{lengthOf};
 ghost use Rattle.script_layout.specs.Layout.{AcceptedTabled, PartRoom, rowScript};
+use crate::sizes::part_words;
 use plan_record::bodies::Body;
 use plan_record::bodies::body_at;
 use plan_rows::Column;
 use plan_rows::cell_at;
 use script::head::Numbers;
 use script_part::build_script;
-use words::edition::Edition;
 
 // The body of part p, whose row says where it begins.
 fn body_of(d: &[u8], room: &[u32], p: usize) -> Body
@@ -60,13 +60,13 @@ pub fn write_part(
     set: &mut [u32],
 ) -> usize
     requires { ⌜ PartRoom (now d) (now room) p at (length (now words)) × SetRoom (length (now keys)) (length (now scratch)) (length (now set)) ⌝ }
-    ensures { λ r. ⌜ r ≡ at + lengthOf 256 (now (d .entry)) p ⌝ }
+    ensures { λ r. ⌜ r ≡ at + lengthOf (planLanes (now (d .entry))) (now (d .entry)) p ⌝ }
     ensures { λ _. ⌜ now (room .exit) ≡ now (room .entry) ⌝ }
     ensures { λ _. ⌜ now (words .exit) ≡ sets (now (words .entry)) at (rowScript (now (d .entry)) (now (room .entry)) p last) ⌝ }
 {
     let body = body_of(d, room, p);
     let x = numbers_of(d, room, p, body, last);
-    let next = at + Edition::part_words(x.rounds, x.stages) as usize;
+    let next = at + part_words(body.lanes, x.rounds, x.stages) as usize;
     build_script(
         d,
         p,

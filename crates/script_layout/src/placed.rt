@@ -1,21 +1,19 @@
 // The words of one block: those of its parts in the order of their ranks, or those of an empty block.
 ghost use mathlib.Core.Path.{_≡_};
-ghost use Prim.Native.Nat.{_+_, _<_};
+ghost use Prim.Native.Nat.{_+_, _≤_, _<_};
 ghost use lib.ListN.{length};
 ghost use lib.Seq.{sets};
+ghost use Rattle.plan_record.specs.Record.{planLanes};
 ghost use Rattle.plan_reads.specs.ReadsReady.{SetRoom};
 ghost use Rattle.script_assembly.specs.Assembly.{blockWords};
 ghost use Rattle.script_assembly.specs.WrittenSoFar.{lastMark, partsIn, firstRank};
 ghost use Rattle.script_layout.specs.Layout.{emptyWords, BlockAt, BlockRoom};
 use crate::parts::write_part;
+use plan_record::places::lanes_of;
 use plan_record::places::parts_before;
 use plan_rows::Column;
 use plan_rows::cell_at;
 use words::clear::clear;
-use words::edition::Edition;
-
-// The words of an empty block: a header.
-const EMPTY_BLOCK: usize = Edition::LANES;
 
 // The rank of the next part, and where the next words begin.
 pub struct Next {
@@ -64,9 +62,9 @@ fn write_parts(
     set: &mut [u32],
 ) -> usize
     requires { ⌜ BlockRoom (now d) (now room) s b from at (length (now words)) × (from < to) × (to ≡ firstRank (now d) s (b + 1)) × SetRoom (length (now keys)) (length (now scratch)) (length (now set)) ⌝ }
-    ensures { λ r. ⌜ r ≡ at + length (blockWords 256 (now (d .entry)) s (partsIn (now (d .entry)) s b)) ⌝ }
+    ensures { λ r. ⌜ r ≡ at + length (blockWords (planLanes (now (d .entry))) (now (d .entry)) s (partsIn (now (d .entry)) s b)) ⌝ }
     ensures { λ _. ⌜ now (room .exit) ≡ now (room .entry) ⌝ }
-    ensures { λ _. ⌜ now (words .exit) ≡ sets (now (words .entry)) at (blockWords 256 (now (d .entry)) s (partsIn (now (d .entry)) s b)) ⌝ }
+    ensures { λ _. ⌜ now (words .exit) ≡ sets (now (words .entry)) at (blockWords (planLanes (now (d .entry))) (now (d .entry)) s (partsIn (now (d .entry)) s b)) ⌝ }
 {
     let mut k = from;
     let mut next = at;
@@ -88,10 +86,10 @@ fn write_parts(
     next
 }
 
-// Writes an empty block.
+// Writes an empty block: a header, of a word a lane.
 fn write_empty(out: &mut [u32])
-    requires { ⌜ length (now out) ≡ 256 ⌝ }
-    ensures { λ _. ⌜ now (out .exit) ≡ emptyWords ⌝ }
+    requires { ⌜ 2 ≤ length (now out) ⌝ }
+    ensures { λ _. ⌜ now (out .exit) ≡ emptyWords (length (now (out .entry))) ⌝ }
 {
     clear(out);
     out[1] = 1;
@@ -111,16 +109,16 @@ pub fn write_block(
     set: &mut [u32],
 ) -> Next
     requires { ⌜ BlockRoom (now d) (now room) s b from at (length (now words)) × SetRoom (length (now keys)) (length (now scratch)) (length (now set)) ⌝ }
-    ensures { λ r. ⌜ (r .rank ≡ firstRank (now (d .entry)) s (b + 1)) × (r .at ≡ at + length (blockWords 256 (now (d .entry)) s (partsIn (now (d .entry)) s b))) ⌝ }
+    ensures { λ r. ⌜ (r .rank ≡ firstRank (now (d .entry)) s (b + 1)) × (r .at ≡ at + length (blockWords (planLanes (now (d .entry))) (now (d .entry)) s (partsIn (now (d .entry)) s b))) ⌝ }
     ensures { λ _. ⌜ now (room .exit) ≡ now (room .entry) ⌝ }
-    ensures { λ _. ⌜ now (words .exit) ≡ sets (now (words .entry)) at (blockWords 256 (now (d .entry)) s (partsIn (now (d .entry)) s b)) ⌝ }
+    ensures { λ _. ⌜ now (words .exit) ≡ sets (now (words .entry)) at (blockWords (planLanes (now (d .entry))) (now (d .entry)) s (partsIn (now (d .entry)) s b)) ⌝ }
 {
     let to = block_end(d, room, s, b, from);
     if from < to {
         let next = write_parts(d, room, s, b, from, to, at, words, keys, scratch, set);
         return Next { rank: to, at: next };
     }
-    let next = at + EMPTY_BLOCK;
+    let next = at + lanes_of(d);
     write_empty(&mut words[at..next]);
     Next { rank: to, at: next }
 }

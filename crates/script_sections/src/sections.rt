@@ -1,40 +1,41 @@
-// Sections of 5120 words, a permutation of 8192 entries and four words a lane: those of the two tables.
+// Sections of 20 words a lane, a permutation of 32 entries a lane and four words a lane: those of the two tables.
 ghost use mathlib.Core.Path.{_≡_};
 ghost use mathlib.Core.List.{_++_};
-ghost use Prim.Native.Nat.{_+_, _≤_};
+ghost use Prim.Native.Nat.{_+_, _*_, _≤_};
 ghost use lib.ListN.{length};
 ghost use Rattle.words.specs.Section.{listOf, sectionOf};
-ghost use Rattle.plan_record.specs.Record.{tableAt};
+ghost use Rattle.plan_record.specs.Record.{planLanes, slotsOf, tableWords, tableAt};
 ghost use Rattle.script.specs.Script.{laneList, sramSection, enableSection};
-ghost use Rattle.script.specs.Writers.{AcceptedPart, wordsIn, LanesRoom, SectionRoom};
+ghost use Rattle.script.specs.Writers.{AcceptedPart, wordsIn, LanesRoom, SectionRoom, MasksRoom};
 use plan_record::bodies::Body;
 use plan_record::bodies::table_word;
+use words::clear::clear;
 use words::edition::Edition;
 use words::halves::pack;
 
-// A section's entries, two to a word, and the whole of it, with four words a lane.
-const ENTRY_WORDS: usize = Edition::SLOTS / 2;
+// Words a lane: a section's entries, two to a word, and the whole of it, with four words more.
+const ENTRY_WORDS: usize = 16;
 
-pub const SECTION_WORDS: usize = ENTRY_WORDS + 4 * Edition::LANES;
+pub const SECTION_WORDS: usize = ENTRY_WORDS + 4;
 
-// Where the lists of the two tables begin: a word a slot, then words a lane.
+// Where the lists of the two tables begin, in words a lane: entries have 32, the others one.
 const SRAM_ENTRIES: usize = 0;
 
-const SRAM_INV: usize = Edition::SLOTS;
+const SRAM_INV: usize = SRAM_ENTRIES + 32;
 
-const SRAM_SET0: usize = SRAM_INV + Edition::LANES;
+const SRAM_SET0: usize = SRAM_INV + 1;
 
-const ENABLE_ENTRIES: usize = SRAM_SET0 + Edition::LANES;
+const ENABLE_ENTRIES: usize = SRAM_SET0 + 1;
 
-const ENABLE_INV: usize = ENABLE_ENTRIES + Edition::SLOTS;
+const ENABLE_INV: usize = ENABLE_ENTRIES + 32;
 
-const ENABLE_SET0: usize = ENABLE_INV + Edition::LANES;
+const ENABLE_SET0: usize = ENABLE_INV + 1;
 
-const ENABLE_DATA_INV: usize = ENABLE_SET0 + Edition::LANES;
+const ENABLE_DATA_INV: usize = ENABLE_SET0 + 1;
 
 // Reads words of the tables, from this one on.
 fn read_table(d: &[u8], p: usize, body: Body, from: usize, out: &mut [u32])
-    requires { ⌜ AcceptedPart (now d) p body × (from + length (now out) ≤ 17664) ⌝ }
+    requires { ⌜ AcceptedPart (now d) p body × (from + length (now out) ≤ tableWords (body .lanes)) ⌝ }
     ensures { λ _. ⌜ now (out .exit) ≡ listOf (λ i. tableAt (now (d .entry)) p (from + i)) (length (now (out .entry))) ⌝ }
 {
     let mut i = 0;
@@ -60,39 +61,104 @@ fn write_lanes(a: &[u32], b: &[u32], c: &[u32], out: &mut [u32])
 }
 
 // Writes a section: the entries, two to a word, then the lanes.
-pub fn write_section(entries: &[u32], a: &[u32], b: &[u32], c: &[u32], out: &mut [u32])
-    requires { ⌜ SectionRoom (now entries) (now a) (now b) (now c) (now out) ⌝ }
-    ensures { λ _. ⌜ now (out .exit) ≡ sectionOf 256 (wordsIn (now (entries .entry))) ++ laneList (wordsIn (now (a .entry))) (wordsIn (now (b .entry))) (wordsIn (now (c .entry))) 256 ⌝ }
+pub fn write_section(
+    lanes: usize,
+    entries: &[u32],
+    a: &[u32],
+    b: &[u32],
+    c: &[u32],
+    out: &mut [u32],
+)
+    requires { ⌜ SectionRoom lanes (now entries) (now a) (now b) (now c) (now out) ⌝ }
+    ensures { λ _. ⌜ now (out .exit) ≡ sectionOf lanes (wordsIn (now (entries .entry))) ++ laneList (wordsIn (now (a .entry))) (wordsIn (now (b .entry))) (wordsIn (now (c .entry))) lanes ⌝ }
 {
-    pack(&mut out[..ENTRY_WORDS], entries, Edition::LANES);
-    write_lanes(a, b, c, &mut out[ENTRY_WORDS..]);
+    let packed = ENTRY_WORDS * lanes;
+    pack(&mut out[..packed], entries, lanes);
+    write_lanes(a, b, c, &mut out[packed..]);
 }
 
-// Writes the section of SRAMs and duplicates. What the lent entries hold afterwards is left open, here and below.
+// Writes the section of SRAMs and duplicates, with lent room for three words a lane. What the lent lists hold afterwards is left open, here and below.
+fn put_sram(
+    d: &[u8],
+    p: usize,
+    body: Body,
+    inv: &mut [u32],
+    set0: &mut [u32],
+    zeros: &mut [u32],
+    out: &mut [u32],
+    entries: &mut [u32],
+)
+    requires { ⌜ AcceptedPart (now d) p body × MasksRoom (body .lanes) (now inv) (now set0) (now zeros) × (length (now out) ≡ 20 * planLanes (now d)) × (length (now entries) ≡ slotsOf (now d)) ⌝ }
+    ensures { λ _. ⌜ now (out .exit) ≡ sramSection (planLanes (now (d .entry))) (now (d .entry)) p ⌝ }
+{
+    let lanes = body.lanes;
+    read_table(d, p, body, SRAM_ENTRIES, entries);
+    read_table(d, p, body, SRAM_INV * lanes, inv);
+    read_table(d, p, body, SRAM_SET0 * lanes, set0);
+    clear(zeros);
+    write_section(lanes, entries, inv, set0, zeros, out);
+}
+
+// Writes the section of SRAMs and duplicates.
 pub fn write_sram(d: &[u8], p: usize, body: Body, out: &mut [u32], entries: &mut [u32])
-    requires { ⌜ AcceptedPart (now d) p body × (length (now out) ≡ 5120) × (length (now entries) ≡ 8192) ⌝ }
-    ensures { λ _. ⌜ now (out .exit) ≡ sramSection 256 (now (d .entry)) p ⌝ }
+    requires { ⌜ AcceptedPart (now d) p body × (length (now out) ≡ 20 * planLanes (now d)) × (length (now entries) ≡ slotsOf (now d)) ⌝ }
+    ensures { λ _. ⌜ now (out .exit) ≡ sramSection (planLanes (now (d .entry))) (now (d .entry)) p ⌝ }
 {
     let mut inv = [0u32; Edition::LANES];
     let mut set0 = [0u32; Edition::LANES];
-    let zeros = [0u32; Edition::LANES];
-    read_table(d, p, body, SRAM_ENTRIES, entries);
-    read_table(d, p, body, SRAM_INV, &mut inv);
-    read_table(d, p, body, SRAM_SET0, &mut set0);
-    write_section(entries, &inv, &set0, &zeros, out);
+    let mut zeros = [0u32; Edition::LANES];
+    let lanes = body.lanes;
+    put_sram(
+        d,
+        p,
+        body,
+        &mut inv[..lanes],
+        &mut set0[..lanes],
+        &mut zeros[..lanes],
+        out,
+        entries,
+    );
+}
+
+// Writes the section of clock enables, with lent room for three words a lane.
+fn put_enables(
+    d: &[u8],
+    p: usize,
+    body: Body,
+    inv: &mut [u32],
+    set0: &mut [u32],
+    data_inv: &mut [u32],
+    out: &mut [u32],
+    entries: &mut [u32],
+)
+    requires { ⌜ AcceptedPart (now d) p body × MasksRoom (body .lanes) (now inv) (now set0) (now data_inv) × (length (now out) ≡ 20 * planLanes (now d)) × (length (now entries) ≡ slotsOf (now d)) ⌝ }
+    ensures { λ _. ⌜ now (out .exit) ≡ enableSection (planLanes (now (d .entry))) (now (d .entry)) p ⌝ }
+{
+    let lanes = body.lanes;
+    read_table(d, p, body, ENABLE_ENTRIES * lanes, entries);
+    read_table(d, p, body, ENABLE_INV * lanes, inv);
+    read_table(d, p, body, ENABLE_SET0 * lanes, set0);
+    read_table(d, p, body, ENABLE_DATA_INV * lanes, data_inv);
+    write_section(lanes, entries, inv, set0, data_inv, out);
 }
 
 // Writes the section of clock enables.
 pub fn write_enables(d: &[u8], p: usize, body: Body, out: &mut [u32], entries: &mut [u32])
-    requires { ⌜ AcceptedPart (now d) p body × (length (now out) ≡ 5120) × (length (now entries) ≡ 8192) ⌝ }
-    ensures { λ _. ⌜ now (out .exit) ≡ enableSection 256 (now (d .entry)) p ⌝ }
+    requires { ⌜ AcceptedPart (now d) p body × (length (now out) ≡ 20 * planLanes (now d)) × (length (now entries) ≡ slotsOf (now d)) ⌝ }
+    ensures { λ _. ⌜ now (out .exit) ≡ enableSection (planLanes (now (d .entry))) (now (d .entry)) p ⌝ }
 {
     let mut inv = [0u32; Edition::LANES];
     let mut set0 = [0u32; Edition::LANES];
     let mut data_inv = [0u32; Edition::LANES];
-    read_table(d, p, body, ENABLE_ENTRIES, entries);
-    read_table(d, p, body, ENABLE_INV, &mut inv);
-    read_table(d, p, body, ENABLE_SET0, &mut set0);
-    read_table(d, p, body, ENABLE_DATA_INV, &mut data_inv);
-    write_section(entries, &inv, &set0, &data_inv, out);
+    let lanes = body.lanes;
+    put_enables(
+        d,
+        p,
+        body,
+        &mut inv[..lanes],
+        &mut set0[..lanes],
+        &mut data_inv[..lanes],
+        out,
+        entries,
+    );
 }

@@ -6,6 +6,7 @@ use libc::STDIN_FILENO;
 use libc::STDOUT_FILENO;
 use plan_record::places::word_at;
 use rounds::Rounds;
+use words::edition::Edition;
 
 // Fills `words` with those of the file from word `at` on.
 fn load(file: &[u8], at: usize, words: &mut [u32])
@@ -65,7 +66,8 @@ fn agrees(file: &[u8], at: usize, set: &[u32]) -> bool
     let mut room = [0u32; 16384];
     let mut section = [0u32; 16384];
     let stored = word_at(file, at);
-    match rounds::map_global_read_to_rounds(set, &mut room, &mut section) {
+    let edition = Edition::LANES as u32;
+    match rounds::map_global_read_to_rounds(set, &mut room, &mut section, edition) {
         Rounds::Placed(found, _) => {
             if found == stored {
                 if all_stand(file, at + 1, set, &section) {

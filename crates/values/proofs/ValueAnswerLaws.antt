@@ -11,7 +11,8 @@ use lib.ListN.{length, drop, replicate, length-replicate}
 use Rattle.words.proofs.ListLaws.{put-sets}
 use Rattle.words.proofs.SectionLaws.{length-listOf}
 use Rattle.pinmap.specs.PinMap.{look}
-use Rattle.plan_record.specs.Record.{gatesOf, gatePin}
+use Rattle.words.specs.Edition.{known}
+use Rattle.plan_record.specs.Record.{gatesOf, editionOf, gatePin}
 use Rattle.words.specs.Pins.{empty}
 use Rattle.words.specs.Answer.{Answer, good, refused, atItem, nowhere}
 use Rattle.plan_record.specs.Form.{planRoomWords, planForm}
@@ -24,7 +25,7 @@ use Rattle.plan_slots.specs.Puts.{filled}
 use Rattle.plan_slots.proofs.PutLaws.{filled-length}
 use Rattle.plan_positions.specs.Input.{input}
 use Rattle.plan_known.specs.Known.{knownPuts}
-use Rattle.values.specs.Values.{ValueAsked, Bits, pinValue, bitWords, gateValues, lentBits, valued, valueAnswer, bitsAfter, valueRoomAfter}
+use Rattle.values.specs.Values.{ValueAsked, Bits, pinValue, bitWords, gateValues, lentBits, valued, formedAnswer, valueAnswer, bitsAfter, valueRoomAfter}
 use Rattle.plan_known.proofs.KnownLaws.{known-bit, known-look}
 
 -- ---- the value over the table t of state bits
@@ -85,17 +86,22 @@ module _ (d : List ℕ) (p : ℕ) (old new : List ℕ) (b x : ℕ) where
     out-short h = rw (lt-leb _ _ h, valueAnswer)
 
     module _ (h : planRoomWords d ≤ r) where
-      pub out-form : planForm d ≡ false → valueAnswer d p old new r b x ≡ refused (nowhere 5)
+      pub out-edition : known (editionOf d) ≡ false → valueAnswer d p old new r b x ≡ refused (nowhere 29)
       unfolding valueAnswer
-      out-form f = rw (le-leb _ _ h, f, valueAnswer)
+      out-edition k = rw (le-leb _ _ h, k, valueAnswer)
 
-      pub out-gate : planForm d ≡ true → (g : ℕ) → badGate d ≡ some g → valueAnswer d p old new r b x ≡ refused (atItem 6 g)
-      unfolding valueAnswer valued
-      out-gate f g e = rw (le-leb _ _ h, f, e, valueAnswer)
+      module _ (k : known (editionOf d) ≡ true) where
+        pub out-form : planForm d ≡ false → valueAnswer d p old new r b x ≡ refused (nowhere 5)
+        unfolding valueAnswer formedAnswer
+        out-form f = rw (le-leb _ _ h, k, f, valueAnswer, formedAnswer)
 
-      pub out-lent : planForm d ≡ true → badGate d ≡ none → valueAnswer d p old new r b x ≡ lentBits d p old new b x
-      unfolding valueAnswer valued
-      out-lent f e = rw (le-leb _ _ h, f, e, valueAnswer)
+        pub out-gate : planForm d ≡ true → (g : ℕ) → badGate d ≡ some g → valueAnswer d p old new r b x ≡ refused (atItem 6 g)
+        unfolding valueAnswer formedAnswer valued
+        out-gate f g e = rw (le-leb _ _ h, k, f, e, valueAnswer, formedAnswer)
+
+        pub out-lent : planForm d ≡ true → badGate d ≡ none → valueAnswer d p old new r b x ≡ lentBits d p old new b x
+        unfolding valueAnswer formedAnswer valued
+        out-lent f e = rw (le-leb _ _ h, k, f, e, valueAnswer, formedAnswer)
 
 -- ---- the lent bits
 

@@ -1,5 +1,5 @@
--- The value of a pin by the gates, for any arguments: document 01, "The run" ("The value of a pin by the gates") and "Numbered refusals": 32, 5, 6,
--- then 14. The lent result has one bit a gate.
+-- The value of a pin by the gates, for any arguments: document 01, "The run" ("The value of a pin by the gates") and "Numbered refusals": 32, 29
+-- (10/13 of document 02), 5, 6, then 14. The lent result has one bit a gate.
 -- Assumes nothing.
 use mathlib.Core.Path.{_≡_}
 use mathlib.Core.Bool.{true, false}
@@ -9,7 +9,8 @@ use Prim.Native.Nat.{ℕ, _+_, _/_}
 use lib.Dec.{leb, eqb}
 use lib.ListN.{length, replicate}
 use lib.Seq.{sets}
-use Rattle.plan_record.specs.Record.{gatesOf}
+use Rattle.words.specs.Edition.{known}
+use Rattle.plan_record.specs.Record.{gatesOf, editionOf}
 use Rattle.words.specs.Pins.{empty}
 use Rattle.words.specs.Answer.{Answer, good, refused, atItem, nowhere}
 use Rattle.plan_record.specs.Form.{planRoomWords, planForm}
@@ -47,12 +48,16 @@ unfoldable pub valued : Option ℕ → Answer Bits → Answer Bits
 valued (some g) o = refused (atItem 6 g)
 valued none o = o
 
--- and before it 5, and before all 32: the lent room has r words
+-- and before it 5
+unfoldable pub formedAnswer : List ℕ → ℕ → List ℕ → List ℕ → ℕ → ℕ → Answer Bits
+formedAnswer d p old new b x = elim (planForm d) [ false ↦ refused (nowhere 5) | true ↦ valued (badGate d) (lentBits d p old new b x) ]
+
+-- and before it 29, and before all 32: the lent room has r words
 unfoldable pub valueAnswer : List ℕ → ℕ → List ℕ → List ℕ → ℕ → ℕ → ℕ → Answer Bits
 valueAnswer d p old new r b x =
     elim (leb (planRoomWords d) r) [
       | false ↦ refused (nowhere 32)
-      | true ↦ elim (planForm d) [ false ↦ refused (nowhere 5) | true ↦ valued (badGate d) (lentBits d p old new b x) ]
+      | true ↦ elim (known (editionOf d)) [ false ↦ refused (nowhere 29) | true ↦ formedAnswer d p old new b x ]
     ]
 
 -- the code tells the pin's value

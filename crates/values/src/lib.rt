@@ -7,11 +7,14 @@ use plan_form::plan_form;
 use plan_gates::check_gates;
 use plan_known::fill_known;
 use plan_positions::planned::PIN_TABLE;
+use plan_record::numbers::edition_of;
 use plan_record::numbers::gates_of;
 use plan_record::places::room_words;
 use words::clear::clear;
+use words::edition::is_edition;
 use words::found::Item;
 use words::refusals::GATE_ORDER;
+use words::refusals::NO_EDITION;
 use words::refusals::PLAN_FORM;
 use words::refusals::RESULT_SHORT;
 use words::refusals::ROOM_SHORT;
@@ -68,7 +71,7 @@ fn refuse(number: u32, item: usize) -> Valued
     })
 }
 
-// The answer of a plan that 32, 5 and 6 let pass.
+// The answer of a plan that 32, 29, 5 and 6 let pass.
 fn value_lent(
     plan: &[u8],
     part: usize,
@@ -108,6 +111,9 @@ pub fn value(
         return refuse(ROOM_SHORT, 0);
     }
     clear(room);
+    if !is_edition(edition_of(plan)) {
+        return refuse(NO_EDITION, 0);
+    }
     if !plan_form(plan) {
         return refuse(PLAN_FORM, 0);
     }

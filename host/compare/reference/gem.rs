@@ -8,7 +8,7 @@ use oracle::flatten_given::{oracle_build_given, oracle_notes, OracleGiven};
 use oracle::one_bit::{oracle_place_bit, oracle_purge_bit, OracleLevels, OracleStage};
 use oracle::pe::{BoomerangStage, Partition};
 use oracle::staging::StagedAIG;
-use plan::{Endpoint, Part, Plan, Script, Tables, EMPTY};
+use plan::{Edition, Endpoint, Part, Plan, Script, Tables, EMPTY};
 use std::any::Any;
 use std::collections::BTreeMap;
 use std::panic::{catch_unwind, AssertUnwindSafe};
@@ -57,7 +57,7 @@ pub enum Flattened {
     Script(Script),
     /// With the word that its last try of size 1 stopped at, where the panic is for want of room.
     Panicked(Option<u32>),
-    /// GEM cannot be asked: it has a list by pin, and half words in its tables.
+    /// GEM cannot be asked: it has a list by pin, and half words in its tables; and it is of the full edition alone.
     NotAsked,
 }
 
@@ -85,7 +85,8 @@ pub fn flatten_timed(plan: &Plan) -> (Script, Duration) {
 
 fn can_be_asked(plan: &Plan) -> bool {
     let small = |pin: u32| pin <= MOST_PIN;
-    plan.gates.iter().all(|gate| small(gate.pin) && small(gate.first >> 1) && small(gate.second >> 1))
+    plan.edition == Edition::Full
+        && plan.gates.iter().all(|gate| small(gate.pin) && small(gate.first >> 1) && small(gate.second >> 1))
         && plan.parts().all(|part| {
             let tables = part.tables.sram.iter().chain(&part.tables.enable);
             let slots = part.stages.iter().flat_map(|stage| &stage.slots);
@@ -126,6 +127,7 @@ fn script(plan: &Plan) -> (Script, Duration) {
     let time = start.elapsed();
     let notes = oracle_notes();
     let script = Script {
+        edition: Edition::Full,
         blocks: plan.blocks as usize,
         starts: made.blocks_start.iter().map(|&start| start as u64).collect(),
         words: made.blocks_data.to_vec(),

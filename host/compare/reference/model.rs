@@ -37,7 +37,8 @@ pub fn flatten_timed(plan: &Plan) -> (Script, Duration) {
     let model::build::Sizes { state_words, sram_words, .. } = accepted.sizes();
     let blocks = plan.blocks as usize;
     let (starts, words, pieces) = (accepted.starts(), accepted.words(), accepted.pieces);
-    (Script { blocks, starts, words, state_words, sram_words, pieces }, start.elapsed())
+    let edition = plan.edition;
+    (Script { edition, blocks, starts, words, state_words, sram_words, pieces }, start.elapsed())
 }
 
 /// GEM's `place_bit` and `purge_bit`, which are not known here.

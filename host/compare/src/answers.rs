@@ -1,4 +1,4 @@
-//! Stored answers of the reference, for programs that run where GEM's sources, or Rust, are missing.
+//! Stored answers of the reference, which are of the full edition, for programs that run where GEM's sources, or Rust, are missing.
 //!
 //! The file is little-endian u32 words:
 //!
@@ -12,7 +12,7 @@
 //!   r = 0:   once     the refusal's number, 3 or 4
 //! ```
 
-use crate::EDITION;
+use model::edition::Edition;
 use model::rounds::{self, Lanes, Packing, Pair};
 
 pub enum Stored {
@@ -28,7 +28,7 @@ pub struct Case {
 impl Case {
     /// What the reference answers for these pairs.
     pub fn ask(pairs: Vec<Pair>) -> Case {
-        let answer = match rounds::outcome(EDITION, &pairs, reference::search) {
+        let answer = match rounds::outcome(Edition::FULL, &pairs, reference::search) {
             Ok(Packing { lanes, .. }) => {
                 Stored::Packed { rounds: rounds::rounds(&lanes) as u32, places: places(&pairs, &lanes) }
             }

@@ -3,7 +3,7 @@
 use crate::plan_checker::{difference, same_pieces, same_script, Expected, More, PlanChecker};
 use model::{record, Refused};
 use plan::stored::Case;
-use plan::{Endpoint, FellBack, Gate, Part, Plan, Position, Script, Stage, Tables, EMPTY};
+use plan::{Edition, Endpoint, FellBack, Gate, Part, Plan, Position, Script, Stage, Tables, EMPTY};
 use reference::Flattened;
 
 /// What became of a plan.
@@ -62,8 +62,8 @@ pub fn record(checker: &mut PlanChecker, bytes: &[u8]) -> Line {
     let expected = Expected::of(bytes);
     let words = record::words(bytes);
     let flattened = match record::plan(bytes.len(), &words) {
-        Some(plan) => reference::flatten(&plain(&plan)),
-        None => Flattened::NotAsked,
+        Ok(plan) => reference::flatten(&plain(&plan)),
+        Err(_) => Flattened::NotAsked,
     };
     let outcome = match (&expected.answer, flattened) {
         (Ok(made), Flattened::Script(script)) => same(made, &script, bytes),
@@ -85,7 +85,8 @@ fn same(made: &Script, gems: &Script, record: &[u8]) -> Outcome {
 fn searched(record: &[u8]) -> Vec<u32> {
     let words = record::words(record);
     let accepted = model::build::accept(record.len(), &words).expect("accepted before");
-    let size = |set: &Vec<_>| reference::search(set).map_or(0, |packing| packing.size as u32);
+    let size =
+        |set: &Vec<_>| crate::search(accepted.plan.edition, set).map_or(0, |packing| packing.size as u32);
     accepted.sets.iter().map(size).collect()
 }
 
@@ -110,11 +111,12 @@ pub fn shape(record: &[u8], expected: &Expected) -> String {
     let words = record::words(record);
     let plan = match record::read(record.len(), &words) {
         Ok(plan) => plan,
-        Err(what) => return format!("{:8} bytes, no plan: {}", record.len(), what),
+        Err(fault) => return format!("{:8} bytes, no plan: {}", record.len(), fault.what),
     };
     let stages: Vec<usize> = plan.parts.iter().map(|part| part.stages.len()).collect();
     let of_plan = format!(
-        "{:3} parts of {:2} stages at most, {:2} major stages, {:4} blocks",
+        "{}{:3} parts of {:2} stages at most, {:2} major stages, {:4} blocks",
+        if plan.edition == model::edition::Edition::FULL { "" } else { "small edition, " },
         stages.len(),
         stages.iter().max().unwrap_or(&0),
         plan.major_parts.len(),
@@ -139,47 +141,49 @@ pub fn shape(record: &[u8], expected: &Expected) -> String {
 
 /// A record's plan in plain form.
 pub fn plain(plan: &record::Plan<'_>) -> Plan {
-    let mut parts = plan.parts.iter().map(plain_part);
+    let edition = crate::host(plan.edition);
+    let mut parts = plan.parts.iter().map(|part| plain_part(edition, part));
     let stages = plan.major_parts.iter().map(|&count| parts.by_ref().take(count).collect()).collect();
     Plan {
+        edition,
         blocks: plan.blocks as u32,
         gates: plan
             .gates
-            .chunks(3)
+            .chunks(record::GATE)
             .map(|gate| Gate { pin: gate[0], first: gate[1], second: gate[2] })
             .collect(),
         layout: plan.layout.to_vec(),
         positions: plan
             .positions
-            .chunks(3)
+            .chunks(record::POSITION)
             .map(|entry| Position { pin: entry[0], position: entry[1], staged: entry[2] })
             .collect(),
         stages,
     }
 }
 
-fn plain_part(part: &record::Part<'_>) -> Part {
+fn plain_part(edition: Edition, part: &record::Part<'_>) -> Part {
     let stage = |stage: &record::Stage<'_>| {
         let mut slots = vec![EMPTY];
         slots.extend(stage.positions().map(|(_, pin)| pin));
         slots.extend(stage.level_0());
         Stage { slots, locations: stage.locations.to_vec() }
     };
-    let list =
-        |table: &[u32], list: usize| table[plan::ENTRIES + plan::LANES * list..][..plan::LANES].to_vec();
+    let (slots, lanes) = (edition.slots(), edition.lanes());
+    let list = |table: &[u32], list: usize| table[slots + lanes * list..][..lanes].to_vec();
     let (sram, enable) = (part.sram_table, part.enable_table);
     Part {
         endpoints: part
             .endpoints
-            .chunks(3)
+            .chunks(record::ENDPOINT)
             .map(|endpoint| Endpoint { kind: endpoint[0], x: endpoint[1], y: endpoint[2] })
             .collect(),
         stages: part.stages.iter().map(stage).collect(),
         tables: Tables {
-            sram: sram[..plan::ENTRIES].to_vec(),
+            sram: sram[..slots].to_vec(),
             sram_inv: list(sram, 0),
             sram_set0: list(sram, 1),
-            enable: enable[..plan::ENTRIES].to_vec(),
+            enable: enable[..slots].to_vec(),
             enable_inv: list(enable, 0),
             enable_set0: list(enable, 1),
             data_inv: list(enable, 2),

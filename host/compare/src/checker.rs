@@ -2,14 +2,16 @@
 
 use crate::lent::{self, LentRead, Room};
 use crate::tally::Tally;
-use crate::EDITION;
 use juolgesot::ffi::{self, Answer};
+use model::edition::Edition;
 use model::rounds::{self, Packing, Pair, SET_ROOM};
 use std::time::Instant;
 
 /// What working room and result room a call is lent.
 #[derive(Debug, Clone, Copy)]
 pub struct Lent {
+    /// The number of the edition that the call is told.
+    pub edition: u32,
     pub room: usize,
     /// What the room holds before the call: zeros, or words that are not.
     pub room_is_zero: bool,
@@ -25,9 +27,9 @@ pub enum OutLength {
     Exactly(usize),
 }
 
-impl Default for Lent {
-    fn default() -> Self {
-        Lent { room: SET_ROOM, room_is_zero: true, out: OutLength::Spare(37) }
+impl Lent {
+    pub fn of(edition: Edition) -> Self {
+        Lent { edition: edition.number(), room: SET_ROOM, room_is_zero: true, out: OutLength::Spare(37) }
     }
 }
 
@@ -41,7 +43,7 @@ pub struct Checker {
 }
 
 /// Kinds of `Checker::ended`.
-pub const FULL: &str = "8192 bits";
+pub const FULL: &str = "as many bits as the lanes hold";
 pub const STAGED_STOP: &str = "stopped at a staged word";
 pub const UNSTAGED_STOP: &str = "stopped at an unstaged word";
 
@@ -68,14 +70,14 @@ impl Checker {
 
     fn compare(&mut self, set: &[u32], lent: Lent) -> Result<(), String> {
         let mut trouble = Ok(());
-        let expected = rounds::answer(set, lent.room, usize::MAX, EDITION.number(), |_, pairs| {
-            self.packing(pairs).unwrap_or_else(|what| {
+        let expected = rounds::answer(set, lent.room, usize::MAX, lent.edition, |edition, pairs| {
+            self.packing(edition, pairs).unwrap_or_else(|what| {
                 trouble = Err(what);
                 Err((0, 0))
             })
         });
         trouble?;
-        let needed = expected.as_ref().map_or(EDITION.round_words(), |answer| answer.words.len());
+        let needed = expected.as_ref().map_or(Edition::FULL.round_words(), |answer| answer.words.len());
         let out_length = match lent.out {
             OutLength::Spare(more) => needed + more,
             OutLength::Short(fewer) => needed.saturating_sub(fewer),
@@ -91,7 +93,7 @@ impl Checker {
         let mut room = Room::new(lent.room, lent.room_is_zero);
         let before = |index: usize| 0x9000_0000 + index as u32;
         let mut out = lent::Lent::new(out_length, before, 0xC0DE_D00D);
-        let answer = ffi::read_rounds(lent_set.slice(), room.slice(), out.slice());
+        let answer = ffi::read_rounds(lent_set.slice(), room.slice(), out.slice(), lent.edition);
         check_answer(answer, &expected)?;
         out.check("result word", expected.as_ref().map_or(&[], |answer| &answer.words), before)?;
         room.check(answer.code)
@@ -99,30 +101,30 @@ impl Checker {
 
     /// What the model and the reference's search say of a set. The reference is asked of every set: what is refused by 21 or 22 no
     /// search may place.
-    fn packing(&mut self, pairs: &[Pair]) -> Result<Result<Packing, (u32, u64)>, String> {
-        let found = reference::search(pairs);
-        let modelled = rounds::search(EDITION, pairs);
+    fn packing(&mut self, edition: Edition, pairs: &[Pair]) -> Result<Result<Packing, (u32, u64)>, String> {
+        let found = crate::search(edition, pairs);
+        let modelled = rounds::search(edition, pairs);
         if modelled != found {
             let what = format!("host/model differs from {}", reference::NAME);
             return Err(format!("{}: {}, expected {}", what, told(&modelled), told(&found)));
         }
-        let outcome = rounds::outcome(EDITION, pairs, |_| found.clone());
+        let outcome = rounds::outcome(edition, pairs, |_| found.clone());
         match (&outcome, &found) {
             (Err((number, _)), Ok(_)) => return Err(format!("a set that {} refuses was placed", number)),
             (Ok(packing), _) => {
                 self.tries.count(&format!("try {:2}", packing.tries()));
                 self.rounds.count(&format!("{:2} rounds", rounds::rounds(&packing.lanes)));
             }
-            (Err((4, word)), _) => self.count_ended(pairs, *word),
+            (Err((4, word)), _) => self.count_ended(edition, pairs, *word),
             (Err(_), Err(_)) => {}
         }
         Ok(outcome)
     }
 
     /// By the bits of the set, and by the word that the search stopped at.
-    fn count_ended(&mut self, pairs: &[Pair], word: u64) {
+    fn count_ended(&mut self, edition: Edition, pairs: &[Pair], word: u64) {
         let bits: u32 = pairs.iter().map(|(_, mask)| mask.count_ones()).sum();
-        self.ended.count(if bits as usize == EDITION.slots() { FULL } else { "fewer bits" });
+        self.ended.count(if bits as usize == edition.slots() { FULL } else { "fewer bits" });
         self.ended.count(if word >> 31 == 1 { STAGED_STOP } else { UNSTAGED_STOP });
     }
 
@@ -143,8 +145,8 @@ fn told(found: &Result<Packing, Option<u32>>) -> String {
 
 fn check_answer(answer: Answer, expected: &Result<rounds::Answer, (u32, u64)>) -> Result<(), String> {
     let wanted = match expected {
-        Ok(rounds::Answer { words, size }) => {
-            Answer { code: 0, first: (words.len() / EDITION.round_words()) as u64, second: *size as u64 }
+        Ok(rounds::Answer { rounds, size, .. }) => {
+            Answer { code: 0, first: *rounds as u64, second: *size as u64 }
         }
         Err((number, item)) => Answer { code: *number, first: 0, second: *item },
     };

@@ -1,6 +1,6 @@
 //! Plans whose gates lie deep, or have more ways down than can be walked: chains, cones that double, a multiplier.
 
-use plan::{Gate, Part, Plan, Stage, Tables, LEVEL_0};
+use plan::{Edition, Gate, Part, Plan, Stage, Tables};
 use random::Random;
 
 /// Inputs of a chain and of a cone.
@@ -13,9 +13,9 @@ const ONE: u32 = 1;
 fn plan_of(inputs: u32, gates: Vec<Gate>) -> Plan {
     let mut stage = Stage::empty();
     for pin in 1..=inputs {
-        stage.slots[LEVEL_0 + pin as usize - 1] = pin;
+        stage.slots[Edition::Full.slots() + pin as usize - 1] = pin;
     }
-    let part = Part { endpoints: Vec::new(), stages: vec![stage], tables: Tables::zeros() };
+    let part = Part { endpoints: Vec::new(), stages: vec![stage], tables: Tables::zeros(Edition::Full) };
     Plan { blocks: 1, gates, layout: (1..=inputs).collect(), stages: vec![vec![part]], ..Plan::default() }
 }
 

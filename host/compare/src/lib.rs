@@ -35,9 +35,71 @@ pub mod tally;
 pub mod value_checker;
 
 use model::edition::Edition;
+use model::rounds::{Packing, Pair};
 
-/// What is compared is of this edition: until 10/13 lands no call names another.
-pub const EDITION: Edition = Edition::FULL;
+/// Numbers that name no edition: 29.
+pub const UNKNOWN: [u32; 12] = [0, 1, 12, 13, 127, 129, 255, 257, 384, 128 + (1 << 31), 256 << 16, u32::MAX];
+
+/// How much is drawn of an edition.
+#[derive(Debug, Clone, Copy)]
+pub struct Dose {
+    pub edition: Edition,
+    share: usize,
+}
+
+impl Dose {
+    pub const FULL: Dose = Dose { edition: Edition::FULL, share: 1 };
+    /// The small one is not compared with GEM, and differs in its numbers alone.
+    pub const SMALL: Dose = Dose { edition: Edition::SMALL, share: 4 };
+    pub const BOTH: [Dose; 2] = [Dose::FULL, Dose::SMALL];
+
+    /// So many of the full edition, or the share of them.
+    pub fn times(self, of_full: usize) -> usize {
+        (of_full + self.share - 1) / self.share
+    }
+
+    /// The same of counts that are asked for.
+    pub fn least(self, of_full: u64) -> u64 {
+        self.times(of_full as usize) as u64
+    }
+
+    pub fn name(self) -> &'static str {
+        host(self.edition).name()
+    }
+
+    /// For GEM's Rust, which is of the full edition alone.
+    pub fn is_full(self) -> bool {
+        self.edition == Edition::FULL
+    }
+}
+
+/// The host's name of an edition.
+pub fn host(edition: Edition) -> plan::Edition {
+    plan::Edition::numbered(edition.number()).expect("one of both")
+}
+
+/// The model's name of an edition.
+pub fn modelled(edition: plan::Edition) -> Edition {
+    Edition::numbered(edition.number()).expect("one of both")
+}
+
+/// The other one.
+pub fn other(edition: Edition) -> Edition {
+    if edition == Edition::FULL {
+        Edition::SMALL
+    } else {
+        Edition::FULL
+    }
+}
+
+/// The search of the reference, or of the model where GEM has none: GEM is of the full edition.
+pub fn search(edition: Edition, pairs: &[Pair]) -> Result<Packing, Option<u32>> {
+    if edition == Edition::FULL {
+        reference::search(pairs)
+    } else {
+        model::rounds::search(edition, pairs)
+    }
+}
 
 /// Panics of the reference are expected and caught: keep them off the terminal.
 pub fn silence_expected_panics() {

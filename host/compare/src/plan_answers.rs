@@ -16,7 +16,7 @@
 use crate::{marked, plan_checker, plans};
 use model::build::accept;
 use model::Refused;
-use plan::{Plan, Script, Tables, EMPTY, ENTRIES, LANES, LEVEL_0};
+use plan::{Edition, Plan, Script, Tables, EMPTY};
 use random::Random;
 use reference::Flattened;
 
@@ -116,12 +116,15 @@ pub fn write(cases: &[Case]) -> Vec<u8> {
 pub fn cases(seed: u64) -> Vec<Case> {
     let random = &mut Random::new(seed);
     let parts = |plan: &Plan| -> Vec<usize> { plan.stages.iter().map(Vec::len).collect() };
-    let two_stages =
-        drawn(random, (1, 1, 2), |plan| plan.blocks == 1 && plan.parts().all(|part| part.stages.len() == 2));
-    let staged = drawn(random, (2, 1, 1), |plan| plan.blocks == 1 && reads_staged(plan).is_some());
-    let three_parts = drawn(random, (1, 3, 1), |plan| plan.blocks == 2 && parts(plan) == [3]);
-    let empty_block = drawn(random, (2, 1, 1), |plan| plan.blocks == 3 && parts(plan) == [1, 0]);
-    let odd = drawn(random, (1, 1, 1), |plan| plan.blocks == 1 && odd_and_duplicates(plan));
+    let two_stages = drawn(random, Edition::Full, (1, 1, 2), |plan| {
+        plan.blocks == 1 && plan.parts().all(|part| part.stages.len() == 2)
+    });
+    let staged =
+        drawn(random, Edition::Full, (2, 1, 1), |plan| plan.blocks == 1 && reads_staged(plan).is_some());
+    let three_parts = drawn(random, Edition::Full, (1, 3, 1), |plan| plan.blocks == 2 && parts(plan) == [3]);
+    let empty_block =
+        drawn(random, Edition::Full, (2, 1, 1), |plan| plan.blocks == 3 && parts(plan) == [1, 0]);
+    let odd = drawn(random, Edition::Full, (1, 1, 1), |plan| plan.blocks == 1 && odd_and_duplicates(plan));
 
     let mut no_gate = three_parts.clone();
     wrong_pin(&mut no_gate.stages[0][2]);
@@ -129,7 +132,7 @@ pub fn cases(seed: u64) -> Vec<Case> {
     let entry = reads_staged(&staged).expect("it reads one");
     too_late.positions[entry].position = u32::MAX;
     vec![
-        Case::ask("M10", &marked::m10()).built(),
+        Case::ask("M10", &marked::m10(Edition::Full)).built(),
         Case::ask("a part of two stages", &two_stages).built(),
         Case::ask("a staged pin", &staged).built(),
         Case::ask("three parts in two blocks", &three_parts).built(),
@@ -138,16 +141,47 @@ pub fn cases(seed: u64) -> Vec<Case> {
         Case::ask("a pin in a slot where it is not computed", &no_gate).refused(9),
         Case::ask("a staged pin where no word is stored", &too_late).refused(12),
     ]
+    .into_iter()
+    .chain(small_cases(random))
+    .collect()
+}
+
+/// Plans of the small edition, and one of none. GEM has no small edition: the answers are the model's.
+fn small_cases(random: &mut Random) -> [Case; 6] {
+    const SMALL: Edition = Edition::Small;
+    let staged = drawn(random, SMALL, (2, 1, 1), |plan| plan.blocks == 2 && reads_staged(plan).is_some());
+    let odd = drawn(random, SMALL, (1, 1, 1), |plan| plan.blocks == 1 && odd_and_duplicates(plan));
+    let mut location = marked::m10(SMALL);
+    location.stages[0][0].stages[0].locations[0] = 128;
+    let mut entry = marked::m10(SMALL);
+    entry.stages[0][0].tables.enable[7] = 4096;
+    let mut unknown = Case::ask("", &marked::m10(SMALL));
+    unknown.words[plan::EDITION_WORD] = 127;
+    let answer = accept(4 * unknown.words.len(), &unknown.words).map(plan_checker::script);
+    [
+        Case::ask("M10, small edition", &marked::m10(SMALL)).built(),
+        Case::ask("a staged pin, small edition", &staged).built(),
+        Case::ask("an odd number of locations, duplicate and SRAM words, small edition", &odd).built(),
+        Case::ask("location 128, small edition", &location).refused(7),
+        Case::ask("entry 4096, small edition", &entry).refused(13),
+        Case { name: "an edition of 127 lanes", answer, ..unknown }.refused(29),
+    ]
 }
 
 /// A plan of this kind whose list is short: its tables are mostly zero. It has at most so many major stages, parts in
 /// each, and stages a part.
-fn drawn(random: &mut Random, most: (usize, usize, usize), kind: impl Fn(&Plan) -> bool) -> Plan {
+fn drawn(
+    random: &mut Random,
+    edition: Edition,
+    most: (usize, usize, usize),
+    kind: impl Fn(&Plan) -> bool,
+) -> Plan {
     let (majors, parts, stages) = most;
     loop {
-        let mut plan = plans::any(random, plans::Size { majors, parts, stages, inputs: 60, wide: false });
+        let size = plans::Size { edition, majors, parts, stages, inputs: 60, wide: false };
+        let mut plan = plans::any(random, size);
         for part in plan.stages.iter_mut().flatten() {
-            part.tables = few_entries(random);
+            part.tables = few_entries(random, edition);
         }
         if kind(&plan) && list(&plan.words()).len() <= MOST_LIST {
             return plan;
@@ -155,17 +189,17 @@ fn drawn(random: &mut Random, most: (usize, usize, usize), kind: impl Fn(&Plan) 
     }
 }
 
-fn few_entries(random: &mut Random) -> Tables {
-    let mut tables = Tables::zeros();
+fn few_entries(random: &mut Random, edition: Edition) -> Tables {
+    let mut tables = Tables::zeros(edition);
     for list in [&mut tables.sram, &mut tables.enable] {
         for _ in 0..60 {
-            list[random.below(ENTRIES)] = random.below(8192) as u32;
+            list[random.below(edition.slots())] = random.below(edition.slots()) as u32;
         }
     }
     let Tables { sram_inv, sram_set0, enable_inv, enable_set0, data_inv, .. } = &mut tables;
     for list in [sram_inv, sram_set0, enable_inv, enable_set0, data_inv] {
         for _ in 0..20 {
-            list[random.below(LANES)] = random.word();
+            list[random.below(edition.lanes())] = random.word();
         }
     }
     tables
@@ -176,7 +210,8 @@ fn reads_staged(plan: &Plan) -> Option<usize> {
     let unstaged = |pin: u32| {
         plan.layout.contains(&pin) || plan.positions.iter().any(|entry| entry.pin == pin && entry.staged == 0)
     };
-    let read = |pin: u32| plan.parts().any(|part| part.stages[0].slots[LEVEL_0..].contains(&pin));
+    let read =
+        |pin: u32| plan.parts().any(|part| part.stages[0].slots[plan.edition.slots()..].contains(&pin));
     plan.positions.iter().rposition(|entry| entry.staged == 1 && !unstaged(entry.pin) && read(entry.pin))
 }
 
@@ -189,9 +224,10 @@ fn odd_and_duplicates(plan: &Plan) -> bool {
 
 /// Puts a pin that the part reads where nothing lies below.
 fn wrong_pin(part: &mut plan::Part) {
+    let level_0 = part.stages[0].edition().slots();
     let slots = &mut part.stages[0].slots;
-    let pin = *slots[LEVEL_0..].iter().find(|&&pin| pin != EMPTY).expect("a part reads something");
+    let pin = *slots[level_0..].iter().find(|&&pin| pin != EMPTY).expect("a part reads something");
     let at =
-        (1..LEVEL_0).rev().find(|&at| slots[model::record::below(at).0] == EMPTY).expect("an empty slot");
+        (1..level_0).rev().find(|&at| slots[model::record::below(at).0] == EMPTY).expect("an empty slot");
     slots[at] = pin;
 }

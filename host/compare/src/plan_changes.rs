@@ -1,7 +1,7 @@
 //! Changes of plans, from which `plan_damage` makes its damages. Each gives nothing where the plan has no place for it.
 
 use crate::plans::State;
-use plan::{Endpoint, Part, Plan, Position, Stage, EMPTY, HEAD_WORDS, LEVEL_0};
+use plan::{Endpoint, Part, Plan, Position, Stage, EMPTY, ENDPOINT_WORDS, HEAD_WORDS, PART_HEAD_WORDS};
 use random::Random;
 use std::collections::HashSet;
 use std::ops::Range;
@@ -34,7 +34,7 @@ pub fn head_count(
     word: usize,
     values: &[u32],
 ) -> Option<()> {
-    let index = plan.heads_at() + 2 * random.below(plan.parts().count()) + word;
+    let index = plan.heads_at() + PART_HEAD_WORDS * random.below(plan.parts().count()) + word;
     if random.chance(2) {
         return set(words, index, random.pick(values));
     }
@@ -44,7 +44,8 @@ pub fn head_count(
 pub fn location_count(random: &mut Random, plan: &Plan, words: &mut Vec<u32>) -> Option<()> {
     let number = random.below(plan.parts().count());
     let part = plan.parts().nth(number)?;
-    let index = plan.body_at(number) + 3 * part.endpoints.len() + random.below(part.stages.len());
+    let index =
+        plan.body_at(number) + ENDPOINT_WORDS * part.endpoints.len() + random.below(part.stages.len());
     if random.chance(4) {
         return set(words, index, u32::MAX);
     }
@@ -95,9 +96,21 @@ pub fn location(random: &mut Random, plan: &mut Plan, values: &[u32]) -> Option<
     put(random, &mut locations, |location| location, values)
 }
 
+/// Slots of level 0, or of those above.
+#[derive(Clone, Copy)]
+pub enum Level {
+    Positions,
+    Zero,
+}
+
 /// Puts one of these values into a slot.
-pub fn slot(random: &mut Random, plan: &mut Plan, slots: Range<usize>, values: &[u32]) -> Option<()> {
+pub fn slot(random: &mut Random, plan: &mut Plan, slots: Level, values: &[u32]) -> Option<()> {
+    let level_0 = plan.edition.slots();
     let stage = any_stage(random, plan)?;
+    let slots: Range<usize> = match slots {
+        Level::Positions => 1..level_0,
+        Level::Zero => level_0..2 * level_0,
+    };
     put(random, &mut stage.slots[slots], |slot| slot, values)
 }
 
@@ -129,13 +142,14 @@ pub enum More {
 
 /// Gives a part so many write-out words by more of one kind.
 pub fn write_outs(random: &mut Random, plan: &mut Plan, words: usize, by: More) -> Option<()> {
+    let lanes = plan.edition.lanes();
     let part = any_part(random, plan)?;
     let now = crate::plans::model_counts(part).write_outs() as usize;
     let missing = words.checked_sub(now)?;
     match by {
         More::Locations => {
             let stage = any(random, &mut part.stages)?;
-            stage.locations.extend((0..missing).map(|_| random.below(256) as u32));
+            stage.locations.extend((0..missing).map(|_| random.below(lanes) as u32));
         }
         More::Srams => part.endpoints.extend(vec![Endpoint::sram(); missing]),
         More::Duplicates => {
@@ -150,7 +164,7 @@ pub fn write_outs(random: &mut Random, plan: &mut Plan, words: usize, by: More) 
 /// A stage and a position whose pin is computed by a gate.
 pub fn any_gate_slot<'a>(random: &mut Random, plan: &'a mut Plan) -> Option<(&'a mut Stage, usize)> {
     let stage = any_stage(random, plan)?;
-    let computed: Vec<usize> = (1..LEVEL_0).filter(|&q| is_computed(stage, q)).collect();
+    let computed: Vec<usize> = (1..stage.edition().slots()).filter(|&q| is_computed(stage, q)).collect();
     if computed.is_empty() {
         return None;
     }
@@ -214,8 +228,9 @@ pub fn free_pin(plan: &Plan) -> Option<u32> {
 
 /// Slots of level 0 that are empty and that no position looks at: changing one harms nothing else in its stage.
 pub fn spare_slots(stage: &Stage) -> Vec<usize> {
-    (LEVEL_0..LEVEL_0 + 8192)
-        .filter(|&slot| stage.slots[slot] == EMPTY && stage.slots[4096 + slot % 4096] == EMPTY)
+    let (slots, half) = (stage.edition().slots(), stage.edition().slots() / 2);
+    (slots..2 * slots)
+        .filter(|&slot| stage.slots[slot] == EMPTY && stage.slots[half + slot % half] == EMPTY)
         .collect()
 }
 
@@ -246,30 +261,33 @@ pub fn only_in(random: &mut Random, first: &[u32], second: &[u32]) -> Option<u32
 }
 
 pub fn later_pin_from_level_0(random: &mut Random, plan: &mut Plan) -> Option<()> {
+    let level_0 = plan.edition.slots();
     let (stages, slot) = later_slot(random, plan)?;
-    let pin = only_in(random, &stages[0].slots[LEVEL_0..], &stages[0].slots[1..LEVEL_0])?;
+    let pin = only_in(random, &stages[0].slots[level_0..], &stages[0].slots[1..level_0])?;
     stages[1].slots[slot] = pin;
     Some(())
 }
 
 pub fn later_pin_two_before(random: &mut Random, plan: &mut Plan) -> Option<()> {
+    let level_0 = plan.edition.slots();
     let part = any_part(random, plan)?;
     let pairs = part.stages.len().checked_sub(2).filter(|&pairs| pairs > 0)?;
     let first = random.below(pairs);
     let spare = spare_slots(&part.stages[first + 2]);
     let pin =
-        only_in(random, &part.stages[first].slots[1..LEVEL_0], &part.stages[first + 1].slots[1..LEVEL_0])?;
+        only_in(random, &part.stages[first].slots[1..level_0], &part.stages[first + 1].slots[1..level_0])?;
     *part.stages[first + 2].slots.get_mut(*spare.first()?)? = pin;
     Some(())
 }
 
 /// A pin that a part computes in this stage or a later one, read by the part too.
 pub fn computed_read(random: &mut Random, plan: &mut Plan, from_stage: usize) -> Option<()> {
+    let level_0 = plan.edition.slots();
     let part = any_part(random, plan)?;
     let stages = part.stages.get(from_stage..).filter(|stages| !stages.is_empty())?;
     let stage = &stages[random.below(stages.len())];
     let computed: Vec<u32> =
-        (1..LEVEL_0).filter(|&q| is_computed(stage, q)).map(|q| stage.slots[q]).collect();
+        (1..level_0).filter(|&q| is_computed(stage, q)).map(|q| stage.slots[q]).collect();
     let spare = spare_slots(&part.stages[0]);
     if computed.is_empty() || spare.is_empty() {
         return None;
@@ -290,7 +308,7 @@ pub fn read_pin(random: &mut Random, plan: &mut Plan) -> Option<(usize, u32)> {
         return None;
     }
     let (major, part) = parts.swap_remove(random.below(parts.len()));
-    let pin = only_in(random, &part.stages[0].slots[LEVEL_0..], &[])?;
+    let pin = only_in(random, &part.stages[0].slots[plan.edition.slots()..], &[])?;
     Some((major, pin))
 }
 

@@ -53,7 +53,8 @@ impl Expected {
 pub fn script(accepted: Accepted<'_>) -> Script {
     let Sizes { state_words, sram_words, .. } = accepted.sizes();
     let (starts, words, blocks) = (accepted.starts(), accepted.words(), accepted.plan.blocks);
-    Script { blocks, starts, words, state_words, sram_words, pieces: accepted.pieces }
+    let edition = crate::host(accepted.plan.edition);
+    Script { edition, blocks, starts, words, state_words, sram_words, pieces: accepted.pieces }
 }
 
 pub struct PlanChecker {
@@ -144,6 +145,7 @@ impl PlanChecker {
 pub fn same_script(found: &Script, expected: &Script, record: &[u8]) -> Result<(), String> {
     let mut differences = Vec::new();
     let sizes = [
+        ("lanes", found.edition.lanes() as u64, expected.edition.lanes() as u64),
         ("blocks", found.blocks as u64, expected.blocks as u64),
         ("starts", found.starts.len() as u64, expected.starts.len() as u64),
         ("words", found.words.len() as u64, expected.words.len() as u64),

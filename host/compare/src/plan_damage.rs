@@ -3,7 +3,11 @@
 
 use crate::plan_changes::*;
 use crate::plans::tables;
-use plan::{Part, Plan, Position, Stage, EMPTY, HEAD_WORDS, LEVEL_0};
+use crate::UNKNOWN;
+use plan::{
+    Part, Plan, Position, Stage, EDITION_WORD, EMPTY, ENDPOINT_WORDS, GATE_WORDS, HEAD_WORDS,
+    PART_HEAD_WORDS, POSITION_WORDS,
+};
 use random::Random;
 use Change::*;
 
@@ -11,8 +15,9 @@ const OVER_PIN: u32 = (1 << 30) + 1;
 const OVER_INVERTED: u32 = (1 << 31) + 2;
 const NO_PINS: [u32; 2] = [OVER_PIN, EMPTY];
 const NOT_INVERTED: [u32; 2] = [OVER_INVERTED, EMPTY];
+/// For words that are 0.
+const NOT_ZERO: [u32; 4] = [1, 2, 256, u32::MAX];
 const NO_SLOTS: [u32; 3] = [OVER_PIN, EMPTY - 1, 1 << 31];
-const NO_ENTRIES: [u32; 6] = [8192, 8193, 16383, 65535, 65536, u32::MAX];
 /// Endpoints with the largest numbers that they may have.
 const LARGEST: [[u32; 3]; 3] =
     [[0, OVER_INVERTED - 1, 0], [1, OVER_PIN - 1, 0], [2, OVER_INVERTED - 1, OVER_INVERTED - 1]];
@@ -53,7 +58,9 @@ pub fn apply(random: &mut Random, plan: &Plan, change: &Change) -> Option<(Vec<u
 
 pub fn damages() -> Vec<Damage> {
     let groups = [
+        of_editions(),
         of_lengths(),
+        of_later_requests(),
         of_numbers(),
         of_gates(),
         of_locations(),
@@ -77,13 +84,71 @@ fn on_bytes(number: u32, name: &'static str, change: fn(&mut Random, &mut Vec<u8
     (number, name, OfBytes(change))
 }
 
+/// Entries that are none of an edition.
+fn no_entries(plan: &Plan) -> [u32; 6] {
+    let slots = plan.edition.slots() as u32;
+    [slots, slots + 1, 16383, 65535, 65536, u32::MAX]
+}
+
+/// Refusal 29, which is before 5; and the other edition's number.
+fn of_editions() -> Vec<Damage> {
+    vec![
+        on_record(29, "edition", |r, _, words| set(words, EDITION_WORD, r.pick(&UNKNOWN))),
+        on_record(29, "edition, and a number out of range", |r, _, words| {
+            set(words, r.pick(&[0, 1, 6, 7, 8]), u32::MAX)?;
+            set(words, EDITION_WORD, r.pick(&UNKNOWN))
+        }),
+        on_record(29, "edition, and words cut", |r, _, words| {
+            set(words, EDITION_WORD, r.pick(&UNKNOWN))?;
+            words.truncate(r.between(EDITION_WORD + 1, words.len() - 1));
+            Some(())
+        }),
+        on_bytes(29, "cut before the edition", |r, bytes| bytes.truncate(r.below(4 * EDITION_WORD + 4))),
+        on_record(5, "the other edition", |_, plan, words| {
+            set(words, EDITION_WORD, 384 - plan.edition.number())
+        }),
+    ]
+}
+
+/// Refusal 5 by words that are 0 until their requests land; and one that is not looked at.
+fn of_later_requests() -> Vec<Damage> {
+    vec![
+        on_record(5, "gates of a second design", |r, _, words| set(words, 6, r.pick(&NOT_ZERO))),
+        on_record(5, "layout of a second design", |r, _, words| set(words, 7, r.pick(&NOT_ZERO))),
+        on_record(5, "kind of check", |r, _, words| set(words, 8, r.pick(&NOT_ZERO))),
+        on_record(5, "design of a position", |r, plan, words| {
+            let entry = any_index(r, &plan.positions)?;
+            let at = plan.heads_at() - POSITION_WORDS * (plan.positions.len() - entry);
+            set(words, at + 3, r.pick(&NOT_ZERO))
+        }),
+        on_record(5, "design of a part", |r, plan, words| {
+            let part = r.below(plan.parts().count());
+            set(words, plan.heads_at() + PART_HEAD_WORDS * part + 2, r.pick(&NOT_ZERO))
+        }),
+        on_record(5, "words of lanes handed in", |r, plan, words| {
+            let part = r.below(plan.parts().count());
+            set(words, plan.heads_at() + PART_HEAD_WORDS * part + 3, r.pick(&NOT_ZERO))
+        }),
+        on_record(0, "fourth words of endpoints", |r, plan, words| {
+            for (number, part) in plan.parts().enumerate() {
+                for endpoint in 0..part.endpoints.len() {
+                    words[plan.body_at(number) + ENDPOINT_WORDS * endpoint + 3] = r.word();
+                }
+            }
+            Some(())
+        }),
+    ]
+}
+
 /// Refusal 5 by lengths and counts.
 fn of_lengths() -> Vec<Damage> {
     vec![
         on_bytes(5, "bytes cut", |r, bytes| bytes.truncate(bytes.len() - r.between(1, 3))),
         on_bytes(5, "words cut", |r, bytes| bytes.truncate(bytes.len() - 4 * r.between(1, 40))),
-        on_bytes(5, "cut anywhere", |r, bytes| bytes.truncate(r.below(bytes.len()))),
-        on_bytes(5, "cut in the head", |r, bytes| bytes.truncate(r.below(4 * HEAD_WORDS + 8))),
+        on_bytes(5, "cut anywhere", |r, bytes| bytes.truncate(r.between(4 * HEAD_WORDS, bytes.len() - 1))),
+        on_bytes(5, "cut in the head", |r, bytes| {
+            bytes.truncate(r.between(4 * EDITION_WORD + 4, 4 * HEAD_WORDS + 8))
+        }),
         on_bytes(5, "bytes more", |r, bytes| bytes.resize(bytes.len() + r.between(1, 3), 0)),
         on_bytes(5, "words more", |r, bytes| bytes.resize(bytes.len() + 4 * r.between(1, 40), 0)),
         on_record(5, "blocks", |r, _, words| set(words, 0, r.pick(&[0, 1025, 1026, u32::MAX]))),
@@ -174,13 +239,29 @@ fn of_gates() -> Vec<Damage> {
 /// Refusal 7.
 fn of_locations() -> Vec<Damage> {
     vec![
-        on_plan(7, "location above 255", |r, plan| location(r, plan, &[256, 257, 511, 65536, u32::MAX])),
-        on_plan(7, "257 write-out words by locations", |r, plan| write_outs(r, plan, 257, More::Locations)),
+        on_plan(7, "location past the lanes", |r, plan| {
+            let lanes = plan.edition.number();
+            location(r, plan, &[lanes, lanes + 1, 2 * lanes - 1, 2 * lanes, 65536, u32::MAX])
+        }),
+        on_plan(0, "the last location", |r, plan| {
+            let last = plan.edition.number() - 1;
+            location(r, plan, &[last])
+        }),
+        on_plan(7, "a write-out word too many by locations", |r, plan| {
+            one_too_many(r, plan, More::Locations)
+        }),
         on_plan(7, "2000 locations", |r, plan| write_outs(r, plan, 2000, More::Locations)),
-        on_plan(7, "257 write-out words by SRAMs", |r, plan| write_outs(r, plan, 257, More::Srams)),
-        on_plan(7, "257 write-out words by duplicates", |r, plan| write_outs(r, plan, 257, More::Duplicates)),
+        on_plan(7, "a write-out word too many by SRAMs", |r, plan| one_too_many(r, plan, More::Srams)),
+        on_plan(7, "a write-out word too many by duplicates", |r, plan| {
+            one_too_many(r, plan, More::Duplicates)
+        }),
+        on_plan(0, "as many write-out words as lanes", |r, plan| {
+            let lanes = plan.edition.lanes();
+            write_outs(r, plan, lanes, More::Srams)
+        }),
         on_plan(7, "location and sum", |r, plan| {
-            write_outs(r, plan, 300, More::Srams).and_then(|_| location(r, plan, &[256]))
+            let lanes = plan.edition.number();
+            write_outs(r, plan, 300, More::Srams).and_then(|_| location(r, plan, &[lanes]))
         }),
     ]
 }
@@ -188,11 +269,11 @@ fn of_locations() -> Vec<Damage> {
 /// Refusal 9.
 fn of_slots() -> Vec<Damage> {
     vec![
-        on_plan(9, "slot out of range in level 0", |r, plan| slot(r, plan, LEVEL_0..2 * LEVEL_0, &NO_SLOTS)),
-        on_plan(9, "position's pin out of range", |r, plan| slot(r, plan, 1..LEVEL_0, &NO_SLOTS)),
+        on_plan(9, "slot out of range in level 0", |r, plan| slot(r, plan, Level::Zero, &NO_SLOTS)),
+        on_plan(9, "position's pin out of range", |r, plan| slot(r, plan, Level::Positions, &NO_SLOTS)),
         on_plan(9, "slot of no gate", |r, plan| {
             let pin = free_pin(plan)?;
-            slot(r, plan, 1..LEVEL_0, &[pin])
+            slot(r, plan, Level::Positions, &[pin])
         }),
         on_plan(9, "slot of another gate", |r, plan| {
             let pin = any(r, &mut plan.gates)?.pin;
@@ -269,50 +350,76 @@ fn of_positions() -> Vec<Damage> {
 fn of_tables_and_reads() -> Vec<Damage> {
     vec![
         on_plan(13, "SRAM table entry", |r, plan| {
+            let none = no_entries(plan);
             let part = any_part(r, plan)?;
-            put(r, &mut part.tables.sram, |entry| entry, &NO_ENTRIES)
+            put(r, &mut part.tables.sram, |entry| entry, &none)
         }),
         on_plan(13, "enable table entry", |r, plan| {
+            let none = no_entries(plan);
             let part = any_part(r, plan)?;
-            put(r, &mut part.tables.enable, |entry| entry, &NO_ENTRIES)
+            put(r, &mut part.tables.enable, |entry| entry, &none)
         }),
         on_plan(13, "last entries", |r, plan| {
+            let slots = plan.edition.slots();
             let part = any_part(r, plan)?;
-            part.tables.enable[8191] = 8192;
-            part.tables.sram[8191] = r.pick(&[8191, 8192]);
+            part.tables.enable[slots - 1] = slots as u32;
+            part.tables.sram[slots - 1] = r.pick(&[slots as u32 - 1, slots as u32]);
             Some(())
         }),
-        on_plan(3, "part that reads nothing", |r, plan| {
+        on_plan(0, "the last entry", |r, plan| {
+            let last = plan.edition.slots() as u32 - 1;
             let part = any_part(r, plan)?;
-            part.stages.iter_mut().for_each(|stage| stage.slots = Stage::empty().slots);
+            put(r, &mut part.tables.sram, |entry| entry, &[last])?;
+            put(r, &mut part.tables.enable, |entry| entry, &[last])
+        }),
+        on_plan(3, "part that reads nothing", |r, plan| {
+            let none = Stage::empty_of(plan.edition).slots;
+            let part = any_part(r, plan)?;
+            part.stages.iter_mut().for_each(|stage| stage.slots = none.clone());
             Some(())
         }),
         on_plan(3, "part more that reads nothing", |r, plan| {
-            let part = Part { endpoints: Vec::new(), stages: vec![Stage::empty()], tables: tables(r) };
+            let part = reads_nothing(r, plan, 1);
             plan.stages.last_mut()?.push(part);
             Some(())
         }),
         on_plan(3, "two parts more that read nothing", |r, plan| {
-            let part = Part { endpoints: Vec::new(), stages: vec![Stage::empty(); 2], tables: tables(r) };
+            let part = reads_nothing(r, plan, 2);
             plan.stages.push(vec![part.clone(), part]);
             Some(())
         }),
     ]
 }
 
+/// A part of so many stages without a pin.
+fn reads_nothing(random: &mut Random, plan: &Plan, stages: usize) -> Part {
+    let stages = vec![Stage::empty_of(plan.edition); stages];
+    Part { endpoints: Vec::new(), stages, tables: tables(random, plan.edition) }
+}
+
+/// One write-out word more than there are lanes.
+fn one_too_many(random: &mut Random, plan: &mut Plan, by: More) -> Option<()> {
+    let lanes = plan.edition.lanes();
+    write_outs(random, plan, lanes + 1, by)
+}
+
 /// A word anywhere in the record changed: the regions are equally likely.
 pub fn any_word(random: &mut Random, plan: &Plan, words: &mut Vec<u32>) {
     let parts = plan.parts().count();
     let mut starts = vec![0, HEAD_WORDS, HEAD_WORDS + plan.stages.len()];
-    starts.push(starts[2] + 3 * plan.gates.len());
+    starts.push(starts[2] + GATE_WORDS * plan.gates.len());
     starts.push(starts[3] + plan.layout.len());
     starts.push(plan.heads_at());
-    starts.push(plan.heads_at() + 2 * parts);
+    starts.push(plan.heads_at() + PART_HEAD_WORDS * parts);
     if parts > 0 {
         let number = random.below(parts);
         let part = plan.parts().nth(number).expect("a part");
         let mut at = plan.body_at(number);
-        for length in [3 * part.endpoints.len(), part.stages.len(), 16383 * part.stages.len()] {
+        for length in [
+            ENDPOINT_WORDS * part.endpoints.len(),
+            part.stages.len(),
+            plan.edition.stage_slots() * part.stages.len(),
+        ] {
             at += length;
             starts.push(at);
         }
@@ -325,7 +432,7 @@ pub fn any_word(random: &mut Random, plan: &Plan, words: &mut Vec<u32>) {
         0 => words[at].wrapping_add(1),
         1 => words[at].wrapping_sub(1),
         2 => words[at] ^ 1 << random.below(32),
-        3 => random.pick(&[0, 1, EMPTY, 8191, 8192, 1 << 30]),
+        3 => random.pick(&[0, 1, EMPTY, 128, 256, 4095, 4096, 8191, 8192, 1 << 30]),
         4 => random.pick(words),
         _ => random.word(),
     };

@@ -3,13 +3,14 @@
 use crate::marked::plain_part;
 use model::blocks::Blocks;
 use model::plan::Counts;
-use plan::{Endpoint, Gate, Part, Plan, Position, Stage, Tables, EMPTY, ENTRIES, LANES, LEVEL_0};
+use plan::{Edition, Endpoint, Gate, Part, Plan, Position, Stage, Tables, EMPTY};
 use random::Random;
 use std::collections::{HashMap, HashSet};
 
 /// How large a plan is made, each number at most.
 #[derive(Debug, Clone, Copy)]
 pub struct Size {
+    pub edition: Edition,
     pub majors: usize,
     pub parts: usize,
     pub stages: usize,
@@ -32,6 +33,7 @@ enum Home {
 /// A plan being made. Pins are small numbers here, gates above their fan-ins; they are spread at the end.
 struct Maker<'a> {
     random: &'a mut Random,
+    edition: Edition,
     homes: Vec<Home>,
     /// By pin; `None` for a pin that is no gate.
     gates: Vec<Option<(u32, u32)>>,
@@ -55,14 +57,16 @@ fn made(random: &mut Random, size: Size, full: bool) -> Plan {
     let blocks = random.pick(&[1, 1, 2, 3, 5, 17, 1024]);
     let inputs = if random.chance(3) { random.between(1, size.inputs) } else { random.between(1, 60) };
     let homes = (0..inputs).map(|_| random.pick(&[Home::Layout, Home::Layout, Home::Unstaged])).collect();
-    let mut maker = Maker { random, homes, gates: vec![None; inputs], by_fan_ins: HashMap::new(), full };
+    let (edition, gates) = (size.edition, vec![None; inputs]);
+    let mut maker = Maker { random, edition, homes, gates, by_fan_ins: HashMap::new(), full };
     let mut stages = Vec::new();
     for major in 0..majors {
         let parts = maker.random.between(if major == 0 { 1 } else { 0 }, size.parts);
         stages.push((0..parts).map(|_| maker.part(major, size.stages)).collect());
     }
     let layout = maker.layout();
-    let mut plan = Plan { blocks, gates: maker.gate_list(), layout, positions: Vec::new(), stages };
+    let gates = maker.gate_list();
+    let mut plan = Plan { edition, blocks, gates, layout, positions: Vec::new(), stages };
     plan.positions = maker.positions(&plan);
     let pins = maker.homes.len();
     spread(random, &mut plan, pins, size.wide);
@@ -89,7 +93,7 @@ impl Maker<'_> {
         let mut stages: Vec<Stage> = Vec::new();
         for s in 0..self.random.between(1, most_stages) {
             let stage = self.stage(&from, &mut read, s == 0);
-            from = stage.slots[1..LEVEL_0].iter().copied().filter(|&pin| pin != EMPTY).collect();
+            from = stage.slots[1..self.edition.slots()].iter().copied().filter(|&pin| pin != EMPTY).collect();
             from.sort_unstable();
             from.dedup();
             stages.push(stage);
@@ -98,27 +102,29 @@ impl Maker<'_> {
             self.homes[pin] =
                 self.random.pick(&[Home::None, Home::Unstaged, Home::Staged(major), Home::Staged(major)]);
         }
-        let mut part = Part { endpoints: self.endpoints(), stages, tables: tables(self.random) };
+        let mut part =
+            Part { endpoints: self.endpoints(), stages, tables: tables(self.random, self.edition) };
         self.locations(&mut part);
         part
     }
 
     /// A stage over these pins. In stage 0 what is read is noted.
     fn stage(&mut self, from: &[u32], read: &mut HashSet<u32>, first: bool) -> Stage {
-        let mut stage = Stage::empty();
-        let filled = if self.full { 8192 } else { self.random.pick(&[3, 40, 400, 8192]) };
-        for index in LEVEL_0..LEVEL_0 + 8192 {
-            if !from.is_empty() && self.random.below(8192) < filled {
+        let mut stage = Stage::empty_of(self.edition);
+        let slots = self.edition.slots();
+        let filled = if self.full { slots } else { self.random.pick(&[3, 40, 400, slots]) };
+        for index in slots..2 * slots {
+            if !from.is_empty() && self.random.below(slots) < filled {
                 stage.slots[index] = self.random.pick(from);
             }
         }
         if first && stage.slots.iter().all(|&pin| pin == EMPTY) {
-            stage.slots[LEVEL_0 + self.random.below(8192)] = self.random.pick(from);
+            stage.slots[slots + self.random.below(slots)] = self.random.pick(from);
         }
         if first {
             read.extend(stage.slots.iter().filter(|&&pin| pin != EMPTY));
         }
-        for position in (1..LEVEL_0).rev() {
+        for position in (1..slots).rev() {
             let (a, b) = model::record::below(position);
             let (a, b) = (stage.slots[a], stage.slots[b]);
             stage.slots[position] = match self.random.below(8) {
@@ -168,8 +174,9 @@ impl Maker<'_> {
 
     /// Locations of the stages, as many as the write-out words allow.
     fn locations(&mut self, part: &mut Part) {
+        let lanes = self.edition.lanes();
         let other = model_counts(part).write_outs() as usize;
-        let most = 256 - other;
+        let most = lanes.saturating_sub(other);
         let count = if self.full {
             self.random.between(most / 2, most)
         } else {
@@ -177,7 +184,7 @@ impl Maker<'_> {
         };
         for _ in 0..count {
             let stage = self.random.below(part.stages.len());
-            part.stages[stage].locations.push(self.random.below(256) as u32);
+            part.stages[stage].locations.push(self.random.below(lanes) as u32);
         }
     }
 
@@ -246,10 +253,11 @@ impl Maker<'_> {
     }
 }
 
-pub fn tables(random: &mut Random) -> Tables {
-    let mut entries = || -> Vec<u32> { (0..ENTRIES).map(|_| random.below(8192) as u32).collect() };
+pub fn tables(random: &mut Random, edition: Edition) -> Tables {
+    let slots = edition.slots();
+    let mut entries = || -> Vec<u32> { (0..slots).map(|_| random.below(slots) as u32).collect() };
     let (sram, enable) = (entries(), entries());
-    let mut lanes = || -> Vec<u32> { (0..LANES).map(|_| random.word()).collect() };
+    let mut lanes = || -> Vec<u32> { (0..edition.lanes()).map(|_| random.word()).collect() };
     Tables {
         sram,
         sram_inv: lanes(),
@@ -264,14 +272,15 @@ pub fn tables(random: &mut Random) -> Tables {
 /// Gives every part an enable table of any kind: bits that are taken from captured bits, from past them and from around
 /// their end, cleared and inverted here and there, in some lanes throughout.
 pub fn any_enables(random: &mut Random, plan: &mut Plan) {
+    let slots = plan.edition.slots();
     for part in plan.stages.iter_mut().flatten() {
         let captured = 32 * model_counts(part).normal as usize;
         let Tables { enable, enable_inv, enable_set0, data_inv, .. } = &mut part.tables;
         for entry in enable {
             *entry = match random.below(8) {
-                0 => random.pick(&[0, captured.saturating_sub(1), captured.min(8191), 8191]),
+                0 => random.pick(&[0, captured.saturating_sub(1), captured.min(slots - 1), slots - 1]),
                 1..=5 if captured > 0 => random.below(captured),
-                _ => random.below(8192),
+                _ => random.below(slots),
             } as u32;
         }
         for word in enable_inv.iter_mut().chain(enable_set0).chain(data_inv) {
@@ -283,7 +292,7 @@ pub fn any_enables(random: &mut Random, plan: &mut Plan) {
 
 /// The counts of a part by the model.
 pub fn model_counts(part: &Part) -> Counts {
-    let endpoints: Vec<u32> = part.endpoints.iter().flat_map(|e| [e.kind, e.x, e.y]).collect();
+    let endpoints: Vec<u32> = part.endpoints.iter().flat_map(|e| [e.kind, e.x, e.y, 0]).collect();
     let locations: usize = part.stages.iter().map(|stage| stage.locations.len()).sum();
     model::plan::counts_of(&endpoints, locations as u64)
 }
@@ -399,7 +408,7 @@ impl Reads {
 
 /// A plan with a part for each of these, in its last major stage. Unstaged words are the state's first; staged ones are normal words
 /// that the parts of an earlier major stage store, where there are any.
-pub fn reading(random: &mut Random, parts: &[Reads]) -> Plan {
+pub fn reading(random: &mut Random, edition: Edition, parts: &[Reads]) -> Plan {
     let most = |words: fn(&Reads) -> &Vec<u32>| parts.iter().map(|part| words(part).len()).max().unwrap_or(0);
     // The state begins with the layout's words, and goes on with those that are stored.
     let (unstaged, staged) = (most(|part| &part.unstaged).max(1), most(|part| &part.staged));
@@ -423,31 +432,34 @@ pub fn reading(random: &mut Random, parts: &[Reads]) -> Plan {
     let mut part = |part: &Reads| {
         let pins: Vec<u32> =
             part.words(unstaged).flat_map(|(word, bits)| first_pins[word]..first_pins[word] + bits).collect();
-        Part { endpoints: Vec::new(), stages: vec![anywhere(random, &pins)], tables: tables(random) }
+        let stage = anywhere(random, edition, &pins);
+        Part { endpoints: Vec::new(), stages: vec![stage], tables: tables(random, edition) }
     };
     let last: Vec<Part> = parts.iter().map(&mut part).collect();
-    let storing: Vec<Part> = (0..staged).step_by(256).map(|_| plain_part(&[&[0; 256]])).collect();
+    let lanes = edition.lanes();
+    let storing: Vec<Part> =
+        (0..staged).step_by(lanes).map(|_| plain_part(edition, &[&vec![0; lanes]])).collect();
     let stages = if storing.is_empty() { vec![last] } else { vec![storing, last] };
-    Plan { blocks: 1, layout: vec![EMPTY; 32 * unstaged], positions, stages, ..Plan::default() }
+    Plan { edition, blocks: 1, layout: vec![EMPTY; 32 * unstaged], positions, stages, ..Plan::default() }
 }
 
 /// A stage that reads these pins, in slots of no order.
-fn anywhere(random: &mut Random, pins: &[u32]) -> Stage {
-    let mut slots: Vec<usize> = (LEVEL_0..LEVEL_0 + 8192).collect();
+fn anywhere(random: &mut Random, edition: Edition, pins: &[u32]) -> Stage {
+    let mut slots: Vec<usize> = (edition.slots()..2 * edition.slots()).collect();
     random.shuffle(&mut slots);
-    let mut stage = Stage::empty();
+    let mut stage = Stage::empty_of(edition);
     for (&slot, &pin) in slots.iter().zip(pins) {
         stage.slots[slot] = pin;
     }
     stage
 }
 
-/// One part that reads so many words of 17 bits: from 257 on they have no packing.
-pub fn words_of_17(random: &mut Random, words: usize) -> Plan {
+/// One part that reads so many words of 17 bits: where they are more than the lanes they have no packing.
+pub fn words_of_17(random: &mut Random, edition: Edition, words: usize) -> Plan {
     let layout: Vec<u32> =
         (0..32 * words as u32).map(|index| if index % 32 < 17 { index } else { EMPTY }).collect();
     let pins: Vec<u32> = layout.iter().copied().filter(|&pin| pin != EMPTY).collect();
-    let stage = anywhere(random, &pins);
-    let part = Part { endpoints: Vec::new(), stages: vec![stage], tables: tables(random) };
-    Plan { blocks: 1, layout, stages: vec![vec![part]], ..Plan::default() }
+    let stage = anywhere(random, edition, &pins);
+    let part = Part { endpoints: Vec::new(), stages: vec![stage], tables: tables(random, edition) };
+    Plan { edition, blocks: 1, layout, stages: vec![vec![part]], ..Plan::default() }
 }

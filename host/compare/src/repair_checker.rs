@@ -4,7 +4,6 @@
 use crate::lent::{Lent, LentRead, Room};
 use crate::repairs::Case;
 use crate::tally::Tally;
-use crate::EDITION;
 use juolgesot::ffi::{self, Answer};
 use model::repair::{self, room_words, Reached, Repaired};
 use model::Refused;
@@ -24,11 +23,10 @@ impl Work {
     }
 
     fn answer(self, case: &Case, after: usize, room: usize) -> Result<Repaired, Refused> {
-        let Case { counts, slots, place, node, .. } = case;
-        let edition = EDITION.number();
+        let Case { told: edition, counts, slots, place, node, .. } = case;
         match self {
-            Work::Place => repair::place(case.netlist(), counts, slots, after, room, *place, *node, edition),
-            Work::Clear => repair::clear(counts, slots, after, room, *place, edition),
+            Work::Place => repair::place(case.netlist(), counts, slots, after, room, *place, *node, *edition),
+            Work::Clear => repair::clear(counts, slots, after, room, *place, *edition),
         }
     }
 }
@@ -121,7 +119,7 @@ fn gem_works(placer: &Placer, stage: &mut PlacerStage, work: Work, case: &Case) 
 fn must_panic(number: u32, case: &Case) -> bool {
     match number {
         25 | 26 => {
-            let reached = Reached::of(EDITION, case.netlist(), case.place, case.node);
+            let reached = Reached::of(case.edition, case.netlist(), case.place, case.node);
             reached.bad_levels.iter().chain(&reached.no_gates).any(|&level| level > 0)
         }
         number => number == 34,
@@ -149,7 +147,7 @@ fn same_stage(stage: &PlacerStage, repaired: &Repaired, in_order: bool) -> Resul
 
 /// One call: what was expected where it was found, or the first difference.
 fn difference(work: Work, case: &Case, more: More) -> Result<Result<Repaired, Refused>, String> {
-    let Case { gates, levels, counts, slots, place, node } = case;
+    let Case { told, gates, levels, counts, slots, place, node, .. } = case;
     let room_length = (room_words(counts.len()) as i64 + more.room).max(0) as usize;
     let unbound = work.answer(case, usize::MAX, room_length);
     let needed = unbound.as_ref().map_or(counts.len(), |repaired| repaired.counts.len());
@@ -176,6 +174,7 @@ fn difference(work: Work, case: &Case, more: More) -> Result<Result<Repaired, Re
             place.level,
             place.slot,
             *node,
+            *told,
         ),
         Work::Clear => ffi::purge_bit(
             lent_counts.slice(),
@@ -184,6 +183,7 @@ fn difference(work: Work, case: &Case, more: More) -> Result<Result<Repaired, Re
             room.slice(),
             place.level,
             place.slot,
+            *told,
         ),
     };
     if answer != wanted {
@@ -199,6 +199,7 @@ fn difference(work: Work, case: &Case, more: More) -> Result<Result<Repaired, Re
 
 fn stop(kind: &str, work: Work, case: &Case, what: &str) -> ! {
     println!("DIFFERENCE ({}): {}", kind, what);
+    println!("a stage of {} lanes, told {}", case.edition.lanes(), case.told);
     println!("{:?} {} at {:?}; {} gates", work, case.node, case.place, case.gates.len() / 3);
     println!("gates: {:?}", &case.gates[..case.gates.len().min(90)]);
     println!("levels: {:?}", &case.levels[..case.levels.len().min(90)]);

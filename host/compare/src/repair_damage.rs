@@ -1,9 +1,9 @@
-//! Damage to stages, each for one clause of refusals 5, 6, 14, 24, 25, 26, 32 and 34; and changes that are none (0). A
+//! Damage to stages, each for one clause of refusals 5, 6, 14, 24, 25, 26, 29, 32 and 34; and changes that are none (0). A
 //! damage gives none where it cannot be done.
 
 use crate::repair_checker::{More, Work};
-use crate::repairs::{place_of, Case, LEVELS, NO_LEVEL, STAGE_SLOTS};
-use crate::EDITION;
+use crate::repairs::{place_of, Case, NO_LEVEL};
+use crate::UNKNOWN;
 use model::record::EMPTY;
 use model::repair::{clearing, Place, Reached};
 use random::Random;
@@ -39,13 +39,23 @@ fn of_both() -> Vec<Damage> {
             Some(damaged.case.slots.extend([7, EMPTY, 1 << 31]))
         }),
         (0, "a result just long enough", |_, damaged| Some(damaged.more.after = 0)),
-        (5, "a level above 13", |random, damaged| {
-            damaged.case.place.level = random.pick(&[14, 15, 31, 32, 33, 45, 64, 1 << 16, 1 << 31, u32::MAX]);
+        (29, "unknown edition", |random, damaged| Some(damaged.case.told = random.pick(&UNKNOWN))),
+        (29, "unknown edition, and all else wrong", |random, damaged| {
+            damaged.more.after = -1;
+            damaged.case.gates.push(1);
+            damaged.case.slots.truncate(100);
+            damaged.case.place.level = 14;
+            Some(damaged.case.told = random.pick(&UNKNOWN))
+        }),
+        (5, "a level too high", |random, damaged| {
+            let high = damaged.case.edition.levels() + 1;
+            damaged.case.place.level =
+                random.pick(&[high, high + 1, 31, 32, 33, 45, 64, 1 << 16, 1 << 31, u32::MAX]);
             Some(damaged.case.place.slot = random.pick(&[0, 0, 1, u32::MAX]))
         }),
         (5, "a slot past its level", |random, damaged| {
-            let place = &mut damaged.case.place;
-            let past = 1 << (LEVELS - place.level);
+            let (levels, place) = (damaged.case.edition.levels(), &mut damaged.case.place);
+            let past = 1 << (levels - place.level);
             Some(place.slot = random.pick(&[past, past + 1, past | place.slot, 1 << 31, u32::MAX]))
         }),
         (5, "half an entry of the counts", |random, damaged| {
@@ -68,7 +78,8 @@ fn of_both() -> Vec<Damage> {
             Some(damaged.more.after = random.pick(&[-1, -1, -2, -3, -100_000]))
         }),
         (14, "too few slots", |random, damaged| {
-            let length = random.pick(&[STAGE_SLOTS - 1, STAGE_SLOTS - 1, 8192, 8191, 5000, 1, 0]);
+            let (all, slots) = (damaged.case.edition.stage_slots(), damaged.case.edition.slots());
+            let length = random.pick(&[all - 1, all - 1, slots, slots - 1, slots * 5 / 8, 1, 0]);
             Some(damaged.case.slots.truncate(length))
         }),
         (32, "a room that is too short", |random, damaged| {
@@ -83,6 +94,7 @@ fn of_both() -> Vec<Damage> {
             damaged.more.after = -1;
             damaged.case.gates.push(1);
             damaged.case.slots.truncate(100);
+            damaged.case.told = 1;
             Some(damaged.case.place.level = 14)
         }),
     ]
@@ -92,17 +104,17 @@ fn of_placing() -> Vec<Damage> {
     vec![
         (0, "something beside the subtree", |random, damaged| {
             let case = &mut damaged.case;
-            let word = random.below(STAGE_SLOTS);
-            (!is_under(case.place, place_of(word)))
+            let word = random.below(case.edition.stage_slots());
+            (!is_under(case, place_of(case.edition, word)))
                 .then(|| case.slots[word] = random.pick(&[3, 1 << 30, EMPTY - 1]))
         }),
         (0, "something above the place", |_, damaged| {
-            let place = damaged.case.place;
+            let (place, edition) = (damaged.case.place, damaged.case.edition);
             let above = Place {
-                level: (place.level + 1).min(LEVELS),
-                slot: place.slot & ((1 << (LEVELS - place.level)) / 2).max(1) - 1,
+                level: (place.level + 1).min(edition.levels()),
+                slot: place.slot & (edition.level_slots(place.level) as u32 / 2).max(1) - 1,
             };
-            (above.level > place.level).then(|| damaged.case.slots[above.word(EDITION)] = 5)
+            (above.level > place.level).then(|| damaged.case.slots[above.word(edition)] = 5)
         }),
         (0, "gates and levels past what is reached", |random, damaged| {
             let most = damaged.case.gates.iter().step_by(3).copied().max().unwrap_or(1);
@@ -147,29 +159,30 @@ fn of_placing() -> Vec<Damage> {
             Some(damaged.case.gates[gate + random.between(1, 2)] = fan_in)
         }),
         (24, "something at the place", |random, damaged| {
-            let word = damaged.case.place.word(EDITION);
+            let word = damaged.case.place.word(damaged.case.edition);
             Some(damaged.case.slots[word] = random.pick(&[0, 1, 1 << 30, OVER_PIN, EMPTY - 1]))
         }),
         (24, "something in the subtree", |random, damaged| {
             let case = &mut damaged.case;
-            let under: Vec<usize> =
-                (0..STAGE_SLOTS).filter(|&word| is_under(case.place, place_of(word))).collect();
+            let under: Vec<usize> = (0..case.edition.stage_slots())
+                .filter(|&word| is_under(case, place_of(case.edition, word)))
+                .collect();
             let word = under[random.below(under.len())];
             Some(case.slots[word] = random.pick(&[0, 1, 1 << 30, OVER_PIN, EMPTY - 1]))
         }),
         (24, "something in the subtree at level 0", |random, damaged| {
             let case = &mut damaged.case;
-            let step = 1 << (LEVELS - case.place.level);
+            let step = case.edition.level_slots(case.place.level) as u32;
             let slot = case.place.slot + step * random.below(1 << case.place.level) as u32;
             let place = Place { level: 0, slot };
-            Some(case.slots[place.word(EDITION)] = random.pick(&[0, 1, 1 << 30, OVER_PIN, EMPTY - 1]))
+            Some(case.slots[place.word(case.edition)] = random.pick(&[0, 1, 1 << 30, OVER_PIN, EMPTY - 1]))
         }),
         (24, "something in a part of the stage", |random, damaged| {
             let case = &mut damaged.case;
-            let word = case.place.word(EDITION);
+            let word = case.place.word(case.edition);
             case.slots[word] = 3;
             // What is behind is not there, and reads as empty.
-            Some(case.slots.truncate(random.between(word + 1, STAGE_SLOTS)))
+            Some(case.slots.truncate(random.between(word + 1, case.edition.stage_slots())))
         }),
         (25, "a node without a level", |_, damaged| {
             let node = damaged.case.node as usize;
@@ -185,7 +198,8 @@ fn of_placing() -> Vec<Damage> {
         (25, "a fan-in's level not below its gate's", |random, damaged| {
             let (place, node) =
                 any_reached(random, &damaged.case, |place| place.level < damaged.case.place.level)?;
-            let level = random.pick(&[place.level + 1, place.level + 1, LEVELS, NO_LEVEL]);
+            let levels = damaged.case.edition.levels();
+            let level = random.pick(&[place.level + 1, place.level + 1, levels, NO_LEVEL]);
             Some(*damaged.case.levels.get_mut(node as usize)? = level)
         }),
         (25, "a level at level 0", |random, damaged| {
@@ -200,7 +214,7 @@ fn of_placing() -> Vec<Damage> {
             drop_gate(case, gate);
             let (_, other) = any_reached(random, case, |_| true)?;
             set_level(case, other, NO_LEVEL)?;
-            let reached = Reached::of(EDITION, case.netlist(), case.place, case.node);
+            let reached = Reached::of(case.edition, case.netlist(), case.place, case.node);
             (!reached.bad_levels.is_empty() && !reached.no_gates.is_empty()).then(|| ())
         }),
         (26, "a node of its level without a gate", |random, damaged| {
@@ -232,13 +246,14 @@ fn of_clearing() -> Vec<Damage> {
     vec![
         (0, "an empty place", |random, damaged| {
             let case = &mut damaged.case;
-            let empty: Vec<usize> = (0..STAGE_SLOTS).filter(|&word| case.slots[word] == EMPTY).collect();
-            Some(case.place = place_of(*empty.get(random.below(empty.len().max(1)))?))
+            let empty: Vec<usize> =
+                (0..case.edition.stage_slots()).filter(|&word| case.slots[word] == EMPTY).collect();
+            Some(case.place = place_of(case.edition, *empty.get(random.below(empty.len().max(1)))?))
         }),
         (0, "a slot of level 0 that is no pin", |random, damaged| {
             let case = &mut damaged.case;
             let (place, _) = any_cleared(random, case, |place| place.level == 0)?;
-            Some(case.slots[place.word(EDITION)] = random.pick(&NO_PINS))
+            Some(case.slots[place.word(case.edition)] = random.pick(&NO_PINS))
         }),
         (0, "larger counts", |_, damaged| {
             damaged
@@ -253,7 +268,7 @@ fn of_clearing() -> Vec<Damage> {
         (34, "a count that is one too small", |random, damaged| {
             let case = &mut damaged.case;
             let (_, node) = any_cleared(random, case, |place| place.level > 0)?;
-            let cleared = clearing(EDITION, &case.slots, case.place);
+            let cleared = clearing(case.edition, &case.slots, case.place);
             let times = cleared.iter().filter(|(place, other)| place.level > 0 && *other == node).count();
             (times > 1).then(|| set_count(case, node, times as u32 - 1))
         }),
@@ -270,20 +285,22 @@ fn of_clearing() -> Vec<Damage> {
         (34, "a slot of level 1 or up that is no pin", |random, damaged| {
             let case = &mut damaged.case;
             let (place, _) = any_cleared(random, case, |place| place.level > 0)?;
-            Some(case.slots[place.word(EDITION)] = random.pick(&NO_PINS))
+            Some(case.slots[place.word(case.edition)] = random.pick(&NO_PINS))
         }),
         (34, "a count too small, and too few slots", |random, damaged| {
             let case = &mut damaged.case;
             any_cleared(random, case, |place| place.level > 0)?;
             case.counts.clear();
-            Some(case.slots.truncate(random.between(case.place.word(EDITION) + 1, STAGE_SLOTS - 1)))
+            let (first, all) = (case.place.word(case.edition) + 1, case.edition.stage_slots());
+            Some(case.slots.truncate(random.between(first, all - 1)))
         }),
     ]
 }
 
-/// The place is in the subtree of the other: at a level not above, and its slot leaves the other's.
-fn is_under(top: Place, place: Place) -> bool {
-    place.level <= top.level && place.slot % (1 << (LEVELS - top.level)) == top.slot
+/// The place is in the subtree of the case's: at a level not above, and its slot leaves the other's.
+fn is_under(case: &Case, place: Place) -> bool {
+    let top = case.place;
+    place.level <= top.level && place.slot % case.edition.level_slots(top.level) as u32 == top.slot
 }
 
 fn any_entry<'a>(random: &mut Random, case: &'a mut Case) -> Option<&'a mut [u32]> {
@@ -298,13 +315,13 @@ fn any_gate(random: &mut Random, case: &Case) -> Option<usize> {
 
 /// A slot that placing reaches, and its node.
 fn any_reached(random: &mut Random, case: &Case, wanted: impl Fn(Place) -> bool) -> Option<(Place, u32)> {
-    let reached = Reached::of(EDITION, case.netlist(), case.place, case.node).slots;
+    let reached = Reached::of(case.edition, case.netlist(), case.place, case.node).slots;
     any_of(random, &reached, wanted)
 }
 
 /// A slot that clearing reaches, and its node.
 fn any_cleared(random: &mut Random, case: &Case, wanted: impl Fn(Place) -> bool) -> Option<(Place, u32)> {
-    any_of(random, &clearing(EDITION, &case.slots, case.place), wanted)
+    any_of(random, &clearing(case.edition, &case.slots, case.place), wanted)
 }
 
 fn any_of(
@@ -318,13 +335,13 @@ fn any_of(
 
 /// How often placing reaches a node at levels 1 and up.
 fn times_reached(case: &Case, node: u32) -> usize {
-    let reached = Reached::of(EDITION, case.netlist(), case.place, case.node).slots;
+    let reached = Reached::of(case.edition, case.netlist(), case.place, case.node).slots;
     reached.iter().filter(|(place, other)| place.level > 0 && *other == node).count()
 }
 
 /// A node that placing reaches at its own level, 1 or up.
 fn any_split(random: &mut Random, case: &Case) -> Option<u32> {
-    let mut reached = Reached::of(EDITION, case.netlist(), case.place, case.node).slots;
+    let mut reached = Reached::of(case.edition, case.netlist(), case.place, case.node).slots;
     reached.retain(|(place, node)| case.levels.get(*node as usize) == Some(&place.level));
     any_of(random, &reached, |place| place.level > 0).map(|(_, node)| node)
 }

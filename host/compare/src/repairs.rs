@@ -1,18 +1,20 @@
 //! Stages to be repaired, made at random: gates with levels, and nodes placed on them.
 
-use crate::EDITION;
+use model::edition::Edition;
 use model::record::EMPTY;
 use model::repair::{self, Netlist, Place};
 use random::Random;
 
-pub const LEVELS: u32 = EDITION.levels();
-pub const STAGE_SLOTS: usize = EDITION.stage_slots();
 /// The level of a pin that has none: above every place.
 pub const NO_LEVEL: u32 = u32::MAX;
 
 /// A stage, the netlist that it is made of, and a place on it.
 #[derive(Debug, Clone)]
 pub struct Case {
+    /// The edition of the stage.
+    pub edition: Edition,
+    /// The number of the edition that a call is told.
+    pub told: u32,
     pub gates: Vec<u32>,
     pub levels: Vec<u32>,
     pub counts: Vec<u32>,
@@ -22,13 +24,20 @@ pub struct Case {
 }
 
 impl Case {
+    /// An empty stage, at its first slot.
+    pub fn empty(edition: Edition, gates: Vec<u32>, levels: Vec<u32>) -> Self {
+        let (told, slots) = (edition.number(), vec![EMPTY; edition.stage_slots()]);
+        let place = Place { level: 0, slot: 0 };
+        Case { edition, told, gates, levels, counts: Vec::new(), slots, place, node: 0 }
+    }
+
     pub fn netlist(&self) -> Netlist<'_> {
         Netlist { gates: &self.gates, levels: &self.levels }
     }
 
     /// A place, and a node whose level is not above it. (The constant stays out of the way of most.)
     pub fn aim(&mut self, random: &mut Random) {
-        self.place = any_place(random);
+        self.place = any_place(random, self.edition);
         let fits = |level: &u32| *level <= self.place.level;
         let fitting: Vec<u32> =
             (0..self.levels.len() as u32).filter(|&pin| fits(&self.levels[pin as usize])).collect();
@@ -39,25 +48,27 @@ impl Case {
 
     /// The place of a slot that holds something, the top ones first.
     pub fn aim_at_held(&mut self, random: &mut Random) {
-        let held: Vec<usize> = (0..STAGE_SLOTS).filter(|&word| self.slots[word] != EMPTY).collect();
+        let held: Vec<usize> =
+            (0..self.edition.stage_slots()).filter(|&word| self.slots[word] != EMPTY).collect();
         if !held.is_empty() {
             let among = random.pick(&[4, 40, held.len()]).min(held.len());
-            self.place = place_of(held[random.below(among)]);
+            self.place = place_of(self.edition, held[random.below(among)]);
         }
     }
 }
 
 /// The place of a word of a stage's slots.
-pub fn place_of(word: usize) -> Place {
+pub fn place_of(edition: Edition, word: usize) -> Place {
+    let levels = edition.levels();
     let index = word as u32 + 1;
-    let level = index.leading_zeros() - (1u32 << LEVELS).leading_zeros();
-    Place { level, slot: index - (1 << (LEVELS - level)) }
+    let level = index.leading_zeros() - (1u32 << levels).leading_zeros();
+    Place { level, slot: index - (1 << (levels - level)) }
 }
 
 /// High levels have few slots and low ones many: every level comes as often.
-pub fn any_place(random: &mut Random) -> Place {
-    let level = random.below(LEVELS as usize + 1) as u32;
-    Place { level, slot: random.below(1 << (LEVELS - level)) as u32 }
+pub fn any_place(random: &mut Random, edition: Edition) -> Place {
+    let level = random.below(edition.levels() as usize + 1) as u32;
+    Place { level, slot: random.below(edition.level_slots(level)) as u32 }
 }
 
 /// Gates over some inputs, and levels: a gate is above its fan-ins, by one or at times by more. Levels can pass 13.
@@ -88,14 +99,12 @@ pub fn netlist(random: &mut Random, most_inputs: usize, most_gates: usize) -> (V
 }
 
 /// A stage on which so many nodes were tried to be placed, by the model.
-pub fn any(random: &mut Random, nodes: usize) -> Case {
+pub fn any(random: &mut Random, edition: Edition, nodes: usize) -> Case {
     let (gates, levels) = netlist(random, 60, 200);
-    let slots = vec![EMPTY; STAGE_SLOTS];
-    let place = Place { level: 0, slot: 0 };
-    let mut case = Case { gates, levels, counts: Vec::new(), slots, place, node: 0 };
+    let mut case = Case::empty(edition, gates, levels);
     for _ in 0..nodes {
         case.aim(random);
-        let (all, edition) = (usize::MAX, EDITION.number());
+        let (all, edition) = (usize::MAX, edition.number());
         let Case { counts, slots, place, node, .. } = &case;
         if let Ok(repaired) = repair::place(case.netlist(), counts, slots, all, all, *place, *node, edition) {
             case.slots = repaired.slots;
@@ -115,13 +124,13 @@ pub fn any(random: &mut Random, nodes: usize) -> Case {
     case
 }
 
-/// The full tree of level 13: 8192 inputs, a gate for each two, and so on up.
-pub fn full_tree() -> Case {
-    let inputs = 1 << LEVELS;
+/// The full tree of level 13: 8192 inputs, a gate for each two, and so on up. Of the small edition 12 and 4096.
+pub fn full_tree(edition: Edition) -> Case {
+    let inputs = edition.slots() as u32;
     let mut levels = vec![0; inputs as usize + 1];
     let mut gates = Vec::new();
     let mut below: Vec<u32> = (1..=inputs).collect();
-    for level in 1..=LEVELS {
+    for level in 1..=edition.levels() {
         let pins: Vec<u32> = (levels.len() as u32..).take(below.len() / 2).collect();
         for (pin, fan_ins) in pins.iter().zip(below.chunks(2)) {
             gates.extend([*pin, 2 * fan_ins[0], 2 * fan_ins[1] + 1]);
@@ -129,6 +138,6 @@ pub fn full_tree() -> Case {
         }
         below = pins;
     }
-    let (counts, slots) = (Vec::new(), vec![EMPTY; STAGE_SLOTS]);
-    Case { gates, levels, counts, slots, place: Place { level: LEVELS, slot: 0 }, node: below[0] }
+    let place = Place { level: edition.levels(), slot: 0 };
+    Case { place, node: below[0], ..Case::empty(edition, gates, levels) }
 }

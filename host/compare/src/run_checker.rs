@@ -3,7 +3,6 @@
 use crate::lent::{Lent, LentRead, Room};
 use crate::run_damage::Case;
 use crate::tally::Tally;
-use crate::EDITION;
 use juolgesot::ffi::{self, Answer};
 use model::run::{self, Ran, BLOCK_ROOM};
 use model::Refused;
@@ -32,9 +31,10 @@ impl RunChecker {
         let room = (BLOCK_ROOM * case.starts.len().saturating_sub(1)) as i64 + more_room;
         let room = room.max(0) as usize;
         let expected =
-            run::answer(&case.words, &case.starts, &case.turns, &case.old, &case.new, room, EDITION.number());
+            run::answer(&case.words, &case.starts, &case.turns, &case.old, &case.new, room, case.told);
         if let Err(what) = compare(case, &expected, Room::new(room, room_is_zero)) {
             println!("DIFFERENCE ({}): {}", kind, what);
+            println!("words of {} lanes, told {}", case.edition.lanes(), case.told);
             println!("room of {} words, zeros: {}", room, room_is_zero);
             println!("states of {} and {} words", case.old.len(), case.new.len());
             println!("starts {:?}", &case.starts[..case.starts.len().min(40)]);
@@ -56,8 +56,15 @@ fn compare(case: &Case, expected: &Result<Ran, Refused>, mut room: Room) -> Resu
     let mut new = Lent::new(case.new.len(), |index| case.new[index], 0xC0DE_D00D);
     let (words, starts) = (LentRead::new(&case.words), LentRead::new(&case.starts));
     let (turns, old) = (LentRead::new(&case.turns), LentRead::new(&case.old));
-    let answer =
-        ffi::run(words.slice(), starts.slice(), turns.slice(), old.slice(), new.slice(), room.slice());
+    let answer = ffi::run(
+        words.slice(),
+        starts.slice(),
+        turns.slice(),
+        old.slice(),
+        new.slice(),
+        room.slice(),
+        case.told,
+    );
     let wanted = match expected {
         Ok(ran) => Answer { code: 0, first: ran.turns_left, second: 0 },
         Err(refused) => Answer { code: refused.number, first: refused.part, second: refused.item },

@@ -1,17 +1,19 @@
 //! Scripts to run, and damaged copies of them for every clause of refusal 15. What a call is then to answer, the model
 //! says; each damage names the refusal that it is meant to bring about, and the program sees that it comes.
 
-use crate::EDITION;
+use crate::{other, UNKNOWN};
 use model::build::accept;
+use model::edition::Edition;
 use model::record;
 use random::Random;
-
-const HEAD_WORDS: usize = EDITION.head_words();
-const SECTION_WORDS: usize = EDITION.section_words();
 
 /// What a run is given.
 #[derive(Debug, Clone, PartialEq, Eq)]
 pub struct Case {
+    /// The edition of the words.
+    pub edition: Edition,
+    /// The number of the edition that the run is told.
+    pub told: u32,
     pub words: Vec<u32>,
     pub starts: Vec<u64>,
     pub turns: Vec<u32>,
@@ -22,6 +24,7 @@ pub struct Case {
 /// A part of a script.
 #[derive(Debug, Clone, Copy)]
 pub struct PartPlace {
+    edition: Edition,
     pub block: usize,
     pub at: usize,
     pub stages: usize,
@@ -30,28 +33,44 @@ pub struct PartPlace {
 }
 
 impl PartPlace {
-    fn sections_at(&self) -> usize {
-        self.at + HEAD_WORDS + 512 * self.rounds
+    fn rounds_at(&self) -> usize {
+        self.at + self.edition.head_words()
+    }
+
+    fn locations_at(&self) -> usize {
+        self.at + self.edition.head_numbers()
+    }
+
+    fn section_at(&self, section: usize) -> usize {
+        self.rounds_at() + self.edition.round_words() * self.rounds + self.edition.section_words() * section
     }
 
     pub fn words(&self) -> usize {
-        EDITION.part_words(self.rounds as u64, self.stages as u64) as usize
+        self.edition.part_words(self.rounds as u64, self.stages as u64) as usize
     }
 
     /// Where word and mask of a lane in a round are.
     fn read_at(&self, round: usize, lane: usize) -> usize {
-        self.at + HEAD_WORDS + 512 * round + 2 * lane
+        self.rounds_at() + self.edition.round_words() * round + 2 * lane
+    }
+
+    fn lanes(&self) -> usize {
+        self.edition.lanes()
+    }
+
+    fn slots(&self) -> usize {
+        self.edition.slots()
     }
 }
 
 /// The parts of a script in form.
-pub fn parts(words: &[u32], starts: &[u64]) -> Vec<PartPlace> {
+pub fn parts(edition: Edition, words: &[u32], starts: &[u64]) -> Vec<PartPlace> {
     let mut parts = Vec::new();
     for (block, range) in starts.windows(2).enumerate() {
         let mut at = range[0] as usize;
         while at < range[1] as usize && words[at] != 0 {
             let (stages, rounds) = (words[at] as usize, words[at + 6] as usize);
-            let mut part = PartPlace { block, at, stages, rounds, last: false };
+            let mut part = PartPlace { edition, block, at, stages, rounds, last: false };
             at += part.words();
             part.last = at == range[1] as usize;
             parts.push(part);
@@ -86,18 +105,56 @@ pub fn case_of(random: &mut Random, plan: &plan::Plan) -> Option<Case> {
     let accepted = accept(record_bytes.len(), &words).ok()?;
     let starts: Vec<u64> = accepted.starts()[..=plan.blocks as usize].to_vec();
     let words = accepted.words();
-    let state_words = accepted.sizes().state_words as usize;
-    let turns = all_turns(random, &parts(&words, &starts));
+    let (state_words, edition) = (accepted.sizes().state_words as usize, accepted.plan.edition);
+    let turns = all_turns(random, &parts(edition, &words, &starts));
     let (old, new) = (state(random, state_words), state(random, state_words));
-    Some(Case { words, starts, turns, old, new })
+    Some(Case { edition, told: edition.number(), words, starts, turns, old, new })
 }
 
 /// Damage of a case whose parts are given. None where there is no place for it.
 pub type Change = fn(&mut Random, &mut Case, &[PartPlace]) -> Option<()>;
 
-pub fn damages() -> Vec<(u32, &'static str, Change)> {
-    let groups = [of_starts(), of_heads(), of_sections(), of_states(), of_turns(), of_harmless()];
+pub fn damages(edition: Edition) -> Vec<(u32, &'static str, Change)> {
+    let of_small = if edition == Edition::SMALL { of_small_heads() } else { Vec::new() };
+    let groups = [
+        of_small,
+        of_editions(),
+        of_starts(),
+        of_heads(),
+        of_sections(),
+        of_states(),
+        of_turns(),
+        of_harmless(),
+    ];
     groups.into_iter().flatten().collect()
+}
+
+/// Refusal 29, which is before 15 and 16; and words of one edition run as the other's.
+fn of_editions() -> Vec<(u32, &'static str, Change)> {
+    vec![
+        (29, "unknown edition", |random, case, _| {
+            case.told = random.pick(&UNKNOWN);
+            Some(())
+        }),
+        (29, "unknown edition, and a turn of no block", |random, case, _| {
+            case.told = random.pick(&UNKNOWN);
+            case.turns.push(u32::MAX);
+            Some(())
+        }),
+        (29, "unknown edition, and words out of form", |random, case, parts| {
+            case.told = random.pick(&UNKNOWN);
+            case.words[any(random, parts)?.at] = 0;
+            Some(())
+        }),
+        (29, "unknown edition, and no start", |random, case, _| {
+            case.told = random.pick(&UNKNOWN);
+            truncated(&mut case.starts, random.below(2))
+        }),
+        (15, "words of the other edition", |_, case, _| {
+            case.told = other(case.edition).number();
+            Some(())
+        }),
+    ]
 }
 
 /// Refusal 15 by starts and lengths, and by empty blocks.
@@ -126,22 +183,26 @@ fn of_starts() -> Vec<(u32, &'static str, Change)> {
         }),
         (15, "end in a part", |random, case, _| {
             let end = case.starts.last_mut()?;
-            *end -= random.pick(&[1, 255, 256, 5120]);
+            let n = case.edition.lanes() as u64;
+            *end -= random.pick(&[1, n - 1, n, 20 * n]);
             Some(())
         }),
         (15, "end behind the last part", |random, case, _| {
             let end = case.starts.last_mut()?;
-            *end += random.pick(&[1, 256, 511, 2048]);
+            let n = case.edition.lanes() as u64;
+            *end += random.pick(&[1, n, 2 * n - 1, 8 * n]);
             Some(())
         }),
         (15, "start in a part", |random, case, parts| {
             let part = any(random, parts)?;
-            case.starts[part.block] += random.pick(&[1, 256, 512]);
+            let n = part.lanes() as u64;
+            case.starts[part.block] += random.pick(&[1, n, 2 * n]);
             Some(())
         }),
         (15, "empty block with another word", |random, case, parts| {
             let at = empty_block(random, case, parts)?;
-            let word = random.pick(&[0, 2, 3, 6, 127, 128, 255]);
+            let n = case.edition.lanes();
+            let word = random.pick(&[0, 2, 3, 6, n / 2 - 1, n / 2, n - 1]);
             case.words[at + word] = random.pick(&[1, 5, u32::MAX]);
             Some(())
         }),
@@ -153,7 +214,7 @@ fn of_starts() -> Vec<(u32, &'static str, Change)> {
         (15, "empty block of another length", |random, case, parts| {
             let at = empty_block(random, case, parts)?;
             let block = case.starts.iter().position(|&start| start == at as u64)?;
-            let shift = random.pick(&[1, 100, 255]);
+            let shift = random.pick(&[1, 100, case.edition.lanes() as u64 - 1]);
             case.starts[block] += shift;
             Some(())
         }),
@@ -214,9 +275,10 @@ fn of_heads() -> Vec<(u32, &'static str, Change)> {
             case.words[at + 7] = random.pick(&[1, 2]);
             Some(())
         }),
-        (15, "normal words above 256", |random, case, parts| {
+        (15, "more normal words than lanes", |random, case, parts| {
             let at = any(random, parts)?.at;
-            case.words[at + 2] = case.words[at + 4] + case.words[at + 7] + random.pick(&[257, 300, 1 << 20]);
+            let more = random.pick(&[case.edition.number() + 1, 300, 1 << 20]);
+            case.words[at + 2] = case.words[at + 4] + case.words[at + 7] + more;
             let enough = case.old.len().max(1000);
             case.old.resize(enough, 0);
             case.new.resize(enough, 0);
@@ -227,10 +289,31 @@ fn of_heads() -> Vec<(u32, &'static str, Change)> {
             let normal = normal_words(&case.words, part);
             let index = random.below(Some(normal).filter(|&normal| normal > 0)?);
             let stage = random.pick(&[part.stages, part.stages + 1, 255]) as u32;
-            set_half(&mut case.words, part.at + 128, index, 256 * stage + random.below(256) as u32);
+            let location = 256 * stage + random.below(part.lanes()) as u32;
+            set_half(&mut case.words, part.locations_at(), index, location);
+            Some(())
+        }),
+        (0, "the last location", |random, case, parts| {
+            let part = any(random, parts)?;
+            let normal = normal_words(&case.words, part);
+            let index = random.below(Some(normal).filter(|&normal| normal > 0)?);
+            let last = part.lanes() - 1 + 256 * random.below(part.stages);
+            set_half(&mut case.words, part.locations_at(), index, last as u32);
             Some(())
         }),
     ]
+}
+
+/// Refusal 15 by a location that the small edition has not: "a script's location with w above 127 is 15". The full one has none.
+fn of_small_heads() -> Vec<(u32, &'static str, Change)> {
+    vec![(15, "location above 127", |random, case, parts| {
+        let part = any(random, parts)?;
+        let normal = normal_words(&case.words, part);
+        let index = random.below(Some(normal).filter(|&normal| normal > 0)?);
+        let location = 256 * random.below(part.stages) as u32 + random.pick(&[128, 129, 200, 255]);
+        set_half(&mut case.words, part.locations_at(), index, location);
+        Some(())
+    })]
 }
 
 /// Refusal 15 by entries and masks.
@@ -252,7 +335,7 @@ fn of_sections() -> Vec<(u32, &'static str, Change)> {
         (15, "33 bits in a lane", |random, case, parts| {
             let several: Vec<PartPlace> = parts.iter().copied().filter(|part| part.rounds > 1).collect();
             let part = any(random, &several)?;
-            let lane = random.below(256);
+            let lane = random.below(part.lanes());
             let (first, last) = (part.read_at(0, lane), part.read_at(part.rounds - 1, lane));
             case.words[first] = 0;
             case.words[first + 1] = u32::MAX;
@@ -261,18 +344,18 @@ fn of_sections() -> Vec<(u32, &'static str, Change)> {
             Some(())
         }),
         (15, "17 and 16 bits in a lane", |random, case, parts| {
-            let at = *any(random, parts)?;
-            let (at, lane) = (more_rounds(case, &at, 2), random.below(256));
+            let part = *any(random, parts)?;
+            let (at, lane) = (more_rounds(case, &part, 2), random.below(part.lanes()));
             for (round, mask) in [0x0001_FFFF, 0xFFFF_0000].iter().enumerate() {
-                case.words[at + 512 * round + 2 * lane + 1] = *mask;
+                case.words[at + 2 * part.lanes() * round + 2 * lane + 1] = *mask;
             }
             Some(())
         }),
         (15, "33 rounds of one bit in a lane", |random, case, parts| {
-            let at = *any(random, parts)?;
-            let (at, lane) = (more_rounds(case, &at, 33), random.below(256));
+            let part = *any(random, parts)?;
+            let (at, lane) = (more_rounds(case, &part, 33), random.below(part.lanes()));
             for round in 0..33 {
-                case.words[at + 512 * round + 2 * lane + 1] = 1 << random.below(32);
+                case.words[at + 2 * part.lanes() * round + 2 * lane + 1] = 1 << random.below(32);
             }
             Some(())
         }),
@@ -361,12 +444,12 @@ fn of_harmless() -> Vec<(u32, &'static str, Change)> {
     vec![
         (0, "words that nobody looks at", |random, case, parts| {
             for part in parts {
-                for word in (8..128).chain([5]) {
+                for word in (8..part.lanes() / 2).chain([5]) {
                     case.words[part.at + word] = random.word();
                 }
                 for section in 0..part.stages + 2 {
-                    for lane in 0..256 {
-                        let lane_at = part.sections_at() + SECTION_WORDS * section + 4096 + 4 * lane;
+                    for lane in 0..part.lanes() {
+                        let lane_at = part.section_at(section) + part.slots() / 2 + 4 * lane;
                         case.words[lane_at + 3] = random.word();
                         if section == part.stages {
                             case.words[lane_at + random.below(3)] = random.word();
@@ -378,8 +461,8 @@ fn of_harmless() -> Vec<(u32, &'static str, Change)> {
         }),
         (0, "locations past the normal ones", |random, case, parts| {
             for part in parts {
-                for index in normal_words(&case.words, part)..256 {
-                    set_half(&mut case.words, part.at + 128, index, random.word() & 0xFFFF);
+                for index in normal_words(&case.words, part)..part.lanes() {
+                    set_half(&mut case.words, part.locations_at(), index, random.word() & 0xFFFF);
                 }
             }
             Some(())
@@ -387,7 +470,7 @@ fn of_harmless() -> Vec<(u32, &'static str, Change)> {
         (0, "words of empty masks", |random, case, parts| {
             for part in parts {
                 for round in 0..part.rounds {
-                    for at in (0..256).map(|lane| part.read_at(round, lane)) {
+                    for at in (0..part.lanes()).map(|lane| part.read_at(round, lane)) {
                         if case.words[at + 1] == 0 {
                             case.words[at] = random.word();
                         }
@@ -443,15 +526,15 @@ pub fn any_word(random: &mut Random, case: &mut Case, parts: &[PartPlace]) -> Op
     let at = part.at
         + match random.below(5) {
             0 => random.below(8),
-            1 => 128 + random.below(128),
-            2 => HEAD_WORDS + random.below(512 * part.rounds),
+            1 => part.lanes() / 2 + random.below(part.lanes() / 2),
+            2 => part.lanes() + random.below(2 * part.lanes() * part.rounds),
             _ => random.below(part.words()),
         };
     case.words[at] = match random.below(5) {
         0 => case.words[at].wrapping_add(1),
         1 => case.words[at].wrapping_sub(1),
         2 => case.words[at] ^ 1 << random.below(32),
-        3 => random.pick(&[0, 1, 256, 8192, 1 << 31, u32::MAX]),
+        3 => random.pick(&[0, 1, 128, 256, 4096, 8192, 1 << 31, u32::MAX]),
         _ => random.word(),
     };
     Some(())
@@ -475,11 +558,11 @@ fn truncated<T>(list: &mut Vec<T>, length: usize) -> Option<()> {
 
 /// Gives a part so many rounds more, all masks empty; they begin at the word given back.
 fn more_rounds(case: &mut Case, part: &PartPlace, rounds: usize) -> usize {
-    let at = part.sections_at();
-    case.words.splice(at..at, vec![0; 512 * rounds]);
+    let (at, more) = (part.section_at(0), part.edition.round_words() * rounds);
+    case.words.splice(at..at, vec![0; more]);
     case.words[part.at + 6] += rounds as u32;
     for start in case.starts.iter_mut().filter(|start| **start > part.at as u64) {
-        *start += 512 * rounds as u64;
+        *start += more as u64;
     }
     at
 }
@@ -498,10 +581,10 @@ fn set_half(words: &mut [u32], at: usize, index: usize, value: u32) {
 }
 
 fn bad_entry(random: &mut Random, case: &mut Case, part: &PartPlace, section: usize) -> Option<()> {
-    let at = part.sections_at() + SECTION_WORDS * section;
-    let value = random.pick(&[8192, 8193, 0x8000, 0xFFFF]);
-    let anywhere = random.below(8192);
-    let index = random.pick(&[0, 1, 8190, 8191, anywhere]);
+    let (at, slots) = (part.section_at(section), part.slots());
+    let value = random.pick(&[slots as u32, slots as u32 + 1, 0x8000, 0xFFFF]);
+    let anywhere = random.below(slots);
+    let index = random.pick(&[0, 1, slots - 2, slots - 1, anywhere]);
     set_half(&mut case.words, at, index, value);
     Some(())
 }
@@ -510,7 +593,7 @@ fn bad_entry(random: &mut Random, case: &mut Case, part: &PartPlace, section: us
 fn any_read(random: &mut Random, case: &Case, parts: &[PartPlace]) -> Option<usize> {
     let part = any(random, parts)?;
     let reads: Vec<usize> = (0..part.rounds)
-        .flat_map(|round| (0..256).map(move |lane| part.read_at(round, lane)))
+        .flat_map(|round| (0..part.lanes()).map(move |lane| part.read_at(round, lane)))
         .filter(|&at| case.words[at + 1] != 0)
         .collect();
     any(random, &reads).copied()
@@ -533,8 +616,8 @@ pub fn scrambled(random: &mut Random, case: &mut Case, parts: &[PartPlace]) -> O
 fn any_locations(random: &mut Random, case: &mut Case, parts: &[PartPlace]) -> Option<()> {
     for part in parts {
         for index in 0..normal_words(&case.words, part) {
-            let location = random.below(256 * part.stages) as u32;
-            set_half(&mut case.words, part.at + 128, index, location);
+            let location = 256 * random.below(part.stages) + random.below(part.lanes());
+            set_half(&mut case.words, part.locations_at(), index, location as u32);
         }
     }
     Some(())
@@ -555,8 +638,8 @@ pub fn any_enables(random: &mut Random, case: &mut Case, parts: &[PartPlace]) ->
         any_section(random, case, part, part.stages + 1);
         let captured = 32 * normal_words(&case.words, part);
         if captured > 0 && random.chance(2) {
-            let at = part.sections_at() + SECTION_WORDS * (part.stages + 1);
-            for index in 0..8192 {
+            let at = part.section_at(part.stages + 1);
+            for index in 0..part.slots() {
                 set_half(&mut case.words, at, index, random.below(captured) as u32);
             }
         }
@@ -566,9 +649,10 @@ pub fn any_enables(random: &mut Random, case: &mut Case, parts: &[PartPlace]) ->
 
 /// Another permutation, and other words for the lanes.
 fn any_section(random: &mut Random, case: &mut Case, part: &PartPlace, section: usize) {
-    let at = part.sections_at() + SECTION_WORDS * section;
-    for (index, word) in case.words[at..at + SECTION_WORDS].iter_mut().enumerate() {
-        *word = random.word() & if index < 4096 { 0x1FFF_1FFF } else { u32::MAX };
+    let (at, entries) = (part.section_at(section), part.slots() / 2);
+    let entry = (part.slots() as u32 - 1) * 0x1_0001;
+    for (index, word) in case.words[at..at + part.edition.section_words()].iter_mut().enumerate() {
+        *word = random.word() & if index < entries { entry } else { u32::MAX };
     }
 }
 
@@ -579,7 +663,7 @@ fn any_reads(random: &mut Random, case: &mut Case, parts: &[PartPlace]) -> Optio
         return None;
     }
     for part in parts {
-        for lane in 0..256 {
+        for lane in 0..part.lanes() {
             let mut free = u32::MAX;
             for round in 0..part.rounds {
                 let at = part.read_at(round, lane);

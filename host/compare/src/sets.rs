@@ -1,5 +1,6 @@
 //! Read sets to compare on. A set is flat words: word, mask, word, mask ..
 
+use model::edition::Edition;
 use random::Random;
 
 pub const STAGED: u32 = 1 << 31;
@@ -58,18 +59,19 @@ pub fn total_bits(set: &[u32]) -> usize {
     set.chunks(2).map(|pair| pair[1].count_ones() as usize).sum()
 }
 
-/// M1 to M5 of document 01.
-pub fn marked() -> Vec<Vec<u32>> {
+/// M1 to M5 of document 01, with the lanes of an edition in the place of 256.
+pub fn marked(edition: Edition) -> Vec<Vec<u32>> {
+    let lanes = edition.number();
     let even = |count: u32, mask: u32| -> Vec<u32> { (0..count).flat_map(|word| [word, mask]).collect() };
-    let mut m5 = even(256, 1);
-    m5.extend([256, u32::MAX]);
-    vec![vec![], vec![0, 3, 1, 1 << 5, STAGED, 1], even(256, 0x1_FFFF), even(257, 0x1_FFFF), m5]
+    let mut m5 = even(lanes, 1);
+    m5.extend([lanes, u32::MAX]);
+    vec![vec![], vec![0, 3, 1, 1 << 5, STAGED, 1], even(lanes, 0x1_FFFF), even(lanes + 1, 0x1_FFFF), m5]
 }
 
 /// 8192 bits with a packing (words 255 and 256 share a lane; 254, 257 and 258 another) that no piece size finds: the try of size 1
-/// stops at word 254.
-pub fn missed() -> Vec<u32> {
-    let bits = [vec![32; 254], vec![10, 16, 16, 11, 11]].concat();
+/// stops at word 254. Of the small edition 128 words fewer.
+pub fn missed(edition: Edition) -> Vec<u32> {
+    let bits = [vec![32; edition.lanes() - 2], vec![10, 16, 16, 11, 11]].concat();
     (0..).zip(bits).flat_map(|(word, bits)| [word, u32::MAX >> (32 - bits)]).collect()
 }
 
@@ -152,8 +154,8 @@ pub fn of_total(random: &mut Random, total: usize) -> Vec<u32> {
 
 /// Runs of equal bit counts, small ones tending to come first: the large piece sizes put the small
 /// ones everywhere and then lack room for the large, while smaller sizes may win.
-pub fn runs(random: &mut Random) -> Vec<u32> {
-    let mut lanes_left = random.between(240, 256);
+pub fn runs(random: &mut Random, edition: Edition) -> Vec<u32> {
+    let mut lanes_left = random.between(edition.lanes() - 16, edition.lanes());
     let mut bits: Vec<u32> = Vec::new();
     while lanes_left > 0 {
         let count = random.pick(&[1, 1, 2, 3, 4, 5, 8, 10, 15, 16, 17, 20, 31, 32, 32]);
@@ -173,31 +175,32 @@ pub fn runs(random: &mut Random) -> Vec<u32> {
 }
 
 /// Words of few bits, then some of many (the shape of M5).
-pub fn few_then_many(random: &mut Random) -> Vec<u32> {
+pub fn few_then_many(random: &mut Random, edition: Edition) -> Vec<u32> {
+    let lanes = edition.lanes();
     let few = random.between(1, 4) as u32;
     let many = random.between(20, 32) as u32;
-    let many_count = random.between(1, 200);
-    let few_most = (256 - many_count) * (32 / few as usize) + many_count * ((32 - many) / few) as usize;
+    let many_count = random.between(1, lanes * 25 / 32);
+    let few_most = (lanes - many_count) * (32 / few as usize) + many_count * ((32 - many) / few) as usize;
     let few_count = random.between(few_most / 2, few_most);
     let mut bits = vec![few; few_count];
     bits.extend(vec![many; many_count]);
     with_bits(random, &bits)
 }
 
-/// 8192 bits that fill the lanes exactly, so that there is a packing: lanes of one word, of two halves, and of 11, 11 and 10 bits. The
+/// As many bits as fill the lanes exactly, so that there is a packing: lanes of one word, of two halves, and of 11, 11 and 10 bits. The
 /// search misses many of them.
-pub fn exactly_full(random: &mut Random) -> Vec<u32> {
+pub fn exactly_full(random: &mut Random, edition: Edition) -> Vec<u32> {
     let (halves, thirds) = (random.between(1, 6), random.between(1, 6));
-    let mut bits = vec![32; 256 - halves - thirds];
+    let mut bits = vec![32; edition.lanes() - halves - thirds];
     bits.extend([16, 16].repeat(halves));
     bits.extend([11, 11, 10].repeat(thirds));
     random.shuffle(&mut bits);
     with_bits(random, &bits)
 }
 
-/// So many words of 17 bits or more, and words of fewer bits beside them: at most 8192 bits in all.
-pub fn so_many_wide(random: &mut Random, wide: usize) -> Vec<u32> {
-    let mut left = 8192 - 17 * wide as u32;
+/// So many words of 17 bits or more, and words of fewer bits beside them: at most as many in all as the lanes hold.
+pub fn so_many_wide(random: &mut Random, edition: Edition, wide: usize) -> Vec<u32> {
+    let mut left = (edition.slots() - 17 * wide) as u32;
     let mut bits: Vec<u32> = Vec::new();
     for _ in 0..wide {
         let any = random.below(16) as u32;

@@ -75,7 +75,7 @@ pub fn check(plan: &Accepted<'_>, words: &[u32], old: &[u32], new: &[u32]) -> St
     let starts = plan.starts();
     let mut seen = StoredBits::default();
     let numbers = plan.blocks.parts.iter().flatten().flatten();
-    for (&number, place) in numbers.zip(run_damage::parts(words, &starts)) {
+    for (&number, place) in numbers.zip(run_damage::parts(plan.plan.edition, words, &starts)) {
         let block = &words[place.at..starts[place.block + 1] as usize];
         let caught = caught(plan.plan.edition, block, old, new).expect("the script is in form");
         let stored = Stored::of(plan, number, old, new);

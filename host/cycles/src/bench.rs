@@ -108,9 +108,10 @@ impl<'a> Bench<'a> {
     /// All major stages, the turns of each in any order.
     fn run(&mut self, random: &mut Random) -> Result<(), String> {
         for (stage, starts) in self.script.stages().enumerate() {
-            let mut turns = finishing_turns(&self.script.words, starts);
+            let mut turns = finishing_turns(&self.script.words, starts, self.script.edition);
             random.shuffle(&mut turns);
-            let left = run_into(&self.script.words, starts, &turns, &self.old, &mut self.new, &mut self.room)
+            let (words, new, room) = (&self.script.words, &mut self.new, &mut self.room);
+            let left = run_into(words, starts, &turns, &self.old, new, room, self.script.edition)
                 .map_err(|refusal| format!("major stage {}: {}", stage, refusal))?;
             if left != 0 {
                 return Err(format!("major stage {}: {} turns are left", stage, left));
@@ -234,7 +235,7 @@ fn fill(words: &mut [u32], random: &mut Random) {
 fn normal_words(script: &Script) -> Vec<bool> {
     let mut normal = vec![false; script.state_words as usize];
     for range in script.starts.windows(2) {
-        for head in part_heads(&script.words, range[0], range[1]) {
+        for head in part_heads(&script.words, range[0], range[1], script.edition) {
             normal[head.state_start as usize..][..head.normal_words() as usize].fill(true);
         }
     }

@@ -6,7 +6,7 @@ use oracle::aig::{DriverType, EndpointGroup, AIG};
 use oracle::flatten::{juolgesot_plan, oracle_inputs_outputs, FlattenedScriptV1, OraclePlaces, OracleTables};
 use oracle::pe::{process_partitions, BoomerangStage, Partition};
 use oracle::staging::{build_staged_aigs, StagedAIG};
-use plan::{Endpoint, Gate, Part, Plan, Position, Script, Stage, Tables, EMPTY};
+use plan::{Edition, Endpoint, Gate, Part, Plan, Position, Script, Stage, Tables, EMPTY};
 use random::Random;
 
 pub struct Made {
@@ -115,6 +115,7 @@ pub fn make(design: &Design) -> Made {
     let staged_duplicates = tables.iter().map(|tables| tables.staged_duplicates).sum();
     let mut tables = tables.into_iter();
     let plan = Plan {
+        edition: Edition::Full,
         blocks: design.blocks as u32,
         gates: gates(&aig),
         layout: layout.iter().map(|&pin| plain_pin(pin)).collect(),
@@ -177,6 +178,7 @@ fn what(aig: &AIG, staged: &StagedAIG, index: usize) -> What {
 
 fn plain_script(script: &FlattenedScriptV1) -> Script {
     Script {
+        edition: Edition::Full,
         blocks: script.num_blocks,
         starts: script.blocks_start.iter().map(|&start| start as u64).collect(),
         words: script.blocks_data.to_vec(),

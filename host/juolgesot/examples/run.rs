@@ -14,16 +14,19 @@ fn main() -> Result<(), Refusal> {
     let script = build(&plan.record())?;
 
     let starts = script.stage_starts(0);
-    let turns = finishing_turns(&script.words, starts);
+    let turns = finishing_turns(&script.words, starts, script.edition);
     let (old, mut new) = ([1, 0], [0, 0]);
-    assert_eq!(run(&script.words, starts, &turns, &old, &mut new)?, 0);
+    assert_eq!(run(&script.words, starts, &turns, &old, &mut new, script.edition)?, 0);
     assert_eq!(new, [0, 1]);
 
     // With a turn less the part is not stored, and one is left.
     let mut unfinished = [0, 0];
-    assert_eq!(run(&script.words, starts, &turns[1..], &old, &mut unfinished)?, 1);
+    assert_eq!(run(&script.words, starts, &turns[1..], &old, &mut unfinished, script.edition)?, 1);
     assert_eq!(unfinished, [0, 0]);
     // There is one block, no block 7.
-    assert_eq!(run(&script.words, starts, &[0, 7], &old, &mut unfinished), Err(Refusal::NoBlock { turn: 1 }));
+    assert_eq!(
+        run(&script.words, starts, &[0, 7], &old, &mut unfinished, script.edition),
+        Err(Refusal::NoBlock { turn: 1 })
+    );
     Ok(())
 }

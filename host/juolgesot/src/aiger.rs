@@ -2,6 +2,7 @@
 
 use crate::ffi;
 use crate::refusal::Refusal;
+use plan::Edition;
 use plan::{Pin, PinIv};
 
 /// The numbers of an AIGER file's header; pins 1 to inputs + latches are no gates.
@@ -58,7 +59,7 @@ pub fn read_aiger_into(bytes: &[u8], out: &mut [u32]) -> Result<AigerHeader, Ref
     let [first, second, third, fourth] = answer.values;
     match answer.code {
         0 => Ok(AigerHeader { gates: first, inputs: second, latches: third, outputs: fourth }),
-        number => Err(Refusal::of(number, first, second)),
+        number => Err(Refusal::of(number, first, second, Edition::Full)),
     }
 }
 

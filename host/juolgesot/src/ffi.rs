@@ -3,6 +3,8 @@
 //! A Rattle slice passes as a pointer and a length, a `&mut u64` as a pointer. The archive's
 //! functions are proved for all arguments (no `requires`), keep to the slices that they are
 //! lent and keep no pointer, so calling them on Rust's slices is safe.
+//!
+//! An edition is named by its lanes, 256 or 128 (`Edition::number`); any other number is refused by 29.
 
 #[cfg(feature = "model")]
 extern crate model_c as _;
@@ -15,6 +17,7 @@ extern "C" {
         room_len: usize,
         out: *mut u32,
         out_len: usize,
+        edition: u32,
         first: *mut u64,
         second: *mut u64,
     ) -> u32;
@@ -26,6 +29,7 @@ extern "C" {
         room_len: usize,
         word: u32,
         bit: u32,
+        edition: u32,
         first: *mut u64,
         second: *mut u64,
     ) -> u32;
@@ -37,6 +41,7 @@ extern "C" {
         room_len: usize,
         out: *mut u8,
         out_len: usize,
+        edition: u32,
         first: *mut u64,
         second: *mut u64,
     ) -> u32;
@@ -82,6 +87,7 @@ extern "C" {
         new_len: usize,
         room: *mut u32,
         room_len: usize,
+        edition: u32,
         first: *mut u64,
         second: *mut u64,
     ) -> u32;
@@ -139,6 +145,7 @@ extern "C" {
         level: u32,
         slot: u32,
         node: u32,
+        edition: u32,
         first: *mut u64,
         second: *mut u64,
     ) -> u32;
@@ -154,6 +161,7 @@ extern "C" {
         room_len: usize,
         level: u32,
         slot: u32,
+        edition: u32,
         first: *mut u64,
         second: *mut u64,
     ) -> u32;
@@ -218,23 +226,23 @@ macro_rules! call {
 }
 
 /// Code 0: `first` is the number of rounds, `second` the piece size that won.
-pub fn read_rounds(set: &[u32], room: &mut [u32], out: &mut [u32]) -> Answer {
+pub fn read_rounds(set: &[u32], room: &mut [u32], out: &mut [u32], edition: u32) -> Answer {
     Answer::of(|first, second| {
-        call!(juolgesot_read_rounds, [set.as_ptr, room.as_mut_ptr, out.as_mut_ptr], first, second)
+        call!(juolgesot_read_rounds, [set.as_ptr, room.as_mut_ptr, out.as_mut_ptr], edition, first, second)
     })
 }
 
 /// Code 0: `first` is the local position, or 0xFFFFFFFF where the set does not ask for the bit; `second` is 0.
-pub fn local_position(set: &[u32], room: &mut [u32], word: u32, bit: u32) -> Answer {
+pub fn local_position(set: &[u32], room: &mut [u32], word: u32, bit: u32, edition: u32) -> Answer {
     Answer::of(|first, second| {
-        call!(juolgesot_local_position, [set.as_ptr, room.as_mut_ptr], word, bit, first, second)
+        call!(juolgesot_local_position, [set.as_ptr, room.as_mut_ptr], word, bit, edition, first, second)
     })
 }
 
 /// Code 0: `first` is the number of bytes written to `out`, `second` 0.
-pub fn list(records: &[u8], room: &mut [u32], out: &mut [u8]) -> Answer {
+pub fn list(records: &[u8], room: &mut [u32], out: &mut [u8], edition: u32) -> Answer {
     Answer::of(|first, second| {
-        call!(juolgesot_list, [records.as_ptr, room.as_mut_ptr, out.as_mut_ptr], first, second)
+        call!(juolgesot_list, [records.as_ptr, room.as_mut_ptr, out.as_mut_ptr], edition, first, second)
     })
 }
 
@@ -273,11 +281,13 @@ pub fn run(
     old: &[u32],
     new: &mut [u32],
     room: &mut [u32],
+    edition: u32,
 ) -> Answer {
     Answer::of(|first, second| {
         call!(
             juolgesot_run,
             [words.as_ptr, starts.as_ptr, turns.as_ptr, old.as_ptr, new.as_mut_ptr, room.as_mut_ptr],
+            edition,
             first,
             second
         )
@@ -329,6 +339,7 @@ pub fn place_bit(
     level: u32,
     slot: u32,
     node: u32,
+    edition: u32,
 ) -> Answer {
     Answer::of(|first, second| {
         call!(
@@ -337,6 +348,7 @@ pub fn place_bit(
             level,
             slot,
             node,
+            edition,
             first,
             second
         )
@@ -351,6 +363,7 @@ pub fn purge_bit(
     room: &mut [u32],
     level: u32,
     slot: u32,
+    edition: u32,
 ) -> Answer {
     Answer::of(|first, second| {
         call!(
@@ -358,6 +371,7 @@ pub fn purge_bit(
             [counts.as_ptr, slots.as_mut_ptr, after.as_mut_ptr, room.as_mut_ptr],
             level,
             slot,
+            edition,
             first,
             second
         )

@@ -13,6 +13,13 @@
 //! `build_into` ..) that allocates nothing. What is refused comes back as a [`Refusal`], which has a number and a place, and
 //! says both in words.
 //!
+//! There are two [`Edition`]s: the full one of 256 lanes, and the small one of 128 for the lab cards. A plan says its own in its
+//! record, a script in its file; other functions are told it.
+//!
+#![doc = "```"]
+#![doc = include_str!("../examples/small_edition.rs")]
+#![doc = "```"]
+//!
 //! In `ffi` is the C ABI itself; juolgesot.h says the same for C.
 
 #![deny(missing_docs)]
@@ -39,7 +46,7 @@ pub use joins::{join, join_into, join_words, JoinRefusal, JoinSet, MOST_PAIRS};
 pub use listing::{list, list_into, LIST_ROOM, LIST_TEXT};
 pub use machine::{Machine, Trouble};
 pub use plan::{
-    part_heads, part_words, script_file, Endpoint, FellBack, Gate, LocalPosition, Part, PartHead, Pin, PinIv,
+    part_heads, script_file, Edition, Endpoint, FellBack, Gate, LocalPosition, Part, PartHead, Pin, PinIv,
     Plan, Position, Script, Stage, StatePosition, Tables, EMPTY,
 };
 pub use plan_room::{gate_words, plan_room};
@@ -47,11 +54,11 @@ pub use plans::{build, build_into, plan_sizes, plan_sizes_into, Sizes};
 pub use refusal::Refusal;
 pub use repair::{
     levels, place_bit, place_bit_into, purge_bit, purge_bit_into, repair_room, stage_counts, Netlist, Place,
-    RepairSlices, COUNTED_SLOTS, STAGE_SLOTS,
+    RepairSlices,
 };
 pub use rounds::{
-    local_position, local_position_into, read_rounds, read_rounds_into, Placed, Rounds, LANES, MOST_ROUNDS,
-    NO_POSITION, ROUND_WORDS, SET_ROOM,
+    local_position, local_position_into, read_rounds, read_rounds_into, Placed, Rounds, MOST_ROUNDS,
+    NO_POSITION, SET_ROOM,
 };
 pub use run::{finishing_turns, run, run_into, BLOCK_ROOM};
 pub use value::{value, value_into, Values};

@@ -75,7 +75,8 @@ impl Machine {
     /// A machine of a script that is built already. It knows no pins: bits are read and put through the state.
     #[must_use]
     pub fn of_script(script: Script) -> Self {
-        let turns = script.stages().map(|starts| finishing_turns(&script.words, starts)).collect();
+        let turns =
+            script.stages().map(|starts| finishing_turns(&script.words, starts, script.edition)).collect();
         let state = vec![0; script.state_words as usize];
         let room = vec![0; BLOCK_ROOM * script.blocks];
         let next = state.clone();
@@ -135,8 +136,9 @@ impl Machine {
     pub fn cycle(&mut self) -> Result<(), Trouble> {
         self.next.copy_from_slice(&self.state);
         for (stage, starts) in self.script.stages().enumerate() {
-            let turns = &self.turns[stage];
-            match run_into(&self.script.words, starts, turns, &self.state, &mut self.next, &mut self.room) {
+            let (words, turns) = (&self.script.words, &self.turns[stage]);
+            let (new, room) = (&mut self.next, &mut self.room);
+            match run_into(words, starts, turns, &self.state, new, room, self.script.edition) {
                 Ok(0) => {}
                 Ok(turns) => return Err(Trouble::TurnsLeft { stage, turns }),
                 Err(refusal) => return Err(Trouble::Refused { stage, refusal }),

@@ -1,7 +1,7 @@
 //! Plans to scripts.
 
 use crate::ffi::{self, PlanAnswer};
-use crate::plan_room::{blocks, most_results, room_for, Most};
+use crate::plan_room::{blocks, edition, most_results, room_for, Most};
 use crate::refusal::Refusal;
 use plan::Script;
 
@@ -18,7 +18,7 @@ pub struct Sizes {
     pub sram_words: u64,
 }
 
-fn sizes(answer: PlanAnswer) -> Result<Sizes, Refusal> {
+fn sizes(plan: &[u8], answer: PlanAnswer) -> Result<Sizes, Refusal> {
     let [first, second, third, fourth] = answer.values;
     match answer.code {
         0 => Ok(Sizes {
@@ -27,7 +27,7 @@ fn sizes(answer: PlanAnswer) -> Result<Sizes, Refusal> {
             state_words: third,
             sram_words: fourth,
         }),
-        number => Err(Refusal::of(number, first, second)),
+        number => Err(Refusal::of(number, first, second, edition(plan).unwrap_or_default())),
     }
 }
 
@@ -54,13 +54,21 @@ pub fn build(plan: &[u8]) -> Result<Script, Refusal> {
     words.truncate(sizes.words);
     words.shrink_to_fit();
     let Sizes { state_words, sram_words, .. } = sizes;
-    Ok(Script { blocks: blocks(plan), starts, words, state_words, sram_words, pieces })
+    Ok(Script {
+        edition: edition(plan).expect("29 is excluded"),
+        blocks: blocks(plan),
+        starts,
+        words,
+        state_words,
+        sram_words,
+        pieces,
+    })
 }
 
 /// `plan_sizes` with a lent room of `plan_room` words or more. It holds zeros afterwards, but for refusal 32, which
 /// changes nothing.
 pub fn plan_sizes_into(plan: &[u8], room: &mut [u32]) -> Result<Sizes, Refusal> {
-    sizes(ffi::plan_sizes(plan, room))
+    sizes(plan, ffi::plan_sizes(plan, room))
 }
 
 /// `build` with lent slices: starts, words and pieces (the piece size that won, one a part) are filled from their beginning, the
@@ -72,5 +80,5 @@ pub fn build_into(
     words: &mut [u32],
     pieces: &mut [u32],
 ) -> Result<Sizes, Refusal> {
-    sizes(ffi::build(plan, room, starts, words, pieces))
+    sizes(plan, ffi::build(plan, room, starts, words, pieces))
 }

@@ -2,14 +2,10 @@
 
 use crate::ffi;
 use crate::refusal::Refusal;
-use plan::Pin;
+use plan::{Edition, Pin};
 use std::collections::HashMap;
 
 const MOST_PIN: u32 = 1 << 30;
-/// Slots of a stage, as a plan record has them: slot j of level h is word 2^(13-h) + j - 1.
-pub const STAGE_SLOTS: usize = 16383;
-/// Slots of levels 1 and up: a placing lists so many entries more than it was given, at most.
-pub const COUNTED_SLOTS: usize = 8191;
 
 /// Words of working room where the count list has so many words.
 #[must_use]
@@ -17,7 +13,7 @@ pub fn repair_room(count_words: usize) -> usize {
     65536 + 4 * ((count_words + 1) / 2)
 }
 
-/// A slot of a level: level 0 to 13, slot below 2^(13-level).
+/// A slot of a level: level 0 to 13, slot below 2^(13-level); in the small edition 12 in the place of 13.
 #[derive(Debug, Clone, Copy, PartialEq, Eq)]
 pub struct Place {
     /// The level.
@@ -37,7 +33,7 @@ pub struct Netlist<'a> {
 
 /// What is lent to be written: the stage's slots, the new count list, and working room of `repair_room` words.
 pub struct RepairSlices<'a> {
-    /// The stage's slots, `STAGE_SLOTS` of them.
+    /// The stage's slots, `Edition::stage_slots` of them.
     pub slots: &'a mut [u32],
     /// The new count list.
     pub after: &'a mut [u32],
@@ -47,10 +43,10 @@ pub struct RepairSlices<'a> {
 
 /// How often each pin stands at levels 1 and up of a stage, as a count list. What is no pin is left out.
 #[must_use]
-pub fn stage_counts(slots: &[u32]) -> Vec<u32> {
+pub fn stage_counts(slots: &[u32], edition: Edition) -> Vec<u32> {
     let mut counts: Vec<u32> = Vec::new();
     let mut places = HashMap::new();
-    for &pin in slots.iter().take(COUNTED_SLOTS).filter(|&&pin| pin <= MOST_PIN) {
+    for &pin in slots.iter().take(edition.counted_slots()).filter(|&&pin| pin <= MOST_PIN) {
         let place = *places.entry(pin).or_insert(counts.len());
         if place == counts.len() {
             counts.extend([pin, 0]);
@@ -93,8 +89,9 @@ pub fn place_bit(
     slots: &mut [u32],
     place: Place,
     node: Pin,
+    edition: Edition,
 ) -> Result<Vec<u32>, Refusal> {
-    lending(counts, slots, |lent| place_bit_into(netlist, counts, lent, place, node))
+    lending(counts, slots, edition, |lent| place_bit_into(netlist, counts, lent, place, node, edition))
 }
 
 /// Clears a place and all under it, down to empty slots. Gives the new count list, in any order.
@@ -102,18 +99,24 @@ pub fn place_bit(
 #[doc = "```"]
 #[doc = include_str!("../examples/purge_bit.rs")]
 #[doc = "```"]
-pub fn purge_bit(counts: &[u32], slots: &mut [u32], place: Place) -> Result<Vec<u32>, Refusal> {
-    lending(counts, slots, |lent| purge_bit_into(counts, lent, place))
+pub fn purge_bit(
+    counts: &[u32],
+    slots: &mut [u32],
+    place: Place,
+    edition: Edition,
+) -> Result<Vec<u32>, Refusal> {
+    lending(counts, slots, edition, |lent| purge_bit_into(counts, lent, place, edition))
 }
 
 /// Calls with room and a count list that is long enough.
 fn lending(
     counts: &[u32],
     slots: &mut [u32],
+    edition: Edition,
     call: impl FnOnce(RepairSlices<'_>) -> Result<usize, Refusal>,
 ) -> Result<Vec<u32>, Refusal> {
     let mut room = vec![0; repair_room(counts.len())];
-    let mut after = vec![0; counts.len() + 2 * COUNTED_SLOTS];
+    let mut after = vec![0; counts.len() + 2 * edition.counted_slots()];
     let entries = call(RepairSlices { slots, after: &mut after, room: &mut room })?;
     after.truncate(2 * entries);
     Ok(after)
@@ -127,16 +130,24 @@ pub fn place_bit_into(
     lent: RepairSlices<'_>,
     place: Place,
     node: Pin,
+    edition: Edition,
 ) -> Result<usize, Refusal> {
     let Netlist { gates, levels } = netlist;
     let RepairSlices { slots, after, room } = lent;
-    let answer = ffi::place_bit(gates, levels, counts, slots, after, room, place.level, place.slot, node.0);
+    let Place { level, slot } = place;
+    let edition = edition.number();
+    let answer = ffi::place_bit(gates, levels, counts, slots, after, room, level, slot, node.0, edition);
     Refusal::check(answer).map(|entries| entries as usize)
 }
 
 /// `purge_bit` likewise.
-pub fn purge_bit_into(counts: &[u32], lent: RepairSlices<'_>, place: Place) -> Result<usize, Refusal> {
+pub fn purge_bit_into(
+    counts: &[u32],
+    lent: RepairSlices<'_>,
+    place: Place,
+    edition: Edition,
+) -> Result<usize, Refusal> {
     let RepairSlices { slots, after, room } = lent;
-    Refusal::check(ffi::purge_bit(counts, slots, after, room, place.level, place.slot))
+    Refusal::check(ffi::purge_bit(counts, slots, after, room, place.level, place.slot, edition.number()))
         .map(|entries| entries as usize)
 }

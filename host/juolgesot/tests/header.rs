@@ -19,19 +19,24 @@ fn rooms_and_results() {
         ("PLAN_ROOM", plan_room(&[]) as usize),
         ("REPAIR_ROOM", repair_room(0)),
         ("ENTRY_ROOM", repair_room(2) - repair_room(0)),
-        ("STAGE_SLOTS", STAGE_SLOTS),
-        ("COUNTED_SLOTS", COUNTED_SLOTS),
+        ("FULL", Edition::Full.number() as usize),
+        ("SMALL", Edition::Small.number() as usize),
+        ("STAGE_SLOTS", Edition::Full.stage_slots()),
+        ("COUNTED_SLOTS", Edition::Full.counted_slots()),
+        ("ROUND_WORDS", Edition::Full.round_words()),
+        ("SMALL_STAGE_SLOTS", Edition::Small.stage_slots()),
+        ("SMALL_COUNTED_SLOTS", Edition::Small.counted_slots()),
+        ("SMALL_ROUND_WORDS", Edition::Small.round_words()),
         ("AIGER_HEADER", AIGER_HEADER),
         ("AIGER_GATE", AIGER_GATE),
         ("MOST_ROUNDS", MOST_ROUNDS),
-        ("ROUND_WORDS", ROUND_WORDS),
         ("LIST_TEXT", LIST_TEXT),
     ];
     for (name, number) in pairs {
         assert_eq!(defined(name), Some(number), "{}", name);
     }
     // A plan of one major stage with three parts.
-    let words = [1u32, 1, 0, 0, 0, 3];
+    let words = [1u32, 1, 0, 0, 0, 256, 0, 0, 0, 3];
     let record: Vec<u8> = words.iter().flat_map(|word| word.to_le_bytes()).collect();
     assert_eq!((plan_room(&record) - plan_room(&[])) as usize, 3 * defined("PART_ROOM").unwrap());
 }

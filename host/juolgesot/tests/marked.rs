@@ -1,6 +1,8 @@
-//! Document 01's marked small set, M1 to M10, through this crate.
+//! Document 01's marked small set, M1 to M10, through this crate. It is of the full edition.
 
 use juolgesot::*;
+
+const FULL: Edition = Edition::Full;
 
 /// Where the sections of a part's stages begin: behind its head and its rounds.
 fn stage_section(script: &Script, head: PartHead, stage: u64) -> &[u32] {
@@ -16,7 +18,7 @@ fn entry(section: &[u32], i: usize) -> u32 {
 
 fn heads(script: &Script, stage: usize) -> Vec<PartHead> {
     let starts = script.stage_starts(stage);
-    starts.windows(2).flat_map(|range| part_heads(&script.words, range[0], range[1])).collect()
+    starts.windows(2).flat_map(|range| part_heads(&script.words, range[0], range[1], FULL)).collect()
 }
 
 /// A stage that carries pin 1 from slot 0 of level 0 to slot 0 of level 1, with these locations.
@@ -38,13 +40,13 @@ fn plan(blocks: u32, parts: Vec<Part>) -> Plan {
 
 #[test]
 fn m1_empty_read_set() {
-    assert_eq!(read_rounds(&[]), Err(Refusal::NothingToRead { part: 0 }));
+    assert_eq!(read_rounds(&[], FULL), Err(Refusal::NothingToRead { part: 0 }));
 }
 
 /// The listing's set is placed as one piece.
 #[test]
 fn m2_size() {
-    assert_eq!(read_rounds(&[(0, 3), (1, 0x20), (0x8000_0000, 1)]).unwrap().size, 3);
+    assert_eq!(read_rounds(&[(0, 3), (1, 0x20), (0x8000_0000, 1)], FULL).unwrap().size, 3);
 }
 
 /// The listing's set has local positions 1, 0, 32 and 64: a stage that reads them has these entries.
@@ -72,16 +74,16 @@ fn m2_local_positions() {
 fn m2_local_positions_of_the_set() {
     let set = [(0, 3), (1, 0x20), (0x8000_0000, 1)];
     let positions = [(0, 0), (0, 1), (1, 5), (0x8000_0000, 0)]
-        .map(|(word, bit)| local_position(&set, word, bit).unwrap());
+        .map(|(word, bit)| local_position(&set, word, bit, FULL).unwrap());
     assert_eq!(positions, [1, 0, 32, 64].map(|position| Some(LocalPosition(position))));
-    assert_eq!(local_position(&set, 0, 2), Ok(None));
-    assert_eq!(local_position(&[], 0, 0), Err(Refusal::NothingToRead { part: 0 }));
+    assert_eq!(local_position(&set, 0, 2, FULL), Ok(None));
+    assert_eq!(local_position(&[], 0, 0, FULL), Err(Refusal::NothingToRead { part: 0 }));
 }
 
 #[test]
 fn m3_256_words_of_17_bits() {
     let pairs: Vec<_> = (0..256).map(|word| (word, 0x1_FFFF)).collect();
-    let packed = read_rounds(&pairs).unwrap();
+    let packed = read_rounds(&pairs, FULL).unwrap();
     assert_eq!((packed.rounds, packed.size), (1, 256));
     assert!((0..256).all(|lane| packed.read(lane, 0) == Some((lane as u32, 0x1_FFFF))));
 }
@@ -89,7 +91,7 @@ fn m3_256_words_of_17_bits() {
 #[test]
 fn m4_257_of_them() {
     let pairs: Vec<_> = (0..257).map(|word| (word, 0x1_FFFF)).collect();
-    assert_eq!(read_rounds(&pairs), Err(Refusal::TooManyWideWords { part: 0 }));
+    assert_eq!(read_rounds(&pairs, FULL), Err(Refusal::TooManyWideWords { part: 0 }));
 }
 
 /// 8192 bits of which 254 words of 32 bits, one of 10, two of 16 and two of 11 have a packing that no piece size finds.
@@ -97,22 +99,22 @@ fn m4_257_of_them() {
 fn the_search_ended_at_word_254() {
     let bits = [vec![32; 254], vec![10, 16, 16, 11, 11]].concat();
     let pairs: Vec<_> = (0..).zip(bits.iter().map(|&bits| u32::MAX >> (32 - bits))).collect();
-    assert_eq!(read_rounds(&pairs), Err(Refusal::NoLane { part: 0, word: 254 }));
+    assert_eq!(read_rounds(&pairs, FULL), Err(Refusal::NoLane { part: 0, word: 254 }));
 }
 
 #[test]
 fn one_bit_too_many() {
     let mut pairs: Vec<_> = (0..256).map(|word| (word, u32::MAX)).collect();
-    assert_eq!(read_rounds(&pairs).unwrap().size, 256);
+    assert_eq!(read_rounds(&pairs, FULL).unwrap().size, 256);
     pairs.push((256, 1));
-    assert_eq!(read_rounds(&pairs), Err(Refusal::TooManyBits { part: 0 }));
+    assert_eq!(read_rounds(&pairs, FULL), Err(Refusal::TooManyBits { part: 0 }));
 }
 
 #[test]
 fn m5_the_fifth_piece_size_wins() {
     let mut pairs: Vec<_> = (0..256).map(|word| (word, 1)).collect();
     pairs.push((256, u32::MAX));
-    let packed = read_rounds(&pairs).unwrap();
+    let packed = read_rounds(&pairs, FULL).unwrap();
     assert_eq!((packed.rounds, packed.size), (2, 16));
     assert_eq!(packed.read(0, 0), Some((256, u32::MAX)));
     assert_eq!(packed.read(1, 1), Some((255, 1)));
@@ -149,7 +151,7 @@ fn m8_blocks_and_state_starts() {
     let script = build(&plan.record()).unwrap();
     let starts = script.stage_starts(0);
     let block = |block: usize| -> Vec<(u32, u32)> {
-        let heads = part_heads(&script.words, starts[block], starts[block + 1]);
+        let heads = part_heads(&script.words, starts[block], starts[block + 1], FULL);
         heads.map(|head| (head.stages, head.state_start)).collect()
     };
     // Block 0 has parts 0 and 3, block 1 parts 1 and 2; by part the starts are 2, 4, 5, 3.
@@ -183,10 +185,10 @@ fn m10_a_gate_is_run() {
     plan.input(Pin(2));
     plan.gate(Pin(3), Pin(1).plain(), Pin(2).inverted());
     let script = build(&plan.record()).unwrap();
-    let turns = finishing_turns(&script.words, script.stage_starts(0));
+    let turns = finishing_turns(&script.words, script.stage_starts(0), FULL);
     for (old, stored) in [(1, 1), (3, 0xFFFF_FFFE)] {
         let mut new = [0, 0];
-        assert_eq!(run(&script.words, script.stage_starts(0), &turns, &[old, 0], &mut new), Ok(0));
+        assert_eq!(run(&script.words, script.stage_starts(0), &turns, &[old, 0], &mut new, FULL), Ok(0));
         assert_eq!(new, [0, stored]);
     }
 }

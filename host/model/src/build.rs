@@ -30,14 +30,9 @@ pub struct Accepted<'a> {
     pub pieces: Vec<u32>,
 }
 
-/// Refusals 5 to 13, each over the whole plan before the next, then 3, 21, 22 and 4 likewise. The record names no edition yet: it is of
-/// the full one.
+/// Refusals 29 and 5 to 13, each over the whole plan before the next, then 3, 21, 22 and 4 likewise.
 pub fn accept(record_bytes: usize, words: &[u32]) -> Result<Accepted<'_>, Refused> {
-    accept_plan(record::plan(record_bytes, words).ok_or(Refused::plain(5))?)
-}
-
-/// The same of a plan in form, whatever its edition is.
-fn accept_plan(plan: Plan<'_>) -> Result<Accepted<'_>, Refused> {
+    let plan = record::plan(record_bytes, words)?;
     let refuse = |fault: Option<Refused>| fault.map_or(Ok(()), Err);
     refuse(plan::gate_fault(&plan))?;
     let counts: Vec<Counts> = plan.parts.iter().map(plan::counts).collect();
@@ -140,17 +135,68 @@ mod tests {
     /// What a plan of its edition is refused by; none where it is accepted.
     fn refusal(made: &Made) -> Option<Refused> {
         let words = made.words();
-        let plan = record::read_as(made.edition, 4 * words.len(), &words).expect("a plan in form");
-        accept_plan(plan).err()
+        accept(4 * words.len(), &words).err()
     }
 
-    /// The public way is that of the full edition.
+    /// "29 unknown edition, before 1, 5 and 15". A record that ends before word 5 is of none.
     #[test]
-    fn a_plan_is_of_the_full_edition() {
-        let words = m10(Edition::FULL).words();
-        assert_eq!(accept(4 * words.len(), &words).unwrap().plan.edition, Edition::FULL);
-        let words = m10(Edition::SMALL).words();
-        assert_eq!(accept(4 * words.len(), &words).err(), Some(Refused::plain(5)));
+    fn a_record_names_its_edition() {
+        for edition in BOTH {
+            let mut words = m10(edition).words();
+            let of = |words: &[u32], bytes: usize| accept(bytes, words).map(|plan| plan.plan.edition);
+            assert_eq!(of(&words, 4 * words.len()).ok(), Some(edition));
+            // A record of the other edition has not the length that its counts give.
+            words[5] = 384 - edition.number();
+            assert_eq!(of(&words, 4 * words.len()).err(), Some(Refused::plain(5)));
+            for number in [0, 1, 127, 129, 255, 257, 1 << 16, 256 + (1 << 31), u32::MAX] {
+                words[5] = number;
+                assert_eq!(of(&words, 4 * words.len()).err(), Some(Refused::plain(29)));
+                // Whatever else is wrong.
+                assert_eq!(of(&words[..7], 30).err(), Some(Refused::plain(29)));
+            }
+            words[5] = edition.number();
+            for length in 0..6 {
+                assert_eq!(of(&words[..length], 4 * length + 3).err(), Some(Refused::plain(29)));
+            }
+            assert_eq!(of(&words[..6], 24).err(), Some(Refused::plain(5)));
+        }
+    }
+
+    /// "A word whose request has not landed must be 0, else 5 (an endpoint's fourth word is not looked at)."
+    #[test]
+    fn words_of_later_requests() {
+        for edition in BOTH {
+            let mut made = m10(edition);
+            made.positions = vec![[9, 4, 1, 0]];
+            made.parts[0].endpoints = vec![[0, 6, 0, 0], [2, 6, 1, 0], [3, 0, 0, 0]];
+            let words = made.words();
+            // Head, count, gate, layout, position, part head.
+            let (position, head) = (9 + 1 + 3 + 2, 9 + 1 + 3 + 2 + 4);
+            assert_eq!(words[position..head + 4], [9, 4, 1, 0, 1, 3, 0, 0]);
+            assert_eq!(refusal(&made), None);
+            for at in [6, 7, 8, position + 3, head + 2, head + 3] {
+                for value in [1, 2, 256, u32::MAX] {
+                    let mut words = words.clone();
+                    words[at] = value;
+                    let refused = accept(4 * words.len(), &words).err();
+                    assert_eq!(refused, Some(Refused::plain(5)), "word {} is {}", at, value);
+                }
+            }
+            for endpoint in &mut made.parts[0].endpoints {
+                endpoint[3] = u32::MAX;
+            }
+            assert_eq!(refusal(&made), None);
+        }
+    }
+
+    /// 32 looks at words 1 and 9 .. alone, "whatever the edition word says".
+    #[test]
+    fn room_of_a_record() {
+        assert_eq!(record::room_words(&[]), 65536);
+        assert_eq!(record::room_words(&[0, 2, 9, 9, 9, 7, 9, 9, 9, 3, 4, 100]), 65536 + 16 * 7);
+        assert_eq!(record::room_words(&[0, 3, 9, 9, 9, 7, 9, 9, 9, 3, 4]), 65536 + 16 * 7);
+        let long: Vec<u32> = [vec![5, u32::MAX], vec![0; 7], vec![1; 100]].concat();
+        assert_eq!(record::room_words(&long), 65536 + 16 * 64);
     }
 
     /// M10 in both editions: lengths and layout of its words, and what they store (empty slots gather local position 0).
@@ -159,8 +205,7 @@ mod tests {
         for (edition, part_words, tail) in [(Edition::FULL, 16128, 2048), (Edition::SMALL, 8064, 1024)] {
             let made = Made { blocks: 2, ..m10(edition) };
             let record = made.words();
-            let plan = record::read_as(edition, 4 * record.len(), &record).expect("a plan in form");
-            let accepted = accept_plan(plan).ok().expect("a plan in order");
+            let accepted = accept(4 * record.len(), &record).ok().expect("a plan in order");
             let (words, starts) = (accepted.words(), accepted.starts());
             let lanes = edition.lanes();
             assert_eq!(starts, [0, part_words, part_words + lanes as u64]);
@@ -204,7 +249,7 @@ mod tests {
             assert_eq!(with(vec![1; lanes as usize + 1]), Some(Refused::at(7, 0, lanes as usize + 1)));
             // An SRAM takes a write-out word too.
             let mut made = m10(edition);
-            made.parts[0].endpoints = vec![[3, 0, 0]];
+            made.parts[0].endpoints = vec![[3, 0, 0, 0]];
             made.parts[0].stages[0].1 = vec![1; lanes as usize - 1];
             assert_eq!(refusal(&made), None);
             made.parts[0].stages[0].1.push(1);

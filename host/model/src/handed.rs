@@ -77,11 +77,12 @@ pub fn lane_rounds(
     }
     let edition = Edition::numbered(edition).ok_or((29, 0))?;
     rounds::check_form(set)?;
-    let words = rounds::section(edition, &outcome(edition, &rounds::pairs_of(set), lanes)?);
+    let lanes = outcome(edition, &rounds::pairs_of(set), lanes)?;
+    let words = rounds::section(edition, &lanes);
     if out < words.len() {
         return Err((14, 0));
     }
-    Ok(Answer { words, size: SIZE })
+    Ok(Answer { rounds: rounds::rounds(&lanes), words, size: SIZE })
 }
 
 #[cfg(test)]

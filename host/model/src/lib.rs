@@ -1,7 +1,6 @@
-//! A plain Rust model of document 01, and of document 02's requests as far as they have landed (1, 2, 4, 5, 7 and 11/13),
-//! written from their text and not from GEM's code. All of it is over an edition's lanes; plans, and calls through the C ABI, are of
-//! the full one until 10/13 lands. Of 8/13 and 9/13 there is what is said of bare words
-//! (`handed`, `report`), before they land.
+//! A plain Rust model of document 01, and of document 02's requests as far as they have landed (1, 2, 4, 5, 7, 10 and 11/13),
+//! written from their text and not from GEM's code. All of it is over an edition's lanes. Of 8/13 and 9/13 there is what is said of
+//! bare words (`handed`, `report`), before they land.
 //!
 //! It is the second opinion of the comparisons: held to GEM's Rust on every case where GEM's
 //! sources are at hand, and the reference where they are not.

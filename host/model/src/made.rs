@@ -10,7 +10,7 @@ pub struct Part {
     pub stages: Vec<(Vec<u32>, Vec<u32>)>,
     pub sram_table: Vec<u32>,
     pub enable_table: Vec<u32>,
-    pub endpoints: Vec<[u32; 3]>,
+    pub endpoints: Vec<[u32; 4]>,
 }
 
 /// A plan of one major stage, with pins 1 and 2 at state bits 0 and 1 and the gate 3 = 1 and not 2.
@@ -18,6 +18,7 @@ pub struct Made {
     pub edition: Edition,
     pub blocks: u32,
     pub layout: Vec<u32>,
+    pub positions: Vec<[u32; 4]>,
     pub parts: Vec<Part>,
 }
 
@@ -35,17 +36,20 @@ pub fn m10(edition: Edition) -> Made {
         enable_table,
         endpoints: Vec::new(),
     };
-    Made { edition, blocks: 1, layout: vec![1, 2], parts: vec![part] }
+    Made { edition, blocks: 1, layout: vec![1, 2], positions: Vec::new(), parts: vec![part] }
 }
 
 impl Made {
     /// The words of its record.
     pub fn words(&self) -> Vec<u32> {
-        let mut words =
-            vec![self.blocks, 1, 1, self.layout.len() as u32, 0, self.parts.len() as u32, 3, 2, 5];
+        let (layout, positions) = (self.layout.len() as u32, self.positions.len() as u32);
+        let mut words = vec![self.blocks, 1, 1, layout, positions, self.edition.number(), 0, 0, 0];
+        words.push(self.parts.len() as u32);
+        words.extend([3, 2, 5]);
         words.extend(&self.layout);
+        words.extend(self.positions.iter().flatten());
         for part in &self.parts {
-            words.extend([part.stages.len() as u32, part.endpoints.len() as u32]);
+            words.extend([part.stages.len() as u32, part.endpoints.len() as u32, 0, 0]);
         }
         for part in &self.parts {
             words.extend(part.endpoints.iter().flatten());

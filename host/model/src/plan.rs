@@ -2,7 +2,7 @@
 //! place (part, item) of one refusal, if there is any.
 
 use crate::blocks::Blocks;
-use crate::record::{below, is_pin, Part, Plan, EMPTY};
+use crate::record::{below, is_pin, Part, Plan, EMPTY, ENDPOINT, POSITION};
 use crate::Refused;
 use std::collections::{HashMap, HashSet};
 
@@ -24,13 +24,13 @@ pub fn counts(part: &Part<'_>) -> Counts {
     counts_of(part.endpoints, part.stages.iter().map(|stage| stage.locations.len() as u64).sum())
 }
 
-/// The counts of these endpoints (kind, x, y) and so many locations. Activations are pairs (d, en): output i is
+/// The counts of these endpoints (kind, x, y, any) and so many locations. Activations are pairs (d, en): output i is
 /// (i, 1), staged pin p is (2p, 1).
 pub fn counts_of(endpoints: &[u32], locations: u64) -> Counts {
     let mut activations = HashSet::new();
     let mut pins = HashSet::new();
     let mut srams = 0;
-    for endpoint in endpoints.chunks(3) {
+    for endpoint in endpoints.chunks(ENDPOINT) {
         let (d, en) = match endpoint[0] {
             0 => (endpoint[1], 1),
             1 => (2 * endpoint[1], 1),
@@ -177,7 +177,7 @@ impl Found {
                 unstaged.insert(pin, index as u32);
             }
         }
-        for entry in plan.positions.chunks(3) {
+        for entry in plan.positions.chunks(POSITION) {
             let map = if entry[2] == 0 { &mut unstaged } else { &mut staged };
             map.insert(entry[0], entry[1]);
         }

@@ -1,7 +1,8 @@
-//! The plan record, and refusal 5: "a number outside 'Plan ranges', slots excepted; unknown kind; a list not as
-//! long as its count".
+//! The plan record; refusal 29, and 5: "a number outside 'Plan ranges', slots excepted; unknown kind; a list not as
+//! long as its count". Words of requests that have not landed are 0, else 5.
 
 use crate::edition::Edition;
+use crate::Refused;
 
 pub const EMPTY: u32 = u32::MAX;
 pub const MOST_PIN: u32 = 1 << 30;
@@ -10,6 +11,14 @@ pub const MOST_INVERTED_PIN: u32 = 2 * MOST_PIN + 1;
 /// Words of a plan's room without those of its parts.
 pub const PLAN_ROOM: u64 = 65536;
 pub const PART_ROOM: u64 = 16;
+/// Words of the head, of a gate, of a position, of a part's head and of an endpoint.
+const HEAD: usize = 9;
+pub const GATE: usize = 3;
+pub const POSITION: usize = 4;
+const PART_HEAD: usize = 4;
+pub const ENDPOINT: usize = 4;
+/// The word of the head that names the edition.
+const EDITION: usize = 5;
 
 /// A plan in form, over the words of its record.
 pub struct Plan<'a> {
@@ -20,7 +29,7 @@ pub struct Plan<'a> {
     /// Pin, first fan-in, second fan-in.
     pub gates: &'a [u32],
     pub layout: &'a [u32],
-    /// Pin, state position, mark.
+    /// Pin, state position, mark, 0.
     pub positions: &'a [u32],
     /// Counted on through the major stages.
     pub parts: Vec<Part<'a>>,
@@ -28,7 +37,7 @@ pub struct Plan<'a> {
 
 pub struct Part<'a> {
     pub major: usize,
-    /// Kind, x, y.
+    /// Kind, x, y, and a word that is not looked at.
     pub endpoints: &'a [u32],
     pub stages: Vec<Stage<'a>>,
     pub sram_table: &'a [u32],
@@ -77,7 +86,7 @@ pub fn words(record: &[u8]) -> Vec<u32> {
 pub fn room_words(words: &[u32]) -> u64 {
     let word = |index: usize| words.get(index).copied().unwrap_or(0) as u64;
     let majors = word(1).min(64) as usize;
-    let parts: u64 = (0..majors).map(|major| word(5 + major)).sum();
+    let parts: u64 = (0..majors).map(|major| word(HEAD + major)).sum();
     PLAN_ROOM + PART_ROOM * parts
 }
 
@@ -107,56 +116,87 @@ impl<'a> Cursor<'a> {
     }
 }
 
-/// The plan, where it is not refused by 5.
-pub fn plan(record_bytes: usize, words: &[u32]) -> Option<Plan<'_>> {
-    read(record_bytes, words).ok()
+/// What refuses a record: 29 or 5, and why.
+#[derive(Debug, Clone, PartialEq, Eq)]
+pub struct Fault {
+    pub number: u32,
+    pub what: String,
+}
+
+impl From<Fault> for String {
+    fn from(fault: Fault) -> String {
+        fault.what
+    }
+}
+
+/// The plan, where it is refused by neither 29 nor 5.
+pub fn plan(record_bytes: usize, words: &[u32]) -> Result<Plan<'_>, Refused> {
+    read(record_bytes, words).map_err(|fault| Refused::plain(fault.number))
 }
 
 const PIN: &str = "a pin, 0 to 2^30";
 const INVERTED_PIN: &str = "twice a pin or 1 more, 0 to 2^31 + 1";
+const ZERO: &str = "0";
 
-/// The plan, or what it is refused for by 5. It is of the full edition: the record names none yet.
-pub fn read(record_bytes: usize, words: &[u32]) -> Result<Plan<'_>, String> {
-    read_as(Edition::FULL, record_bytes, words)
+/// The plan, or what it is refused for. 29 comes first; a record that has not the whole of its word has none of the editions.
+pub fn read(record_bytes: usize, words: &[u32]) -> Result<Plan<'_>, Fault> {
+    let number = words.get(EDITION).copied().unwrap_or(0);
+    let edition = Edition::numbered(number).ok_or_else(|| {
+        let what = match words.len() > EDITION {
+            true => format!("word {}, its edition, is 256 or 128, not {}", EDITION, number),
+            false => format!("its edition would be word {}, and there are {}", EDITION, words.len()),
+        };
+        Fault { number: 29, what }
+    })?;
+    read_as(edition, record_bytes, words).map_err(|what| Fault { number: 5, what })
 }
 
-/// The same of an edition's plan.
-pub(crate) fn read_as(edition: Edition, record_bytes: usize, words: &[u32]) -> Result<Plan<'_>, String> {
+/// The plan, whose edition is known, or what it is refused for by 5.
+fn read_as(edition: Edition, record_bytes: usize, words: &[u32]) -> Result<Plan<'_>, String> {
     if record_bytes % 4 != 0 {
         return Err(format!("its {} bytes are no whole words", record_bytes));
     }
     let mut cursor = Cursor { words, at: 0 };
-    if words.len() < 5 {
-        return Err(format!("its first five numbers would be words 0 to 4, and there are {}", words.len()));
+    if words.len() < HEAD {
+        return Err(format!("its first nine numbers would be words 0 to 8, and there are {}", words.len()));
     }
     for (index, name, low, high) in [
         (0, "the number of blocks", 1, 1024),
         (1, "the number of major stages", 1, 64),
         (3, "the length of the input layout", 0, 1 << 20),
         (4, "the number of positions", 0, 1 << 20),
+        (6, "the number of gates of a second design", 0, 0),
+        (7, "the length of its input layout", 0, 0),
+        (8, "the kind of check", 0, 0),
     ] {
         if !(low..=high).contains(&words[index]) {
-            return Err(cursor.fault(index, name, &format!("{} to {}", low, high)));
+            let range = if high == 0 { ZERO.to_string() } else { format!("{} to {}", low, high) };
+            return Err(cursor.fault(index, name, &range));
         }
     }
-    let head = cursor.take(5, "the head")?;
+    let head = cursor.take(HEAD as u64, "the head")?;
     let counts = part_counts(&mut cursor, head[1])?;
     let gates = gates(&mut cursor, head[2])?;
     let layout = layout(&mut cursor, head[3])?;
     let positions = positions(&mut cursor, head[4])?;
     let all: u64 = counts.iter().map(|&count| count as u64).sum();
     let heads_at = cursor.at;
-    let heads = cursor.take(2 * all, "the heads of the parts")?;
+    let heads = cursor.take(PART_HEAD as u64 * all, "the heads of the parts")?;
     let majors_of_parts =
         counts.iter().enumerate().flat_map(|(major, &count)| (0..count).map(move |_| major));
     let mut parts = Vec::new();
-    for (part, (head, major)) in heads.chunks(2).zip(majors_of_parts).enumerate() {
-        let head_at = Cursor { words, at: heads_at + 2 * part };
+    for (part, (head, major)) in heads.chunks(PART_HEAD).zip(majors_of_parts).enumerate() {
+        let head_at = Cursor { words, at: heads_at + PART_HEAD * part };
         if !(1..=255).contains(&head[0]) {
             return Err(head_at.fault(0, &format!("the boomerang stages of part {}", part), "1 to 255"));
         }
         if head[1] > 8192 {
             return Err(head_at.fault(1, &format!("the endpoints of part {}", part), "0 to 8192"));
+        }
+        for (word, name) in [(2, "design"), (3, "number of words of lanes handed in")] {
+            if head[word] != 0 {
+                return Err(head_at.fault(word, &format!("the {} of part {}", name, part), ZERO));
+            }
         }
         parts.push(self::part(edition, &mut cursor, part, head[0], head[1], major)?);
     }
@@ -182,7 +222,7 @@ fn part_counts<'a>(cursor: &mut Cursor<'a>, majors: u32) -> Result<&'a [u32], St
 
 fn gates<'a>(cursor: &mut Cursor<'a>, count: u32) -> Result<&'a [u32], String> {
     let before = cursor.at;
-    let gates = cursor.take(3 * count as u64, &format!("the list of {} gates", count))?;
+    let gates = cursor.take(GATE as u64 * count as u64, &format!("the list of {} gates", count))?;
     let is_good = |(index, &number): (usize, &u32)| match index % 3 {
         0 => is_pin(number),
         _ => is_inverted(number),
@@ -215,17 +255,23 @@ fn layout<'a>(cursor: &mut Cursor<'a>, count: u32) -> Result<&'a [u32], String> 
 
 fn positions<'a>(cursor: &mut Cursor<'a>, count: u32) -> Result<&'a [u32], String> {
     let before = cursor.at;
-    let positions = cursor.take(3 * count as u64, &format!("the list of {} positions", count))?;
-    let is_good = |(index, &number): (usize, &u32)| match index % 3 {
+    let length = POSITION as u64 * count as u64;
+    let positions = cursor.take(length, &format!("the list of {} positions", count))?;
+    let is_good = |(index, &number): (usize, &u32)| match index % POSITION {
         0 => is_pin(number),
         1 => true,
-        _ => number <= 1,
+        2 => number <= 1,
+        _ => number == 0,
     };
     match positions.iter().enumerate().position(|word| !is_good(word)) {
         None => Ok(positions),
         Some(at) => {
-            let (name, range) = if at % 3 == 0 { ("pin", PIN) } else { ("mark", "0 or 1") };
-            let name = format!("the {} of position {}", name, at / 3);
+            let (name, range) = match at % POSITION {
+                0 => ("pin", PIN),
+                2 => ("mark", "0 or 1"),
+                _ => ("design", ZERO),
+            };
+            let name = format!("the {} of position {}", name, at / POSITION);
             Err(Cursor { at: before, ..*cursor }.fault(at, &name, range))
         }
     }
@@ -241,11 +287,11 @@ fn part<'a>(
 ) -> Result<Part<'a>, String> {
     let of_part = |what: &str| format!("the {} of part {}", what, part);
     let before = cursor.at;
-    let endpoints = cursor.take(3 * endpoints as u64, &of_part("endpoints"))?;
-    for (index, endpoint) in endpoints.chunks(3).enumerate() {
+    let endpoints = cursor.take(ENDPOINT as u64 * endpoints as u64, &of_part("endpoints"))?;
+    for (index, endpoint) in endpoints.chunks(ENDPOINT).enumerate() {
         if let Some((word, name, range)) = endpoint_fault(endpoint[0], endpoint[1], endpoint[2]) {
             let name = format!("the {} of endpoint {} of part {}", name, index, part);
-            return Err(Cursor { at: before, ..*cursor }.fault(3 * index + word, &name, range));
+            return Err(Cursor { at: before, ..*cursor }.fault(ENDPOINT * index + word, &name, range));
         }
     }
     let counts = cursor.take(stages.into(), &of_part("numbers of locations"))?;
@@ -269,7 +315,7 @@ fn is_inverted(number: u32) -> bool {
     number <= MOST_INVERTED_PIN
 }
 
-/// Which of an endpoint's three words is at fault, what it is called and what it is.
+/// Which of an endpoint's first three words is at fault, what it is called and what it is.
 fn endpoint_fault(kind: u32, x: u32, y: u32) -> Option<(usize, &'static str, &'static str)> {
     match kind {
         0 if !is_inverted(x) => Some((1, "output", INVERTED_PIN)),

@@ -146,9 +146,10 @@ pub fn section(edition: Edition, lanes: &Lanes) -> Vec<u32> {
     words
 }
 
-/// What a call is to hand out: the section, and the piece size that won.
+/// What a call is to hand out: the rounds, their section, and the piece size that won.
 #[derive(Debug, Clone, PartialEq, Eq)]
 pub struct Answer {
+    pub rounds: usize,
     pub words: Vec<u32>,
     pub size: usize,
 }
@@ -172,7 +173,7 @@ pub fn answer(
     if out < words.len() {
         return Err((14, 0));
     }
-    Ok(Answer { words, size })
+    Ok(Answer { rounds: rounds(&lanes), words, size })
 }
 
 /// Where the packing brings a bit of a word, or a refusal's number and item: none where no pair asks for the bit.

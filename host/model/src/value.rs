@@ -66,7 +66,7 @@ pub struct Answer {
     pub gate_words: Vec<u32>,
 }
 
-/// What a call answers where the room is long enough: 5, 6, and 14 where so many words for the gates' bits are too few.
+/// What a call answers where the room is long enough: 29, 5, 6, and 14 where so many words for the gates' bits are too few.
 /// The empty pin is no pin.
 pub fn answer(
     record_bytes: usize,
@@ -77,7 +77,7 @@ pub fn answer(
     new: &[u32],
     bits_words: usize,
 ) -> Result<Answer, Refused> {
-    let plan = record::plan(record_bytes, words).ok_or(Refused::plain(5))?;
+    let plan = record::plan(record_bytes, words)?;
     if let Some(fault) = plan::gate_fault(&plan) {
         return Err(fault);
     }

@@ -4,13 +4,9 @@
 #![deny(unsafe_op_in_unsafe_fn)]
 
 use model::build::{accept, Accepted, Sizes};
-use model::edition::Edition;
 use model::repair::{self, Netlist, Place, Repaired};
 use model::{aiger, joins, listing, record, rounds, run, value, Refused};
 use std::slice::{from_raw_parts, from_raw_parts_mut};
-
-/// Until 10/13 lands no call names an edition.
-const EDITION: Edition = Edition::FULL;
 
 /// Writes the result, or a refusal's place, and gives the code.
 fn tell(answer: Result<u64, Refused>, first: &mut u64, second: &mut u64) -> u32 {
@@ -38,19 +34,20 @@ pub unsafe extern "C" fn juolgesot_read_rounds(
     room_len: usize,
     out: *mut u32,
     out_len: usize,
+    edition: u32,
     first: &mut u64,
     second: &mut u64,
 ) -> u32 {
     let (set, room, out) = unsafe {
         (from_raw_parts(set, set_len), from_raw_parts_mut(room, room_len), from_raw_parts_mut(out, out_len))
     };
-    let answer = rounds::answer(set, room_len, out_len, EDITION.number(), rounds::pack);
+    let answer = rounds::answer(set, room_len, out_len, edition, rounds::pack);
     if !matches!(answer, Err((32, _))) {
         room.fill(0);
     }
     let answer = answer.map_err(|(number, item)| Refused { number, part: 0, item }).map(|answer| {
         out[..answer.words.len()].copy_from_slice(&answer.words);
-        ((answer.words.len() / EDITION.round_words()) as u64, answer.size as u64)
+        (answer.rounds as u64, answer.size as u64)
     });
     tell_two(answer, first, second)
 }
@@ -65,11 +62,12 @@ pub unsafe extern "C" fn juolgesot_local_position(
     room_len: usize,
     word: u32,
     bit: u32,
+    edition: u32,
     first: &mut u64,
     second: &mut u64,
 ) -> u32 {
     let (set, room) = unsafe { (from_raw_parts(set, set_len), from_raw_parts_mut(room, room_len)) };
-    let answer = rounds::local_answer(set, room_len, word, bit, EDITION.number(), rounds::pack);
+    let answer = rounds::local_answer(set, room_len, word, bit, edition, rounds::pack);
     if !matches!(answer, Err((32, _))) {
         room.fill(0);
     }
@@ -87,6 +85,7 @@ pub unsafe extern "C" fn juolgesot_list(
     room_len: usize,
     out: *mut u8,
     out_len: usize,
+    edition: u32,
     first: &mut u64,
     second: &mut u64,
 ) -> u32 {
@@ -97,7 +96,7 @@ pub unsafe extern "C" fn juolgesot_list(
             from_raw_parts_mut(out, out_len),
         )
     };
-    let answer = listing::answer(records, room_len, out_len, EDITION.number(), rounds::pack);
+    let answer = listing::answer(records, room_len, out_len, edition, rounds::pack);
     if !matches!(answer, Err(Refused { number: 32, .. })) {
         room.fill(0);
     }
@@ -212,6 +211,7 @@ pub unsafe extern "C" fn juolgesot_run(
     new_len: usize,
     room: *mut u32,
     room_len: usize,
+    edition: u32,
     first: &mut u64,
     second: &mut u64,
 ) -> u32 {
@@ -224,7 +224,7 @@ pub unsafe extern "C" fn juolgesot_run(
         )
     };
     let (new, room) = unsafe { (from_raw_parts_mut(new, new_len), from_raw_parts_mut(room, room_len)) };
-    let answer = run::answer(words, starts, turns, old, new, room.len(), EDITION.number());
+    let answer = run::answer(words, starts, turns, old, new, room.len(), edition);
     if !matches!(answer, Err(Refused { number: 32, .. })) {
         room.fill(0);
     }
@@ -380,6 +380,7 @@ pub unsafe extern "C" fn juolgesot_place_bit(
     level: u32,
     slot: u32,
     node: u32,
+    edition: u32,
     first: &mut u64,
     second: &mut u64,
 ) -> u32 {
@@ -398,7 +399,7 @@ pub unsafe extern "C" fn juolgesot_place_bit(
         )
     };
     let netlist = Netlist { gates, levels };
-    let (place, edition) = (Place { level, slot }, EDITION.number());
+    let place = Place { level, slot };
     let answer = repair::place(netlist, counts, slots, after_len, room_len, place, node, edition);
     tell_repaired(answer, slots, after, room, first, second)
 }
@@ -417,6 +418,7 @@ pub unsafe extern "C" fn juolgesot_purge_bit(
     room_len: usize,
     level: u32,
     slot: u32,
+    edition: u32,
     first: &mut u64,
     second: &mut u64,
 ) -> u32 {
@@ -428,6 +430,6 @@ pub unsafe extern "C" fn juolgesot_purge_bit(
             from_raw_parts_mut(room, room_len),
         )
     };
-    let answer = repair::clear(counts, slots, after_len, room_len, Place { level, slot }, EDITION.number());
+    let answer = repair::clear(counts, slots, after_len, room_len, Place { level, slot }, edition);
     tell_repaired(answer, slots, after, room, first, second)
 }

@@ -37,7 +37,7 @@ fn oracle_starts(script: &FlattenedScriptV1, stage: usize, parts: usize) -> Vec<
         for &part in block_parts {
             let words = &script.blocks_data[at..];
             starts[part] = (words[3], words[5]);
-            at += plan::part_words(words[0].into(), words[6].into()) as usize;
+            at += plan::Edition::Full.part_words(words[0].into(), words[6].into()) as usize;
         }
     }
     starts

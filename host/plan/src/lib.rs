@@ -3,6 +3,7 @@
 
 #![deny(missing_docs)]
 
+mod edition;
 pub mod packed;
 mod parts;
 mod script;
@@ -10,27 +11,32 @@ pub mod script_file;
 pub mod stored;
 mod units;
 
-pub use script::{part_heads, part_words, FellBack, PartHead, Script};
+pub use edition::Edition;
+pub use script::{part_heads, FellBack, PartHead, Script};
 pub use units::{LocalPosition, Pin, PinIv, StatePosition};
 
-/// Positions 1..8191, then level 0 (slot j at 8192 + j); index 0 stands for nothing.
-pub const SLOTS: usize = 16384;
-/// Slot 0 of level 0 has this index.
-pub const LEVEL_0: usize = 8192;
-/// Entries of a slot table.
-pub const ENTRIES: usize = 8192;
-/// Lanes of 32 bits.
-pub const LANES: usize = 256;
 /// No pin.
 pub const EMPTY: u32 = u32::MAX;
 
-/// Words before the counts of the major stages.
-pub const HEAD_WORDS: usize = 5;
+/// Words of a record before the counts of the major stages.
+pub const HEAD_WORDS: usize = 9;
+/// The word that names the edition.
+pub const EDITION_WORD: usize = 5;
+/// Words of a gate.
+pub const GATE_WORDS: usize = 3;
+/// Words of a position: pin, state position, 0 or 1 staged, and one that is 0.
+pub const POSITION_WORDS: usize = 4;
+/// Words of a part's head: boomerang stages, endpoints, and two that are 0.
+pub const PART_HEAD_WORDS: usize = 4;
+/// Words of an endpoint: kind, x, y, and one that is not looked at.
+pub const ENDPOINT_WORDS: usize = 4;
 
 /// A plan: where the netlist's pins stand. Its parts are made by `Part::new`, its lists piece by piece by the methods of their
 /// names (`input`, `gate`, `position` ..).
 #[derive(Debug, Clone, Default)]
 pub struct Plan {
+    /// Its edition. All of its stages and tables are of this one.
+    pub edition: Edition,
     /// Blocks of the machine, 1 to 1024.
     pub blocks: u32,
     /// The gate list, ascending by pin.
@@ -116,17 +122,34 @@ impl Endpoint {
 /// A boomerang stage.
 #[derive(Debug, Clone)]
 pub struct Stage {
-    /// A pin or `EMPTY` at each index; `SLOTS` of them, the first one unused.
+    /// A pin or `EMPTY` at each index (`Edition::index`), the first one unused: twice the slots of level 0.
     pub slots: Vec<u32>,
     /// Write-out locations: w captures positions 32w to 32w + 31.
     pub locations: Vec<u32>,
 }
 
 impl Stage {
-    /// A stage without a pin and without locations.
+    /// A stage of the full edition, without a pin and without locations.
     #[must_use]
     pub fn empty() -> Self {
-        Stage { slots: vec![EMPTY; SLOTS], locations: Vec::new() }
+        Stage::empty_of(Edition::Full)
+    }
+
+    /// The same of an edition.
+    #[must_use]
+    pub fn empty_of(edition: Edition) -> Self {
+        Stage { slots: vec![EMPTY; 2 * edition.slots()], locations: Vec::new() }
+    }
+
+    /// The edition whose slots it has.
+    #[must_use]
+    pub fn edition(&self) -> Edition {
+        let small = self.slots.len() == 2 * Edition::Small.slots();
+        if small {
+            Edition::Small
+        } else {
+            Edition::Full
+        }
     }
 }
 
@@ -153,8 +176,8 @@ pub struct Tables {
 impl Tables {
     /// Tables of zeros: every bit is enabled where the first one that the part captures is 1.
     #[must_use]
-    pub fn zeros() -> Self {
-        let (entries, lanes) = (vec![0; ENTRIES], vec![0; LANES]);
+    pub fn zeros(edition: Edition) -> Self {
+        let (entries, lanes) = (vec![0; edition.slots()], vec![0; edition.lanes()]);
         Tables {
             sram: entries.clone(),
             sram_inv: lanes.clone(),
@@ -164,6 +187,14 @@ impl Tables {
             enable_set0: lanes.clone(),
             data_inv: lanes,
         }
+    }
+}
+
+impl Tables {
+    /// Words of both in a record.
+    fn words(&self) -> usize {
+        let Tables { sram, sram_inv, sram_set0, enable, enable_inv, enable_set0, data_inv } = self;
+        [sram, sram_inv, sram_set0, enable, enable_inv, enable_set0, data_inv].into_iter().map(Vec::len).sum()
     }
 }
 
@@ -182,12 +213,16 @@ impl Plan {
             self.gates.len() as u32,
             self.layout.len() as u32,
             self.positions.len() as u32,
+            self.edition.number(),
+            0,
+            0,
+            0,
         ];
         words.extend(self.stages.iter().map(|parts| parts.len() as u32));
         words.extend(self.gates.iter().flat_map(|gate| [gate.pin, gate.first, gate.second]));
         words.extend(&self.layout);
-        words.extend(self.positions.iter().flat_map(|entry| [entry.pin, entry.position, entry.staged]));
-        words.extend(self.parts().flat_map(|part| [part.stages.len() as u32, part.endpoints.len() as u32]));
+        words.extend(self.positions.iter().flat_map(|entry| [entry.pin, entry.position, entry.staged, 0]));
+        words.extend(self.parts().flat_map(Part::head));
         for part in self.parts() {
             part.push_words(&mut words);
         }
@@ -203,20 +238,27 @@ impl Plan {
     /// The word where the part heads begin.
     #[must_use]
     pub fn heads_at(&self) -> usize {
-        HEAD_WORDS + self.stages.len() + 3 * self.gates.len() + self.layout.len() + 3 * self.positions.len()
+        let lists = GATE_WORDS * self.gates.len() + self.layout.len() + POSITION_WORDS * self.positions.len();
+        HEAD_WORDS + self.stages.len() + lists
     }
 
     /// The word where the body of a part begins.
     #[must_use]
     pub fn body_at(&self, part: usize) -> usize {
         let bodies: usize = self.parts().take(part).map(Part::body_words).sum();
-        self.heads_at() + 2 * self.parts().count() + bodies
+        self.heads_at() + PART_HEAD_WORDS * self.parts().count() + bodies
     }
 }
 
 impl Part {
+    /// The words of the part's head in a record.
+    #[must_use]
+    pub fn head(&self) -> [u32; PART_HEAD_WORDS] {
+        [self.stages.len() as u32, self.endpoints.len() as u32, 0, 0]
+    }
+
     fn push_words(&self, words: &mut Vec<u32>) {
-        words.extend(self.endpoints.iter().flat_map(|endpoint| [endpoint.kind, endpoint.x, endpoint.y]));
+        words.extend(self.endpoints.iter().flat_map(|endpoint| [endpoint.kind, endpoint.x, endpoint.y, 0]));
         words.extend(self.stages.iter().map(|stage| stage.locations.len() as u32));
         for stage in &self.stages {
             words.extend(&stage.slots[1..]);
@@ -236,8 +278,9 @@ impl Part {
     /// Words of the part's body.
     #[must_use]
     pub fn body_words(&self) -> usize {
-        let of_stages: usize = self.stages.iter().map(|stage| SLOTS + stage.locations.len()).sum();
-        3 * self.endpoints.len() + of_stages + 2 * ENTRIES + 5 * LANES
+        let of_stages: usize =
+            self.stages.iter().map(|stage| stage.slots.len() + stage.locations.len()).sum();
+        ENDPOINT_WORDS * self.endpoints.len() + of_stages + self.tables.words()
     }
 }
 

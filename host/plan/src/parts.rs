@@ -1,15 +1,18 @@
 //! Plans built by their parts' names, slots by level and slot.
 
-use crate::{Endpoint, Gate, Part, Pin, PinIv, Plan, Position, Stage, StatePosition, Tables, EMPTY};
-
-/// Levels above level 0.
-const LEVELS: u32 = 13;
+use crate::{Edition, Endpoint, Gate, Part, Pin, PinIv, Plan, Position, Stage, StatePosition, Tables, EMPTY};
 
 impl Plan {
-    /// A plan for so many blocks, with nothing in it.
+    /// A plan of the full edition for so many blocks, with nothing in it.
     #[must_use]
     pub fn on_blocks(blocks: u32) -> Self {
-        Plan { blocks, ..Plan::default() }
+        Plan::of_edition(Edition::Full, blocks)
+    }
+
+    /// The same of an edition.
+    #[must_use]
+    pub fn of_edition(edition: Edition, blocks: u32) -> Self {
+        Plan { edition, blocks, ..Plan::default() }
     }
 
     /// The next bit of the input layout is this pin's. Gives its state position.
@@ -40,10 +43,11 @@ impl Plan {
 }
 
 impl Part {
-    /// A part of these boomerang stages, without endpoints; none of its bits is ever enabled.
+    /// A part of these boomerang stages, which are of one edition, without endpoints; none of its bits is ever enabled.
     #[must_use]
     pub fn new(stages: Vec<Stage>) -> Self {
-        Part { endpoints: Vec::new(), stages, tables: Tables::never() }
+        let edition = stages.first().map_or(Edition::Full, Stage::edition);
+        Part { endpoints: Vec::new(), stages, tables: Tables::never(edition) }
     }
 
     /// A primary output is among its endpoints.
@@ -73,23 +77,16 @@ impl Part {
 }
 
 impl Stage {
-    /// The index of a slot of a level in `slots`: position 2^(13-h) + j for slot j of level h, level 0 behind them. None where
-    /// there is no such slot.
-    #[must_use]
-    pub fn index(level: u32, slot: u32) -> Option<usize> {
-        let slots = 1u32.checked_shl(LEVELS.checked_sub(level)?)?;
-        (slot < slots).then(|| (slots + slot) as usize)
-    }
-
     /// Puts a pin to a slot of a level. Panics where there is no such slot.
     pub fn put(&mut self, level: u32, slot: u32, pin: Pin) {
-        self.slots[Stage::index(level, slot).expect("a slot of a level")] = pin.0;
+        let index = self.edition().index(level, slot);
+        self.slots[index.expect("a slot of a level")] = pin.0;
     }
 
     /// The pin at a slot of a level; none where it is empty or there is no such slot.
     #[must_use]
     pub fn at(&self, level: u32, slot: u32) -> Option<Pin> {
-        let pin = *self.slots.get(Stage::index(level, slot)?)?;
+        let pin = *self.slots.get(self.edition().index(level, slot)?)?;
         (pin != EMPTY).then(|| Pin(pin))
     }
 
@@ -102,15 +99,16 @@ impl Stage {
     #[must_use]
     pub fn captured(&self, location: u32, bit: u32) -> Option<Pin> {
         let position = 32 * location as usize + bit as usize;
-        self.slots.get(position).filter(|&&pin| position > 0 && pin != EMPTY).map(|&pin| Pin(pin))
+        let positions = &self.slots[..self.edition().slots()];
+        positions.get(position).filter(|&&pin| position > 0 && pin != EMPTY).map(|&pin| Pin(pin))
     }
 }
 
 impl Tables {
     /// Tables of zeros but that no bit is ever enabled.
     #[must_use]
-    pub fn never() -> Self {
-        let mut tables = Tables::zeros();
+    pub fn never(edition: Edition) -> Self {
+        let mut tables = Tables::zeros(edition);
         tables.enable_set0.fill(u32::MAX);
         tables
     }

@@ -1,10 +1,13 @@
 //! A script in plain form, and how its words are followed.
 
+use crate::Edition;
 use std::fmt;
 
 /// A script: what is run.
 #[derive(Debug, Clone, PartialEq, Eq)]
 pub struct Script {
+    /// Its edition.
+    pub edition: Edition,
     /// Blocks of each major stage.
     pub blocks: usize,
     /// Where each block of each major stage begins, and the end.
@@ -58,7 +61,7 @@ impl Script {
     /// The heads of the parts in the plan's order, through the major stages.
     #[must_use]
     pub fn parts(&self) -> Vec<PartHead> {
-        self.stages().flat_map(|starts| stage_parts(&self.words, starts)).collect()
+        self.stages().flat_map(|starts| stage_parts(&self.words, starts, self.edition)).collect()
     }
 
     /// The parts that fell back to a smaller piece size.
@@ -72,9 +75,9 @@ impl Script {
 
 /// The parts of a major stage in the plan's order. One each is in the first blocks, then the next is in the block of least cost so
 /// far, the lowest on a tie; a part costs its stages and 3. A block's parts are in their order.
-fn stage_parts(words: &[u32], starts: &[u64]) -> Vec<PartHead> {
+fn stage_parts(words: &[u32], starts: &[u64], edition: Edition) -> Vec<PartHead> {
     let mut blocks: Vec<_> =
-        starts.windows(2).map(|range| part_heads(words, range[0], range[1]).peekable()).collect();
+        starts.windows(2).map(|range| part_heads(words, range[0], range[1], edition).peekable()).collect();
     let mut costs = vec![0; blocks.len()];
     let mut parts = Vec::new();
     while blocks.iter_mut().any(|block| block.peek().is_some()) {
@@ -96,15 +99,11 @@ fn stage_parts(words: &[u32], starts: &[u64]) -> Vec<PartHead> {
     parts
 }
 
-/// Words of a part of so many boomerang stages and rounds.
-#[must_use]
-pub const fn part_words(stages: u64, rounds: u64) -> u64 {
-    10496 + 512 * rounds + 5120 * stages
-}
-
 /// What the first words of a part say.
 #[derive(Debug, Clone, Copy, PartialEq, Eq)]
 pub struct PartHead {
+    /// The edition of the script.
+    pub edition: Edition,
     /// Where the part begins in the script's words.
     pub at: u64,
     /// Boomerang stages.
@@ -125,13 +124,14 @@ impl PartHead {
     /// Words of the part.
     #[must_use]
     pub fn words(&self) -> u64 {
-        part_words(self.stages.into(), self.rounds.into())
+        self.edition.part_words(self.stages.into(), self.rounds.into())
     }
 
     /// Pairs of its read section.
     #[must_use]
     pub fn pairs(&self, words: &[u32]) -> usize {
-        let section = words.iter().skip(self.at as usize + 256).take(512 * self.rounds as usize);
+        let [head, round] = [self.edition.head_words(), self.edition.round_words()];
+        let section = words.iter().skip(self.at as usize + head).take(round * self.rounds as usize);
         section.skip(1).step_by(2).filter(|&&mask| mask != 0).count()
     }
 
@@ -144,7 +144,12 @@ impl PartHead {
 
 /// The parts of a block, from its start to its end; an empty block has none. Where the words cannot be followed it ends: a run
 /// refuses such words.
-pub fn part_heads(words: &[u32], start: u64, end: u64) -> impl Iterator<Item = PartHead> + '_ {
+pub fn part_heads(
+    words: &[u32],
+    start: u64,
+    end: u64,
+    edition: Edition,
+) -> impl Iterator<Item = PartHead> + '_ {
     let mut at = start;
     std::iter::from_fn(move || {
         let head = words.get(usize::try_from(at).ok()?..)?.get(..8)?;
@@ -153,7 +158,7 @@ pub fn part_heads(words: &[u32], start: u64, end: u64) -> impl Iterator<Item = P
         }
         let [stages, write_outs, state_start, srams, rounds, duplicates] =
             [0, 2, 3, 4, 6, 7].map(|word| head[word]);
-        let head = PartHead { at, stages, write_outs, state_start, srams, rounds, duplicates };
+        let head = PartHead { edition, at, stages, write_outs, state_start, srams, rounds, duplicates };
         at += head.words();
         Some(head)
     })

@@ -1,6 +1,6 @@
 //! Plans and the scripts that GEM made of them, in a file between two programs of one `host/check`.
 
-use crate::Script;
+use crate::{Edition, Script};
 use std::convert::TryInto;
 
 /// A plan and its script.
@@ -73,6 +73,8 @@ fn case(bytes: &mut &[u8]) -> Result<Case, String> {
     // What is no whole word of the record is refused with the plan.
     let blocks = record.get(..4).map_or(0, |word| u32::from_le_bytes(word.try_into().expect("four bytes")));
     let script = Script {
+        // GEM's is the full one.
+        edition: Edition::Full,
         blocks: blocks as usize,
         starts: starts.chunks(8).map(start).collect(),
         words: crate::script_file::words_of(words),

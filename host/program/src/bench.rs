@@ -2,6 +2,7 @@
 
 mod aiger;
 mod build;
+mod editions;
 mod inputs;
 mod joins;
 mod pins;
@@ -28,6 +29,7 @@ build        beside GEM's Rust, on three netlists (small, mid and large, by the 
 join         beside a merge in plain Rust and beside a BTreeMap
 run          beside host/model's run, in turns a second, on the scripts of the same plans
 repair       beside GEM's own functions, on a full stage; and what a count list costs
+editions     the same part in both editions: its reads, its build and its run in the small one, beside the full one
 AIGER        beside host/model's plain reader and writer, on a million gates
 
 Where GEM's sources were missing, host/model stands in for GEM's Rust, and there are no netlists.
@@ -72,6 +74,7 @@ pub fn call(words: &[String]) -> Outcome {
     pins::rows(&mut table, time)?;
     joins::rows(&mut table, &mut random, time)?;
     run::rows(&mut table, &inputs, &mut random, time)?;
+    editions::rows(&mut table, &mut random, time)?;
     aiger::rows(&mut table, &mut random, time)?;
     repair::rows(&mut table, time)?;
     if let Some(mut svg) = svg {

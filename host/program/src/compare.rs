@@ -13,7 +13,7 @@ usage: juolgesot compare [PLAN [SCRIPT] ..]
 
 Both builders on the same plans, a line each: our script and GEM's, word by word. Without words: forty netlists (and
 some whose staged pins lie in duplicate words, which document 01 refuses by 12), taken through GEM's staging and
-partitioning first. PLAN is a plan record. SCRIPT, a file that begins with JUOLGES1, is what GEM made of the plan before it:
+partitioning first. PLAN is a plan record. SCRIPT, a file that begins with JUOLGES2, is what GEM made of the plan before it:
 host/gem/juolgesot_plan.rs writes both inside GEM. Of a plan without one GEM makes its script here, given the plan's tables
 and positions. --made: what make_plans wrote.
 Every lent word is looked at too. All differences of a plan are counted, and the first is told by major stage, block,

@@ -1,7 +1,7 @@
 //! Files of the program; their forms are in host/README.md.
 
 use crate::Failure;
-use plan::script_file;
+use plan::{script_file, Edition};
 use std::fs::{self, File};
 use std::io::{self, BufWriter, Write};
 use std::path::{Path, PathBuf};
@@ -23,6 +23,19 @@ pub fn words(path: &str) -> Result<Vec<u32>, Failure> {
         return Err(Failure::Failed(format!("{} is no list of words: it has {}", path, length)));
     }
     Ok(script_file::words_of(&bytes))
+}
+
+/// Sees that a plan record is of this edition, where one is asked for and the record names one.
+pub fn is_of(path: &str, record: &[u8], asked: Option<Edition>) -> Result<(), Failure> {
+    let word = record.get(4 * plan::EDITION_WORD..).and_then(|rest| rest.get(..4));
+    let number = word.map(|word| u32::from_le_bytes([word[0], word[1], word[2], word[3]]));
+    match (number.and_then(Edition::numbered), asked) {
+        (Some(of), Some(asked)) if of != asked => Err(Failure::Failed(format!(
+            "{} is a plan of the {} edition, not of the {} one",
+            path, of, asked
+        ))),
+        _ => Ok(()),
+    }
 }
 
 /// The script of a file that `juolgesot build` wrote.

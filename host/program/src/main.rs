@@ -15,6 +15,7 @@ mod run;
 mod say;
 mod why;
 
+use juolgesot::Edition;
 use say::{say, tell};
 use std::ops::RangeInclusive;
 use std::process::ExitCode;
@@ -171,6 +172,15 @@ impl Words {
 
     pub fn option(&self, name: &str) -> Option<&str> {
         self.options.iter().find(|(option, _)| option == name).map(|(_, value)| value.as_str())
+    }
+
+    /// The edition that `--edition` names.
+    pub fn edition(&self) -> Result<Option<Edition>, Failure> {
+        let named = |name: &str| {
+            let none = || Failure::Usage(format!("--edition is full or small, not {}", name));
+            Edition::named(name).ok_or_else(none)
+        };
+        self.option("--edition").map(named).transpose()
     }
 
     pub fn number(&self, name: &str, range: RangeInclusive<u64>) -> Result<Option<u64>, Failure> {

@@ -7,21 +7,23 @@ use crate::{why, Failure, Outcome};
 use std::ops::Range;
 
 pub const HELP: &str = "
-usage: juolgesot run SCRIPT OLD OUT [--new FILE] [--stage N [--turns FILE]]
+usage: juolgesot run SCRIPT OLD OUT [--new FILE] [--stage N [--turns FILE]] [--edition full|small]
 
 Runs a script on the state in the file OLD and writes the new state to OUT. All major stages are run in their order,
 each with turns that finish it; with --stage only that one (from 0). --turns: the blocks to give turns to, as numbers
 in a text. --new: what the new state holds before (default: zeros). States are little-endian u32 words; the script is
-what `juolgesot build` wrote. Prints the turns left of each major stage; exit status 0 only where none is left.
+what `juolgesot build` wrote, and says its edition; with --edition it is run as one of that edition. Prints the turns left of each major stage; exit status 0 only where none is left.
 ";
 
 pub fn call(words: &[String]) -> Outcome {
-    let words = crate::Words::read(words, &["--new", "--stage", "--turns"])?;
+    let words = crate::Words::read(words, &["--new", "--stage", "--turns", "--edition"])?;
     let (script_path, old_path, out) = match &words.plain[..] {
         [script, old, out] => (script, old, out),
         _ => return Err(Failure::Usage("a script, an old state and an output file are needed".to_string())),
     };
+    let edition = words.edition()?;
     let built = files::script(script_path)?;
+    let edition = edition.unwrap_or(built.edition);
     let old = files::words(old_path)?;
     let mut new = match words.option("--new") {
         Some(path) => files::words(path)?,
@@ -41,10 +43,11 @@ pub fn call(words: &[String]) -> Outcome {
         let starts = built.stage_starts(stage);
         let turns = match &given {
             Some(turns) => turns.clone(),
-            None => juolgesot::finishing_turns(&built.words, starts),
+            None => juolgesot::finishing_turns(&built.words, starts, edition),
         };
-        let left = while_working("running", || juolgesot::run(&built.words, starts, &turns, &old, &mut new))
-            .map_err(|refusal| why::run(&built.words, starts, (old.len(), new.len()), refusal))?;
+        let run = || juolgesot::run(&built.words, starts, &turns, &old, &mut new, edition);
+        let left = while_working("running", run)
+            .map_err(|refusal| why::run(edition, &built.words, starts, (old.len(), new.len()), refusal))?;
         let given = many(turns.len() as u64, "turn");
         lines.push(format!("major stage {}: {} given, {} left", stage, given, left));
         left_over += left;

@@ -15,7 +15,7 @@ pub fn positions(record: &[u8]) -> Result<Positions, String> {
 
 fn positions_of(plan: &record::Plan<'_>) -> Positions {
     let layout = plan.layout.iter().zip(0..).map(|(&pin, position)| (Pin(pin), StatePosition(position)));
-    let unstaged = plan.positions.chunks(3).filter(|entry| entry[2] == 0);
+    let unstaged = plan.positions.chunks(record::POSITION).filter(|entry| entry[2] == 0);
     layout.chain(unstaged.map(|entry| (Pin(entry[0]), StatePosition(entry[1])))).collect()
 }
 

@@ -50,7 +50,8 @@ impl Machine {
         }
         let turns = (0..stages)
             .map(|stage| {
-                finishing_turns(&script.words, &script.starts[stage * blocks..(stage + 1) * blocks + 1])
+                let starts = &script.starts[stage * blocks..(stage + 1) * blocks + 1];
+                finishing_turns(&script.words, starts, script.edition)
             })
             .collect();
         let state = vec![0; script.state_words as usize];
@@ -72,8 +73,8 @@ impl Machine {
     pub fn cycle(&mut self) -> Result<(), Trouble> {
         for (stage, turns) in self.turns.iter().enumerate() {
             let starts = &self.script.starts[stage * self.blocks..(stage + 1) * self.blocks + 1];
-            let left = run_into(&self.script.words, starts, turns, &self.old, &mut self.new, &mut self.room);
-            match left {
+            let (words, new, room) = (&self.script.words, &mut self.new, &mut self.room);
+            match run_into(words, starts, turns, &self.old, new, room, self.script.edition) {
                 Ok(0) => {}
                 Ok(turns) => return Err(Trouble::TurnsLeft { stage, turns }),
                 Err(refusal) => return Err(Trouble::Refused { stage, refusal }),

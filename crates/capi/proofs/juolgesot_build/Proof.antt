@@ -3,6 +3,7 @@
 use mathlib.Core.Path.{refl, ap, _∙_}
 use lib.ListN.{length}
 use borrow.Author.Needs.{needs}
+use Rattle.plan_record.specs.Record.{planLanes}
 use Rattle.flatten.specs.Flatten.{building}
 use Rattle.capi.specs.Exported.{afterBuild}
 use Rattle.capi.specs.Numbers.{flattenedNumbers}
@@ -19,7 +20,7 @@ returns c =
     let given = m .before .before .before .before .before in
     let start = given .before .before .before .before .before in
     let a = start .args in
-    let o = building 256 (a .plan .now) (length (a .room .now)) (length (a .starts .now)) (length (a .words .now)) (length (a .pieces .now)) in
+    let o = building (planLanes (a .plan .now)) (a .plan .now) (length (a .room .now)) (length (a .starts .now)) (length (a .words .now)) (length (a .pieces .now)) in
     let made = m .build-flattened-script-v1 .ensures in
     let numbers = c .tell-flattened .ensures ∙ (ap flattenedNumbers (made .0) ∙ flattened-told o) in
     also numbers (also (made .1 .0) (also (made .1 .1 .0) (also (made .1 .1 .1 .0) (also (made .1 .1 .1 .1) refl))))

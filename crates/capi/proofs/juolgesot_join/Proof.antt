@@ -3,7 +3,7 @@
 use mathlib.Core.Path.{refl, ap, _∙_}
 use lib.ListN.{length}
 use borrow.Author.Needs.{needs}
-use Rattle.joins.specs.Join.{joining}
+use Rattle.joins_sets.specs.Join.{joining}
 use Rattle.capi.specs.Exported.{afterJoin}
 use Rattle.capi.specs.Numbers.{joinedNumbers}
 use Rattle.capi.proofs.ToldLaws.{also, joined-told}

@@ -17,7 +17,7 @@ returns c =
     let m = lent .before .before .before .before in
     let start = m .before .before .before .before .before .before in
     let a = start .args in
-    let o = listed (a .records .now) (length (a .out .now)) (length (a .room .now)) in
+    let o = listed (a .edition) (a .records .now) (length (a .out .now)) (length (a .room .now)) in
     let made = m .list .ensures in
     let numbers = c .tell-listed .ensures ∙ (ap listedNumbers (made .0) ∙ listed-told o) in
     also numbers (also (made .1 .0) (also (made .1 .1) refl))

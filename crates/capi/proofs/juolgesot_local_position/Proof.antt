@@ -16,7 +16,7 @@ returns c =
     let lent = c .before .before .before in
     let m = lent .before .before in
     let a = m .before .before .before .before .args in
-    let o = localAnswer 256 (a .set .now) (length (a .room .now)) (a .word) (a .bit) in
+    let o = localAnswer (a .edition) (a .set .now) (length (a .room .now)) (a .word) (a .bit) in
     let made = m .local-position .ensures in
     let numbers = c .tell-brought .ensures ∙ (ap broughtNumbers (made .0) ∙ brought-told o) in
     also numbers (also (made .1) refl)

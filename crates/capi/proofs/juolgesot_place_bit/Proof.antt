@@ -18,7 +18,7 @@ returns c =
     let given = m .before .before .before .before .before .before in
     let start = given .before .before .before .before in
     let a = start .args in
-    let o = placed 13 (a .gates .now) (a .levels .now) (a .counts .now) (a .slots .now) (length (a .after .now)) (length (a .room .now)) (a .level) (a .slot) (a .node) in
+    let o = placed (a .edition) (a .gates .now) (a .levels .now) (a .counts .now) (a .slots .now) (length (a .after .now)) (length (a .room .now)) (a .level) (a .slot) (a .node) in
     let made = m .place-bit .ensures in
     let numbers = c .tell-repaired .ensures ∙ (ap repairedNumbers (made .0) ∙ repaired-told o) in
     also numbers (also (made .1 .0) (also (made .1 .1 .0) (also (made .1 .1 .1) refl)))

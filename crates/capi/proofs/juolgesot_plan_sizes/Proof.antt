@@ -3,6 +3,7 @@
 use mathlib.Core.Path.{refl, ap, _∙_}
 use lib.ListN.{length}
 use borrow.Author.Needs.{needs}
+use Rattle.plan_record.specs.Record.{planLanes}
 use Rattle.flatten.specs.Flatten.{sizing}
 use Rattle.capi.specs.Exported.{afterPlanSizes}
 use Rattle.capi.specs.Numbers.{flattenedNumbers}
@@ -17,7 +18,7 @@ returns c =
     let m = lent .before .before in
     let start = m .before .before .before .before in
     let a = start .args in
-    let o = sizing 256 (a .plan .now) (length (a .room .now)) in
+    let o = sizing (planLanes (a .plan .now)) (a .plan .now) (length (a .room .now)) in
     let made = m .plan-sizes .ensures in
     let numbers = c .tell-flattened .ensures ∙ (ap flattenedNumbers (made .0) ∙ flattened-told o) in
     also numbers (also (made .1) refl)

@@ -17,7 +17,7 @@ returns c =
     let m = lent .before .before .before .before .before .before in
     let given = m .before .before .before .before .before .before in
     let a = given .before .before .args in
-    let o = cleared 13 (a .counts .now) (a .slots .now) (length (a .after .now)) (length (a .room .now)) (a .level) (a .slot) in
+    let o = cleared (a .edition) (a .counts .now) (a .slots .now) (length (a .after .now)) (length (a .room .now)) (a .level) (a .slot) in
     let made = m .purge-bit .ensures in
     let numbers = c .tell-repaired .ensures ∙ (ap repairedNumbers (made .0) ∙ repaired-told o) in
     also numbers (also (made .1 .0) (also (made .1 .1 .0) (also (made .1 .1 .1) refl)))

@@ -3,7 +3,7 @@
 use mathlib.Core.Path.{refl, ap, _∙_}
 use lib.ListN.{length}
 use borrow.Author.Needs.{needs}
-use Rattle.reads.specs.SetAnswer.{setAnswer}
+use Rattle.rounds.specs.RoundsAnswer.{roundsAnswer}
 use Rattle.capi.specs.Exported.{afterReadRounds}
 use Rattle.capi.specs.Numbers.{roundsNumbers}
 use Rattle.capi.proofs.ToldLaws.{also, rounds-told}
@@ -17,7 +17,7 @@ returns c =
     let m = lent .before .before .before .before in
     let start = m .before .before .before .before .before .before in
     let a = start .args in
-    let o = setAnswer 256 (a .set .now) (length (a .out .now)) (length (a .room .now)) in
+    let o = roundsAnswer (a .edition) (a .set .now) (length (a .out .now)) (length (a .room .now)) in
     let made = m .map-global-read-to-rounds .ensures in
     let numbers = c .tell-rounds .ensures ∙ (ap roundsNumbers (made .0) ∙ rounds-told o) in
     also numbers (also (made .1 .1) (also (made .1 .0) refl))

@@ -1,7 +1,6 @@
 -- The numbers are those of the answer, and each slice is left as the function behind says.
 -- Assumes nothing.
 use mathlib.Core.Path.{refl, ap, _∙_}
-use mathlib.Core.Logic.{inl}
 use lib.ListN.{length}
 use borrow.Author.Needs.{needs}
 use Rattle.words.specs.Edition.{levelsFor}
@@ -14,18 +13,18 @@ use Rattle.capi.proofs.juolgesot_run.Statement.{statement}
 use Rattle.capi.proofs.juolgesot_run.Tie as tie
 
 returns : tie.Need-returns
-unfolding afterRun levelsFor
+unfolding afterRun
 returns c =
     let lent = c .before .before .before in
     let m = lent .before .before .before .before in
     let given = m .before .before .before .before .before .before in
     let start = given .before .before .before in
     let a = start .args in
-    let o = runAnswer 256 13 (a .words .now) (a .starts .now) (a .turns .now) (a .old .now) (a .new .now) (length (a .room .now)) in
+    let o = runAnswer (a .edition) (levelsFor (a .edition)) (a .words .now) (a .starts .now) (a .turns .now) (a .old .now) (a .new .now) (length (a .room .now)) in
     let made = m .run .ensures in
     let numbers = c .tell-ran .ensures ∙ (ap ranNumbers (made .0) ∙ ran-told o) in
-    (also numbers (also (made .1 .0) (also (made .1 .1) refl)), promised (a .words .now) (a .starts .now) (a .turns .now) (a .old .now) (a .new .now) (length (a .room .now)) _ _ _ _ numbers (made .1 .0))
+    (also numbers (also (made .1 .0) (also (made .1 .1) refl)), promised (a .words .now) (a .starts .now) (a .turns .now) (a .old .now) (a .new .now) (length (a .room .now)) (a .edition) _ _ _ _ numbers (made .1 .0))
 
 pub juolgesot-run-spec : {M : Type 1} → statement M
 juolgesot-run-spec = tie.close
-    (tie.spec (λ c κs. inl refl) (λ c κs. search needs) (λ c. search needs) (λ c. search needs) returns)
+    (tie.spec (λ c κs. search needs) (λ c κs. search needs) (λ c. search needs) (λ c. search needs) returns)

@@ -3,6 +3,7 @@
 use mathlib.Core.Path.{sym, ap, _∙_}
 use Prim.Native.Nat.{ℕ}
 use lib.ListN.{length, replicate}
+use Rattle.plan_record.specs.Record.{planLanes}
 use Rattle.words.specs.Answer.{nowhere}
 use Rattle.script_assembly.specs.Assembly.{scriptStarts, scriptWords}
 use Rattle.flatten.specs.declared.Flattened.the-variants.{Built}
@@ -122,10 +123,10 @@ returns c =
       (
         at-clear .clear .ensures ∙ ap (λ (n : ℕ). replicate n 0) (w .kept .1 .0),
         (
-          laid-built _ (sizesOf 256 (a .plan .now)) e (scriptStarts 256 (a .plan .now)) (a .starts .now) _ (w .ensures .1 .0),
+          laid-built _ (sizesOf (planLanes (a .plan .now)) (a .plan .now)) e (scriptStarts (planLanes (a .plan .now)) (a .plan .now)) (a .starts .now) _ (w .ensures .1 .0),
           (
-            laid-built _ (sizesOf 256 (a .plan .now)) e (scriptWords 256 (a .plan .now)) (a .words .now) _ (w .ensures .1 .1),
-            laid-built _ (sizesOf 256 (a .plan .now)) e (pieceSizes 256 (a .plan .now)) (a .pieces .now) _ (at-write-pieces .write-pieces .ensures),
+            laid-built _ (sizesOf (planLanes (a .plan .now)) (a .plan .now)) e (scriptWords (planLanes (a .plan .now)) (a .plan .now)) (a .words .now) _ (w .ensures .1 .1),
+            laid-built _ (sizesOf (planLanes (a .plan .now)) (a .plan .now)) e (pieceSizes (planLanes (a .plan .now)) (a .plan .now)) (a .pieces .now) _ (at-write-pieces .write-pieces .ensures),
           ),
         ),
       ),
@@ -153,10 +154,10 @@ returns-2 c =
       (
         at-clear2 .clear2 .ensures,
         (
-          laid-refused _ (nowhere 14) e (scriptStarts 256 (a .plan .now)) (a .starts .now),
+          laid-refused _ (nowhere 14) e (scriptStarts (planLanes (a .plan .now)) (a .plan .now)) (a .starts .now),
           (
-            laid-refused _ (nowhere 14) e (scriptWords 256 (a .plan .now)) (a .words .now),
-            laid-refused _ (nowhere 14) e (pieceSizes 256 (a .plan .now)) (a .pieces .now),
+            laid-refused _ (nowhere 14) e (scriptWords (planLanes (a .plan .now)) (a .plan .now)) (a .words .now),
+            laid-refused _ (nowhere 14) e (pieceSizes (planLanes (a .plan .now)) (a .plan .now)) (a .pieces .now),
           ),
         ),
       ),

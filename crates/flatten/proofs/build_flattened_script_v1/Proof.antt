@@ -3,6 +3,7 @@
 use mathlib.Core.Path.{sym, ap, _∙_}
 use native.Mathlib.Omega.{arith}
 use lib.ListN.{length}
+use Rattle.plan_record.specs.Record.{planLanes}
 use Rattle.words.specs.Answer.{Answer}
 use Rattle.plan_refusals.specs.Refusals.{planVerdict}
 use Rattle.flatten.specs.FlattenedAnswer.{flattenedOf}
@@ -27,7 +28,7 @@ build-accepted-requires c κs =
     let o = way-3 .before .before .before .before .before in
     let a = o .args in
     let v = at-check-plan .check-plan in
-    let e = accepted-is (planVerdict 256 (a .plan .now) (length (a .room .now))) (sym (at-enum-told .enum-told .given .1) ∙ v .ensures .0) in (
+    let e = accepted-is (planVerdict (a .plan .now) (length (a .room .now))) (sym (at-enum-told .enum-told .given .1) ∙ v .ensures .0) in (
       sound (a .plan .now) (a .room .now) e (v .last .1 .0) (v .ensures .1 .1 e),
       record {
         keys-room = omega (arith, v .kept .1 .1 .0);
@@ -59,10 +60,10 @@ returns c =
       (
         refused-sized (a .plan .now) (a .room .now) x q after is .1,
         (
-          refused-kept (a .plan .now) (a .room .now) x q after is (a .starts .now) (a .words .now) (a .pieces .now) (scriptStarts 256 (a .plan .now)) (a .starts .now),
+          refused-kept (a .plan .now) (a .room .now) x q after is (a .starts .now) (a .words .now) (a .pieces .now) (scriptStarts (planLanes (a .plan .now)) (a .plan .now)) (a .starts .now),
           (
-            refused-kept (a .plan .now) (a .room .now) x q after is (a .starts .now) (a .words .now) (a .pieces .now) (scriptWords 256 (a .plan .now)) (a .words .now),
-            refused-kept (a .plan .now) (a .room .now) x q after is (a .starts .now) (a .words .now) (a .pieces .now) (pieceSizes 256 (a .plan .now)) (a .pieces .now),
+            refused-kept (a .plan .now) (a .room .now) x q after is (a .starts .now) (a .words .now) (a .pieces .now) (scriptWords (planLanes (a .plan .now)) (a .plan .now)) (a .words .now),
+            refused-kept (a .plan .now) (a .room .now) x q after is (a .starts .now) (a .words .now) (a .pieces .now) (pieceSizes (planLanes (a .plan .now)) (a .plan .now)) (a .pieces .now),
           ),
         ),
       ),
@@ -107,17 +108,17 @@ returns-2 c =
     let o = way-4 .before .before .before .before .before in
     let a = o .args in
     let v = at-check-plan .check-plan in
-    let e = accepted-is (planVerdict 256 (a .plan .now) (length (a .room .now))) (sym (at-enum-told .enum-told .given .1) ∙ v .ensures .0) in
+    let e = accepted-is (planVerdict (a .plan .now) (length (a .room .now))) (sym (at-enum-told .enum-told .given .1) ∙ v .ensures .0) in
     let z = at-build-accepted .build-accepted in
     let k = accepted-building (a .plan .now) (a .room .now) e (length (a .starts .now)) (length (a .words .now)) (length (a .pieces .now)) in (
       z .ensures .0 ∙ ap flattenedOf k,
       (
         cleared-room (a .plan .now) (a .room .now) e _ _ (v .kept .1 .0) (z .ensures .1 .0),
         (
-          z .ensures .1 .1 .0 ∙ ap (λ (o : Answer Sizes). laid o (scriptStarts 256 (a .plan .now)) (a .starts .now)) k,
+          z .ensures .1 .1 .0 ∙ ap (λ (o : Answer Sizes). laid o (scriptStarts (planLanes (a .plan .now)) (a .plan .now)) (a .starts .now)) k,
           (
-            z .ensures .1 .1 .1 .0 ∙ ap (λ (o : Answer Sizes). laid o (scriptWords 256 (a .plan .now)) (a .words .now)) k,
-            z .ensures .1 .1 .1 .1 ∙ ap (λ (o : Answer Sizes). laid o (pieceSizes 256 (a .plan .now)) (a .pieces .now)) k,
+            z .ensures .1 .1 .1 .0 ∙ ap (λ (o : Answer Sizes). laid o (scriptWords (planLanes (a .plan .now)) (a .plan .now)) (a .words .now)) k,
+            z .ensures .1 .1 .1 .1 ∙ ap (λ (o : Answer Sizes). laid o (pieceSizes (planLanes (a .plan .now)) (a .plan .now)) (a .pieces .now)) k,
           ),
         ),
       ),

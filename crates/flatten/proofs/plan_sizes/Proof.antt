@@ -23,7 +23,7 @@ size-accepted-requires c κs =
     let o = way-2 .before .before in
     let a = o .args in
     let v = at-check-plan .check-plan in
-    let e = accepted-is (planVerdict 256 (a .plan .now) (length (a .room .now))) (sym (at-enum-told .enum-told .given .1) ∙ v .ensures .0) in
+    let e = accepted-is (planVerdict (a .plan .now) (length (a .room .now))) (sym (at-enum-told .enum-told .given .1) ∙ v .ensures .0) in
     sound (a .plan .now) (a .room .now) e (v .last .1 .0) (v .ensures .1 .1 e)
 
 same-length : tie.Need-same-length
@@ -60,7 +60,7 @@ returns-2 c =
     let o = way-2 .before .before in
     let a = o .args in
     let v = at-check-plan .check-plan in
-    let e = accepted-is (planVerdict 256 (a .plan .now) (length (a .room .now))) (sym (at-enum-told .enum-told .given .1) ∙ v .ensures .0) in
+    let e = accepted-is (planVerdict (a .plan .now) (length (a .room .now))) (sym (at-enum-told .enum-told .given .1) ∙ v .ensures .0) in
     let z = at-size-accepted .size-accepted in
     (z .ensures .0 ∙ ap flattenedOf (accepted-sizing (a .plan .now) (a .room .now) e), cleared-room (a .plan .now) (a .room .now) e _ _ (v .kept .1 .0) (z .ensures .1))
 

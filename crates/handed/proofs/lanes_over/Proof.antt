@@ -12,7 +12,7 @@ use Rattle.reads.specs.Search.{longest}
 use Rattle.reads_try.specs.TableLanes.{lanesAt}
 use Rattle.reads_section.specs.Readout.{TableReadable}
 use Rattle.rounds.proofs.RoundsAnswerLaws.{refused-post, placed-post, size-fits}
-use Rattle.handed.specs.Handed.{lanesIn, fault}
+use Rattle.handed_lanes.specs.Handed.{lanesIn, fault}
 use Rattle.handed.proofs.HandedAnswerLaws.{is-many, is-bad, is-empty, nonempty, is-fault, is-short, is-placed, told-none, fine-table, fine-rounds}
 use Rattle.handed.proofs.lanes_over.Statement.{statement}
 use Rattle.handed.proofs.lanes_over.Tie as tie

@@ -1,6 +1,6 @@
 -- `is_roomy`: both tests, one after the other.
 -- Assumes nothing.
-use Rattle.joins.proofs.JoinAnswerLaws.{roomy-many, roomy-few}
+use Rattle.joins.proofs.JoinCodeLaws.{roomy-many, roomy-few}
 use Rattle.joins.proofs.is_roomy.Statement.{statement}
 use Rattle.joins.proofs.is_roomy.Tie as tie
 

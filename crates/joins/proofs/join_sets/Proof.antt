@@ -5,10 +5,11 @@ use mathlib.Core.Option.{none}
 use Prim.Native.Nat.{_+_, _≤_}
 use native.Mathlib.Omega.{arith}
 use lib.ListN.{length}
-use Rattle.joins.specs.Join.{join, setRefusal}
+use Rattle.joins_sets.specs.Join.{join, setRefusal}
 use Rattle.joins.specs.Merge.{Joinable}
-use Rattle.joins.proofs.JoinPutLaws.{join-shorter}
-use Rattle.joins.proofs.JoinAnswerLaws.{fine-set, tested-bad, tested-fine, joinable, first-refused, second-refused, join-many, join-short, join-good, join-pairs, roomy-true, refused-told, join-told}
+use Rattle.joins_sets.proofs.JoinPutLaws.{join-shorter}
+use Rattle.joins_sets.proofs.JoinAnswerLaws.{fine-set, first-refused, second-refused, join-many, join-short, join-good, join-pairs}
+use Rattle.joins.proofs.JoinCodeLaws.{tested-bad, tested-fine, joinable, roomy-true, refused-told, join-told}
 use borrow.Author.Needs.{needs}
 use Rattle.joins.proofs.join_sets.Statement.{statement}
 use Rattle.joins.proofs.join_sets.Tie as tie

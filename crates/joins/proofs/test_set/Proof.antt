@@ -3,7 +3,7 @@
 use mathlib.Core.Path.{sym, ap, _∙_}
 use Rattle.words.proofs.FoundLaws.{item-some, item-none}
 use Rattle.joins.specs.Merge.{testedOf}
-use Rattle.joins.proofs.JoinAnswerLaws.{set-many, set-bad, set-fine}
+use Rattle.joins_sets.proofs.JoinAnswerLaws.{set-many, set-bad, set-fine}
 use borrow.Author.Needs.{needs}
 use Rattle.joins.proofs.test_set.Statement.{statement}
 use Rattle.joins.proofs.test_set.Tie as tie

@@ -1,8 +1,8 @@
 -- `listing::answer_to` meets its contract: a bad record, or what the rounds of the read set give.
 -- Assumes nothing.
 use Rattle.listing.proofs.AnswerToLaws.{to-bad, room-size, to-few, to-front, to-said, to-section}
-use Rattle.listing.proofs.RecordBitLaws.{refused-in, keys-few}
-use Rattle.listing.specs.Records.{records}
+use Rattle.listing_records.proofs.RecordBitLaws.{refused-in, keys-few}
+use Rattle.listing_records.specs.Records.{records}
 use mathlib.Core.Path.{sym, ap, _∙_}
 use Prim.Native.Nat.{ℕ}
 use lib.ListN.{replicate}
@@ -51,7 +51,7 @@ returns c =
     let way-2 = at-read-set-of .before .before .before .before .before in
     let o = way-2 .before .before .before .before in
     let r = at-read-set-of .read-set-of in
-    let bad = to-bad _ _ _ (refused-in _ _ _ (sym (at-b .b .given .1) ∙ r .ensures .0)) in
+    let bad = to-bad (o .args .lanes) _ _ _ (refused-in _ _ _ (sym (at-b .b .given .1) ∙ r .ensures .0)) in
     (bad .0, (at-clear .clear .ensures ∙ ap (λ (n : ℕ). replicate n 0) (room-size (o .args .room .now) (r .last .1 .0) (o .pre .0) (r .kept .1 .0)), bad .1))
 
 returns-2 : tie.Need-returns-2
@@ -66,10 +66,10 @@ returns-2 c =
     let o = way-3 .before .before .before .before in
     let r = at-read-set-of .read-set-of in
     let s = at-rounds-of .rounds-of in (
-      to-said (records (o .args .s .now)) (keys-few _ 8192 0) (o .args .room .now) (o .pre .0) (r .ensures .1) _ (sym (at-n .n .given .1) ∙ r .ensures .0) _ (s .ensures .0),
+      to-said (records (o .args .s .now)) (keys-few _ 8192 0) (o .args .room .now) (o .pre .0) (r .ensures .1) _ (sym (at-n .n .given .1) ∙ r .ensures .0) (o .args .lanes) _ (s .ensures .0),
       (
         at-clear2 .clear2 .ensures ∙ ap (λ (n : ℕ). replicate n 0) (room-size (o .args .room .now) (r .last .1 .0) (o .pre .0) (r .kept .1 .0)),
-        to-section (records (o .args .s .now)) (keys-few _ 8192 0) (o .args .room .now) (o .pre .0) (r .ensures .1) _ (sym (at-n .n .given .1) ∙ r .ensures .0) _ _ (s .ensures .1),
+        to-section (records (o .args .s .now)) (keys-few _ 8192 0) (o .args .room .now) (o .pre .0) (r .ensures .1) _ (sym (at-n .n .given .1) ∙ r .ensures .0) (o .args .lanes) _ _ (s .ensures .1),
       ),
     )
 

@@ -20,7 +20,7 @@ searched c = c .before .before .before .before
 abbrev called : tie.After-enum-told → tie.Start
 called c = searched c .before .before .before .before
 
-won-in : (c : tie.After-enum-told) → (x : Packed) × (packed 256 (pairsOf (called c .args .set .now)) ≡ good x)
+won-in : (c : tie.After-enum-told) → (x : Packed) × (packed (called c .args .lanes) (pairsOf (called c .args .set .now)) ≡ good x)
 won-in c = let (x, is, size) = won-is _ _ (sym (searched c .search-lanes .ensures .0) ∙ c .enum-told .given .1) in (x, is)
 
 -- and the bit is asked for
@@ -42,7 +42,7 @@ position-in-requires c κs =
     let known = searched told .before .before .before in
     let x = won-in told in
     rw (c .asked-bit .ensures)
-    (findable (s .args .set .now) (s .pre .0) (λ i. known .shared-slice-known .given i .fits) (x .0) (x .1) (t .last .1 .0) (t .ensures .1) (t .kept .1 .0 ∙ s .pre .1) (s .args .w) (s .args .k) (asks-in then))
+    (findable (s .args .lanes) (s .args .set .now) (s .pre .0) (λ i. known .shared-slice-known .given i .fits) _ (s .pre .1) (x .0) (x .1) (t .last .1 .0) (t .ensures .1) (t .kept .1 .0) (s .args .w) (s .args .k) (asks-in then))
 
 returns : tie.Need-returns
 returns c =
@@ -52,7 +52,7 @@ returns c =
     let t = searched told .search-lanes in
     let known = searched told .before .before .before in
     let x = won-in told in
-    to-told (s .args .set .now) (s .pre .0) (λ i. known .shared-slice-known .given i .fits) (x .0) (x .1) (t .last .1 .0) (t .ensures .1) (t .kept .1 .0 ∙ s .pre .1) (s .args .w) (s .args .k) (asks-in then)
+    to-told (s .args .lanes) (s .args .set .now) (s .pre .0) (λ i. known .shared-slice-known .given i .fits) _ (s .pre .1) (x .0) (x .1) (t .last .1 .0) (t .ensures .1) (t .kept .1 .0) (s .args .w) (s .args .k) (asks-in then)
     (c .position-in .result) (rw (c .before .asked-bit .ensures) at (c .position-in .ensures))
 
 returns-2 : tie.Need-returns-2
@@ -66,7 +66,7 @@ returns-3 c =
     let told = c .before .before in
     let s = called told in
     let x = won-in told in
-    unasked-told (s .args .set .now) (x .0) (s .args .w) (s .args .k) (x .1) (sym (c .before .is-asked .ensures) ∙ c .if1 .left)
+    unasked-told (s .args .lanes) (s .args .set .now) (x .0) (s .args .w) (s .args .k) (x .1) (sym (c .before .is-asked .ensures) ∙ c .if1 .left)
 
 pub bring-spec : {M : Type 1} → statement M
 bring-spec =

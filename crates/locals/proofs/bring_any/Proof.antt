@@ -16,14 +16,14 @@ use Rattle.locals.proofs.bring_any.Tie as tie
 returns : tie.Need-returns
 returns c =
     let a = c .before .before .before .before .args in
-    c .refused .ensures ∙ lost-told (a .set .now) (a .w) (a .k) _ _ (read-many 256 (a .set .now) (c .before .if1 .taken))
+    c .refused .ensures ∙ lost-told (a .set .now) (a .w) (a .k) _ _ (read-many (a .lanes) (a .set .now) (c .before .if1 .taken))
 
 returns-2 : tie.Need-returns-2
 returns-2 c =
     let tested = c .before .before .before .before in
     let a = tested .before .before .before .before .args in
     let bad = item-some _ _ (sym (tested .check-form .ensures) ∙ c .before .before .i .given .1) in
-    c .refused2 .ensures ∙ lost-told (a .set .now) (a .w) (a .k) _ _ (read-bad 256 (a .set .now) _ (tested .before .if1 .left) bad)
+    c .refused2 .ensures ∙ lost-told (a .set .now) (a .w) (a .k) _ _ (read-bad (a .lanes) (a .set .now) _ (tested .before .if1 .left) bad)
 
 bring-requires : tie.Need-bring-requires
 bring-requires c κs =
@@ -40,7 +40,7 @@ returns-3 c =
     let a = tested .before .before .before .before .args in
     let form = item-none _ (sym (tested .check-form .ensures) ∙ told .enum-told .given .1) in
     brought .bring .ensures
-    ∙ ap (λ (o : Answer Packed). broughtOf (broughtIn (pairsOf (a .set .now)) (a .w) (a .k) o)) (sym (is-read 256 (a .set .now) 0 (tested .before .if1 .left) form))
+    ∙ ap (λ (o : Answer Packed). broughtOf (broughtIn (pairsOf (a .set .now)) (a .w) (a .k) o)) (sym (is-read (a .lanes) (a .set .now) 0 (tested .before .if1 .left) form))
 
 pub bring-any-spec : {M : Type 1} → statement M
 bring-any-spec =

@@ -9,7 +9,7 @@ search-sizes-requires : tie.Need-search-sizes-requires
 search-sizes-requires c κs =
     let known = c .before .before .before .before in
     let s = known .before in
-    rw (s .pre .1) (in-form (s .args .set .now) (s .pre .0) (λ i. known .shared-slice-known .given i .fits))
+    in-form (s .args .lanes) (s .args .set .now) (s .pre .0) (λ i. known .shared-slice-known .given i .fits) _ (s .pre .1)
 
 pub search-lanes-spec : {M : Type 1} → statement M
 search-lanes-spec = tie.close

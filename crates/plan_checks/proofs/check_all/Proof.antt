@@ -96,7 +96,7 @@ returns c =
     let at-check-lists = c .before .before .before .before .before .before in
     let d = begun at-check-lists .args .plan .now in
     let is = plan-lists d _ _ (at-check-lists .check-lists .ensures) (c .before .is-refused .ensures) (c .if1 .taken) in
-    (is, λ e. never (planRefusal 256 d) _ is _ (c .before .is-refused .ensures) (c .if1 .taken) e)
+    (is, λ e. never (planRefusal d) _ is _ (c .before .is-refused .ensures) (c .if1 .taken) e)
 
 check-totals-requires : tie.Need-check-totals-requires
 check-totals-requires c κs =
@@ -125,7 +125,7 @@ returns-2 c =
     let one = on-lists at-check-totals in
     let d = begun (listed one) .args .plan .now in
     let is = plan-totals d _ (lists one) _ (at-check-totals .check-totals .ensures .0) (c .before .is-refused2 .ensures) (c .if2 .taken) in
-    (is, λ e. never (planRefusal 256 d) _ is _ (c .before .is-refused2 .ensures) (c .if2 .taken) e)
+    (is, λ e. never (planRefusal d) _ is _ (c .before .is-refused2 .ensures) (c .if2 .taken) e)
 
 check-pins-requires : tie.Need-check-pins-requires
 check-pins-requires c κs =
@@ -152,7 +152,7 @@ returns-3 c =
     let one = on-lists (summed two) in
     let d = begun (listed one) .args .plan .now in
     let is = plan-pins d _ (lists one) (totals two) _ (at-check-pins .check-pins .ensures .0) (c .before .is-refused3 .ensures) (c .if3 .taken) in
-    (is, λ e. never (planRefusal 256 d) _ is _ (c .before .is-refused3 .ensures) (c .if3 .taken) e)
+    (is, λ e. never (planRefusal d) _ is _ (c .before .is-refused3 .ensures) (c .if3 .taken) e)
 
 check-places-requires : tie.Need-check-places-requires
 check-places-requires c κs =
@@ -182,7 +182,7 @@ returns-4 c =
     let one = on-lists (summed two) in
     let d = begun (listed one) .args .plan .now in
     let is = plan-places d _ (lists one) (totals two) (pins three) _ (at-check-places .check-places .ensures .0) (c .before .is-refused4 .ensures) (c .if4 .taken) in
-    (is, λ e. never (planRefusal 256 d) _ is _ (c .before .is-refused4 .ensures) (c .if4 .taken) e)
+    (is, λ e. never (planRefusal d) _ is _ (c .before .is-refused4 .ensures) (c .if4 .taken) e)
 
 check-reading-requires : tie.Need-check-reading-requires
 check-reading-requires c κs =

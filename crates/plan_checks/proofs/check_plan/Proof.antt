@@ -35,7 +35,7 @@ returns : tie.Need-returns
 returns c =
     let s = begun (c .before) .args in
     let h : length (s .room .now) < planRoomWords (s .plan .now) = omega (arith, c .if1 .taken, c .before .room-words .ensures .0) in
-    let is = short-verdict 256 (s .plan .now) (length (s .room .now)) h in
+    let is = short-verdict (s .plan .now) (length (s .room .now)) h in
     (ap verdictOf (sym is), (short-room (s .plan .now) (s .room .now) h, λ e. absurd (some-not-none (sym is ∙ e))))
 
 check-all-requires : tie.Need-check-all-requires
@@ -53,9 +53,9 @@ returns-2 c =
     let at-clear = cleared at-check-all in
     let s = begun (at-clear .before .before .before) .args in
     let h = wide at-clear in
-    let is = wide-verdict 256 (s .plan .now) (length (s .room .now)) h in
+    let is = wide-verdict (s .plan .now) (length (s .room .now)) h in
     let k = at-check-all .check-all in
-    let not : planRefusal 256 (s .plan .now) ≡ none → ⊥ = never (planRefusal 256 (s .plan .now)) _ (k .ensures .0) _ (at-if2 .before .is-refused .ensures) (at-if2 .if2 .taken) in (
+    let not : planRefusal (s .plan .now) ≡ none → ⊥ = never (planRefusal (s .plan .now)) _ (k .ensures .0) _ (at-if2 .before .is-refused .ensures) (at-if2 .if2 .taken) in (
       k .ensures .0 ∙ ap verdictOf (sym is),
       (again-room (s .plan .now) (s .room .now) h _ (k .last .1 .0) _ (at-clear .clear .ensures) (k .kept .1 .0) (c .before .before .clear2 .ensures) not, λ e. absurd (not (sym is ∙ e))),
     )
@@ -67,9 +67,9 @@ returns-3 c =
     let at-clear = cleared at-check-all in
     let s = begun (at-clear .before .before .before) .args in
     let h = wide at-clear in
-    let is = wide-verdict 256 (s .plan .now) (length (s .room .now)) h in
+    let is = wide-verdict (s .plan .now) (length (s .room .now)) h in
     let k = at-check-all .check-all in
-    let accepted = went-on (planRefusal 256 (s .plan .now)) _ (k .ensures .0) _ (c .before .is-refused .ensures) (c .if2 .left) in (
+    let accepted = went-on (planRefusal (s .plan .now)) _ (k .ensures .0) _ (c .before .is-refused .ensures) (c .if2 .left) in (
       k .ensures .0 ∙ ap verdictOf (sym is),
       (last-room (s .plan .now) (s .room .now) h _ _ (at-clear .clear .ensures) accepted (k .ensures .1 accepted), λ e. last-ready (s .plan .now) (s .room .now) h _ _ (at-clear .clear .ensures) accepted (k .ensures .1 accepted)),
     )

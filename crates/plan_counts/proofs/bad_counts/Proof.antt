@@ -11,19 +11,23 @@ returns c = counts-location _ _ _ (c .before .before .before .first-bad-location
 
 returns-2 : tie.Need-returns-2
 returns-2 c =
-    let at-counts-of = c .before .before .before .before .before .before in
+    let asked = c .before in
+    let at-counts-of = asked .before .before .before .before .before .before in
     let a = at-counts-of .before .before .before in
+    let start = a .before .before .before .before .before .before in
+    let n = start .pre .0 .body .lanes in
     let w = at-counts-of .counts-of .ensures .words-are in
-    counts-fine _ _ _ (a .before .before .first-bad-location .ensures) (a .enum-told .given .1) (omega (arith, w, c .if1 .taken))
+    counts-fine _ _ _ (a .before .before .first-bad-location .ensures) (a .enum-told .given .1) (omega (arith, w, n, c .if1 .taken))
 
 returns-3 : tie.Need-returns-3
 returns-3 c =
-    let at-counts-of = c .before .before .before .before .before .before in
+    let asked = c .before in
+    let at-counts-of = asked .before .before .before .before .before .before in
     let a = at-counts-of .before .before .before in
     let start = a .before .before .before .before .before .before in
-    let n = start .pre .0 .body .locations in
+    let b = start .pre .0 .body in
     let w = at-counts-of .counts-of .ensures .words-are in
-    counts-many _ _ _ (a .before .before .first-bad-location .ensures) (a .enum-told .given .1) _ n (omega (arith, w, c .if1 .left))
+    counts-many _ _ _ (a .before .before .first-bad-location .ensures) (a .enum-told .given .1) _ (b .locations) (omega (arith, w, b .lanes, c .if1 .left))
 
 pub bad-counts-spec : {M : Type 1} → statement M
 bad-counts-spec =

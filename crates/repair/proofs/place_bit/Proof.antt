@@ -13,8 +13,8 @@ use borrow.Author.Needs.{needs}
 use Rattle.repair.proofs.place_bit.Statement.{statement}
 use Rattle.repair.proofs.place_bit.Tie as tie
 
-place-over-requires : tie.Need-place-over-requires
-place-over-requires c κs =
+place-in-requires : tie.Need-place-in-requires
+place-in-requires c κs =
     let e = c .before .before .before .before .before in
     let t1 = e .before .before in
     let r = t1 .before in
@@ -38,8 +38,8 @@ returns c =
     let room = s .args .room .now in
     let h : repairRoomWords counts ≤ length room = leb-true _ _ (sym (r .room-enough .ensures) ∙ t1 .if1 .taken) in
     let l = zeros-length room (e .clear .last .0) (e .clear .ensures) in
-    whole-end _ _ _ _ _ _ _ counts room (rw l at (d .place-over .ensures))
-    (room-left room (e .clear .last .0) (e .clear .ensures) counts (d .place-over .last .1 .1 .1 .1 .1 .0) _ h (d .place-over .kept .1 .1 .1 .1 .1 .0) (g .clear2 .ensures))
+    whole-end _ _ _ _ _ _ _ counts room (rw l at (d .place-in .ensures))
+    (room-left room (e .clear .last .0) (e .clear .ensures) counts (d .place-in .last .1 .1 .1 .1 .1 .0) _ h (d .place-in .kept .1 .1 .1 .1 .1 .0) (g .clear2 .ensures))
 
 returns-2 : tie.Need-returns-2
 returns-2 c =
@@ -53,11 +53,11 @@ returns-2 c =
     let after = s .args .after .now in
     let h : length room < repairRoomWords counts = leb-false _ _ (sym (r .room-enough .ensures) ∙ t1 .if1 .left) in
     whole-end _ _ _ _ _ _ _ counts room
-    (refused-end _ _ slots after 32 0 (place-32 (s .args .gates .now) (s .args .levels .now) counts slots (length after) (s .args .level) (s .args .slot) (s .args .node .0) (length room) h) (c .refused .ensures))
+    (refused-end _ _ slots after 32 0 (place-32 (s .args .edition) (s .args .gates .now) (s .args .levels .now) counts slots (length after) (s .args .level) (s .args .slot) (s .args .node .0) (length room) h) (c .refused .ensures))
     (sym (room-short counts room h))
 
 pub place-bit-spec : {M : Type 1} → statement M
 place-bit-spec =
     tie.close
-    (tie.spec (λ c κs. search needs) (λ c κs. search needs) place-over-requires (λ c κs. search needs) (λ c. search needs)
+    (tie.spec (λ c κs. search needs) (λ c κs. search needs) place-in-requires (λ c κs. search needs) (λ c. search needs)
     (λ c. search needs) (λ c. search needs) returns (λ c κs. search needs) (λ c. search needs) returns-2)

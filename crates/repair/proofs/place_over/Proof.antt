@@ -26,7 +26,7 @@ returns c =
     let level = s .args .level in
     let slot = s .args .slot in
     let node = s .args .node in
-    refused-end _ _ slots after 5 0 (place-5 (s .args .gates .now) (s .args .levels .now) counts slots (length after) level slot (node .0) (length (s .args .map .now)) (s .pre .1) (form-pin (placeRight 13 level slot) (countsRight counts) (node .0) (omega arith))) (c .refused .ensures)
+    refused-end _ _ slots after 5 0 (place-5 (s .args .height) (s .args .gates .now) (s .args .levels .now) counts slots (length after) level slot (node .0) (form-pin (placeRight (s .args .height) level slot) (countsRight counts) (node .0) (omega arith))) (c .refused .ensures)
 
 place-at-requires : tie.Need-place-at-requires
 place-at-requires c κs =
@@ -43,8 +43,8 @@ place-at-requires c κs =
     let w = told-true _ _ _ (u .check-counts .ensures) (t3 .if3 .taken) in
     let e = entered-true (s .args .counts .now) (s .args .map .now) (s .pre .0) (s .pre .1) (u .check-counts .last .1 .0) (u .check-counts .kept .1 .0) (λ i. z .shared-slice-known3 .given i .fits) w in
     let n : s .args .node .0 ≤ 2 ^ 30 = omega (arith, x1 .if1 .left) in
-    let (h, j) = place-parts (s .args .level) (s .args .slot) p in
-    (item-none _ (sym (l .check-list .ensures) ∙ o .enum-told .given .1), h, j, n, e .1)
+    let (h, j) = place-parts (s .args .height) (s .args .level) (s .args .slot) p in
+    (item-none _ (sym (l .check-list .ensures) ∙ o .enum-told .given .1), s .pre .2, h, j, n, e .1)
 
 returns-2 : tie.Need-returns-2
 returns-2 c =
@@ -70,7 +70,7 @@ returns-2 c =
     let n : node .0 ≤ 2 ^ 30 = omega (arith, x1 .if1 .left) in
     let b = item-some _ _ (sym (l .check-list .ensures) ∙ g .g .given .1) in
     refused-end _ _ slots after 6 (g .g .given .0 .0)
-    (place-6 (s .args .gates .now) (s .args .levels .now) counts slots (length after) level slot (node .0) (length map) (s .pre .1) (form-right (placeRight 13 level slot) (countsRight counts) (node .0) p n (e .0)) (g .g .given .0 .0) b)
+    (place-6 (s .args .height) (s .args .gates .now) (s .args .levels .now) counts slots (length after) level slot (node .0) (form-right (placeRight (s .args .height) level slot) (countsRight counts) (node .0) p n (e .0)) (g .g .given .0 .0) b)
     (c .refused2 .ensures)
 
 returns-3 : tie.Need-returns-3
@@ -95,7 +95,7 @@ returns-3 c =
     let e = entered-true counts map (s .pre .0) (s .pre .1) (u .check-counts .last .1 .0) (u .check-counts .kept .1 .0) (λ i. z .shared-slice-known3 .given i .fits) w in
     let n : node .0 ≤ 2 ^ 30 = omega (arith, x1 .if1 .left) in
     let b = item-none _ (sym (l .check-list .ensures) ∙ o .enum-told .given .1) in
-    rw (place-on (s .args .gates .now) (s .args .levels .now) counts (s .args .slots .now) (length (s .args .after .now)) level slot (node .0) (length map) (s .pre .1) (form-right (placeRight 13 level slot) (countsRight counts) (node .0) p n (e .0)) b) (d .place-at .ensures)
+    rw (place-on (s .args .height) (s .args .gates .now) (s .args .levels .now) counts (s .args .slots .now) (length (s .args .after .now)) level slot (node .0) (form-right (placeRight (s .args .height) level slot) (countsRight counts) (node .0) p n (e .0)) b) (d .place-at .ensures)
 
 returns-4 : tie.Need-returns-4
 returns-4 c =
@@ -112,7 +112,7 @@ returns-4 c =
     let node = s .args .node in
     let w = told-false _ _ _ (u .check-counts .ensures) (t3 .if3 .left) in
     let e = entered-false counts map (s .pre .0) (s .pre .1) w in
-    refused-end _ _ slots after 5 0 (place-5 (s .args .gates .now) (s .args .levels .now) counts slots (length after) level slot (node .0) (length map) (s .pre .1) (form-counts (placeRight 13 level slot) (countsRight counts) (node .0) e)) (c .refused3 .ensures)
+    refused-end _ _ slots after 5 0 (place-5 (s .args .height) (s .args .gates .now) (s .args .levels .now) counts slots (length after) level slot (node .0) (form-counts (placeRight (s .args .height) level slot) (countsRight counts) (node .0) e)) (c .refused3 .ensures)
 
 returns-5 : tie.Need-returns-5
 returns-5 c =
@@ -127,7 +127,7 @@ returns-5 c =
     let slot = s .args .slot in
     let node = s .args .node in
     let p = sym (f .place-form .ensures) ∙ t2 .if2 .left in
-    refused-end _ _ slots after 5 0 (place-5 (s .args .gates .now) (s .args .levels .now) counts slots (length after) level slot (node .0) (length (s .args .map .now)) (s .pre .1) (form-place (placeRight 13 level slot) (countsRight counts) (node .0) p)) (c .refused4 .ensures)
+    refused-end _ _ slots after 5 0 (place-5 (s .args .height) (s .args .gates .now) (s .args .levels .now) counts slots (length after) level slot (node .0) (form-place (placeRight (s .args .height) level slot) (countsRight counts) (node .0) p)) (c .refused4 .ensures)
 
 pub place-over-spec : {M : Type 1} → statement M
 place-over-spec =

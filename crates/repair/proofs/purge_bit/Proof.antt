@@ -13,8 +13,8 @@ use borrow.Author.Needs.{needs}
 use Rattle.repair.proofs.purge_bit.Statement.{statement}
 use Rattle.repair.proofs.purge_bit.Tie as tie
 
-purge-over-requires : tie.Need-purge-over-requires
-purge-over-requires c κs =
+purge-in-requires : tie.Need-purge-in-requires
+purge-in-requires c κs =
     let e = c .before .before .before .before .before in
     let t1 = e .before .before in
     let r = t1 .before in
@@ -36,8 +36,8 @@ returns c =
     let room = s .args .room .now in
     let h : repairRoomWords counts ≤ length room = leb-true _ _ (sym (r .room-enough .ensures) ∙ t1 .if1 .taken) in
     let l = zeros-length room (e .clear .last .0) (e .clear .ensures) in
-    whole-end _ _ _ _ _ _ _ counts room (rw l at (d .purge-over .ensures))
-    (room-left room (e .clear .last .0) (e .clear .ensures) counts (d .purge-over .last .1 .1 .1 .0) _ h (d .purge-over .kept .1 .1 .1 .0) (g .clear2 .ensures))
+    whole-end _ _ _ _ _ _ _ counts room (rw l at (d .purge-in .ensures))
+    (room-left room (e .clear .last .0) (e .clear .ensures) counts (d .purge-in .last .1 .1 .1 .0) _ h (d .purge-in .kept .1 .1 .1 .0) (g .clear2 .ensures))
 
 returns-2 : tie.Need-returns-2
 returns-2 c =
@@ -46,11 +46,11 @@ returns-2 c =
     let s = r .before .before .before .before .before .before in
     let h : length (s .args .room .now) < repairRoomWords (s .args .counts .now) = leb-false _ _ (sym (r .room-enough .ensures) ∙ t1 .if1 .left) in
     whole-end _ _ _ _ _ _ _ (s .args .counts .now) (s .args .room .now)
-    (refused-end _ _ (s .args .slots .now) (s .args .after .now) 32 0 (clear-32 (s .args .counts .now) (s .args .slots .now) (length (s .args .after .now)) (s .args .level) (s .args .slot) (length (s .args .room .now)) h) (c .refused .ensures))
+    (refused-end _ _ (s .args .slots .now) (s .args .after .now) 32 0 (clear-32 (s .args .edition) (s .args .counts .now) (s .args .slots .now) (length (s .args .after .now)) (s .args .level) (s .args .slot) (length (s .args .room .now)) h) (c .refused .ensures))
     (sym (room-short (s .args .counts .now) (s .args .room .now) h))
 
 pub purge-bit-spec : {M : Type 1} → statement M
 purge-bit-spec =
     tie.close
-    (tie.spec (λ c κs. search needs) (λ c κs. search needs) purge-over-requires (λ c κs. search needs) (λ c. search needs)
+    (tie.spec (λ c κs. search needs) (λ c κs. search needs) purge-in-requires (λ c κs. search needs) (λ c. search needs)
     (λ c. search needs) (λ c. search needs) returns (λ c κs. search needs) (λ c. search needs) returns-2)

@@ -24,8 +24,8 @@ purge-at-requires c κs =
     let p = sym (f .place-form .ensures) ∙ t2 .if1 .taken in
     let w = told-true _ _ _ (u .check-counts .ensures) (t3 .if2 .taken) in
     let e = entered-true (s .args .counts .now) (s .args .map .now) (s .pre .0) (s .pre .1) (u .check-counts .last .1 .0) (u .check-counts .kept .1 .0) (λ i. z .shared-slice-known .given i .fits) w in
-    let (h, j) = place-parts (s .args .level) (s .args .slot) p in
-    (h, j, e .1)
+    let (h, j) = place-parts (s .args .height) (s .args .level) (s .args .slot) p in
+    (s .pre .2, h, j, e .1)
 
 returns : tie.Need-returns
 returns c =
@@ -43,7 +43,7 @@ returns c =
     let p = sym (f .place-form .ensures) ∙ t2 .if1 .taken in
     let w = told-true _ _ _ (u .check-counts .ensures) (t3 .if2 .taken) in
     let e = entered-true counts map (s .pre .0) (s .pre .1) (u .check-counts .last .1 .0) (u .check-counts .kept .1 .0) (λ i. z .shared-slice-known .given i .fits) w in
-    rw (clear-on counts (s .args .slots .now) (length (s .args .after .now)) level slot (length map) (s .pre .1) (both-right (placeRight 13 level slot) (countsRight counts) p (e .0))) (d .purge-at .ensures)
+    rw (clear-on (s .args .height) counts (s .args .slots .now) (length (s .args .after .now)) level slot (both-right (placeRight (s .args .height) level slot) (countsRight counts) p (e .0))) (d .purge-at .ensures)
 
 returns-2 : tie.Need-returns-2
 returns-2 c =
@@ -59,7 +59,7 @@ returns-2 c =
     let slot = s .args .slot in
     let w = told-false _ _ _ (u .check-counts .ensures) (t3 .if2 .left) in
     let e = entered-false counts map (s .pre .0) (s .pre .1) w in
-    refused-end _ _ slots after 5 0 (clear-5 counts slots (length after) level slot (length map) (s .pre .1) (both-counts (placeRight 13 level slot) (countsRight counts) e)) (c .refused .ensures)
+    refused-end _ _ slots after 5 0 (clear-5 (s .args .height) counts slots (length after) level slot (both-counts (placeRight (s .args .height) level slot) (countsRight counts) e)) (c .refused .ensures)
 
 returns-3 : tie.Need-returns-3
 returns-3 c =
@@ -72,7 +72,7 @@ returns-3 c =
     let level = s .args .level in
     let slot = s .args .slot in
     let p = sym (f .place-form .ensures) ∙ t2 .if1 .left in
-    refused-end _ _ slots after 5 0 (clear-5 counts slots (length after) level slot (length (s .args .map .now)) (s .pre .1) (both-place (placeRight 13 level slot) (countsRight counts) p)) (c .refused2 .ensures)
+    refused-end _ _ slots after 5 0 (clear-5 (s .args .height) counts slots (length after) level slot (both-place (placeRight (s .args .height) level slot) (countsRight counts) p)) (c .refused2 .ensures)
 
 pub purge-over-spec : {M : Type 1} → statement M
 purge-over-spec =

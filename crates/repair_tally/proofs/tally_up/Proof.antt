@@ -12,12 +12,12 @@ use Rattle.repair_tally.proofs.tally_up.Statement.{statement}
 use Rattle.repair_tally.proofs.tally_up.Tie as tie
 
 abbrev Inv-loop : tie.InvT-loop
-Inv-loop spots map₀ fresh₀ count n₀ k₀ map fresh n k =
+Inv-loop spots map₀ fresh₀ height slots count n₀ k₀ map fresh n k =
     (k ≤ length spots / 2) × (n ≤ k) × (n ≤ length fresh) × (length map ≡ length map₀) × (length fresh ≡ length fresh₀)
-    × (through raising (raised map (take n fresh)) (nodesFrom spots k) ≡ through raising (raised map₀ []) (nodesIn spots))
+    × (through raising (raised map (take n fresh)) (nodesFrom height spots k) ≡ through raising (raised map₀ []) (nodesIn height spots))
 
 abbrev μ-loop : tie.MeasureT-loop
-μ-loop spots map₀ fresh₀ count n₀ k₀ map fresh n k = count - k
+μ-loop spots map₀ fresh₀ height slots count n₀ k₀ map fresh n k = count - k
 
 loop-holds : tie.Need-loop-holds Inv-loop μ-loop
 loop-holds c =
@@ -31,7 +31,7 @@ cast-if1 c =
 raise-requires : tie.Need-raise-requires Inv-loop μ-loop
 raise-requires c κs =
     let a = c .before .before .before .before .before .before in
-    let s = a .before .before .before .before in
+    let s = a .before .before .before .before .before in
     (s .pre .0 (a .loop .k) (omega arith), omega (arith, s .pre .1))
 
 loop-again : tie.Need-loop-again Inv-loop μ-loop
@@ -40,7 +40,7 @@ loop-again c =
     let e = m .before .before .before .before .before .before in
     let b1 = e .before .before .before .before .before .before in
     let a = b1 .before in
-    let s = a .before .before .before .before in
+    let s = a .before .before .before .before .before in
     let k = told-new _ _ _ _ _ (e .raise .ensures) (m .more .given .1) in
     let b = new-most _ _ _ _ _ _ _ (k .0) (a .loop .inv .2) (k .1) in (
       omega arith,
@@ -48,7 +48,7 @@ loop-again c =
       k .1,
       omega arith,
       omega arith,
-      sym (way-on raising (raised (a .loop .map) (take (a .loop .n) (a .loop .fresh))) (s .args .spots .now) (a .loop .k) (omega arith) (raised (e .raise .last .0) (take (m .more .given .0 .0) (e .raise .last .1 .0))) (omega arith) (k .0)) ∙ a .loop .inv .5,
+      sym (way-on raising (s .args .height) (raised (a .loop .map) (take (a .loop .n) (a .loop .fresh))) (s .args .spots .now) (a .loop .k) (omega arith) (raised (e .raise .last .0) (take (m .more .given .0 .0) (e .raise .last .1 .0))) (omega arith) (k .0)) ∙ a .loop .inv .5,
     )
 
 returns : tie.Need-returns Inv-loop μ-loop
@@ -56,26 +56,26 @@ returns c =
     let e = c .before .before .before .before .before .before in
     let b1 = e .before .before .before .before .before .before in
     let a = b1 .before in
-    let s = a .before .before .before .before in
+    let s = a .before .before .before .before .before in
     let k = told-over _ _ _ _ (e .raise .ensures) (c .enum-told .given .1) in
-    sym (a .loop .inv .5) ∙ way-stop raising (raised (a .loop .map) (take (a .loop .n) (a .loop .fresh))) (s .args .spots .now) (a .loop .k) (omega arith) (omega arith) k
+    sym (a .loop .inv .5) ∙ way-stop raising (s .args .height) (raised (a .loop .map) (take (a .loop .n) (a .loop .fresh))) (s .args .spots .now) (a .loop .k) (omega arith) (omega arith) k
 
 loop-again-2 : tie.Need-loop-again-2 Inv-loop μ-loop
 loop-again-2 c =
     let a = c .before .before .before in
-    let s = a .before .before .before .before in
-    (omega arith, omega arith, a .loop .inv .2, a .loop .inv .3, a .loop .inv .4, sym (way-skip raising (raised (a .loop .map) (take (a .loop .n) (a .loop .fresh))) (s .args .spots .now) (a .loop .k) (omega arith) (omega arith)) ∙ a .loop .inv .5)
+    let s = a .before .before .before .before .before in
+    (omega arith, omega arith, a .loop .inv .2, a .loop .inv .3, a .loop .inv .4, sym (way-skip raising (s .args .height) (raised (a .loop .map) (take (a .loop .n) (a .loop .fresh))) (s .args .spots .now) (a .loop .k) (omega arith) (omega arith)) ∙ a .loop .inv .5)
 
 returns-2 : tie.Need-returns-2 Inv-loop μ-loop
 returns-2 c =
     let a = c .before in
-    let s = a .before .before .before .before in
-    (sym (a .loop .inv .5) ∙ way-end raising (raised (a .loop .map) (take (a .loop .n) (a .loop .fresh))) (s .args .spots .now) (a .loop .k) (omega arith), a .loop .inv .2)
+    let s = a .before .before .before .before .before in
+    (sym (a .loop .inv .5) ∙ way-end raising (s .args .height) (raised (a .loop .map) (take (a .loop .n) (a .loop .fresh))) (s .args .spots .now) (a .loop .k) (omega arith), a .loop .inv .2)
 
 pub tally-up-spec : {M : Type 1} → statement M
 tally-up-spec =
     tie.close
-    (tie.spec Inv-loop μ-loop loop-holds (λ c. search needs) (λ c. search needs) (λ c. search needs) cast-if1 (λ c. search needs)
+    (tie.spec Inv-loop μ-loop (λ c κs. search needs) loop-holds (λ c. search needs) (λ c. search needs) (λ c. search needs) cast-if1 (λ c. search needs)
     (λ c. search needs) (λ c. search needs) (λ c. search needs) raise-requires (λ c. search needs) (λ c. search needs) (λ c. search needs)
     loop-again (λ c. search needs) (λ c. search needs) (λ c. search needs) returns (λ c. search needs) (λ c. search needs) loop-again-2
     (λ c. search needs) (λ c. search needs) returns-2)

@@ -5,7 +5,7 @@ use Prim.Native.Nat.{ℕ, _-_, _≤_, _<_}
 use native.Mathlib.Omega.{arith}
 use lib.ListN.{length}
 use lib.Seq.{sets}
-use Rattle.plan_record.specs.Record.{blocksOf}
+use Rattle.plan_record.specs.Record.{planLanes, blocksOf}
 use Rattle.script_assembly.specs.Assembly.{blockStart, stageStarts, stageWords}
 use Rattle.script_assembly.specs.WrittenSoFar.{firstRank}
 use Rattle.script_layout.proofs.ListStoreLaws.{stores-length, lists-long}
@@ -19,9 +19,9 @@ Inv-loop d room₀ s first starts₀ words₀ keys₀ scratch₀ set₀ blocks n
     (b ≤ blocks)
     × (room ≡ room₀)
     × (next .rank ≡ firstRank d s b)
-    × (next .at ≡ blockStart 256 d s b)
-    × (starts ≡ sets starts₀ first (stageStarts 256 d s b))
-    × (words ≡ sets words₀ (next₀ .at) (stageWords 256 d s b))
+    × (next .at ≡ blockStart (planLanes d) d s b)
+    × (starts ≡ sets starts₀ first (stageStarts (planLanes d) d s b))
+    × (words ≡ sets words₀ (next₀ .at) (stageWords (planLanes d) d s b))
     × (length keys ≡ length keys₀)
     × (length scratch ≡ length scratch₀)
     × (length set ≡ length set₀)
@@ -46,7 +46,7 @@ slice-write-starts c =
     let o = way .before .before .before in
     let l = at-loop .loop in
     let blocks = at-blocks-of .blocks-of .ensures in
-    omega (arith, o .pre .0 .starts, blocks, at-loop-test .loop-test .taken, stores-length (o .args .starts .now) (l .starts) (o .args .first) (stageStarts 256 (o .args .d .now) (o .args .s) (l .b)) (l .inv .4))
+    omega (arith, o .pre .0 .starts, blocks, at-loop-test .loop-test .taken, stores-length (o .args .starts .now) (l .starts) (o .args .first) (stageStarts (planLanes (o .args .d .now)) (o .args .d .now) (o .args .s) (l .b)) (l .inv .4))
 
 write-block-requires : tie.Need-write-block-requires Inv-loop μ-loop
 write-block-requires c κs =
@@ -59,7 +59,7 @@ write-block-requires c κs =
     let blocks = at-blocks-of .blocks-of .ensures in
     let more : l .b < blocksOf (o .args .d .now) = omega (arith, blocks, at-loop-test .loop-test .taken) in (
       block-room (o .args .d .now) (o .args .room .now) _ _ _ _ _ (o .pre .0) (l .b) more (l .next .rank) (l .next .at) (l .inv .2) (l .inv .3) (l .room) (l .inv .1) _
-          (stores-length (o .args .words .now) (l .words) (o .args .at .at) (stageWords 256 (o .args .d .now) (o .args .s) (l .b)) (l .inv .5)),
+          (stores-length (o .args .words .now) (l .words) (o .args .at .at) (stageWords (planLanes (o .args .d .now)) (o .args .d .now) (o .args .s) (l .b)) (l .inv .5)),
       lists-long (o .pre .1) (l .inv .6) (l .inv .7) (l .inv .8),
     )
 
@@ -93,7 +93,7 @@ same-length-2 c =
     let way = at-loop .before .before .before .before .before in
     let o = way .before .before .before .before in
     let l = at-loop .loop in
-    stores-length (o .args .starts .now) (l .starts) (o .args .first) (stageStarts 256 (o .args .d .now) (o .args .s) (l .b)) (l .inv .4)
+    stores-length (o .args .starts .now) (l .starts) (o .args .first) (stageStarts (planLanes (o .args .d .now)) (o .args .d .now) (o .args .s) (l .b)) (l .inv .4)
 
 same-length-3 : tie.Need-same-length-3 Inv-loop μ-loop
 same-length-3 c =
@@ -101,7 +101,7 @@ same-length-3 c =
     let way = at-loop .before .before .before .before .before in
     let o = way .before .before .before .before in
     let l = at-loop .loop in
-    stores-length (o .args .words .now) (l .words) (o .args .at .at) (stageWords 256 (o .args .d .now) (o .args .s) (l .b)) (l .inv .5)
+    stores-length (o .args .words .now) (l .words) (o .args .at .at) (stageWords (planLanes (o .args .d .now)) (o .args .d .now) (o .args .s) (l .b)) (l .inv .5)
 
 same-length-4 : tie.Need-same-length-4 Inv-loop μ-loop
 same-length-4 c =
@@ -134,8 +134,8 @@ returns c =
       (
         l .inv .1,
         (
-          l .inv .4 ∙ ap (λ (n : ℕ). sets (o .args .starts .now) (o .args .first) (stageStarts 256 d s n)) e,
-          l .inv .5 ∙ ap (λ (n : ℕ). sets (o .args .words .now) (o .args .at .at) (stageWords 256 d s n)) e,
+          l .inv .4 ∙ ap (λ (n : ℕ). sets (o .args .starts .now) (o .args .first) (stageStarts (planLanes d) d s n)) e,
+          l .inv .5 ∙ ap (λ (n : ℕ). sets (o .args .words .now) (o .args .at .at) (stageWords (planLanes d) d s n)) e,
         ),
       ),
     )

@@ -5,7 +5,7 @@ use Prim.Native.Nat.{ℕ, _-_, _≤_, _<_}
 use native.Mathlib.Omega.{arith}
 use lib.ListN.{length}
 use lib.Seq.{sets}
-use Rattle.plan_record.specs.Record.{majorsOf}
+use Rattle.plan_record.specs.Record.{planLanes, majorsOf}
 use Rattle.script_assembly.specs.Assembly.{majorStarts, majorWords}
 use Rattle.script_layout.specs.Layout.{NextOf}
 use Rattle.script_layout.proofs.ListStoreLaws.{stores-length, lists-long}
@@ -19,8 +19,8 @@ Inv-loop d room₀ starts₀ words₀ keys₀ scratch₀ set₀ blocks majors ne
     (s ≤ majors)
     × (room ≡ room₀)
     × NextOf d s next
-    × (starts ≡ sets starts₀ 0 (majorStarts 256 d s))
-    × (words ≡ sets words₀ 0 (majorWords 256 d s))
+    × (starts ≡ sets starts₀ 0 (majorStarts (planLanes d) d s))
+    × (words ≡ sets words₀ 0 (majorWords (planLanes d) d s))
     × (length keys ≡ length keys₀)
     × (length scratch ≡ length scratch₀)
     × (length set ≡ length set₀)
@@ -62,8 +62,8 @@ write-stage-requires c κs =
     let more : l .s < majorsOf (o .args .d .now) = omega (arith, majors, at-loop-test .loop-test .taken) in
     let d = o .args .d .now in (
       stage-room (o .args .d .now) (o .args .room .now) _ _ (o .pre .0) (l .s) _ more blocks (l .next) (l .inv .2) (l .room) (l .inv .1) _ _
-          (stores-length (o .args .starts .now) (l .starts) 0 (majorStarts 256 d (l .s)) (l .inv .3))
-          (stores-length (o .args .words .now) (l .words) 0 (majorWords 256 d (l .s)) (l .inv .4)),
+          (stores-length (o .args .starts .now) (l .starts) 0 (majorStarts (planLanes d) d (l .s)) (l .inv .3))
+          (stores-length (o .args .words .now) (l .words) 0 (majorWords (planLanes d) d (l .s)) (l .inv .4)),
       lists-long (o .pre .1) (l .inv .5) (l .inv .6) (l .inv .7),
     )
 
@@ -100,7 +100,7 @@ same-length-2 c =
     let way = at-loop .before .before .before .before .before in
     let o = way .before .before .before .before .before in
     let l = at-loop .loop in
-    stores-length (o .args .starts .now) (l .starts) 0 (majorStarts 256 (o .args .d .now) (l .s)) (l .inv .3)
+    stores-length (o .args .starts .now) (l .starts) 0 (majorStarts (planLanes (o .args .d .now)) (o .args .d .now) (l .s)) (l .inv .3)
 
 same-length-3 : tie.Need-same-length-3 Inv-loop μ-loop
 same-length-3 c =
@@ -108,7 +108,7 @@ same-length-3 c =
     let way = at-loop .before .before .before .before .before in
     let o = way .before .before .before .before .before in
     let l = at-loop .loop in
-    stores-length (o .args .words .now) (l .words) 0 (majorWords 256 (o .args .d .now) (l .s)) (l .inv .4)
+    stores-length (o .args .words .now) (l .words) 0 (majorWords (planLanes (o .args .d .now)) (o .args .d .now) (l .s)) (l .inv .4)
 
 same-length-4 : tie.Need-same-length-4 Inv-loop μ-loop
 same-length-4 c =
@@ -135,12 +135,12 @@ returns c =
     let l = at-loop .loop in
     let d = o .args .d .now in
     let e : l .s ≡ majorsOf d = omega (arith, at-majors-of .majors-of .ensures, at-loop-test .loop-test .left) in (
-      l .inv .2 .at ∙ ap (λ (n : ℕ). length (majorWords 256 d n)) e,
+      l .inv .2 .at ∙ ap (λ (n : ℕ). length (majorWords (planLanes d) d n)) e,
       (
         l .inv .1,
         (
-          l .inv .3 ∙ ap (λ (n : ℕ). sets (o .args .starts .now) 0 (majorStarts 256 d n)) e,
-          l .inv .4 ∙ ap (λ (n : ℕ). sets (o .args .words .now) 0 (majorWords 256 d n)) e,
+          l .inv .3 ∙ ap (λ (n : ℕ). sets (o .args .starts .now) 0 (majorStarts (planLanes d) d n)) e,
+          l .inv .4 ∙ ap (λ (n : ℕ). sets (o .args .words .now) 0 (majorWords (planLanes d) d n)) e,
         ),
       ),
     )

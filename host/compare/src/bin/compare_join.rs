@@ -7,7 +7,7 @@ use compare::damage;
 use compare::join_checker::JoinChecker;
 use compare::sets::{self, STAGED, WORDS};
 use compare::tally::Tally;
-use juolgesot::{join_words, Rounds};
+use juolgesot::{join_words, Edition, Rounds};
 use random::Random;
 use std::collections::BTreeMap;
 
@@ -219,14 +219,14 @@ fn hold_laws(random: &mut Random, laws: &mut Tally) {
 /// A position: unstaged (1) or staged (2).
 type Position = (u8, u32);
 
-fn listing(positions: &[Position]) -> Vec<u8> {
+fn listing(edition: Edition, positions: &[Position]) -> Vec<u8> {
     let mut records = Vec::new();
     for (kind, position) in positions {
         records.push(*kind);
         records.extend(position.to_le_bytes());
     }
     records.push(0);
-    juolgesot::list(&records).unwrap_or_else(|refusal| {
+    juolgesot::list(&records, edition).unwrap_or_else(|refusal| {
         println!("DIFFERENCE: a listing: {}", refusal);
         std::process::exit(1);
     })
@@ -239,18 +239,19 @@ fn positions(random: &mut Random, laws: &mut Tally) {
     let count = random.between(1, 60);
     let mut positions: Vec<Position> =
         (0..count).map(|_| (random.pick(&[1, 2]), random.below(end) as u32)).collect();
-    let text = listing(&positions);
+    let edition = random.pick(&Edition::BOTH);
+    let text = listing(edition, &positions);
     let repeated = random.pick(&positions);
     positions.push(repeated);
     random.shuffle(&mut positions);
-    same_text(laws, "positions in another order", &listing(&positions), &text);
+    same_text(laws, "positions in another order", &listing(edition, &positions), &text);
 
     random.shuffle(&mut positions);
     let one =
         |&(kind, position): &Position| vec![position >> 5 | u32::from(kind - 1) << 31, 1 << (position & 31)];
     let set = positions.iter().map(one).fold(Vec::new(), |set, one| joined(&set, &one));
     let pairs: Vec<(u32, u32)> = set.chunks(2).map(|pair| (pair[0], pair[1])).collect();
-    let packed = juolgesot::read_rounds(&pairs).expect("so few positions are packed");
+    let packed = juolgesot::read_rounds(&pairs, edition).expect("so few positions are packed");
     same_text(laws, "single positions joined, and packed", lines(&packed).as_bytes(), &text);
 }
 
@@ -266,7 +267,7 @@ fn same_text(laws: &mut Tally, law: &str, found: &[u8], expected: &[u8]) {
 /// The listing's lines of a packing.
 fn lines(packed: &Rounds) -> String {
     let mut text = format!("rounds {}\n", packed.rounds);
-    for lane in 0..juolgesot::LANES {
+    for lane in 0..packed.edition.lanes() {
         for (round, (word, mask)) in
             (0..packed.rounds).filter_map(|round| Some((round, packed.read(lane, round)?)))
         {

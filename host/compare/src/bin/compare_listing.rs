@@ -5,6 +5,7 @@
 use compare::comparison::Comparison;
 use compare::list_checker::ListChecker;
 use compare::sets;
+use compare::{host, Dose, UNKNOWN};
 use juolgesot::LIST_ROOM;
 use random::Random;
 
@@ -12,52 +13,72 @@ const SEED: u64 = 20_240_613;
 
 fn main() {
     let mut comparison = Comparison::begin("compare_listing", reference::NAME, SEED);
-    let mut checker = ListChecker::new();
-    if juolgesot::list(&example()).as_deref() != Ok(EXAMPLE_TEXT.as_bytes()) {
-        println!("DIFFERENCE: the listing of document 01 is not its text");
-        std::process::exit(1);
-    }
-    checker.check("the listing of document 01", &example(), LIST_ROOM, 0);
-    checker.check("no records", &[], LIST_ROOM, 0);
-    checker.check("end at once", &[0], LIST_ROOM, 0);
-    random_listings(&mut checker, &mut comparison.random);
-    boundaries(&mut checker, &mut comparison.random);
-    checker.answers.sort();
-    for refused in ["refused 3", "refused 4", "refused 17", "refused 22"] {
-        assert!(checker.answers.times(refused) > 0, "{} did not come", refused);
-    }
-    comparison.finish("listings", &[&checker.kinds, &checker.answers]);
+    let checkers = Dose::BOTH.map(|dose| {
+        let mut checker = ListChecker::new();
+        let edition = host(dose.edition);
+        if juolgesot::list(&example(), edition).as_deref() != Ok(EXAMPLE_TEXT.as_bytes()) {
+            println!("DIFFERENCE: the listing of document 01 is not its text");
+            std::process::exit(1);
+        }
+        let mut check =
+            |kind: &str, records: &[u8]| checker.check(kind, records, edition.number(), LIST_ROOM, 0);
+        check("the listing of document 01", &example());
+        check("no records", &[]);
+        check("end at once", &[0]);
+        random_listings(&mut checker, &mut comparison.random, dose);
+        boundaries(&mut checker, &mut comparison.random, dose);
+        checker.answers.sort();
+        let more = if dose.is_full() { &[][..] } else { &["refused 21"] };
+        for came in
+            ["refused 3", "refused 4", "refused 17", "refused 22", "not written: 29"].iter().chain(more)
+        {
+            assert!(checker.answers.times(came) > 0, "{} did not come", came);
+        }
+        checker
+    });
+    let told: Vec<_> =
+        Dose::BOTH.into_iter().zip(&checkers).map(|(dose, c)| (dose, vec![&c.kinds, &c.answers])).collect();
+    comparison.finish_both("listings", &told);
 }
 
-fn random_listings(checker: &mut ListChecker, random: &mut Random) {
-    for _ in 0..3_000 {
+fn random_listings(checker: &mut ListChecker, random: &mut Random, dose: Dose) {
+    let edition = dose.edition.number();
+    for _ in 0..dose.times(3_000) {
         let records = random_records(random);
         let spare = random.pick(&[0, 0, 1, 100]);
-        checker.check("random", &records, LIST_ROOM, spare);
+        checker.check("random", &records, edition, LIST_ROOM, spare);
         let damaged = damaged(random, &records);
-        checker.check("damaged", &damaged, LIST_ROOM, spare);
+        checker.check("damaged", &damaged, edition, LIST_ROOM, spare);
         let short = -(random.between(1, 12) as isize);
-        checker.check("short result", &records, LIST_ROOM, short);
-        checker.check("short result, damaged", &damaged, LIST_ROOM, short);
+        checker.check("short result", &records, edition, LIST_ROOM, short);
+        checker.check("short result, damaged", &damaged, edition, LIST_ROOM, short);
         let room = random.pick(&[0, 1, LIST_ROOM - 1]);
-        checker.check("short room", &damaged, room, 0);
+        checker.check("short room", &damaged, edition, room, 0);
+        let unknown = random.pick(&UNKNOWN);
+        checker.check("unknown edition", &damaged, unknown, LIST_ROOM + random.below(2), spare.min(short));
+        checker.check("unknown edition, short room", &damaged, unknown, room, 0);
     }
 }
 
-fn boundaries(checker: &mut ListChecker, random: &mut Random) {
-    for positions in [8191, 8192, 8193, 8194] {
+/// The limit of positions is the same in both editions: of the small one 4096 bits come before.
+fn boundaries(checker: &mut ListChecker, random: &mut Random, dose: Dose) {
+    let (edition, lanes, slots) = (dose.edition.number(), dose.edition.number(), dose.edition.slots());
+    let mut all = vec![8191, 8192, 8193, 8194];
+    all.extend((slots - 1..slots + 2).filter(|&positions| positions < 8190));
+    for positions in all {
         for spread in [1, 2, 7, 40, 1 << 19] {
             let records = records_of(random, positions, spread);
-            checker.check(&format!("{} positions", positions), &records, LIST_ROOM, 0);
+            checker.check(&format!("{} positions", positions), &records, edition, LIST_ROOM, 0);
         }
     }
-    for words in [256, 257, 300, 481] {
-        checker.check("words of 17 bits", &seventeen_bits(words), LIST_ROOM, 0);
+    for words in [lanes, lanes + 1, lanes + 44, slots as u32 / 17] {
+        checker.check("words of 17 bits", &seventeen_bits(words), edition, LIST_ROOM, 0);
     }
-    checker.check("the set that the search misses", &requesting(random, &sets::missed()), LIST_ROOM, 0);
+    let missed = requesting(random, &sets::missed(dose.edition));
+    checker.check("the set that the search misses", &missed, edition, LIST_ROOM, 0);
     for _ in 0..20 {
-        let set = sets::exactly_full(random);
-        checker.check("lanes that could be filled exactly", &requesting(random, &set), LIST_ROOM, 0);
+        let set = sets::exactly_full(random, dose.edition);
+        checker.check("lanes that could be filled exactly", &requesting(random, &set), edition, LIST_ROOM, 0);
     }
 }
 

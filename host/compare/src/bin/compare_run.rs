@@ -4,11 +4,12 @@
 
 use compare::came::Came;
 use compare::comparison::Comparison;
-use compare::marked::{m10, m10_with};
+use compare::marked::{m10, m10_with, m6};
 use compare::plans::{self, Size};
 use compare::run_checker::RunChecker;
 use compare::run_damage::{self, all_turns, case_of, parts, state, Case, PartPlace};
 use compare::stored_bits::{self, StoredBits};
+use compare::{host, Dose, UNKNOWN};
 use model::build::{accept, Accepted};
 use model::record;
 use plan::stored;
@@ -21,19 +22,25 @@ const MOST_SCRIPTS: usize = 200;
 
 fn main() {
     let mut comparison = Comparison::begin("compare_run", "host/model", SEED);
-    let random = &mut comparison.random;
-    let mut checker = RunChecker::new();
-    if let Some(path) = comparison.words.first() {
-        netlists(&mut checker, random, path);
-    }
-    marked(&mut checker);
-    random_scripts(&mut checker, random);
-    scrambled_scripts(&mut checker, random);
-    damaged_scripts(&mut checker, random);
-    short_rooms(&mut checker, random);
-
-    checker.answers.sort();
-    comparison.finish("runs", &[&checker.kinds, &checker.answers]);
+    let path = comparison.words.first().cloned();
+    let checkers = Dose::BOTH.map(|dose| {
+        let (mut checker, random) = (RunChecker::new(), &mut comparison.random);
+        if let (Some(path), true) = (&path, dose.is_full()) {
+            netlists(&mut checker, random, path);
+        }
+        println!("the {} edition:", dose.name());
+        marked(&mut checker, dose);
+        normal_words(&mut checker, dose);
+        random_scripts(&mut checker, random, dose);
+        scrambled_scripts(&mut checker, random, dose);
+        damaged_scripts(&mut checker, random, dose);
+        short_rooms(&mut checker, random, dose);
+        checker.answers.sort();
+        checker
+    });
+    let told: Vec<_> =
+        Dose::BOTH.into_iter().zip(&checkers).map(|(dose, c)| (dose, vec![&c.kinds, &c.answers])).collect();
+    comparison.finish_both("runs", &told);
 }
 
 /// The scripts that GEM made.
@@ -57,7 +64,7 @@ fn full_run(
     plan: &Accepted<'_>,
     words: &[u32],
 ) -> StoredBits {
-    let starts = plan.starts();
+    let (starts, edition) = (plan.starts(), plan.plan.edition);
     let state_words = plan.sizes().state_words as usize;
     let old = state(random, state_words);
     let mut new = state(random, state_words);
@@ -65,9 +72,10 @@ fn full_run(
     for major in 0..plan.plan.major_parts.len() {
         let range = major * plan.plan.blocks..(major + 1) * plan.plan.blocks + 1;
         let starts = starts[range].to_vec();
-        let places = parts(&words, &starts);
+        let places = parts(edition, &words, &starts);
         let turns = all_turns(random, &places);
-        let mut case = Case { words, starts, turns, old: old.clone(), new: new.clone() };
+        let (told, old, new_before) = (edition.number(), old.clone(), new.clone());
+        let mut case = Case { edition, told, words, starts, turns, old, new: new_before };
         let ran = checker.check(kind, &case, 0, true).expect("the script is in form");
         assert_eq!(ran.turns_left, 0, "turns for every block");
         new = ran.new;
@@ -88,15 +96,16 @@ fn full_run(
 }
 
 /// M10: old word 1 stores 1, old word 3 stores 0xFFFFFFFE. With other enables it holds, or stores the inverse.
-fn marked(checker: &mut RunChecker) {
+fn marked(checker: &mut RunChecker, dose: Dose) {
+    let edition = host(dose.edition);
     const HELD: u32 = 0x1234_5678;
-    let never = m10_with(u32::MAX, 0, 0);
-    let inverted = m10_with(u32::MAX, u32::MAX, u32::MAX);
+    let never = m10_with(edition, u32::MAX, 0, 0);
+    let inverted = m10_with(edition, u32::MAX, u32::MAX, u32::MAX);
     // Entries are 0: every bit is enabled by captured bit 0, that of gate 3.
-    let by_gate = m10_with(0, 0, 0);
-    let unless_gate = m10_with(0, u32::MAX, 0);
+    let by_gate = m10_with(edition, 0, 0, 0);
+    let unless_gate = m10_with(edition, 0, u32::MAX, 0);
     for (name, plan, stored) in [
-        ("M10", m10(), [1, 0xFFFF_FFFE]),
+        ("M10", m10(edition), [1, 0xFFFF_FFFE]),
         ("M10, never enabled", never, [HELD, HELD]),
         ("M10, inverted", inverted, [0xFFFF_FFFE, 1]),
         ("M10, enabled by its gate", by_gate, [1, HELD]),
@@ -111,7 +120,26 @@ fn marked(checker: &mut RunChecker) {
     }
 }
 
-const SMALL: Size = Size { majors: 2, parts: 3, stages: 3, inputs: 9000, wide: false };
+/// As many normal words as lanes, the last location among them, and one more.
+fn normal_words(checker: &mut RunChecker, dose: Dose) {
+    let (mut plan, lanes) = (m6(host(dose.edition)), dose.edition.lanes());
+    plan.stages[0][0].stages[0].locations = vec![lanes as u32 - 1; lanes - 1];
+    let mut case = case_of(&mut Random::new(1), &plan).expect("a plan in order");
+    // Nothing else is at fault then.
+    case.old.resize(1000, 7);
+    case.new.resize(1000, 7);
+    let ran = checker.check("as many normal words as lanes", &case, 0, true);
+    assert_eq!(ran.ok().map(|ran| ran.turns_left), Some(0));
+    case.words[2] += 1;
+    let refused = checker.check("a normal word too many", &case, 0, true).err();
+    assert_eq!(refused.map(|refused| refused.number), Some(15));
+}
+
+fn size(dose: Dose) -> Size {
+    let edition = host(dose.edition);
+    Size { edition, majors: 2, parts: 3, stages: 3, inputs: 32 * edition.lanes() * 9 / 8, wide: false }
+}
+
 /// Stored bits of random plans that carry a pin, at least, and those of each kind.
 const STORED_BITS: u64 = 1_000_000;
 const BITS_OF_A_KIND: u64 = 20_000;
@@ -119,13 +147,15 @@ const BITS_OF_A_KIND: u64 = 20_000;
 const MOST_PLANS: usize = 1000;
 
 /// Placements and enables of every kind.
-fn random_scripts(checker: &mut RunChecker, random: &mut Random) {
+fn random_scripts(checker: &mut RunChecker, random: &mut Random, dose: Dose) {
     let mut seen = StoredBits::default();
+    let stored_bits = dose.least(STORED_BITS);
     for index in 0..MOST_PLANS {
-        if index >= 40 && seen.carried >= STORED_BITS {
+        if index >= dose.times(40) && seen.carried >= stored_bits {
             break;
         }
-        let mut plan = if index % 4 == 0 { plans::any(random, SMALL) } else { plans::full(random, SMALL) };
+        let size = size(dose);
+        let mut plan = if index % 4 == 0 { plans::any(random, size) } else { plans::full(random, size) };
         plans::any_enables(random, &mut plan);
         let record = plan.record();
         let held = record::words(&record);
@@ -135,14 +165,14 @@ fn random_scripts(checker: &mut RunChecker, random: &mut Random) {
         }
     }
     seen.print("random plans");
-    assert!(seen.carried >= STORED_BITS, "too few stored bits: {:?}", seen);
-    seen.assert_each(BITS_OF_A_KIND);
+    assert!(seen.carried >= stored_bits, "too few stored bits: {:?}", seen);
+    seen.assert_each(dose.least(BITS_OF_A_KIND));
 }
 
 /// Scripts that no plan made: any reads, gates, locations and enables.
-fn scrambled_scripts(checker: &mut RunChecker, random: &mut Random) {
-    for _ in 0..60 {
-        let (mut case, places) = small_case(random);
+fn scrambled_scripts(checker: &mut RunChecker, random: &mut Random, dose: Dose) {
+    for _ in 0..dose.times(60) {
+        let (mut case, places) = small_case(random, dose);
         if run_damage::scrambled(random, &mut case, &places).is_some() {
             checker.check("random scripts of no plan", &case, 0, true).expect("the script is in form");
         }
@@ -150,24 +180,24 @@ fn scrambled_scripts(checker: &mut RunChecker, random: &mut Random) {
 }
 
 /// A script of a block of several parts, one of one part, and an empty one, some of them with several rounds.
-fn small_case(random: &mut Random) -> (Case, Vec<PartPlace>) {
+fn small_case(random: &mut Random, dose: Dose) -> (Case, Vec<PartPlace>) {
     loop {
-        let mut plan = plans::any(random, Size { majors: 1, parts: 5, stages: 3, inputs: 9000, wide: false });
+        let mut plan = plans::any(random, Size { majors: 1, parts: 5, ..size(dose) });
         plans::any_enables(random, &mut plan);
         plan.blocks = random.between(1, plan.stages[0].len() + 2) as u32;
         if let Some(case) = case_of(random, &plan) {
-            let places = parts(&case.words, &case.starts);
+            let places = parts(case.edition, &case.words, &case.starts);
             return (case, places);
         }
     }
 }
 
 /// Each damage until its refusal has come so many times, and then damages at random.
-fn damaged_scripts(checker: &mut RunChecker, random: &mut Random) {
-    let damages = run_damage::damages();
+fn damaged_scripts(checker: &mut RunChecker, random: &mut Random, dose: Dose) {
+    let damages = run_damage::damages(dose.edition);
     let mut came = Came::new(TIMES);
     for _ in 0..MOST_SCRIPTS {
-        let (case, places) = small_case(random);
+        let (case, places) = small_case(random, dose);
         for (number, name, change) in &damages {
             let mut damaged = case.clone();
             if came.wants(*number, name) && change(random, &mut damaged, &places).is_some() {
@@ -180,8 +210,8 @@ fn damaged_scripts(checker: &mut RunChecker, random: &mut Random) {
         }
     }
     came.print();
-    for _ in 0..50 {
-        let (case, places) = small_case(random);
+    for _ in 0..dose.times(50) {
+        let (case, places) = small_case(random, dose);
         for _ in 0..8 {
             let mut damaged = case.clone();
             let changed = run_damage::any_word(random, &mut damaged, &places);
@@ -199,14 +229,18 @@ fn damaged_scripts(checker: &mut RunChecker, random: &mut Random) {
     }
 }
 
-fn short_rooms(checker: &mut RunChecker, random: &mut Random) {
-    for index in 0..8 {
-        let (mut case, places) = small_case(random);
+fn short_rooms(checker: &mut RunChecker, random: &mut Random, dose: Dose) {
+    for index in 0..dose.times(32).min(8) {
+        let (mut case, places) = small_case(random, dose);
         match index % 4 {
             1 => case.turns.push(u32::MAX),
             2 => case.words[places[0].at] = 0,
             3 => case.starts.truncate(index / 4),
             _ => {}
+        }
+        // 32 is before 29.
+        if random.chance(2) {
+            case.told = random.pick(&UNKNOWN);
         }
         for room in [-1, -1024, -1_000_000, 0, 1, 1024] {
             let _ = checker.check("room around what is needed", &case, room, random.chance(2));

@@ -10,14 +10,15 @@ use compare::plan_damage;
 use compare::plans::{self, Size};
 use compare::run_damage::state;
 use compare::value_checker::{Question, ValueChecker, ValueRoom};
+use compare::{host, Dose};
 use juolgesot::{Pin, PinIv};
 use model::value;
-use plan::{stored, Plan, EMPTY};
+use plan::{stored, Edition, Plan, EMPTY};
 use random::Random;
 use std::time::Duration;
 
 const SEED: u64 = 20_240_616;
-const SIZE: Size = Size { majors: 3, parts: 3, stages: 3, inputs: 300, wide: false };
+const SIZE: Size = Size { edition: Edition::Full, majors: 3, parts: 3, stages: 3, inputs: 300, wide: false };
 /// Gates' bits of 0 and of 1 that are to be compared in random and damaged plans, at least.
 const BITS_OF_A_KIND: u64 = 100_000;
 
@@ -25,12 +26,15 @@ fn main() {
     let mut comparison = Comparison::begin("compare_value", "host/model", SEED);
     let random = &mut comparison.random;
     let mut checker = ValueChecker::new();
-    marked(&mut checker);
-    for index in 0..24 {
-        let plan = plans::any(random, Size { wide: index % 4 == 0, ..SIZE });
-        values_of(&mut checker, random, "random plans", &plan, &plan.record());
+    for dose in Dose::BOTH {
+        let (edition, kind) = (host(dose.edition), format!("random plans, {} edition", dose.name()));
+        marked(&mut checker, edition);
+        for index in 0..dose.times(24) {
+            let plan = plans::any(random, Size { edition, wide: index % 4 == 0, ..SIZE });
+            values_of(&mut checker, random, &kind, &plan, &plan.record());
+        }
+        damaged(&mut checker, random, edition);
     }
-    damaged(&mut checker, random);
     checker.print_gates(BITS_OF_A_KIND);
     around_words(&mut checker, random);
     if let Some(path) = comparison.words.first() {
@@ -42,8 +46,8 @@ fn main() {
 }
 
 /// M10's pins, for every old word of two bits.
-fn marked(checker: &mut ValueChecker) {
-    let record = m10().record();
+fn marked(checker: &mut ValueChecker, edition: Edition) {
+    let record = m10(edition).record();
     for old in 0..4 {
         for pin in [0, 1, 2, 3, 4, EMPTY] {
             for part in [0, 1, u32::MAX] {
@@ -118,12 +122,13 @@ fn values_of(checker: &mut ValueChecker, random: &mut Random, kind: &str, plan: 
     }
 }
 
-/// Refusals 5 and 6, and plans whose other faults change nothing here. Too few words for the gates' bits come last.
-fn damaged(checker: &mut ValueChecker, random: &mut Random) {
+/// Refusals 29, 5 and 6, and plans whose other faults change nothing here. Too few words for the gates' bits come last.
+fn damaged(checker: &mut ValueChecker, random: &mut Random, edition: Edition) {
     for (number, name, change) in &plan_damage::damages() {
         let mut came = 0;
         for _ in 0..60 {
-            let plan = plans::any(random, Size { majors: 2, parts: 1, stages: 1, inputs: 60, ..SIZE });
+            let plan =
+                plans::any(random, Size { edition, majors: 2, parts: 1, stages: 1, inputs: 60, ..SIZE });
             if let Some((record, _)) = plan_damage::apply(random, &plan, change) {
                 let old = state(random, 20);
                 let part = random.below(2) as u32;
@@ -135,12 +140,12 @@ fn damaged(checker: &mut ValueChecker, random: &mut Random) {
                         came += (answer.err().map_or(0, |refused| refused.number) == *number) as u32;
                     }
                 }
-                if came > 0 || !matches!(number, 5 | 6) {
+                if came > 0 || !matches!(number, 5 | 6 | 29) {
                     break;
                 }
             }
         }
-        assert!(came > 0 || !matches!(number, 5 | 6), "{} did not come by: {}", number, name);
+        assert!(came > 0 || !matches!(number, 5 | 6 | 29), "{} did not come by: {}", number, name);
     }
 }
 
@@ -189,7 +194,9 @@ fn netlists(checker: &mut ValueChecker, random: &mut Random, path: &str) {
         let is_multiplier = case.name.starts_with("multiplier");
         for (number, part) in plan.parts.iter().enumerate().filter(|_| is_multiplier) {
             // Outputs and registers: pins of theirs are inverted or not.
-            for endpoint in part.endpoints.chunks(3).filter(|endpoint| matches!(endpoint[0], 0 | 2)) {
+            for endpoint in
+                part.endpoints.chunks(model::record::ENDPOINT).filter(|endpoint| matches!(endpoint[0], 0 | 2))
+            {
                 ask("multipliers through GEM", number, endpoint[1] >> 1);
                 outputs += 1;
             }

@@ -1,6 +1,6 @@
 //! Random and damaged inputs over every exported function.
 //!
-//! fuzz [CASES] [SEED]
+//! fuzz [--edition full|small] [CASES] [SEED]    the full one where none is named
 //!
 //! Each call is held to the model: its answer, every word of its results, its room, and the guards beside each lent
 //! slice; a touch of a page beside one ends the program. Stops at the first difference.
@@ -20,9 +20,12 @@ use compare::run_damage::{self, Case};
 use compare::sets;
 use compare::tally::Tally;
 use compare::value_checker::{Question, ValueChecker, ValueRoom};
+use compare::{modelled, UNKNOWN};
+use plan::Edition;
 use random::Random;
 use std::time::{Duration, Instant};
 
+const USAGE: &str = "usage: fuzz [--edition full|small] [CASES] [SEED]";
 const SEED: u64 = 20_240_618;
 const CASES: u64 = 20_000;
 /// How many cases a plan or a script is damaged for before others are made.
@@ -30,13 +33,19 @@ const REUSE: usize = 300;
 
 fn main() {
     compare::silence_expected_panics();
-    let mut words = std::env::args().skip(1).map(|word| word.parse().expect("usage: fuzz [CASES] [SEED]"));
+    let mut words: Vec<String> = std::env::args().skip(1).collect();
+    let mut edition = Edition::Full;
+    if words.first().map_or(false, |word| word == "--edition") {
+        edition = words.get(1).and_then(|name| Edition::named(name)).expect(USAGE);
+        words.drain(..2);
+    }
+    let mut words = words.iter().map(|word| word.parse().expect(USAGE));
     let cases = words.next().unwrap_or(CASES);
     let seed = words.next().unwrap_or(SEED);
-    println!("reference: host/model; {} cases, seed {}", cases, seed);
+    println!("reference: host/model; {} cases of the {} edition, seed {}", cases, edition, seed);
     let start = Instant::now();
     let mut told = Instant::now();
-    let mut fuzz = Fuzz::new(seed);
+    let mut fuzz = Fuzz::new(edition, seed);
     for case in 0..cases {
         fuzz.case();
         if told.elapsed() > Duration::from_secs(5) {
@@ -46,10 +55,13 @@ fn main() {
     }
     fuzz.functions.print();
     fuzz.print_answers();
-    println!("fuzz: {} cases, no difference, {:.1} s", cases, start.elapsed().as_secs_f64());
+    let seconds = start.elapsed().as_secs_f64();
+    println!("fuzz: {} cases of the {} edition, no difference, {:.1} s", cases, edition, seconds);
 }
 
 struct Fuzz {
+    /// Of which most things are.
+    edition: Edition,
     random: Random,
     functions: Tally,
     rounds: Checker,
@@ -88,8 +100,9 @@ impl<T: Clone> Pool<T> {
 }
 
 impl Fuzz {
-    fn new(seed: u64) -> Self {
+    fn new(edition: Edition, seed: u64) -> Self {
         Fuzz {
+            edition,
             random: Random::new(seed),
             functions: Tally::new("cases by function"),
             rounds: Checker::new(),
@@ -117,6 +130,16 @@ impl Fuzz {
         self.repairs.answers.print();
         self.joins.answers.print();
         self.locals.answers.print();
+    }
+
+    /// The number that a call is told: now and then the other edition's, or none's.
+    fn told(&mut self) -> u32 {
+        match self.random.below(24) {
+            0 => self.random.pick(&UNKNOWN),
+            1 => any_word(&mut self.random),
+            2 => self.random.pick(&Edition::BOTH).number(),
+            _ => self.edition.number(),
+        }
     }
 
     /// Read sets and listings are quick and come most often.
@@ -178,19 +201,19 @@ impl Fuzz {
 
     /// Bits of a set's words and of any, asked for or not.
     fn local_position(&mut self) -> &'static str {
-        let set = self.set();
+        let (set, edition) = (self.set(), self.told());
         let random = &mut self.random;
         let room =
             if random.chance(12) { random.below(16_384) } else { 16_384 + random.pick(&[0, 0, 1, 77]) };
         let mut bit = || (random.word(), random.below(34) as u32);
         let mut bits = vec![bit(), bit()];
         bits.extend(set.chunks(2).take(3).map(|pair| (pair[0], random.below(34) as u32)));
-        self.locals.check("fuzz", &set, room, random.chance(2), &bits);
+        self.locals.check("fuzz", &set, edition, room, random.chance(2), &bits);
         "local_position"
     }
 
     fn read_rounds(&mut self) -> &'static str {
-        let set = self.set();
+        let (set, edition) = (self.set(), self.told());
         let random = &mut self.random;
         let room =
             if random.chance(12) { random.below(16_384) } else { 16_384 + random.pick(&[0, 0, 1, 77]) };
@@ -199,12 +222,13 @@ impl Fuzz {
             1 => OutLength::Short(random.below(3)),
             _ => OutLength::Spare(random.below(3)),
         };
-        let lent = Lent { room, room_is_zero: random.chance(2), out };
+        let lent = Lent { edition, room, room_is_zero: random.chance(2), out };
         self.rounds.check("fuzz", &set, lent);
         "read_rounds"
     }
 
     fn list(&mut self) -> &'static str {
+        let edition = self.told();
         let random = &mut self.random;
         let positions = if random.chance(300) { random.between(100, 8300) } else { random.between(0, 30) };
         let mut records: Vec<u8> = Vec::new();
@@ -223,7 +247,7 @@ impl Fuzz {
         }
         let room = if random.chance(12) { random.below(16_384) } else { 16_384 };
         let spare = random.pick(&[0, 0, 0, 1, 50, -1, -3, -1000]);
-        self.listings.check("fuzz", &records, room, spare);
+        self.listings.check("fuzz", &records, edition, room, spare);
         "list"
     }
 
@@ -232,19 +256,22 @@ impl Fuzz {
         let random = &mut self.random;
         if random.chance(4) {
             let mut words: Vec<u32> = (0..random.below(300)).map(|_| any_word(random)).collect();
-            if words.len() > 1 && random.chance(2) {
+            if words.len() > plan::HEAD_WORDS && random.chance(2) {
                 words[0] = random.between(1, 3) as u32;
                 words[1] = random.between(1, 3) as u32;
+                words[plan::EDITION_WORD] = self.edition.number();
+                words[plan::EDITION_WORD + 1..plan::HEAD_WORDS].fill(0);
             }
             let mut bytes = plan::bytes(&words);
             damage_bytes(random, &mut bytes);
             return bytes;
         }
-        let size = Size { majors: 2, parts: 2, stages: 2, inputs: 200, wide: random.chance(2) };
+        let edition = self.edition;
+        let size = Size { edition, majors: 2, parts: 2, stages: 2, inputs: 200, wide: random.chance(2) };
         let mut words = self.records.next(|| plans::any(random, size).words());
         if random.chance(3) {
             // The front has the counts and the lists.
-            let front = words.len().min(random.pick(&[8, 40, 900]));
+            let front = words.len().min(random.pick(&[plan::HEAD_WORDS, 40, 900]));
             damage_words_in_place(random, &mut words[..front]);
         } else {
             damage_words(random, &mut words);
@@ -271,9 +298,10 @@ impl Fuzz {
     }
 
     fn run(&mut self) -> &'static str {
+        let (edition, told) = (self.edition, self.told());
         let random = &mut self.random;
         let mut case = self.scripts.next(|| loop {
-            let size = Size { majors: 1, parts: 3, stages: 2, inputs: 3000, wide: false };
+            let size = Size { edition, majors: 1, parts: 3, stages: 2, inputs: 3000, wide: false };
             let mut plan = plans::any(random, size);
             plans::any_enables(random, &mut plan);
             if let Some(case) = run_damage::case_of(random, &plan) {
@@ -281,20 +309,20 @@ impl Fuzz {
             }
         });
         if random.chance(2) {
-            let places = run_damage::parts(&case.words, &case.starts);
+            let places = run_damage::parts(case.edition, &case.words, &case.starts);
             let _ = run_damage::any_enables(random, &mut case, &places);
         }
         match random.below(6) {
             0 => damage_words(random, &mut case.words),
             1 => {
-                let places = run_damage::parts(&case.words, &case.starts);
+                let places = run_damage::parts(case.edition, &case.words, &case.starts);
                 let _ = run_damage::any_word(random, &mut case, &places);
             }
             2 => damage_words(random, &mut case.turns),
             3 => {
                 let start = random.below(case.starts.len());
                 case.starts[start] =
-                    random.pick(&[0, 1, 256, case.words.len() as u64, case.starts[0] + 1, u64::MAX]);
+                    random.pick(&[0, 1, 128, 256, case.words.len() as u64, case.starts[0] + 1, u64::MAX]);
             }
             4 => {
                 let state = if random.chance(2) { &mut case.old } else { &mut case.new };
@@ -302,6 +330,7 @@ impl Fuzz {
             }
             _ => {}
         }
+        case.told = told;
         let room = if random.chance(12) { random.pick(&[-1, -1024]) } else { random.pick(&[0, 0, 7]) };
         let _ = self.runs.check("fuzz", &case, room, random.chance(2));
         "run"
@@ -351,8 +380,9 @@ impl Fuzz {
     }
 
     fn repair(&mut self) -> &'static str {
+        let (edition, told) = (modelled(self.edition), self.told());
         let random = &mut self.random;
-        let mut case = self.stages.next(|| repairs::any(random, 12));
+        let mut case = self.stages.next(|| repairs::any(random, edition, 12));
         let work = random.pick(&[Work::Place, Work::Clear]);
         case.aim(random);
         if work == Work::Clear && !random.chance(4) {
@@ -368,6 +398,7 @@ impl Fuzz {
             6 => case.node = any_word(random),
             _ => {}
         }
+        case.told = told;
         let more = repair_checker::More {
             room: if random.chance(12) { random.pick(&[-1, -4, -100_000]) } else { random.pick(&[0, 0, 5]) },
             room_is_zero: random.chance(2),
@@ -392,7 +423,10 @@ fn random_pin(random: &mut Random, record: &[u8]) -> u32 {
 /// Words around every bound.
 fn any_word(random: &mut Random) -> u32 {
     match random.below(4) {
-        0 => random.pick(&[0, 1, 2, 31, 32, 255, 256, 257, 1024, 4096, 8191, 8192, 8193, 0xFFFF, 0x1_0000]),
+        0 => random.pick(&[
+            0, 1, 2, 31, 32, 127, 128, 129, 255, 256, 257, 1024, 4095, 4096, 4097, 8191, 8192, 8193, 0xFFFF,
+            0x1_0000,
+        ]),
         1 => random.pick(&[
             1 << 20,
             (1 << 27) - 1,

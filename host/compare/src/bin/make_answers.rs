@@ -3,6 +3,7 @@
 
 use compare::answers::{self, Case, Stored};
 use compare::{plan_answers, sets};
+use model::edition::Edition;
 use model::rounds::pairs_of;
 use random::Random;
 
@@ -28,7 +29,12 @@ fn of_plans(path: &str) {
             Err(refused) => println!("  {}: {:?}", case.name, refused),
         }
     }
-    println!("make_answers: {} plans of {}, {} bytes", cases.len(), reference::NAME, bytes.len());
+    println!(
+        "make_answers: {} plans of {}, and of the model, {} bytes",
+        cases.len(),
+        reference::NAME,
+        bytes.len()
+    );
 }
 
 fn of_sets(path: &str) {
@@ -47,7 +53,7 @@ fn of_sets(path: &str) {
 
 fn chosen_sets() -> Vec<Vec<u32>> {
     let mut random = Random::new(SEED);
-    let mut chosen = sets::marked();
+    let mut chosen = sets::marked(Edition::FULL);
     for pairs in 1..=60 {
         chosen.push(sets::any(&mut random, pairs));
         chosen.push(sets::wide(&mut random, pairs));
@@ -58,8 +64,8 @@ fn chosen_sets() -> Vec<Vec<u32>> {
     }
     // Sets of more pairs than lanes, of every shape, the longest ones left out for the file's length.
     for _ in 0..8 {
-        chosen.push(shorter(&mut random, 900, sets::few_then_many));
-        chosen.push(shorter(&mut random, 900, sets::runs));
+        chosen.push(shorter(&mut random, 900, |random| sets::few_then_many(random, Edition::FULL)));
+        chosen.push(shorter(&mut random, 900, |random| sets::runs(random, Edition::FULL)));
     }
     for total in [8191, 8192, 8193] {
         for _ in 0..3 {

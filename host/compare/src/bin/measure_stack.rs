@@ -3,12 +3,13 @@
 //!
 //! measure_stack [by EMULATOR ..]   the least stack of each, in steps of 4 KiB, and whether what juolgesot::stack says is enough;
 //!                                  fails where it is not. The words of the emulator are put before the processes' own
-//! measure_stack NAME BYTES         calls one function in a thread with so much stack
+//!                                  In the small edition a call has to work with what is told
+//! measure_stack EDITION NAME BYTES calls one function in a thread with so much stack
 
 use compare::plans;
 use juolgesot::ffi;
-use juolgesot::{LIST_ROOM, LIST_TEXT, MOST_ROUNDS, ROUND_WORDS, SET_ROOM, STAGE_SLOTS};
-use plan::{Plan, EMPTY};
+use juolgesot::{LIST_ROOM, LIST_TEXT, MOST_ROUNDS, SET_ROOM};
+use plan::{Edition, Plan, EMPTY};
 use random::Random;
 use std::process::{Command, Stdio};
 use std::thread;
@@ -24,7 +25,10 @@ fn main() {
     match &words[..] {
         [] => measure_all(&[]),
         [by, emulator @ ..] if by == "by" => measure_all(emulator),
-        [name, bytes] => call_in_thread(name, bytes.parse().expect("a number of bytes")),
+        [edition, name, bytes] => {
+            let edition = Edition::named(edition).expect("full or small");
+            call_in_thread(edition, name, bytes.parse().expect("a number of bytes"))
+        }
         _ => panic!("usage: measure_stack [by EMULATOR ..]"),
     }
 }
@@ -41,7 +45,11 @@ fn measure_all(emulator: &[String]) {
             told / 1024,
             verdict
         );
-        short |= least > told;
+        let small = ends_well(emulator, Edition::Small, name, told);
+        if !small {
+            println!("{:14} does not work with what is told in the small edition", name);
+        }
+        short |= least > told || !small;
     }
     if short {
         std::process::exit(1);
@@ -50,11 +58,11 @@ fn measure_all(emulator: &[String]) {
 
 /// The least stack with which a call comes to its end: what is more does too.
 fn least(emulator: &[String], name: &str) -> usize {
-    assert!(ends_well(emulator, name, MOST), "{} fails with {} bytes of stack", name, MOST);
+    assert!(ends_well(emulator, Edition::Full, name, MOST), "{} fails with {} bytes of stack", name, MOST);
     let (mut fails, mut works) = (LEAST / STEP - 1, MOST / STEP);
     while works - fails > 1 {
         let middle = (fails + works) / 2;
-        if ends_well(emulator, name, STEP * middle) {
+        if ends_well(emulator, Edition::Full, name, STEP * middle) {
             works = middle;
         } else {
             fails = middle;
@@ -63,63 +71,65 @@ fn least(emulator: &[String], name: &str) -> usize {
     STEP * works
 }
 
-fn ends_well(emulator: &[String], name: &str, bytes: usize) -> bool {
+fn ends_well(emulator: &[String], edition: Edition, name: &str, bytes: usize) -> bool {
     let this = std::env::current_exe().expect("this program has a path").display().to_string();
     let words: Vec<&String> = emulator.iter().chain([&this]).collect();
     let mut command = Command::new(words[0]);
     // The message of a thread that ran out of its stack is expected.
-    command.args(&words[1..]).args([name, &bytes.to_string()]).stderr(Stdio::null());
+    command.args(&words[1..]).args([edition.name(), name, &bytes.to_string()]).stderr(Stdio::null());
     let done = command.output().expect("this program can be started");
     done.status.success() && done.stdout == b"done\n"
 }
 
-fn call_in_thread(name: &str, bytes: usize) {
-    let call = prepared(name);
+fn call_in_thread(edition: Edition, name: &str, bytes: usize) {
+    let call = prepared(edition, name);
     let thread = thread::Builder::new().stack_size(bytes).spawn(call).expect("a thread");
     thread.join().expect("the call comes to its end");
     println!("done");
 }
 
 /// A call of a function that goes through all of it, what it is given being ready.
-fn prepared(name: &str) -> Box<dyn FnOnce() + Send> {
+fn prepared(edition: Edition, name: &str) -> Box<dyn FnOnce() + Send> {
+    let (number, slots, top) = (edition.number(), edition.slots() as u32, edition.levels());
     match name {
         "read_rounds" => {
-            let set: Vec<u32> = (0..8192).flat_map(|word| [word, 1]).collect();
-            let (mut room, mut out) = (vec![0; SET_ROOM], vec![0; ROUND_WORDS * MOST_ROUNDS]);
-            Box::new(move || good(ffi::read_rounds(&set, &mut room, &mut out).code))
+            let set: Vec<u32> = (0..slots).flat_map(|word| [word, 1]).collect();
+            let (mut room, mut out) = (vec![0; SET_ROOM], vec![0; edition.round_words() * MOST_ROUNDS]);
+            Box::new(move || good(ffi::read_rounds(&set, &mut room, &mut out, number).code))
         }
         "local_position" => {
-            let set: Vec<u32> = (0..8192).flat_map(|word| [word, 1]).collect();
+            let set: Vec<u32> = (0..slots).flat_map(|word| [word, 1]).collect();
             let mut room = vec![0; SET_ROOM];
-            Box::new(move || good(ffi::local_position(&set, &mut room, 4711, 0).code))
+            Box::new(move || good(ffi::local_position(&set, &mut room, 3711, 0, number).code))
         }
         "list" => {
             let position = |position: u32| [&[1][..], &(33 * position).to_le_bytes()].concat();
-            let records: Vec<u8> = (0..8192).rev().flat_map(position).chain([0]).collect();
+            let records: Vec<u8> = (0..slots).rev().flat_map(position).chain([0]).collect();
             let (mut room, mut out) = (vec![0; LIST_ROOM], vec![0; LIST_TEXT]);
-            Box::new(move || good(ffi::list(&records, &mut room, &mut out).code))
+            Box::new(move || good(ffi::list(&records, &mut room, &mut out, number).code))
         }
         "plan_sizes" => {
-            let (record, mut room) = with_room(any_plan());
+            let (record, mut room) = with_room(any_plan(edition));
             Box::new(move || good(ffi::plan_sizes(&record, &mut room).code))
         }
         "build" => {
-            let (record, mut room) = with_room(any_plan());
+            let (record, mut room) = with_room(any_plan(edition));
             let sizes = juolgesot::plan_sizes(&record).expect("a plan in order");
             let (mut starts, mut words) = (vec![0; sizes.starts], vec![0; sizes.words]);
             let mut pieces = vec![0; 64];
             Box::new(move || good(ffi::build(&record, &mut room, &mut starts, &mut words, &mut pieces).code))
         }
         "run" => {
-            let script = juolgesot::build(&any_plan().record()).expect("a plan in order");
+            let script = juolgesot::build(&any_plan(edition).record()).expect("a plan in order");
             let starts = script.stage_starts(0).to_vec();
-            let turns = juolgesot::finishing_turns(&script.words, &starts);
+            let turns = juolgesot::finishing_turns(&script.words, &starts, edition);
             let old = vec![0x5A5A_5A5A; script.state_words as usize];
             let (mut new, mut room) = (old.clone(), vec![0; juolgesot::BLOCK_ROOM * script.blocks]);
-            Box::new(move || good(ffi::run(&script.words, &starts, &turns, &old, &mut new, &mut room).code))
+            let words = script.words;
+            Box::new(move || good(ffi::run(&words, &starts, &turns, &old, &mut new, &mut room, number).code))
         }
         "value" => {
-            let plan = any_plan();
+            let plan = any_plan(edition);
             let pin = plan.gates.last().map_or(0, |gate| gate.pin);
             let mut bits = vec![0; plan.gates.len()];
             let (record, mut room) = with_room(plan);
@@ -136,21 +146,27 @@ fn prepared(name: &str) -> Box<dyn FnOnce() + Send> {
         }
         "place_bit" => {
             let (gates, levels) = (tree(), tree_levels());
-            let mut slots = vec![EMPTY; STAGE_SLOTS];
-            let (mut after, mut room) = (vec![0; 2 * STAGE_SLOTS], vec![0; juolgesot::repair_room(0)]);
+            let mut slots = vec![EMPTY; edition.stage_slots()];
+            let (mut after, mut room) =
+                (vec![0; 2 * edition.stage_slots()], vec![0; juolgesot::repair_room(0)]);
             Box::new(move || {
-                good(ffi::place_bit(&gates, &levels, &[], &mut slots, &mut after, &mut room, 13, 0, 14).code)
+                let (slots, after, room) = (&mut slots[..], &mut after[..], &mut room[..]);
+                good(ffi::place_bit(&gates, &levels, &[], slots, after, room, top, 0, top + 1, number).code)
             })
         }
         "purge_bit" => {
             let (gates, levels) = (tree(), tree_levels());
-            let mut slots = vec![EMPTY; STAGE_SLOTS];
+            let mut slots = vec![EMPTY; edition.stage_slots()];
             let netlist = juolgesot::Netlist { gates: &gates, levels: &levels };
-            let top = juolgesot::Place { level: 13, slot: 0 };
-            let counts = juolgesot::place_bit(netlist, &[], &mut slots, top, plan::Pin(14)).expect("a tree");
+            let place = juolgesot::Place { level: top, slot: 0 };
+            let node = plan::Pin(top + 1);
+            let counts =
+                juolgesot::place_bit(netlist, &[], &mut slots, place, node, edition).expect("a tree");
             let (mut after, mut room) =
                 (vec![0; counts.len()], vec![0; juolgesot::repair_room(counts.len())]);
-            Box::new(move || good(ffi::purge_bit(&counts, &mut slots, &mut after, &mut room, 13, 0).code))
+            Box::new(move || {
+                good(ffi::purge_bit(&counts, &mut slots, &mut after, &mut room, top, 0, number).code)
+            })
         }
         "join" => {
             let set = |from: u32| -> Vec<u32> { (0..4096).flat_map(|word| [from + 2 * word, 1]).collect() };
@@ -166,9 +182,9 @@ fn good(code: u32) {
 }
 
 /// Random parts of several stages on two blocks, with endpoints of every kind, that are in order.
-fn any_plan() -> Plan {
+fn any_plan(edition: Edition) -> Plan {
     let mut random = Random::new(20_240_801);
-    let size = plans::Size { majors: 2, parts: 3, stages: 3, inputs: 3000, wide: false };
+    let size = plans::Size { edition, majors: 2, parts: 3, stages: 3, inputs: 3000, wide: false };
     loop {
         let plan = plans::full(&mut random, size);
         if plan.parts().count() > 1 && juolgesot::plan_sizes(&plan.record()).is_ok() {
@@ -183,7 +199,7 @@ fn with_room(plan: Plan) -> (Vec<u8>, Vec<u32>) {
     (record, room)
 }
 
-/// Gates 2 to 14, each twice the one below: the last one's tree fills a stage.
+/// Gates 2 to 14, each twice the one below: the last one's tree fills a stage; in the small edition that of the last but one.
 fn tree() -> Vec<u32> {
     (2..=14).flat_map(|pin| [pin, 2 * (pin - 1) + 1, 2 * (pin - 1)]).collect()
 }

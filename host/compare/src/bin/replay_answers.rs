@@ -1,7 +1,7 @@
 //! Holds the library to stored answers: replay_answers FILE. Needs no GEM sources.
 
 use compare::answers::{self, Case, Stored};
-use juolgesot::{read_rounds, Rounds};
+use juolgesot::{read_rounds, Edition, Rounds};
 
 fn main() {
     let path = std::env::args().nth(1).expect("usage: replay_answers FILE");
@@ -17,7 +17,7 @@ fn main() {
 }
 
 fn check(case: &Case) -> Result<(), String> {
-    match (&case.answer, read_rounds(&case.pairs)) {
+    match (&case.answer, read_rounds(&case.pairs, Edition::Full)) {
         (Stored::Refused(number), Err(refusal)) if refusal.number() == *number => Ok(()),
         (Stored::Refused(number), found) => Err(format!("expected refusal {}, found {:?}", number, found)),
         (Stored::Packed { .. }, Err(refusal)) => Err(refusal.to_string()),

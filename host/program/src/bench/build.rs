@@ -40,6 +40,7 @@ fn times(input: &Input, time: Duration) -> Result<Times, Failure> {
         let (sizes, took) =
             timed(|| juolgesot::build_into(&record, &mut room, &mut starts, &mut words, &mut pieces));
         let made = sizes.ok().map(|sizes| Script {
+            edition: plan.edition,
             blocks: plan.blocks as usize,
             starts: starts.clone(),
             words: words.clone(),

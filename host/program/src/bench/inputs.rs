@@ -2,7 +2,7 @@
 
 use ::compare::plan_checker::Expected;
 use ::compare::plans::{self, Size};
-use plan::{Part, Plan, Script, EMPTY, LEVEL_0};
+use plan::{Edition, Part, Plan, Script, EMPTY};
 use random::Random;
 use std::collections::HashSet;
 
@@ -15,7 +15,7 @@ pub struct Input {
 /// Three netlists, then plans whose number of parts doubles.
 pub fn all(random: &mut Random) -> Vec<Input> {
     let mut inputs = netlists();
-    let one = one_part(random);
+    let one = one_part(random, Edition::Full);
     inputs.extend([1, 2, 4, 8, 16].iter().map(|&parts| copies(&one, parts)));
     inputs
 }
@@ -42,13 +42,13 @@ const PINS_READ: usize = 500;
 
 /// A random plan of one part of two stages, on two blocks: every slot of its first stage is filled, and it stores many
 /// words, under enables of every kind.
-fn one_part(random: &mut Random) -> Plan {
+pub fn one_part(random: &mut Random, edition: Edition) -> Plan {
     let reads_many = |part: &Part| {
-        let read: HashSet<u32> = part.stages[0].slots[LEVEL_0..].iter().copied().collect();
+        let read: HashSet<u32> = part.stages[0].slots[edition.slots()..].iter().copied().collect();
         part.stages.len() == 2 && read.len() >= PINS_READ && !read.contains(&EMPTY)
     };
     loop {
-        let size = Size { majors: 1, parts: 1, stages: 2, inputs: 3000, wide: false };
+        let size = Size { edition, majors: 1, parts: 1, stages: 2, inputs: 3000, wide: false };
         let mut plan = plans::full(random, size);
         plans::any_enables(random, &mut plan);
         plan.blocks = 2;
@@ -59,7 +59,7 @@ fn one_part(random: &mut Random) -> Plan {
 }
 
 /// The plan's part so many times, so that each part is as much work as another.
-fn copies(plan: &Plan, parts: usize) -> Input {
+pub fn copies(plan: &Plan, parts: usize) -> Input {
     let mut plan = plan.clone();
     plan.stages[0] = vec![plan.stages[0][0].clone(); parts];
     let script = Expected::of(&plan.record()).answer.expect("as one part is in order, so are its copies");

@@ -6,7 +6,7 @@ use super::{build, Table};
 use crate::Outcome;
 use ::compare::marked::plain_part;
 use ::compare::plan_checker::Expected;
-use plan::{Plan, Position, EMPTY, LEVEL_0};
+use plan::{Edition, Plan, Position, EMPTY};
 use std::time::Duration;
 
 /// Pins that the part reads.
@@ -90,9 +90,9 @@ fn of_one_home(home: fn(u32) -> u32) -> Vec<u32> {
 /// A plan whose part reads the first of these pins, each at a bit of its own; the list of positions goes on with the others, and
 /// where it is longer with all of them again.
 fn input(name: String, pins: &[u32], positions: usize) -> Input {
-    let mut part = plain_part(&[&[]]);
+    let mut part = plain_part(Edition::Full, &[&[]]);
     part.stages[0].slots.fill(EMPTY);
-    part.stages[0].slots[LEVEL_0..LEVEL_0 + READ].copy_from_slice(&pins[..READ]);
+    part.stages[0].slots[Edition::Full.slots()..][..READ].copy_from_slice(&pins[..READ]);
     let position = |index: usize| {
         let place = index % pins.len();
         Position { pin: pins[place], position: (place % READ) as u32, staged: 0 }

@@ -4,14 +4,18 @@ use super::{in_two_places, in_words, time_both, timed, Row, Table, Times};
 use crate::{Failure, Outcome};
 use ::compare::repairs::{full_tree, Case};
 use juolgesot::{place_bit_into, purge_bit_into, repair_room, Netlist, Pin, Place, Refusal, RepairSlices};
+use model::edition::Edition;
 use reference::{Placer, PlacerStage};
 use std::time::Duration;
+
+/// GEM's.
+const FULL: juolgesot::Edition = juolgesot::Edition::Full;
 
 /// What a repair leaves: slots, and counts by node.
 type Left = (Vec<u32>, Vec<(u32, u64)>);
 
 pub fn rows(table: &mut Table, time: Duration) -> Outcome {
-    let empty = full_tree();
+    let empty = full_tree(Edition::FULL);
     match Placer::of(&empty.gates, &empty.levels) {
         Some(placer) => beside_gem(table, &placer, &empty, time)?,
         None => {
@@ -110,12 +114,13 @@ impl Memory {
 
     fn place(&mut self, case: &Case) -> Result<(), Refusal> {
         let netlist = Netlist { gates: &case.gates, levels: &case.levels };
-        self.entries = place_bit_into(netlist, &case.counts, self.slices(), placing(case), Pin(case.node))?;
+        self.entries =
+            place_bit_into(netlist, &case.counts, self.slices(), placing(case), Pin(case.node), FULL)?;
         Ok(())
     }
 
     fn clear(&mut self, case: &Case) -> Result<(), Refusal> {
-        self.entries = purge_bit_into(&case.counts, self.slices(), placing(case))?;
+        self.entries = purge_bit_into(&case.counts, self.slices(), placing(case), FULL)?;
         Ok(())
     }
 

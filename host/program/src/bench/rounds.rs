@@ -37,7 +37,7 @@ fn read_sets(random: &mut Random) -> Vec<(String, Vec<u32>)> {
     read_sets.push(("8192 bits in 4096 pairs: the ninth size wins".to_string(), late));
     let ends = |set: &[u32]| matches!(rounds::pack(Edition::FULL, &rounds::pairs_of(set)), Err((4, _)));
     for (name, set) in [
-        ("8192 bits in 259 pairs: no size places them", sets::missed()),
+        ("8192 bits in 259 pairs: no size places them", sets::missed(Edition::FULL)),
         ("2730 pairs of 3 bits: no size places them", sets::with_bits(random, &[3; 2730])),
     ] {
         assert!(ends(&set), "{}", name);
@@ -54,10 +54,11 @@ fn read_sets(random: &mut Random) -> Vec<(String, Vec<u32>)> {
 fn times(set: &[u32], time: Duration) -> Result<Times, Failure> {
     let map: BTreeMap<u32, u32> = set.chunks(2).map(|pair| (pair[0], pair[1])).collect();
     let mut room = vec![0; juolgesot::SET_ROOM];
-    let mut out = vec![0; 32 * juolgesot::ROUND_WORDS];
+    let full = juolgesot::Edition::Full;
+    let mut out = vec![0; 32 * full.round_words()];
     let ours = || {
-        let (placed, took) = timed(|| juolgesot::read_rounds_into(set, &mut room, &mut out));
-        (placed.ok().map(|placed| out[..juolgesot::ROUND_WORDS * placed.rounds].to_vec()), took)
+        let (placed, took) = timed(|| juolgesot::read_rounds_into(set, &mut room, &mut out, full));
+        (placed.ok().map(|placed| out[..full.round_words() * placed.rounds].to_vec()), took)
     };
     let theirs =
         || timed(|| reference::lanes_of_map(&map).map(|lanes| rounds::section(Edition::FULL, &lanes)));

@@ -4,6 +4,7 @@ use super::inputs::Input;
 use super::{in_two_places, time_both, timed, Row, Table, Times};
 use crate::{Failure, Outcome};
 use ::compare::run_damage::state;
+use plan::Script;
 use random::Random;
 use std::time::Duration;
 
@@ -13,7 +14,7 @@ pub fn rows(table: &mut Table, inputs: &[Input], random: &mut Random, time: Dura
         let stages = major_stages(input);
         let state_words = input.script.state_words as usize;
         let (old, new) = (state(random, state_words), state(random, state_words));
-        let times = times(&input.script.words, &stages, &old, &new, time)?;
+        let times = times(&input.script, &stages, &old, &new, time)?;
         let turns: usize = stages.iter().map(|stage| stage.turns.len()).sum();
         let a_second = |time: Duration| format!("{:.0}", turns as f64 / time.as_secs_f64());
         let cells =
@@ -33,26 +34,29 @@ fn major_stages(input: &Input) -> Vec<MajorStage<'_>> {
     let script = &input.script;
     script
         .stages()
-        .map(|starts| MajorStage { starts, turns: juolgesot::finishing_turns(&script.words, starts) })
+        .map(|starts| MajorStage {
+            starts,
+            turns: juolgesot::finishing_turns(&script.words, starts, script.edition),
+        })
         .collect()
 }
 
 /// Both run all major stages, one after another, to their ends.
 fn times(
-    words: &[u32],
+    script: &Script,
     stages: &[MajorStage<'_>],
     old: &[u32],
     new: &[u32],
     time: Duration,
 ) -> Result<Times, Failure> {
     let room_length = juolgesot::BLOCK_ROOM * (stages[0].starts.len() - 1);
-    let mut room = vec![0; room_length];
+    let (words, edition, mut room) = (&script.words, script.edition, vec![0; room_length]);
     let ours = || {
         let mut state = new.to_vec();
         let (left, took) = timed(|| -> Result<u64, juolgesot::Refusal> {
             let mut left = 0;
             for MajorStage { starts, turns } in stages {
-                left += juolgesot::run_into(words, starts, turns, old, &mut state, &mut room)?;
+                left += juolgesot::run_into(words, starts, turns, old, &mut state, &mut room, edition)?;
             }
             Ok(left)
         });
@@ -62,7 +66,7 @@ fn times(
         let mut state = new.to_vec();
         let (left, took) = timed(|| -> Result<u64, model::Refused> {
             let mut left = 0;
-            let edition = model::edition::Edition::FULL.number();
+            let edition = edition.number();
             for MajorStage { starts, turns } in stages {
                 let ran = model::run::answer(words, starts, turns, old, &state, room_length, edition)?;
                 state = ran.new;

@@ -6,7 +6,7 @@ use native.Mathlib.Omega.{arith}
 use lib.ListN.{length, length-set}
 use lib.Seq.{sets}
 use Rattle.words.specs.Section.{listOf}
-use Rattle.plan_record.specs.Record.{partsOf}
+use Rattle.plan_record.specs.Record.{planLanes, partsOf}
 use Rattle.plan_reads.specs.PartReads.{partSize}
 use Rattle.script_layout.proofs.RowLaws.{parts-few, cell-in}
 use Rattle.flatten.specs.Flatten.{pieceSizes}
@@ -17,7 +17,7 @@ use Rattle.flatten.proofs.pieces.write_pieces.Statement.{statement}
 use Rattle.flatten.proofs.pieces.write_pieces.Tie as tie
 
 abbrev Inv-loop : tie.InvT-loop
-Inv-loop d room pieces₀ parts p₀ pieces p = (p ≤ parts) × (length pieces ≡ length pieces₀) × (pieces ≡ sets pieces₀ 0 (listOf (partSize 256 d) p))
+Inv-loop d room pieces₀ parts p₀ pieces p = (p ≤ parts) × (length pieces ≡ length pieces₀) × (pieces ≡ sets pieces₀ 0 (listOf (partSize (planLanes d) d) p))
 
 abbrev μ-loop : tie.MeasureT-loop
 μ-loop d room pieces₀ parts p₀ pieces p = parts - p
@@ -65,7 +65,7 @@ returns c =
     let s = c .before .before .before .before .before .before in
     let l = c .before .loop in
     let e : l .p ≡ partsOf (s .args .d .now) = omega (arith, c .before .before .parts-of .ensures .0) in
-    l .inv .2 ∙ ap (λ (n : ℕ). sets (s .args .pieces .now) 0 (listOf (partSize 256 (s .args .d .now)) n)) e
+    l .inv .2 ∙ ap (λ (n : ℕ). sets (s .args .pieces .now) 0 (listOf (partSize (planLanes (s .args .d .now)) (s .args .d .now)) n)) e
 
 pub write-pieces-spec : {M : Type 1} → statement M
 write-pieces-spec =

@@ -7,10 +7,12 @@ use Rattle.flatten.proofs.sizes.script_words.Tie as tie
 
 returns : tie.Need-returns
 returns c =
-    let start = c .before .before .before .before in
-    script-long (start .args .d .now) (start .args .room .now) (start .pre) (c .before .parts-words .result) (c .empty-blocks .result) (c .before .parts-words .ensures .0) (c .empty-blocks .ensures .0)
+    let at-parts = c .before in
+    let at-lanes = at-parts .before in
+    let start = at-lanes .before .before .before in
+    script-long (start .args .d .now) (start .args .room .now) (start .pre) _ _ _ (at-lanes .lanes-of .ensures .0) (at-parts .parts-words .ensures .0) (c .empty-words .ensures .0)
 
 pub script-words-spec : {M : Type 1} → statement M
 script-words-spec =
     tie.close
-    (tie.spec (λ c κs. search needs) (λ c κs. search needs) (λ c. search needs) (λ c. search needs) (λ c. search needs) returns)
+    (tie.spec (λ c κs. search needs) (λ c. search needs) (λ c κs. search needs) (λ c κs. search needs) (λ c. search needs) (λ c. search needs) returns)

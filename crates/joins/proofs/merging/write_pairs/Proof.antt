@@ -5,7 +5,7 @@ use Prim.Native.Nat.{_+_, _-_, _≤_}
 use native.Mathlib.Omega.{arith}
 use lib.ListN.{length, drop, length-set}
 use lib.Seq.{sets, lt-length-set}
-use Rattle.joins.specs.Join.{join}
+use Rattle.joins_sets.specs.Join.{join}
 use Rattle.joins.proofs.JoinPassLaws.{Halfway, halfway-start, halfway-end, halfway-pair, halfway-next, halfway-on, halfway-room, halfway-sets}
 use borrow.Author.Needs.{needs}
 use Rattle.joins.proofs.merging.write_pairs.Statement.{statement}

@@ -9,7 +9,7 @@ returns c =
     let at-put-number = c .before .before .before .before .before .before in
     let at-put-bytes = at-put-number .before .before .before .before in
     let start = at-put-bytes .before .before .before .before .before in
-    put-rounds _ (start .args .section .now) (at-put-bytes .put-bytes .ensures) (at-put-number .put-number .ensures) (c .before .before .put-lanes .ensures)
+    put-rounds (start .args .lanes) _ (start .args .section .now) (at-put-bytes .put-bytes .ensures) (at-put-number .put-number .ensures) (c .before .before .put-lanes .ensures)
 
 pub put-rounds-spec : {M : Type 1} → statement M
 put-rounds-spec =

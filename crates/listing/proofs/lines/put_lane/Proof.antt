@@ -10,10 +10,10 @@ use Rattle.listing.proofs.lines.put_lane.Statement.{statement}
 use Rattle.listing.proofs.lines.put_lane.Tie as tie
 
 abbrev Inv-loop : tie.InvT-loop
-Inv-loop out₀ at section lane rounds end₀ round₀ out end round = (round ≤ rounds) × TextGoing (laneRoundLines 256 section lane (rounds - round) round) (laneRoundLines 256 section lane rounds 0) (74 * round) out₀ at out end
+Inv-loop out₀ at section lane rounds lanes end₀ round₀ out end round = (round ≤ rounds) × TextGoing (laneRoundLines lanes section lane (rounds - round) round) (laneRoundLines lanes section lane rounds 0) (74 * round) out₀ at out end
 
 abbrev μ-loop : tie.MeasureT-loop
-μ-loop out₀ at section lane rounds end₀ round₀ out end round = rounds - round
+μ-loop out₀ at section lane rounds lanes end₀ round₀ out end round = rounds - round
 
 loop-holds : tie.Need-loop-holds Inv-loop μ-loop
 loop-holds c = (omega arith, rw sub-zero (going-start _ _ _))
@@ -22,13 +22,13 @@ loop-again : tie.Need-loop-again Inv-loop μ-loop
 loop-again c =
     let at-loop-test = c .before .before .before .before in
     let start = at-loop-test .before .before .before .before in
-    (omega arith, going-more (at-loop-test .before .loop .inv .1) _ _ (next-round 256 (start .args .section .now) _ _ _ (at-loop-test .loop-test .taken)) (c .before .before .put-place .ensures) (omega arith))
+    (omega arith, going-more (at-loop-test .before .loop .inv .1) _ _ (next-round (start .args .lanes) (start .args .section .now) _ _ _ (at-loop-test .loop-test .taken)) (c .before .before .put-place .ensures) (omega arith))
 
 same-length : tie.Need-same-length Inv-loop μ-loop
 same-length c = going-long (c .before .loop .inv .1)
 
 returns : tie.Need-returns Inv-loop μ-loop
-returns c = going-done (c .before .loop .inv .1) _ (last-round 256 (c .before .before .before .before .args .section .now) _ _ _ (c .loop-test .left)) (omega arith)
+returns c = going-done (c .before .loop .inv .1) _ (last-round _ (c .before .before .before .before .args .section .now) _ _ _ (c .loop-test .left)) (omega arith)
 
 pub put-lane-spec : {M : Type 1} → statement M
 put-lane-spec =

@@ -18,7 +18,7 @@ pin-right-requires c κs =
     let a = c .before .before in
     let s = a .before .before .before in
     let o = s .args in
-    (s .pre .0 .searched, s .pre .0 .wide, slot-there (o .d .now) (o .p) (o .body) (o .room .now) (o .state) (o .n) (s .pre .0) (o .j) (a .level-slot .result .0) (s .pre .1) (a .level-slot .ensures) (c .if1 .left) (omega arith))
+    (s .pre .0 .searched, s .pre .0 .wide, slot-there (o .d .now) (o .p) (o .body) (o .room .now) (o .state) (o .n) (s .pre .0) (o .j) (a .level-slot .result .0) (omega (arith, s .pre .1, s .pre .0 .body .lanes)) (a .level-slot .ensures) (c .if1 .left) (omega arith))
 
 returns-2 : tie.Need-returns-2
 returns-2 c =

@@ -13,13 +13,16 @@ add-result : tie.Need-add-result
 add-result c =
     let o = c .before .before .before .before .before in
     let k : o .args .l < locationsOf (o .args .d .now) (o .args .p) = omega (arith, o .pre .body .locations) in
-    omega (arith, o .pre .locations (o .args .l) k)
+    omega (arith, o .pre .locations (o .args .l) k, o .pre .body .lanes, o .pre .body .laid .lanes)
 
 returns : tie.Need-returns
 returns c =
     let o = c .before .before .before .before .before in
     let k : o .args .l < locationsOf (o .args .d .now) (o .args .p) = omega (arith, o .pre .body .locations) in
-    (ap₂ (λ (a : ℕ) (b : ℕ). 256 * a + b) (c .before .location-stage .ensures .0) (c .location .ensures) ∙ half-within (o .args .d .now) (o .args .p) (o .args .l) _ (o .pre .body .locations) (c .before .before .if1 .taken), omega (arith, o .pre .locations (o .args .l) k))
+    let within = half-within (o .args .d .now) (o .args .p) (o .args .l) _ (o .pre .body .locations) (c .before .before .if1 .taken) in (
+      ap₂ (λ (a : ℕ) (b : ℕ). 256 * a + b) (c .before .location-stage .ensures .0) (c .location .ensures) ∙ within,
+      omega (arith, o .pre .locations (o .args .l) k, o .pre .body .lanes, o .pre .body .laid .lanes),
+    )
 
 returns-2 : tie.Need-returns-2
 returns-2 c =

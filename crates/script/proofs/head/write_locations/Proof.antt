@@ -1,10 +1,11 @@
 -- After j turns the first j words are the locations'.
 -- Assumes nothing.
 use mathlib.Core.Path.{_≡_}
-use Prim.Native.Nat.{_-_, _≤_}
+use Prim.Native.Nat.{_-_, _/_, _≤_}
 use native.Mathlib.Omega.{arith}
 use lib.ListN.{length, take, length-set}
 use Rattle.words.specs.Section.{listOf}
+use Rattle.plan_record.specs.Record.{planLanes}
 use Rattle.script.specs.Script.{locationWords}
 use Rattle.script.proofs.FilledSliceLaws.{fill-none, fill-more, fill-end}
 use Rattle.script.proofs.HeadLaws.{locationWord}
@@ -31,7 +32,9 @@ returns : tie.Need-returns Inv-loop μ-loop
 unfolding locationWords
 returns c =
     let l = c .before .loop in
-    fill-end _ (l .out) (l .j) 128 (omega arith) (omega arith) (omega arith) (l .inv .2)
+    let o = c .before .before .before .before in
+    let half : length (l .out) ≡ planLanes (o .args .d .now) / 2 = omega (arith, l .inv .1, o .pre .1, o .pre .0 .body .lanes) in
+    fill-end _ (l .out) (l .j) (planLanes (o .args .d .now) / 2) half (omega arith) (omega arith) (l .inv .2)
 
 pub write-locations-spec : {M : Type 1} → statement M
 write-locations-spec =

@@ -8,6 +8,12 @@ use borrow.Author.Needs.{needs}
 use Rattle.script.proofs.head.write_numbers.Statement.{statement}
 use Rattle.script.proofs.head.write_numbers.Tie as tie
 
+slice-write-out-2 : tie.Need-slice-write-out-2
+slice-write-out-2 c = simp length-set (omega arith)
+
+slice-write-out-3 : tie.Need-slice-write-out-3
+slice-write-out-3 c = simp length-set (omega arith)
+
 slice-write-out-4 : tie.Need-slice-write-out-4
 slice-write-out-4 c = simp length-set (omega arith)
 
@@ -32,5 +38,5 @@ returns c =
 pub write-numbers-spec : {M : Type 1} → statement M
 write-numbers-spec =
     tie.close
-    (tie.spec (λ c κs. search needs) (λ c. search needs) (λ c. search needs) (λ c. search needs) slice-write-out-4 slice-write-out-5
+    (tie.spec (λ c κs. search needs) (λ c. search needs) slice-write-out-2 slice-write-out-3 slice-write-out-4 slice-write-out-5
     slice-write-out-6 slice-write-out-7 slice-write-out-8 (λ c. search needs) returns)

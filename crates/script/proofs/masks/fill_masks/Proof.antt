@@ -1,6 +1,6 @@
 -- After w turns the first w words of each list are the lanes'.
 -- Assumes nothing.
-use mathlib.Core.Path.{_≡_}
+use mathlib.Core.Path.{_≡_, _∙_}
 use Prim.Native.Nat.{_-_, _≤_}
 use native.Mathlib.Omega.{arith}
 use lib.ListN.{length, take, length-set}
@@ -12,17 +12,17 @@ use Rattle.script.proofs.masks.fill_masks.Statement.{statement}
 use Rattle.script.proofs.masks.fill_masks.Tie as tie
 
 abbrev Inv-loop : tie.InvT-loop
-Inv-loop d p body s xora₀ xorb₀ orb₀ w₀ xora xorb orb w =
-    (w ≤ 256)
-    × (length xora ≡ 256)
-    × (length xorb ≡ 256)
-    × (length orb ≡ 256)
+Inv-loop d p body s xora₀ xorb₀ orb₀ lanes w₀ xora xorb orb w =
+    (w ≤ lanes)
+    × (length xora ≡ lanes)
+    × (length xorb ≡ lanes)
+    × (length orb ≡ lanes)
     × (take w xora ≡ listOf (maskWord (xoraBit d p s)) w)
     × (take w xorb ≡ listOf (maskWord (xorbBit d p s)) w)
     × (take w orb ≡ listOf (maskWord (orbBit d p s)) w)
 
 abbrev μ-loop : tie.MeasureT-loop
-μ-loop d p body s xora₀ xorb₀ orb₀ w₀ xora xorb orb w = 256 - w
+μ-loop d p body s xora₀ xorb₀ orb₀ lanes w₀ xora xorb orb w = lanes - w
 
 loop-holds : tie.Need-loop-holds Inv-loop μ-loop
 loop-holds c = (omega arith, omega arith, omega arith, omega arith, fill-none _, fill-none _, fill-none _)
@@ -47,10 +47,12 @@ loop-again c =
 returns : tie.Need-returns Inv-loop μ-loop
 returns c =
     let l = c .before .loop in
+    let o = c .before .before .before .before .before .before in
+    let lanes = o .pre .0 .body .lanes in
     record {
-      xora = fill-end _ (l .xora) (l .w) 256 (l .inv .1) (omega arith) (omega arith) (l .inv .4);
-      xorb = fill-end _ (l .xorb) (l .w) 256 (l .inv .2) (omega arith) (omega arith) (l .inv .5);
-      orb = fill-end _ (l .orb) (l .w) 256 (l .inv .3) (omega arith) (omega arith) (l .inv .6);
+      xora = fill-end _ (l .xora) (l .w) _ (l .inv .1 ∙ lanes) (omega (arith, lanes)) (omega (arith, lanes)) (l .inv .4);
+      xorb = fill-end _ (l .xorb) (l .w) _ (l .inv .2 ∙ lanes) (omega (arith, lanes)) (omega (arith, lanes)) (l .inv .5);
+      orb = fill-end _ (l .orb) (l .w) _ (l .inv .3 ∙ lanes) (omega (arith, lanes)) (omega (arith, lanes)) (l .inv .6);
     }
 
 pub fill-masks-spec : {M : Type 1} → statement M

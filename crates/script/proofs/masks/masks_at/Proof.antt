@@ -24,7 +24,7 @@ inside : (c : tie.After-top-power) → asked c .args .q + 2 * c .top-power .resu
 inside c =
     let w = asked c in
     let laid = w .pre .0 .body .laid in
-    c .top-power .ensures .inside (w .args .body .lanes) (laid .edition) (omega (arith, w .pre .2, laid .full))
+    c .top-power .ensures .inside (w .args .body .lanes) (laid .edition) (w .pre .2)
 
 add-slot : tie.Need-add-slot
 add-slot c = omega (arith, inside c)

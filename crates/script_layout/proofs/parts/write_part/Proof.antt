@@ -7,6 +7,9 @@ use borrow.Author.Needs.{needs}
 use Rattle.script_layout.proofs.parts.write_part.Statement.{statement}
 use Rattle.script_layout.proofs.parts.write_part.Tie as tie
 
+part-words-requires : tie.Need-part-words-requires
+part-words-requires c κs = c .before .before .body-of .ensures .laid .lanes
+
 add-next : tie.Need-add-next
 add-next c =
     let at-part-words = c in
@@ -14,8 +17,9 @@ add-next c =
     let way = at-numbers-of .before .before .before .before .before in
     let o = way .before .before .before .before .before in
     let n = at-numbers-of .numbers-of in
+    let body = at-numbers-of .before .before .body-of .ensures in
     let w = at-part-words .part-words in
-    omega (arith, next-in (o .args .d .now) (o .args .room .now) (o .pre .0 .sound) (o .args .p) (o .pre .0 .part) (n .result) (n .ensures .0) (o .args .at) _ _ (o .args .words .now) (w .ensures) refl (o .pre .0 .fits), o .good, o .fits)
+    omega (arith, next-in (o .args .d .now) (o .args .room .now) (o .pre .0 .sound) (o .args .p) (o .pre .0 .part) (n .result) (n .ensures .0) (o .args .at) _ _ _ (o .args .words .now) (body .lanes) (w .ensures .0) refl (o .pre .0 .fits), o .good, o .fits)
 
 mul-build-script : tie.Need-mul-build-script
 mul-build-script c =
@@ -31,8 +35,9 @@ part-build-script-end c =
     let way = at-numbers-of .before .before .before .before .before in
     let o = way .before .before .before .before .before in
     let n = at-numbers-of .numbers-of in
+    let body = at-numbers-of .before .before .body-of .ensures in
     let w = at-part-words .part-words in
-    next-in (o .args .d .now) (o .args .room .now) (o .pre .0 .sound) (o .args .p) (o .pre .0 .part) (n .result) (n .ensures .0) (o .args .at) _ _ (o .args .words .now) (w .ensures) refl (o .pre .0 .fits)
+    next-in (o .args .d .now) (o .args .room .now) (o .pre .0 .sound) (o .args .p) (o .pre .0 .part) (n .result) (n .ensures .0) (o .args .at) _ _ _ (o .args .words .now) (body .lanes) (w .ensures .0) refl (o .pre .0 .fits)
 
 build-script-requires : tie.Need-build-script-requires
 build-script-requires c κs =
@@ -42,11 +47,12 @@ build-script-requires c κs =
     let way = at-body-of .before .before .before .before .before in
     let o = way .before .before .before in
     let n = at-numbers-of .numbers-of in
+    let body = at-body-of .body-of .ensures in
     let w = at-part-words .part-words in (
-      buildable (o .args .d .now) (o .args .room .now) (o .pre .0 .sound) (o .args .p) (o .pre .0 .part) (at-body-of .body-of .result) (at-body-of .body-of .ensures),
+      buildable (o .args .d .now) (o .args .room .now) (o .pre .0 .sound) (o .args .p) (o .pre .0 .part) (at-body-of .body-of .result) body,
       n .ensures .0,
       omega (arith, o .pre .0 .sound .ready .wide),
-      lent-long (o .args .d .now) (o .args .room .now) (o .pre .0 .sound) (o .args .p) (o .pre .0 .part) (n .result) (n .ensures .0) (o .args .at) _ _ (o .args .words .now) (w .ensures) refl (o .pre .0 .fits),
+      lent-long (o .args .d .now) (o .args .room .now) (o .pre .0 .sound) (o .args .p) (o .pre .0 .part) (n .result) (n .ensures .0) (o .args .at) _ _ _ (o .args .words .now) (body .lanes) (w .ensures .0) refl (o .pre .0 .fits),
       o .pre .1,
     )
 
@@ -83,18 +89,20 @@ returns c =
     let way-2 = at-numbers-of .before .before .before .before .before in
     let o = way-2 .before .before .before .before .before in
     let n = at-numbers-of .numbers-of in
+    let body = at-numbers-of .before .before .body-of .ensures in
     let w = at-part-words .part-words in
     let r = at-build-script .build-script in (
-      next-is (o .args .d .now) (o .args .room .now) (o .pre .0 .sound) (o .args .p) (o .pre .0 .part) (n .result) (n .ensures .0) (o .args .at) _ _ (o .args .words .now) (w .ensures) refl (o .pre .0 .fits),
+      next-is (o .args .d .now) (o .args .room .now) (o .pre .0 .sound) (o .args .p) (o .pre .0 .part) (n .result) (n .ensures .0) (o .args .at) _ _ _ (o .args .words .now) (body .lanes) (w .ensures .0) refl (o .pre .0 .fits),
       (
         room-same (o .args .d .now) (o .args .room .now) (o .pre .0 .sound) _ (r .ensures .1),
-        part-written (o .args .d .now) (o .args .room .now) (o .pre .0 .sound) (o .args .p) (o .pre .0 .part) (n .result) (n .ensures .0) (o .args .at) _ _ (o .args .words .now) (w .ensures) refl (o .pre .0 .fits) (o .args .last) (n .ensures .1) _ (r .kept .1 .1 .1 .1 .1 .0) (r .ensures .0),
+        part-written (o .args .d .now) (o .args .room .now) (o .pre .0 .sound) (o .args .p) (o .pre .0 .part) (n .result) (n .ensures .0) (o .args .at) _ _ _ (o .args .words .now) (body .lanes) (w .ensures .0) refl (o .pre .0 .fits)
+            (o .args .last) (n .ensures .1) _ (r .kept .1 .1 .1 .1 .1 .0) (r .ensures .0),
       ),
     )
 
 pub write-part-spec : {M : Type 1} → statement M
 write-part-spec =
     tie.close
-    (tie.spec (λ c κs. search needs) (λ c κs. search needs) (λ c κs. search needs) add-next mul-build-script (λ c. search needs)
+    (tie.spec (λ c κs. search needs) (λ c κs. search needs) part-words-requires add-next mul-build-script (λ c. search needs)
     (λ c. search needs) part-build-script-end build-script-requires same-length (λ c. search needs) same-length-3 same-length-4
     same-length-5 returns)

@@ -6,7 +6,7 @@ use Prim.Native.Nat.{ℕ, _+_, _-_, _≤_, _<_}
 use native.Mathlib.Omega.{arith}
 use lib.ListN.{length}
 use lib.Seq.{sets}
-use Rattle.plan_record.specs.Record.{partsOf}
+use Rattle.plan_record.specs.Record.{planLanes, partsOf}
 use Rattle.script_assembly.specs.WrittenSoFar.{lastMark, partsWords, partsIn, firstRank}
 use Rattle.script_layout.proofs.RowLaws.{cell-in}
 use Rattle.script_layout.proofs.ListStoreLaws.{stores-length, lists-long}
@@ -20,8 +20,8 @@ Inv-loop d room₀ s b from to at words₀ keys₀ scratch₀ set₀ k₀ next�
     (from ≤ k)
     × (k ≤ to)
     × (room ≡ room₀)
-    × (next ≡ at + length (partsWords 256 d s (partsIn d s b) (k - from)))
-    × (words ≡ sets words₀ at (partsWords 256 d s (partsIn d s b) (k - from)))
+    × (next ≡ at + length (partsWords (planLanes d) d s (partsIn d s b) (k - from)))
+    × (words ≡ sets words₀ at (partsWords (planLanes d) d s (partsIn d s b) (k - from)))
     × (length keys ≡ length keys₀)
     × (length scratch ≡ length scratch₀)
     × (length set ≡ length set₀)
@@ -90,7 +90,7 @@ same-length-2 c =
     let way = at-loop .before .before .before .before .before in
     let o = way .before .before in
     let l = at-loop .loop in
-    stores-length (o .args .words .now) (l .words) (o .args .at) (partsWords 256 (o .args .d .now) (o .args .s) (partsIn (o .args .d .now) (o .args .s) (o .args .b)) (l .k - o .args .from)) (l .inv .4)
+    stores-length (o .args .words .now) (l .words) (o .args .at) (partsWords (planLanes (o .args .d .now)) (o .args .d .now) (o .args .s) (partsIn (o .args .d .now) (o .args .s) (o .args .b)) (l .k - o .args .from)) (l .inv .4)
 
 same-length-3 : tie.Need-same-length-3 Inv-loop μ-loop
 same-length-3 c =

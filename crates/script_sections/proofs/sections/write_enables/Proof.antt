@@ -1,56 +1,37 @@
--- The lists that are read are those of the table's words, entry by entry.
+-- Three arrays of the full edition, lent as a word a lane each.
 -- Assumes nothing.
-use mathlib.Core.Path.{ap, _∙_}
-use Prim.Native.Nat.{_+_}
-use lib.ListN.{length}
-use Rattle.words.proofs.SectionLaws.{length-listOf}
-use Rattle.plan_record.specs.Record.{tableAt}
-use Rattle.script.specs.Script.{enableSection}
-use Rattle.script.proofs.SectionsLaws.{section-are, entries-small}
-use Rattle.words.specs.Section.{listOf}
+use mathlib.Core.Path.{refl, sym}
+use Rattle.script_sections.proofs.ScriptLaws.{lent-long}
 use borrow.Author.Needs.{needs}
 use Rattle.script_sections.proofs.sections.write_enables.Statement.{statement}
 use Rattle.script_sections.proofs.sections.write_enables.Tie as tie
 
-write-section-requires : tie.Need-write-section-requires
-write-section-requires c κs =
-    let at-read-table4 = c .before .before .before .before .before .before in
-    let at-read-table3 = at-read-table4 .before .before .before in
-    let at-read-table2 = at-read-table3 .before .before .before in
-    let at-read-table = at-read-table2 .before .before .before .before in
-    let o = at-read-table .before .before .before .before .before in
-    let t = tableAt (o .args .d .now) (o .args .p) in
-    let e = at-read-table .read-table .ensures ∙ ap (listOf (λ i. t (8704 + i))) (o .pre .2) in
-    record {
-      many = ap length e ∙ length-listOf _ 8192;
-      small = entries-small (λ i. t (8704 + i)) _ 8192 e (o .pre .0 .enable);
-      first = ap length (at-read-table2 .read-table2 .ensures) ∙ length-listOf _ 256;
-      second = ap length (at-read-table3 .read-table3 .ensures) ∙ length-listOf _ 256;
-      third = ap length (at-read-table4 .read-table4 .ensures) ∙ length-listOf _ 256;
-      room = o .pre .1;
-    }
+slice-aggregate-put-enables : tie.Need-slice-aggregate-put-enables
+slice-aggregate-put-enables c =
+    let o = c .before .before .before .before in
+    sym (lent-long _ _ 256 refl (o .pre .0 .body .laid .lanes))
 
-returns : tie.Need-returns
-unfolding enableSection
-returns c =
-    let at-write-section = c .before .before in
-    let way = at-write-section .before .before .before .before .before in
-    let at-read-table4 = way .before .before in
-    let at-read-table3 = at-read-table4 .before .before .before in
-    let at-read-table2 = at-read-table3 .before .before .before in
-    let at-read-table = at-read-table2 .before .before .before .before in
-    let o = at-read-table .before .before .before .before .before in
-    let t = tableAt (o .args .d .now) (o .args .p) in
-    let e = at-read-table .read-table .ensures ∙ ap (listOf (λ i. t (8704 + i))) (o .pre .2) in
-    at-write-section .write-section .ensures
-    ∙ section-are 256 (λ i. t (8704 + i)) (λ w. t (16896 + w)) (λ w. t (17152 + w)) (λ w. t (17408 + w)) _ _ _ _ e
-    (at-read-table2 .read-table2 .ensures)
-    (at-read-table3 .read-table3 .ensures)
-    (at-read-table4 .read-table4 .ensures)
+slice-aggregate-put-enables-2 : tie.Need-slice-aggregate-put-enables-2
+slice-aggregate-put-enables-2 c =
+    let o = c .before .before .before .before .before in
+    sym (lent-long _ _ 256 refl (o .pre .0 .body .laid .lanes))
+
+slice-aggregate-put-enables-3 : tie.Need-slice-aggregate-put-enables-3
+slice-aggregate-put-enables-3 c =
+    let way = c .before .before .before .before .before in
+    let o = way .before in
+    sym (lent-long _ _ 256 refl (o .pre .0 .body .laid .lanes))
+
+put-enables-requires : tie.Need-put-enables-requires
+put-enables-requires c κs =
+    let way = c .before .before .before .before .before in
+    let o = way .before .before .before in
+    let few = o .pre .0 .body .laid .lanes in
+    let room = lent-long _ _ 256 refl few in
+    (o .pre .0, record { first = room; second = room; third = room }, o .pre .1, o .pre .2)
 
 pub write-enables-spec : {M : Type 1} → statement M
 write-enables-spec =
     tie.close
-    (tie.spec (λ c κs. search needs) (λ c. search needs) (λ c κs. search needs) (λ c. search needs) (λ c κs. search needs)
-    (λ c. search needs) (λ c κs. search needs) (λ c. search needs) (λ c. search needs) (λ c. search needs) write-section-requires
-    (λ c. search needs) (λ c. search needs) returns)
+    (tie.spec (λ c. search needs) slice-aggregate-put-enables (λ c. search needs) slice-aggregate-put-enables-2 (λ c. search needs)
+    slice-aggregate-put-enables-3 put-enables-requires (λ c. search needs) (λ c. search needs) (λ c. search needs))

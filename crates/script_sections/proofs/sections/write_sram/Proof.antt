@@ -1,54 +1,37 @@
--- The lists that are read are those of the table's words, entry by entry.
+-- Three arrays of the full edition, lent as a word a lane each.
 -- Assumes nothing.
-use mathlib.Core.Path.{ap, _∙_}
-use Prim.Native.Nat.{_+_}
-use native.Mathlib.Omega.{arith}
-use lib.ListN.{length}
-use Rattle.words.proofs.SectionLaws.{length-listOf}
-use Rattle.plan_record.specs.Record.{tableAt}
-use Rattle.script.specs.Script.{sramSection}
-use Rattle.script.proofs.SectionsLaws.{section-are, entries-small, zeros-are, from-zero}
-use Rattle.words.specs.Section.{listOf}
+use mathlib.Core.Path.{refl, sym}
+use Rattle.script_sections.proofs.ScriptLaws.{lent-long}
 use borrow.Author.Needs.{needs}
 use Rattle.script_sections.proofs.sections.write_sram.Statement.{statement}
 use Rattle.script_sections.proofs.sections.write_sram.Tie as tie
 
-write-section-requires : tie.Need-write-section-requires
-write-section-requires c κs =
-    let at-read-table3 = c .before .before .before .before .before .before in
-    let at-read-table2 = at-read-table3 .before .before .before in
-    let at-read-table = at-read-table2 .before .before .before .before in
-    let o = at-read-table .before .before .before .before .before in
-    let t = tableAt (o .args .d .now) (o .args .p) in
-    let e = at-read-table .read-table .ensures ∙ (ap (listOf (λ i. t (0 + i))) (o .pre .2) ∙ from-zero t 8192) in
-    record {
-      many = ap length e ∙ length-listOf t 8192;
-      small = entries-small t _ 8192 e (o .pre .0 .sram);
-      first = ap length (at-read-table2 .read-table2 .ensures) ∙ length-listOf _ 256;
-      second = ap length (at-read-table3 .read-table3 .ensures) ∙ length-listOf _ 256;
-      third = omega arith;
-      room = o .pre .1;
-    }
+slice-aggregate-put-sram : tie.Need-slice-aggregate-put-sram
+slice-aggregate-put-sram c =
+    let o = c .before .before .before .before in
+    sym (lent-long _ _ 256 refl (o .pre .0 .body .laid .lanes))
 
-returns : tie.Need-returns
-unfolding sramSection
-returns c =
-    let at-write-section = c .before .before in
-    let way = at-write-section .before .before .before .before .before in
-    let at-read-table3 = way .before .before in
-    let at-read-table2 = at-read-table3 .before .before .before in
-    let at-read-table = at-read-table2 .before .before .before .before in
-    let o = at-read-table .before .before .before .before .before in
-    let t = tableAt (o .args .d .now) (o .args .p) in
-    let e = at-read-table .read-table .ensures ∙ (ap (listOf (λ i. t (0 + i))) (o .pre .2) ∙ from-zero t 8192) in
-    at-write-section .write-section .ensures
-    ∙ section-are 256 t (λ w. t (8192 + w)) (λ w. t (8448 + w)) (λ w. 0) _ _ _ _ e
-    (at-read-table2 .read-table2 .ensures)
-    (at-read-table3 .read-table3 .ensures)
-    (zeros-are 256)
+slice-aggregate-put-sram-2 : tie.Need-slice-aggregate-put-sram-2
+slice-aggregate-put-sram-2 c =
+    let o = c .before .before .before .before .before in
+    sym (lent-long _ _ 256 refl (o .pre .0 .body .laid .lanes))
+
+slice-aggregate-put-sram-3 : tie.Need-slice-aggregate-put-sram-3
+slice-aggregate-put-sram-3 c =
+    let way = c .before .before .before .before .before in
+    let o = way .before in
+    sym (lent-long _ _ 256 refl (o .pre .0 .body .laid .lanes))
+
+put-sram-requires : tie.Need-put-sram-requires
+put-sram-requires c κs =
+    let way = c .before .before .before .before .before in
+    let o = way .before .before .before in
+    let few = o .pre .0 .body .laid .lanes in
+    let room = lent-long _ _ 256 refl few in
+    (o .pre .0, record { first = room; second = room; third = room }, o .pre .1, o .pre .2)
 
 pub write-sram-spec : {M : Type 1} → statement M
 write-sram-spec =
     tie.close
-    (tie.spec (λ c κs. search needs) (λ c. search needs) (λ c κs. search needs) (λ c. search needs) (λ c κs. search needs)
-    (λ c. search needs) (λ c. search needs) (λ c. search needs) write-section-requires (λ c. search needs) (λ c. search needs) returns)
+    (tie.spec (λ c. search needs) slice-aggregate-put-sram (λ c. search needs) slice-aggregate-put-sram-2 (λ c. search needs)
+    slice-aggregate-put-sram-3 put-sram-requires (λ c. search needs) (λ c. search needs) (λ c. search needs))

@@ -1,10 +1,11 @@
 -- After i turns the first i entries are the stage's.
 -- Assumes nothing.
-use mathlib.Core.Path.{_≡_}
+use mathlib.Core.Path.{_≡_, _∙_}
 use Prim.Native.Nat.{_+_, _-_, _≤_}
 use native.Mathlib.Omega.{arith}
 use lib.ListN.{length, take, length-set}
 use Rattle.words.specs.Section.{listOf}
+use Rattle.plan_record.specs.Record.{planLanes}
 use Rattle.script.specs.Script.{stageEntry}
 use Rattle.script.proofs.FilledSliceLaws.{fill-none, fill-more, fill-end}
 use borrow.Author.Needs.{needs}
@@ -12,7 +13,7 @@ use Rattle.script_sections.proofs.stages.later_entries.Statement.{state
 use Rattle.script_sections.proofs.stages.later_entries.Tie as tie
 
 abbrev Inv-loop : tie.InvT-loop
-Inv-loop d p body s table entries₀ i₀ entries i = (i ≤ length entries₀) × (length entries ≡ length entries₀) × (take i entries ≡ listOf (stageEntry 256 d p (s + 1)) i)
+Inv-loop d p body s table entries₀ i₀ entries i = (i ≤ length entries₀) × (length entries ≡ length entries₀) × (take i entries ≡ listOf (stageEntry (planLanes d) d p (s + 1)) i)
 
 abbrev μ-loop : tie.MeasureT-loop
 μ-loop d p body s table entries₀ i₀ entries i = length entries₀ - i
@@ -24,12 +25,12 @@ loop-again : tie.Need-loop-again Inv-loop μ-loop
 loop-again c =
     let l = c .before .before .loop in
     let o = c .before .before .before .before .before .before .args in
-    (omega arith, simp length-set (l .inv .1), fill-more (stageEntry 256 (o .d .now) (o .p) (o .s + 1)) (l .entries) (l .i) _ (omega arith) (c .later-entry .ensures) (l .inv .2))
+    (omega arith, simp length-set (l .inv .1), fill-more (stageEntry (planLanes (o .d .now)) (o .d .now) (o .p) (o .s + 1)) (l .entries) (l .i) _ (omega arith) (c .later-entry .ensures) (l .inv .2))
 
 returns : tie.Need-returns Inv-loop μ-loop
 returns c =
     let l = c .before .loop in
-    fill-end _ (l .entries) (l .i) 8192 (omega arith) (omega arith) (omega arith) (l .inv .2)
+    fill-end _ (l .entries) (l .i) _ (l .inv .1 ∙ c .before .before .before .before .before .pre .3) (omega arith) (omega arith) (l .inv .2)
 
 pub later-entries-spec : {M : Type 1} → statement M
 later-entries-spec =

@@ -1,51 +1,37 @@
--- The masks and the entries are the stage's.
+-- Three arrays of the full edition, lent as a word a lane each.
 -- Assumes nothing.
-use mathlib.Core.Path.{ap, _∙_}
-use lib.ListN.{length}
-use Rattle.words.proofs.SectionLaws.{length-listOf}
-use Rattle.script.specs.Script.{stageEntry, xoraBit, xorbBit, orbBit, maskWord, stageSection}
-use Rattle.script.proofs.SectionsLaws.{section-are, entries-small}
+use mathlib.Core.Path.{refl, sym}
+use Rattle.script_sections.proofs.ScriptLaws.{lent-long}
 use borrow.Author.Needs.{needs}
 use Rattle.script_sections.proofs.stages.write_stage.Statement.{statement}
 use Rattle.script_sections.proofs.stages.write_stage.Tie as tie
 
-write-section-requires : tie.Need-write-section-requires
-write-section-requires c κs =
-    let way = c .before .before .before .before in
-    let at-fill-masks = way .before .before .before in
-    let way-2 = at-fill-masks .before .before .before .before in
-    let o = way-2 .before .before .before in
-    let a = o .args in
-    let entries = o .pre .2 in
-    let masks = at-fill-masks .fill-masks .ensures in
-    record {
-      many = ap length (entries .is) ∙ length-listOf _ 8192;
-      small = entries-small (stageEntry 256 (a .d .now) (a .p) (a .s)) (a .entries .now) 8192 (entries .is) (entries .small);
-      first = ap length (masks .xora) ∙ length-listOf _ 256;
-      second = ap length (masks .xorb) ∙ length-listOf _ 256;
-      third = ap length (masks .orb) ∙ length-listOf _ 256;
-      room = o .pre .3;
-    }
+slice-aggregate-put-stage : tie.Need-slice-aggregate-put-stage
+slice-aggregate-put-stage c =
+    let o = c .before .before .before .before in
+    sym (lent-long _ _ 256 refl (o .pre .0 .body .laid .lanes))
 
-returns : tie.Need-returns
-unfolding stageSection
-returns c =
+slice-aggregate-put-stage-2 : tie.Need-slice-aggregate-put-stage-2
+slice-aggregate-put-stage-2 c =
+    let o = c .before .before .before .before .before in
+    sym (lent-long _ _ 256 refl (o .pre .0 .body .laid .lanes))
+
+slice-aggregate-put-stage-3 : tie.Need-slice-aggregate-put-stage-3
+slice-aggregate-put-stage-3 c =
     let way = c .before .before .before .before .before in
-    let at-fill-masks = way .before .before .before .before .before in
-    let way-2 = at-fill-masks .before .before .before .before in
-    let o = way-2 .before .before .before in
-    let a = o .args in
-    let masks = at-fill-masks .fill-masks .ensures in
-    let d = a .d .now in
-    c .before .before .write-section .ensures
-    ∙ section-are 256 (stageEntry 256 d (a .p) (a .s)) (maskWord (xoraBit d (a .p) (a .s))) (maskWord (xorbBit d (a .p) (a .s))) (maskWord (orbBit d (a .p) (a .s))) _ _ _ _
-    (o .pre .2 .is)
-    (masks .xora)
-    (masks .xorb)
-    (masks .orb)
+    let o = way .before in
+    sym (lent-long _ _ 256 refl (o .pre .0 .body .laid .lanes))
+
+put-stage-requires : tie.Need-put-stage-requires
+put-stage-requires c κs =
+    let way = c .before .before .before .before .before in
+    let o = way .before .before in
+    let few = o .pre .0 .body .laid .lanes in
+    let room = lent-long _ _ 256 refl few in
+    (o .pre .0, o .pre .1, o .pre .2, record { first = room; second = room; third = room }, o .pre .3)
 
 pub write-stage-spec : {M : Type 1} → statement M
 write-stage-spec =
     tie.close
-    (tie.spec (λ c. search needs) (λ c. search needs) (λ c. search needs) (λ c κs. search needs) (λ c. search needs) (λ c. search needs)
-    (λ c. search needs) write-section-requires (λ c. search needs) returns)
+    (tie.spec (λ c. search needs) slice-aggregate-put-stage (λ c. search needs) slice-aggregate-put-stage-2 (λ c. search needs)
+    slice-aggregate-put-stage-3 put-stage-requires (λ c. search needs) (λ c. search needs))

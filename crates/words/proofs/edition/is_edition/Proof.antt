@@ -4,22 +4,16 @@ use borrow.Author.Needs.{needs}
 use Rattle.words.proofs.EditionLaws.{known-passes, known-other}
 use Rattle.words.proofs.edition.is_edition.Statement.{statement}
 use Rattle.words.proofs.edition.is_edition.Tie as tie
-use Rattle.words.proofs.edition.is_edition.Reads as reads
-use Rattle.words.proofs.edition.is_edition.Lts as lts
 
--- src/edition.rt:48:18
 cast-if1 : tie.Need-cast-if1
 cast-if1 c = search needs
 
--- src/edition.rt:49:9
 returns : tie.Need-returns
 returns c = sym (known-passes _ (inl (c .if1 .taken)))
 
--- src/edition.rt:51:15
 cast-result : tie.Need-cast-result
 cast-result c = search needs
 
--- src/edition.rt:45:1
 returns-2 : tie.Need-returns-2
 returns-2 c = known-other _ (c .if1 .left)
 

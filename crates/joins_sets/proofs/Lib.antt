@@ -1,0 +1,5 @@
+pub mod JoinPutLaws
+pub mod JoinMaskLaws
+pub mod JoinKeptLaws
+pub mod JoinLaws
+pub mod JoinAnswerLaws

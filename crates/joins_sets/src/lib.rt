@@ -1,0 +1,1 @@
+// Read sets joined: definitions and laws, no code. Document 02, 11/13.

@@ -1,2 +1,0 @@
--- Where records are right, only refusals 3 and 4 come: the set that bytes ask for is short enough, has the form and needs at most 32 rounds.
--- Assumes nothing.

@@ -1,0 +1,3 @@
+pub mod ListingRecordLaws
+pub mod RecordBitLaws
+pub mod PrefixLaws
