@@ -1,0 +1,4 @@
+pub mod Report
+pub mod Batch
+pub mod BatchText
+pub mod Monthly
