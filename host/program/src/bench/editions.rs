@@ -1,4 +1,4 @@
-//! The same part in both editions: the small one's time beside the full one's.
+//! The same part in both editions, and a part of each with all slots filled: the small one's time beside the full one's.
 
 use super::inputs::{copies, one_part};
 use super::{in_two_places, in_words, timed, Row, Table, Times};
@@ -14,9 +14,28 @@ use std::time::{Duration, Instant};
 const AIM: f64 = 0.6;
 
 pub fn rows(table: &mut Table, random: &mut Random, time: Duration) -> Outcome {
-    let small = copies(&one_part(random, Edition::Small), 4);
-    let full = copies(&widened(random, &small.plan), 4);
-    table.begin(&["the same part in both editions", "small", "full", "ratio"]);
+    let part = one_part(random, Edition::Small);
+    let (wide, filled) = (widened(random, &part), one_part(random, Edition::Full));
+    for (group, title, full) in [
+        ("small beside full", "the same part in both editions", &wide),
+        ("small beside full, filled", "a part of each edition, all of its slots filled", &filled),
+    ] {
+        table.begin(&[title, "small", "full", "ratio"]);
+        beside(table, random, time, group, &part, full)?;
+    }
+    Ok(())
+}
+
+/// A small plan beside a full one, each four times.
+fn beside(
+    table: &mut Table,
+    random: &mut Random,
+    time: Duration,
+    group: &'static str,
+    small: &Plan,
+    full: &Plan,
+) -> Outcome {
+    let (small, full) = (copies(small, 4), copies(full, 4));
     let (small, full) =
         (Prepared::of(random, small.plan, small.script), Prepared::of(random, full.plan, full.script));
     for (name, work) in [
@@ -27,7 +46,7 @@ pub fn rows(table: &mut Table, random: &mut Random, time: Duration) -> Outcome {
         let (mut small, mut full) = (small.clone(), full.clone());
         let times = time_both(time, || work(&mut small), || work(&mut full))?;
         let cells = [in_words(times.ours), in_words(times.theirs), in_two_places(times.ratio())];
-        table.add(Row { group: "small beside full", name: name.to_string(), times }, &cells);
+        table.add(Row { group, name: name.to_string(), times }, &cells);
     }
     let words = small.script.words.len() as f64 / full.script.words.len() as f64;
     println!("\nScript words: {:.2} of the full edition's. Aim: {} of its time.", words, AIM);
