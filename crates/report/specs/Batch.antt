@@ -31,7 +31,7 @@ refusedBelow b k = sumTo (λ i. batchAt b (8 + i)) k
 abbrev pub mostParts : ℕ
 mostParts = 100000
 
--- a good part adds to words 0 to 6
+-- a good part adds to words 0 to 6; word 7 is its edition's, as it is of a refused one
 unfoldable pub goodFed : ℕ → Gain → List ℕ → List ℕ
 goodFed n g b =
     sets b 0
