@@ -1,1 +1,2 @@
 // Binary AIGER: definitions and laws, no code. Document 02, 1/13.
+#![tactic(auto)]

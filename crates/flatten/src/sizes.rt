@@ -16,7 +16,7 @@ use plan_rows::{Column, cell_at};
 use script_layout::sizes::{CLOSING_ZEROS, part_words};
 
 // How much a plan's result takes: starts, words of the script, words of the state, words of SRAM.
-#[derive(Drop)]
+#[derive(Clone, Copy)]
 pub struct Sizes {
     pub starts: u64,
     pub words: u64,

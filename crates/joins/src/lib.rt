@@ -1,4 +1,5 @@
 // Read sets joined: document 02, 11/13.
+#![tactic(auto)]
 pub mod merging;
 
 ghost use Rattle.std.specs.Prelude.{◌≡◌, ◌&&◌, leb, length};

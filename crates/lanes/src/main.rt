@@ -1,4 +1,5 @@
 // The listing program: records on standard input, the lanes of their read set on standard output. Document 01, "Listing program".
+#![tactic(auto)]
 use libc::{STDIN_FILENO, STDOUT_FILENO};
 use listing::{RECORD_BYTES, TEXT_BYTES};
 

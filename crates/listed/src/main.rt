@@ -1,6 +1,7 @@
 // Runs the listing on the records of each file that an argument names, and writes the texts one after the other.
 // The files: nothing at all; an end alone; position 5 with no end; a body cut after two bytes; kind 3 after a position; a byte after the end;
 // positions 0 to 8191 and the end; 8193 positions; 257 words of 17 bits; M5; positions out of order, twice, staged, and the last there is.
+#![tactic(auto)]
 use libc::STDOUT_FILENO;
 use listing::{RECORD_BYTES, TEXT_BYTES};
 

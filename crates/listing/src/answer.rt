@@ -9,7 +9,7 @@ use crate::lines::put_lanes;
 use text::{put_bytes, put_number};
 
 // Rounds that a read section holds; a refusal's number; or the byte of a bad record.
-#[derive(Drop)]
+#[derive(Clone, Copy)]
 pub enum Said {
     Rounds(u32),
     Refused(u32),

@@ -11,7 +11,7 @@ use plan_record::places::head_base;
 use plan_rows::{Column, put_cell};
 
 // What a block has: how many parts, and what they cost together.
-#[derive(Drop)]
+#[derive(Clone, Copy)]
 pub struct BlockCost {
     pub parts: u32,
     pub cost: u32,

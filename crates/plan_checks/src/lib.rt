@@ -1,4 +1,5 @@
 // The refusals of a plan, in their order: document 01, "Numbered refusals".
+#![tactic(auto)]
 pub mod lists;
 pub mod pins;
 pub mod places;
@@ -22,7 +23,7 @@ use words::clear::clear;
 use words::refusals::{ROOM_SHORT, Refusal};
 
 // A plan is accepted, or refused: with its first refusal.
-#[derive(Drop)]
+#[derive(Clone, Copy)]
 pub enum Verdict {
     Accepted,
     Refused(Refusal),

@@ -1,4 +1,5 @@
 // Activations, duplicate words and write-out words: refusal 7. Document 01, "Positions and counts".
+#![tactic(auto)]
 pub mod activations;
 
 ghost use Rattle.std.specs.Prelude.{◌≡◌, true, ◌≤◌, length};

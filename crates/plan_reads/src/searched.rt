@@ -11,7 +11,7 @@ use rounds::Searched;
 use words::refusals::Refusal;
 
 // A refusal (3, 21, 22 or 4), or the number of rounds and the piece size that won.
-#[derive(Drop)]
+#[derive(Clone, Copy)]
 pub enum Reads {
     Refused(Refusal),
     Rounds(u32, u32),

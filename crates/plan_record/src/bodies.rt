@@ -12,7 +12,7 @@ use crate::places::{
 use words::units::{Pin, PinIv};
 
 // An endpoint: a primary output, a staged pin, a register with its data and its enable, or an SRAM.
-#[derive(Drop)]
+#[derive(Clone, Copy)]
 pub enum Endpoint {
     Output(PinIv),
     Staged(Pin),
@@ -22,7 +22,7 @@ pub enum Endpoint {
 
 // The lanes of the edition, one part's numbers, and the words where its lists begin: endpoints, locations of each stage, slots, locations, tables,
 // and the next body.
-#[derive(Drop)]
+#[derive(Clone, Copy)]
 pub struct Body {
     pub lanes: usize,
     pub stages: usize,

@@ -1,1 +1,2 @@
 // Demand 3: definitions and theorem, no code.
+#![tactic(auto)]

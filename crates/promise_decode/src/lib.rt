@@ -1,1 +1,2 @@
 // Scripts read back: definitions and theorems, no code.
+#![tactic(auto)]

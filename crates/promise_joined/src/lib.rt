@@ -1,1 +1,2 @@
 // Build and run put together: definitions and theorem, no code.
+#![tactic(auto)]

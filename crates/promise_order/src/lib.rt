@@ -1,1 +1,2 @@
 // The order of turns: definitions and theorems, no code.
+#![tactic(auto)]

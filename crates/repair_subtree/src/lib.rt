@@ -1,5 +1,6 @@
 // The subtree of a slot: whether it is empty, the judgement of a node, and the list of slots that a placing or a clearing changes. Document 02, 7/13, and
 // `place_bit` and `purge_bit` of src/pe.rs.
+#![tactic(auto)]
 ghost use Rattle.std.specs.Prelude.{◌≡◌, [], ◌∷◌, ◌<◌, length};
 ghost use Rattle.std.proofs.Math.Option.{none};
 ghost use Rattle.gatelist.specs.ListWords.{bad_list};
@@ -12,7 +13,7 @@ use gatelist::{Listed, find_in, first_of, second_of};
 use words::units::{EMPTY_PIN, Pin};
 
 // A slot's level, the number of slots of that level, and the slot's index in the stage.
-#[derive(Drop)]
+#[derive(Clone, Copy)]
 pub struct Place {
     pub level: u32,
     pub width: usize,

@@ -1,4 +1,5 @@
 // The monthly occupancy report as text. Document 02, 9/13. A writer puts its text as those of crate `text` do.
+#![tactic(auto)]
 
 ghost use Rattle.std.specs.Prelude.{◌≡◌, true, ◌^◌, ◌<◌, ◌≤◌, length};
 ghost use Rattle.text.specs.TextPut.{Put};

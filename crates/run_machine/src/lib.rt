@@ -1,1 +1,2 @@
 // What script words mean: definitions and their laws, no code.
+#![tactic(auto)]

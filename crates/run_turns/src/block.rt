@@ -10,7 +10,7 @@ use crate::room::{read_room, stage_room, store_room};
 use run_form::part;
 
 // What a block's next turn does: document 01, "read, each stage, store", and nothing once it is finished.
-#[derive(Drop)]
+#[derive(Clone, Copy)]
 pub enum Phase {
     Read,
     Stage,
@@ -19,7 +19,7 @@ pub enum Phase {
 }
 
 // Where the block's part begins; what its next turn does; which stage.
-#[derive(Drop)]
+#[derive(Clone, Copy)]
 pub struct BlockState {
     pub part: usize,
     pub phase: Phase,

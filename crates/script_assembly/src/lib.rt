@@ -1,1 +1,2 @@
 // The assembled script: definitions and their laws.
+#![tactic(auto)]

@@ -1,5 +1,6 @@
 // Stored answers of GEM's Rust: each read set of the file is searched anew, and held to the stored rounds and places, or to the stored
 // refusal. The file comes on standard input; host/README.md says its form, and `make_answers` of host/ makes it.
+#![tactic(auto)]
 ghost use Rattle.std.specs.Prelude.{◌^◌, ◌≤◌, ◌<◌, length};
 
 use libc::{STDIN_FILENO, STDOUT_FILENO};

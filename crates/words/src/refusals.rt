@@ -60,7 +60,7 @@ pub const NOT_WRITABLE: u32 = 33;
 pub const COUNT_SHORT: u32 = 34;
 
 // A refusal: its number, and the place it is told at.
-#[derive(Drop)]
+#[derive(Clone, Copy)]
 pub struct Refusal {
     pub number: u32,
     pub part: u32,

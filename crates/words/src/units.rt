@@ -2,23 +2,23 @@
 ghost use Rattle.std.specs.Prelude.{◌≡◌, ◌+◌, ◌*◌, ◌/◌, ◌%◌, ◌^◌, ◌<◌};
 
 // A pin of the netlist.
-#[derive(Drop)]
+#[derive(Clone, Copy)]
 pub struct Pin(pub u32);
 
 // A pin with its inversion: 2·pin, plus 1 where inverted.
-#[derive(Drop)]
+#[derive(Clone, Copy)]
 pub struct PinIv(pub u32);
 
 // A bit of the state: bit p % 32 of word p / 32.
-#[derive(Drop)]
+#[derive(Clone, Copy)]
 pub struct StatePosition(pub u32);
 
 // A bit of a part's own lanes: bit p % 32 of lane p / 32.
-#[derive(Drop)]
+#[derive(Clone, Copy)]
 pub struct LocalPosition(pub u32);
 
 // A bit that a read set asks for: 32 times its word there, plus its place in the word. Bit 31 of the word means staged.
-#[derive(Drop)]
+#[derive(Clone, Copy)]
 pub struct AskedBit(pub u64);
 
 // No pin, in slots and in the input layout.

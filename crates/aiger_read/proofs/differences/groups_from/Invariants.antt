@@ -1,0 +1,13 @@
+-- `aiger_read::differences::groups_from` meets its contract. The invariant: what is read so far, with the groups that are left at their scale, is the difference. Assumes nothing.
+use mathlib.Core.Path.{sym, ◌∙◌}
+use Prim.Native.Nat.{◌-◌, ◌<◌}
+use native.Mathlib.Omega.{arith}
+use borrow.Author.Rules.{rules}
+use Rattle.aiger_read.proofs.GroupLaws.{Groups, groups_start, product_fits, scale_fits, groups_cut, groups_nought, groups_value, groups_next, groups_end}
+use Rattle.aiger_read.proofs.differences.groups_from.Given as goal
+
+abbrev pub invariant-loop-left : goal.invariant-loop-left
+invariant-loop-left l = Groups l.bytes l.at l.low l.x l.scale l.i l.left
+
+abbrev pub decreases-loop-left : goal.decreases-loop-left
+decreases-loop-left l = l.left

@@ -1,0 +1,14 @@
+-- `aiger_read::start::lines_from` meets its contract. The invariant: the lines that are left, from here on, are those asked for. Assumes nothing.
+use mathlib.Core.Path.{◌≡◌, sym, ap, ◌∙◌}
+use native.Mathlib.Omega.{arith}
+use borrow.Author.Rules.{rules}
+use Rattle.aiger_read.specs.ReadTold.{lines_of}
+use Rattle.aiger.specs.Reading.{lines_from}
+use Rattle.aiger_read.proofs.HeaderReadLaws.{line_next, line_wrong, lines_done}
+use Rattle.aiger_read.proofs.start.lines_from.Given as goal
+
+abbrev pub invariant-loop-left : goal.invariant-loop-left
+invariant-loop-left l = lines_from l.bytes l.most l.left l.i ≡ lines_from l.bytes l.most l.lines l.at
+
+abbrev pub decreases-loop-left : goal.decreases-loop-left
+decreases-loop-left l = l.left

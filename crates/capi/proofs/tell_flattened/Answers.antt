@@ -1,0 +1,12 @@
+-- A refusal is told by its numbers, and twice 0.
+-- Assumes nothing.
+use mathlib.Core.Path.{sym, ap, ◌∙◌}
+use mathlib.Core.List.{List, [], ◌∷◌, ◌++◌}
+use Prim.Native.Nat.{ℕ}
+use borrow.Author.Rules.{rules}
+use Rattle.capi.specs.Numbers.{flattened_numbers}
+use Rattle.capi.proofs.tell_flattened.Goals as goal
+
+pub returns-in-Refused : goal.returns-in-Refused
+returns-in-Refused c =
+    ap (λ (l : List ℕ). l ++ (0 ∷ 0 ∷ [])) c.hand_refusal.ensures ∙ ap flattened_numbers (sym c.in-Refused.is)

@@ -1,0 +1,36 @@
+-- `listing::answer_to` meets its contract: a bad record, or what the rounds of the read set give.
+-- Assumes nothing.
+use Rattle.listing.proofs.AnswerToLaws.{to_bad, room_size, to_few, to_front, to_said, to_section}
+use Rattle.listing_records.proofs.RecordBitLaws.{refused_in, keys_few}
+use Rattle.listing_records.specs.Records.{records}
+use mathlib.Core.Path.{sym, ap, ◌∙◌}
+use Prim.Native.Nat.{ℕ}
+use lib.ListN.{replicate}
+use lib.Seq.{length-take-le}
+use borrow.Author.Rules.{rules}
+use Rattle.listing.proofs.answer_to.Goals as goal
+
+pub slice_bounds-read_set_of-end-2 : goal.slice_bounds-read_set_of-end-2
+slice_bounds-read_set_of-end-2 c =
+    sym (length-take-le 16384 c.args.room.now c.requires.0)
+
+pub read_set_of-requires : goal.read_set_of-requires
+read_set_of-requires c =
+    (length-take-le 16384 c.args.room.now c.requires.0, c.requires.2, c.requires.3)
+
+pub slice_bounds-rounds_of-end : goal.slice_bounds-rounds_of-end
+slice_bounds-rounds_of-end c =
+    to_few (records c.args.s.now) (keys_few _ 8192 0) c.args.room.now c.requires.0 c.read_set_of.ensures.set_after _ (sym c.in-Asked.is ∙ c.read_set_of.ensures.value)
+
+pub slice_bounds-rounds_of-end-in-Asked : goal.slice_bounds-rounds_of-end-in-Asked
+slice_bounds-rounds_of-end-in-Asked c =
+    to_front (records c.args.s.now) (keys_few _ 8192 0) c.args.room.now c.requires.0 c.read_set_of.ensures.set_after _ (sym c.in-Asked.is ∙ c.read_set_of.ensures.value)
+
+pub returns-in-Refused : goal.returns-in-Refused
+returns-in-Refused c =
+    let bad = to_bad c.args.lanes _ _ _ (refused_in _ _ _ (sym c.in-Refused.is ∙ c.read_set_of.ensures.value)) in
+    record { value = bad.0; room_after = c.clear.ensures ∙ ap (λ (n : ℕ). replicate n 0) (room_size c.args.room.now c.read_set_of.new.set c.requires.0 c.read_set_of.auto.set); section_after = bad.1 }
+
+pub returns-in-Asked : goal.returns-in-Asked
+returns-in-Asked c =
+    record { value = to_said (records c.args.s.now) (keys_few _ 8192 0) c.args.room.now c.requires.0 c.read_set_of.ensures.set_after _ (sym c.in-Asked.is ∙ c.read_set_of.ensures.value) c.args.lanes _ c.rounds_of-said.ensures.value; room_after = c.clear-in-Asked.ensures ∙ ap (λ (n : ℕ). replicate n 0) (room_size c.args.room.now c.read_set_of.new.set c.requires.0 c.read_set_of.auto.set); section_after = to_section (records c.args.s.now) (keys_few _ 8192 0) c.args.room.now c.requires.0 c.read_set_of.ensures.set_after _ (sym c.in-Asked.is ∙ c.read_set_of.ensures.value) c.args.lanes _ _ c.rounds_of-said.ensures.section_after }

@@ -1,0 +1,15 @@
+-- A column of the part table, summed.
+-- Assumes nothing.
+use native.Mathlib.Omega.{arith}
+use borrow.Author.Rules.{rules}
+use Rattle.plan_blocks.proofs.TallyLaws.{majors_few, column_in, sram_sum}
+use Rattle.plan_blocks.proofs.totals.sram_words.Goals as goal
+
+pub parts_of-requires : goal.parts_of-requires
+parts_of-requires c = majors_few _ _ c.requires
+
+pub column_sum-requires : goal.column_sum-requires
+column_sum-requires c = column_in _ _ c.requires _ c.parts_of.ensures.0 _ (omega arith)
+
+pub returns : goal.returns
+returns c = sram_sum _ _ c.requires _ c.parts_of.ensures.0 _ c.column_sum.ensures.0

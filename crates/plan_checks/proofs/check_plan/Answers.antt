@@ -1,0 +1,44 @@
+-- `plan_checks::check_plan` meets its contract: 32, a refusal, or none.
+-- Assumes nothing.
+use mathlib.Core.Path.{◌≡◌, sym, ap, ◌∙◌}
+use mathlib.Core.Option.{none}
+use Prim.Native.Nat.{◌≤◌, ◌<◌}
+use native.Mathlib.Omega.{arith}
+use lib.ListN.{length}
+use Rattle.plan_record.specs.Form.{plan_room_words}
+use Rattle.plan_refusals.specs.Refusals.{plan_refusal}
+use Rattle.plan_checks.specs.Verdicts.{verdict_of}
+use Rattle.words.proofs.TestLaws.{some_not_none}
+use Rattle.plan_refusals.proofs.RefusalOrderLaws.{short_verdict, wide_verdict}
+use Rattle.plan_checks.proofs.VerdictLaws.{went_on, never}
+use Rattle.plan_checks.proofs.CheckedRoomLaws.{room_cleared, short_room, again_room, last_room, last_ready}
+use borrow.Author.Rules.{rules}
+use Rattle.plan_checks.proofs.check_plan.Goals as goal
+
+pub returns-then-room-room_words : goal.returns-then-room-room_words
+returns-then-room-room_words c =
+    let s = c.args in
+    let h : length s.room.now < plan_room_words s.plan.now = omega (arith, c.if-room-room_words.true, c.room_words.ensures.0) in
+    let is = short_verdict s.plan.now (length s.room.now) h in
+    record { value = ap verdict_of (sym is); room_after = short_room s.plan.now s.room.now h; plan_ready = λ e. absurd (some_not_none (sym is ∙ e)) }
+
+pub check_all-verdict-requires : goal.check_all-verdict-requires
+check_all-verdict-requires c =
+    let wide : let s = c.args in plan_room_words s.plan.now ≤ length s.room.now = omega (arith, c.if-room-room_words.false, c.room_words.ensures.0) in
+    (room_cleared c.args.plan.now c.args.room.now _ (wide) c.clear.ensures, c.requires)
+
+pub returns-then-is_refused : goal.returns-then-is_refused
+returns-then-is_refused c =
+    let wide : let s = c.args in plan_room_words s.plan.now ≤ length s.room.now = omega (arith, c.if-room-room_words.false, c.room_words.ensures.0) in
+    let s = c.args in
+    let h = wide in
+    let is = wide_verdict s.plan.now (length s.room.now) h in
+    let not : plan_refusal s.plan.now ≡ none → ⊥ = never (plan_refusal s.plan.now) _ c.check_all-verdict.ensures.value _ c.is_refused.ensures c.if-is_refused.true in record { value = c.check_all-verdict.ensures.value ∙ ap verdict_of (sym is); room_after = again_room s.plan.now s.room.now h _ c.check_all-verdict.new.room _ c.clear.ensures c.check_all-verdict.auto.room c.clear-then-is_refused.ensures not; plan_ready = λ e. absurd (not (sym is ∙ e)) }
+
+pub returns-else-is_refused : goal.returns-else-is_refused
+returns-else-is_refused c =
+    let wide : let s = c.args in plan_room_words s.plan.now ≤ length s.room.now = omega (arith, c.if-room-room_words.false, c.room_words.ensures.0) in
+    let s = c.args in
+    let h = wide in
+    let is = wide_verdict s.plan.now (length s.room.now) h in
+    let accepted = went_on (plan_refusal s.plan.now) _ c.check_all-verdict.ensures.value _ c.is_refused.ensures c.if-is_refused.false in record { value = c.check_all-verdict.ensures.value ∙ ap verdict_of (sym is); room_after = last_room s.plan.now s.room.now h _ _ c.clear.ensures accepted (c.check_all-verdict.ensures.room_after accepted); plan_ready = λ e. last_ready s.plan.now s.room.now h _ _ c.clear.ensures accepted (c.check_all-verdict.ensures.room_after accepted) }

@@ -1,0 +1,7 @@
+-- `plan_checks::tell::of_gates` meets its contract.
+-- Assumes nothing.
+use borrow.Author.Rules.{rules}
+use Rattle.plan_checks.proofs.tell.of_gates.Goals as goal
+
+pub returns-in-At : goal.returns-in-At
+returns-in-At c = rw c.in-At.is c.refuse.ensures

@@ -1,0 +1,7 @@
+-- `plan_checks::tell::of_test` meets its contract.
+-- Assumes nothing.
+use borrow.Author.Rules.{rules}
+use Rattle.plan_checks.proofs.tell.of_test.Goals as goal
+
+pub returns : goal.returns
+returns c = rw c.if-right.false c.refuse.ensures

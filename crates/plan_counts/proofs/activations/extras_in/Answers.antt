@@ -1,0 +1,15 @@
+use mathlib.Core.Path.{◌≡◌}
+use Prim.Native.Nat.{◌+◌, ◌-◌, ◌≤◌}
+use native.Mathlib.Omega.{arith}
+use lib.ListN.{length, drop}
+use Rattle.plan_counts.specs.Neighbours.{extras}
+use Rattle.plan_counts.proofs.ActivationLaws.{extras_more, extras_end}
+use borrow.Author.Rules.{rules}
+use Rattle.plan_counts.proofs.activations.extras_in.Goals as goal
+
+pub loop-i-preserved : goal.loop-i-preserved
+loop-i-preserved c =
+    (omega arith, omega arith, omega (arith, extras_more c.args.keys.now c.loop-i.i c.loop-i-test.true, c.extra_of-found.ensures.0))
+
+pub returns : goal.returns
+returns c = omega (arith, extras_end c.args.keys.now c.loop-i.i c.loop-i-test.false)

@@ -1,0 +1,37 @@
+use Rattle.plan_known.proofs.KnownLaws.{fill_kept, fill_first, fill_next}
+use Rattle.plan_winners.proofs.WinnerLaws.{listed}
+use mathlib.Core.Path.{◌≡◌, refl, ap, ◌∙◌}
+use Prim.Native.Nat.{ℕ, ◌-◌, ◌≤◌}
+use native.Mathlib.Omega.{arith}
+use lib.ListN.{length, take}
+use Rattle.plan_record.specs.Record.{slots_of}
+use Rattle.plan_slots.specs.Puts.{filled}
+use Rattle.plan_known.specs.Known.{bit_puts, WinnersTabled}
+use borrow.Author.Rules.{rules}
+use Rattle.plan_known.proofs.fill_part.Goals as goal
+
+pub fill_planned-requires : goal.fill_planned-requires
+fill_planned-requires c = (listed _ c.requires.0, c.requires.1, c.requires.2)
+
+pub loop-j-init : goal.loop-j-init
+loop-j-init c =
+    let (n, t) = fill_first c.args.d.now c.args.p c.args.body c.args.old.now c.args.new.now c.args.room.now _ c.requires.1 c.requires.2 c.requires.3 c.fill_planned.ensures in (omega arith, refl, n, t)
+
+pub overflow_add-j : goal.overflow_add-j
+overflow_add-j c = omega arith
+
+pub loop-j-smaller : goal.loop-j-smaller
+loop-j-smaller c = omega arith
+
+pub loop-j-preserved : goal.loop-j-preserved
+loop-j-preserved c =
+    let (e, n, t) = fill_next c.args.d.now c.args.p c.args.body c.args.old.now c.args.new.now c.loop-j.room _ c.loop-j.j c.loop-j.invariant.2 c.loop-j.invariant.3 c.put_slot_bit.ensures in (omega arith, e ∙ c.loop-j.invariant.1, n, t)
+
+pub shape_of-room : goal.shape_of-room
+shape_of-room c =
+    c.loop-j.invariant.1 ∙ fill_kept c.args.d.now c.args.p c.args.room.now _ c.requires.3 c.fill_planned.ensures
+
+pub returns : goal.returns
+returns c =
+    let all : c.loop-j.j ≡ slots_of c.args.d.now = omega (arith, c.requires.1.lanes) in
+    c.loop-j.invariant.3 ∙ ap (λ (j : ℕ). filled 32768 (bit_puts c.args.d.now c.args.p c.args.old.now c.args.new.now j)) all

@@ -1,0 +1,17 @@
+use mathlib.Core.Path.{◌≡◌, ap, ◌∙◌}
+use Prim.Native.Nat.{◌-◌, ◌≤◌}
+use native.Mathlib.Omega.{arith}
+use Rattle.plan_record.specs.Record.{body_at}
+use Rattle.plan_record.proofs.PlanFormLaws.{formed, body_ready}
+use borrow.Author.Rules.{rules}
+use Rattle.plan_known.proofs.part_body.Goals as goal
+
+pub first_body-at-requires : goal.first_body-at-requires
+first_body-at-requires c = (formed _ c.requires.0).head.majors
+
+pub body_at-at-requires : goal.body_at-at-requires
+body_at-at-requires c = body_ready _ (formed _ c.requires.0).sizes _ _ (omega (arith, c.requires.1, c.loop-k-test.true)) c.loop-k.invariant.1
+
+pub body_at-requires : goal.body_at-requires
+body_at-requires c =
+    body_ready _ (formed _ c.requires.0).sizes _ _ c.requires.1 (c.loop-k.invariant.1 ∙ ap (body_at c.args.d.now) (omega arith))

@@ -1,0 +1,21 @@
+-- The table has the pin's entry; that it lacks it cannot be.
+-- Assumes nothing.
+use mathlib.Core.Path.{sym}
+use borrow.Author.Rules.{rules}
+use lib.Seq.{length-take-le}
+use Rattle.plan_positions.proofs.PlannedLaws.{pin_value_lem, pin_missing}
+use Rattle.plan_positions.proofs.planned.pin_right.Goals as goal
+
+pub slice_bounds-look_up-end : goal.slice_bounds-look_up-end
+slice_bounds-look_up-end c = sym (length-take-le 32768 c.args.room.now c.requires.1)
+
+pub look_up-requires : goal.look_up-requires
+look_up-requires c = c.requires.2.small
+
+pub returns-in-Value : goal.returns-in-Value
+returns-in-Value c =
+    pin_value_lem c.args.d.now c.args.room.now c.args.n c.args.pin.0 c.requires.2 _ _ _ c.look_up.ensures c.in-Value.is c.place_right.ensures
+
+pub returns-in-Missing : goal.returns-in-Missing
+returns-in-Missing c =
+    absurd (pin_missing c.args.d.now c.args.room.now c.args.n c.args.pin.0 c.requires.2 _ c.look_up.ensures c.in-Missing.is)

@@ -1,0 +1,70 @@
+use mathlib.Core.Path.{◌≡◌, refl, ap, ◌∙◌}
+use Prim.Native.Nat.{◌-◌, ◌≤◌, ◌<◌}
+use native.Mathlib.Omega.{arith}
+use borrow.Author.Rules.{rules}
+use lib.ListN.{length}
+use Rattle.plan_record.proofs.PlanFormLaws.{formed, body_ready}
+use Rattle.plan_record.specs.Record.{parts_of, body_at}
+use Rattle.words.specs.Tests.{lowest_from}
+use Rattle.words.proofs.FoundLaws.{pass_start, pass_fault, pass_next, pass_end}
+use Rattle.plan_positions.specs.Places.{bad_slot}
+use Rattle.plan_positions.specs.Positions as positions
+use Rattle.plan_positions.proofs.PlannedLaws.{tallied, part_ready}
+use Rattle.plan_positions.proofs.planned.refusal12.Goals as goal
+
+pub state_words-state-requires : goal.state_words-state-requires
+state_words-state-requires c = tallied _ _ c.requires.0
+
+pub parts_of-parts-requires : goal.parts_of-parts-requires
+parts_of-parts-requires c = (formed _ c.requires.0.form).head.majors
+
+pub first_body-at-requires : goal.first_body-at-requires
+first_body-at-requires c = (formed _ c.requires.0.form).head.majors
+
+pub loop-p-init : goal.loop-p-init
+unfolding positions.refusal12
+loop-p-init c = (omega arith, c.first_body-at.ensures.0, refl, pass_start _ _, refl)
+
+pub body_at-body-requires : goal.body_at-body-requires
+body_at-body-requires c =
+    let among : c.loop-p.p < parts_of c.args.d.now = omega (arith, c.loop-p-test.true, c.parts_of-parts.ensures.0) in
+    body_ready _ (formed _ c.requires.0.form).sizes _ _ (among) c.loop-p.invariant.1
+
+pub judge_part-requires : goal.judge_part-requires
+judge_part-requires c =
+    let among : c.loop-p.p < parts_of c.args.d.now = omega (arith, c.loop-p-test.true, c.parts_of-parts.ensures.0) in
+    (
+      part_ready c.args.d.now c.args.room.now c.loop-p.room c.loop-p.p c.body_at-body.result _ c.requires.0 c.loop-p.invariant.2 c.body_at-body.ensures
+          (among) c.state_words-state.ensures,
+      omega (arith, c.loop-p.invariant.4, c.requires.1),
+    )
+
+pub shape_of-room-in-At : goal.shape_of-room-in-At
+shape_of-room-in-At c =
+    ap length (c.judge_part.ensures.room_unchanged ∙ c.loop-p.invariant.2)
+
+pub shape_of-keys-in-At : goal.shape_of-keys-in-At
+shape_of-keys-in-At c =
+    c.judge_part.auto.keys ∙ c.loop-p.invariant.4
+
+pub returns-in-At : goal.returns-in-At
+returns-in-At c =
+    let among : c.loop-p.p < parts_of c.args.d.now = omega (arith, c.loop-p-test.true, c.parts_of-parts.ensures.0) in
+    record { value = pass_fault _ _ _ _ c.loop-p.invariant.3 (among) _ c.judge_part.ensures.value _ c.in-At.is; room_unchanged = c.judge_part.ensures.room_unchanged ∙ c.loop-p.invariant.2 }
+
+pub loop-p-preserved : goal.loop-p-preserved
+loop-p-preserved c =
+    let among : c.loop-p.p < parts_of c.args.d.now = omega (arith, c.loop-p-test.true, c.parts_of-parts.ensures.0) in
+    (
+      omega arith,
+      c.body_at-body.ensures.end,
+      c.judge_part.ensures.room_unchanged ∙ c.loop-p.invariant.2,
+      pass_next _ _ _ _ c.loop-p.invariant.3 (among) _ c.judge_part.ensures.value c.in_default.is,
+      c.judge_part.auto.keys ∙ c.loop-p.invariant.4,
+    )
+
+pub shape_of-keys : goal.shape_of-keys
+shape_of-keys c = c.loop-p.invariant.4
+
+pub returns : goal.returns
+returns c = record { value = pass_end _ _ _ _ c.loop-p.invariant.3 (omega (arith, c.parts_of-parts.ensures.0)); room_unchanged = c.loop-p.invariant.2 }

@@ -1,0 +1,27 @@
+-- No part starts at w or before it; or the last one that does is the only one that can hold w.
+-- Assumes nothing.
+use native.Mathlib.Omega.{arith}
+use borrow.Author.Rules.{rules}
+use Rattle.plan_positions.proofs.StateOrderLaws.{row_in, normal_none, normal_start, normal_last}
+use Rattle.plan_positions.proofs.ranks.is_normal.Goals as goal
+
+pub returns-then-k-eq0 : goal.returns-then-k-eq0
+returns-then-k-eq0 c =
+    normal_none c.args.room.now c.args.n c.requires c.args.w _ c.parts_up_to-k.ensures.0 c.if-k-eq0.true
+
+pub start_at-start-requires : goal.start_at-start-requires
+start_at-start-requires c =
+    row_in c.args.room.now c.args.n c.requires _ (omega (arith, c.parts_up_to-k.ensures.1))
+
+pub overflow_sub-result : goal.overflow_sub-result
+overflow_sub-result c =
+    omega (arith, c.start_at-start.ensures, normal_start c.args.room.now c.args.n c.requires c.args.w _ c.parts_up_to-k.ensures.0 (omega arith))
+
+pub locations_at-requires : goal.locations_at-requires
+locations_at-requires c =
+    row_in c.args.room.now c.args.n c.requires _ (omega (arith, c.parts_up_to-k.ensures.1))
+
+pub returns : goal.returns
+returns c =
+    rw (c.start_at-start.ensures, c.locations_at.ensures)
+    (normal_last c.args.room.now c.args.n c.requires c.args.w _ c.parts_up_to-k.ensures.0 (omega arith) c.parts_up_to-k.ensures.1)

@@ -1,0 +1,11 @@
+-- The row of a rank names the part, whose row has the number.
+-- Assumes nothing.
+use mathlib.Core.Path.{ap, ◌∙◌}
+use Prim.Native.Nat.{ℕ}
+use borrow.Author.Rules.{rules}
+use Rattle.plan_rows.specs.Columns as col
+use Rattle.plan_rows.specs.Rows.{cell_at}
+use Rattle.plan_positions.proofs.ranks.locations_at.Goals as goal
+
+pub returns : goal.returns
+returns c = c.cell_at.ensures ∙ ap (λ (p : ℕ). cell_at c.args.room.now p col.locations) c.cell_at-p.ensures

@@ -1,0 +1,19 @@
+-- `plan_reads::entries::first_entries` meets its contract. The loop's invariant: the first i entries are right, and below the slots.
+-- Assumes nothing.
+use mathlib.Core.Path.{◌∙◌, ◌≡◌}
+use Prim.Native.Nat.{ℕ, ◌-◌, ◌≤◌, ◌<◌}
+use native.Mathlib.Omega.{arith}
+use borrow.Author.Rules.{rules}
+use lib.ListN.{length-set, length, get_or}
+use Rattle.words.proofs.SectionLaws.{list_of-is}
+use Rattle.plan_record.specs.Record.{plan_lanes, slots_of}
+use Rattle.plan_reads.proofs.FirstEntryLaws.{entries_on}
+use Rattle.plan_reads.specs.Entries.{first_entry}
+use Rattle.plan_reads.proofs.entries.first_entries.Given as goal
+
+abbrev pub invariant-loop-i : goal.invariant-loop-i
+invariant-loop-i l =
+    (l.i ≤ l.slots) × (length l.entries ≡ slots_of l.d) × ((k : ℕ) → k < l.i → (get_or l.entries k 0 ≡ first_entry (plan_lanes l.d) l.d l.p k) × (first_entry (plan_lanes l.d) l.d l.p k < slots_of l.d))
+
+abbrev pub decreases-loop-i : goal.decreases-loop-i
+decreases-loop-i l = l.slots - l.i

@@ -1,0 +1,16 @@
+-- The sum so far is that of the stages passed.
+-- Assumes nothing.
+use mathlib.Core.Path.{◌≡◌, refl, sym, ap, ap₂, ◌∙◌}
+use Prim.Native.Nat.{ℕ, ◌+◌, ◌-◌, ◌*◌, ◌≤◌}
+use native.Mathlib.Omega.{arith}
+use borrow.Author.Rules.{rules}
+use Rattle.words.specs.Sum.{sum_to}
+use Rattle.plan_record.specs.Record.{locations_in}
+use Rattle.plan_record.proofs.RecordLaws.{locations_more}
+use Rattle.plan_record.proofs.places.locations_in.Given as goal
+
+abbrev pub invariant-loop-s : goal.invariant-loop-s
+invariant-loop-s l = (l.s ≤ l.m) × (l.sum ≡ locations_in l.d l.b l.s l.e) × (l.sum ≤ 4294967295 * l.s)
+
+abbrev pub decreases-loop-s : goal.decreases-loop-s
+decreases-loop-s l = l.m - l.s

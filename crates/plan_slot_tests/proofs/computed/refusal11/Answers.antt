@@ -1,0 +1,11 @@
+-- `plan_slot_tests::computed::refusal11` meets its contract. The room is cleared once, after the last part.
+-- Assumes nothing.
+use mathlib.Core.Path.{ap, ◌∙◌}
+use Prim.Native.Nat.{ℕ}
+use borrow.Author.Rules.{rules}
+use lib.ListN.{replicate}
+use Rattle.plan_slot_tests.proofs.computed.refusal11.Goals as goal
+
+pub returns : goal.returns
+returns c =
+    record { value = c.eleven_parts-fault.ensures; room_after = c.clear.ensures ∙ ap (λ (n : ℕ). replicate n 0) c.room-1.given }

@@ -1,0 +1,20 @@
+-- `plan_slot_tests::later::ten_parts` meets its contract. The loop's invariant: the lowest place from part p on is the plan's.
+-- Assumes nothing.
+use mathlib.Core.Path.{◌≡◌, refl, ◌∙◌, ap}
+use Prim.Native.Nat.{◌-◌, ◌≤◌}
+use native.Mathlib.Omega.{arith}
+use borrow.Author.Rules.{rules}
+use lib.ListN.{length}
+use Rattle.plan_record.specs.Record.{body_at}
+use Rattle.words.specs.Tests.{lowest_from, lowest}
+use Rattle.plan_slots.specs.Slots.{ten_right, bad_item, refusal10}
+use Rattle.words.proofs.FoundLaws.{pass_start, pass_fault, pass_next, pass_end}
+use Rattle.plan_slot_tests.proofs.ItemLaws.{form_majors, form_ready, form_stages}
+use Rattle.plan_slot_tests.proofs.later.ten_parts.Given as goal
+
+abbrev pub invariant-loop-p : goal.invariant-loop-p
+invariant-loop-p l =
+    (l.p ≤ l.parts) × (l.at ≡ body_at l.d l.p) × (length l.room ≡ length l.initial.room) × (lowest_from (λ q. bad_item l.d (ten_right l.d q) q) (l.parts - l.p) l.p ≡ refusal10 l.d)
+
+abbrev pub decreases-loop-p : goal.decreases-loop-p
+decreases-loop-p l = l.parts - l.p

@@ -1,0 +1,17 @@
+-- `plan_slot_tests::standing::fed_by` meets its contract. One law of SlotTestLaws for each way out.
+-- Assumes nothing.
+use borrow.Author.Rules.{rules}
+use Rattle.plan_slot_tests.proofs.SlotTestLaws.{fed_missing, fed_first, fed_not}
+use Rattle.plan_slot_tests.proofs.standing.fed_by.Goals as goal
+
+pub returns-then-first-a : goal.returns-then-first-a
+returns-then-first-a c =
+    fed_first c.args.d.now c.args.pin.0 c.args.a.0 c.args.b.0 c.find_gate.result c.find_gate.ensures _ _ _ _ _ c.in-Gate.is c.gate_first.ensures c.gate_second.ensures c.pin-first.ensures c.pin-second.ensures c.if-first-a.true
+
+pub returns-else-first-a : goal.returns-else-first-a
+returns-else-first-a c =
+    fed_not c.args.d.now c.args.pin.0 c.args.a.0 c.args.b.0 c.find_gate.result c.find_gate.ensures _ _ _ _ _ c.in-Gate.is c.gate_first.ensures c.gate_second.ensures c.pin-first.ensures c.pin-second.ensures c.if-first-a.false
+
+pub returns-in-Missing : goal.returns-in-Missing
+returns-in-Missing c =
+    fed_missing c.args.d.now c.args.pin.0 c.args.a.0 c.args.b.0 c.find_gate.result c.find_gate.ensures c.in-Missing.is

@@ -1,0 +1,15 @@
+-- `plan_slot_tests::standing::nine_right` meets its contract. One law of SlotTestLaws for each way out.
+-- Assumes nothing.
+use mathlib.Core.Path.{ap, ◌∙◌}
+use borrow.Author.Rules.{rules}
+use Rattle.plan_slots.specs.Slots.{pin_right}
+use Rattle.plan_slot_tests.proofs.SlotTestLaws.{nine_level, nine_position}
+use Rattle.plan_slot_tests.proofs.standing.nine_right.Goals as goal
+
+pub returns-then-pin_right : goal.returns-then-pin_right
+returns-then-pin_right c =
+    c.slot_right.ensures ∙ nine_position c.args.d.now c.args.p c.args.s c.args.x c.pin_right.result (c.pin_right.ensures ∙ ap pin_right c.level_slot.ensures) c.if-pin_right.true c.requires.2
+
+pub returns : goal.returns
+returns c =
+    nine_level c.args.d.now c.args.p c.args.s c.args.x c.pin_right.result (c.pin_right.ensures ∙ ap pin_right c.level_slot.ensures) c.if-pin_right.false

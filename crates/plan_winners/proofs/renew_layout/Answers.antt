@@ -1,0 +1,12 @@
+-- An entry with no pin is passed over; one with a pin is put for it.
+-- Assumes nothing.
+use borrow.Author.Rules.{rules}
+use Rattle.plan_winners.proofs.WinnerLaws.{layout_empty, layout_put}
+use Rattle.plan_winners.proofs.renew_layout.Goals as goal
+
+pub returns-then-pin : goal.returns-then-pin
+returns-then-pin c = layout_empty c.args.d.now c.args.table.now c.args.i _ c.layout_pin-pin.ensures c.if-pin.true
+
+pub returns : goal.returns
+returns c =
+    layout_put c.args.d.now c.args.table.now c.args.i _ c.layout_pin-pin.ensures _ c.if-pin.false c.put_where_there.ensures

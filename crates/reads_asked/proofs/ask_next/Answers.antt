@@ -1,0 +1,23 @@
+-- `reads_asked::ask_next` meets its contract: the last pair has the bit's word, or the bit's pair comes behind it.
+-- Assumes nothing.
+use mathlib.Core.Logic.{inl, inr, ⊎_elim}
+use native.Mathlib.Omega.{arith}
+use lib.ListN.{length-set}
+use borrow.Author.Rules.{rules}
+use Rattle.reads_asked.proofs.FrontStoreLaws.{next_joins, next_new, bit_mask_is}
+use Rattle.reads_asked.proofs.ask_next.Goals as goal
+
+pub returns-then-set-n : goal.returns-then-set-n
+returns-then-set-n c =
+    let mask = bit_mask_is c.args.q.0 _ c.bit-mask.ensures.0 in
+    let told = next_joins c.args.set.now c.args.n c.args.q.0 c.requires _ _ c.word-word.ensures mask c.if-n-ge2.true c.if-set-n.true in
+    record { value = told.0; set_after = told.1 }
+
+pub bounds-set-n-3 : goal.bounds-set-n-3
+bounds-set-n-3 c = simp length-set (omega arith)
+
+pub returns : goal.returns
+returns c =
+    let mask = bit_mask_is c.args.q.0 _ c.bit-mask.ensures.0 in
+    let told = next_new c.args.set.now c.args.n c.args.q.0 c.requires _ _ c.word-word.ensures mask (⊎_elim (λ w. inl w.2.left) (λ w. inr w.left) c.if-n-ge2.branch) in
+    record { value = told.0; set_after = told.1 }

@@ -1,0 +1,14 @@
+-- `reads_asked::gather` meets its contract: the set of the first i bits stands in the first n words.
+-- Assumes nothing.
+use Prim.Native.Nat.{◌-◌}
+use native.Mathlib.Omega.{arith}
+use lib.ListN.{length}
+use borrow.Author.Rules.{rules}
+use Rattle.reads_asked.proofs.FrontStoreLaws.{Gathered, gather_start, gather_length, gather_askable, gather_more, gather_all}
+use Rattle.reads_asked.proofs.gather.Given as goal
+
+abbrev pub invariant-loop-i : goal.invariant-loop-i
+invariant-loop-i l = Gathered l.keys l.initial.set l.set l.n l.i
+
+abbrev pub decreases-loop-i : goal.decreases-loop-i
+decreases-loop-i l = length l.keys - l.i

@@ -1,0 +1,22 @@
+use mathlib.Core.Path.{◌≡◌}
+use mathlib.Core.Logic.{⊎_elim}
+use Prim.Native.Nat.{◌-◌, ◌≤◌, max}
+use native.Mathlib.Omega.{arith}
+use lib.ListN.{drop}
+use Rattle.reads.specs.Search.{longest}
+use Rattle.reads_try.specs.TableLanes.{lanes_at}
+use Rattle.reads_try.proofs.LaneTableLaws.{filled_row}
+use Rattle.reads_section.proofs.ReadoutLaws.{longest_step, longest_end}
+use borrow.Author.Rules.{rules}
+use Rattle.reads_section.proofs.longest_row.Goals as goal
+
+pub lane_load-held-requires : goal.lane_load-held-requires
+lane_load-held-requires c = filled_row c.requires.filled _ c.loop-j-test.true
+
+pub loop-j-preserved : goal.loop-j-preserved
+loop-j-preserved c =
+    let s = longest_step c.requires c.loop-j.j c.loop-j-test.true in
+    ⊎_elim (λ w. omega (arith, s, c.lane_load-held.ensures.1)) (λ w. omega (arith, s, c.lane_load-held.ensures.1)) c.if-best-held.branch
+
+pub returns : goal.returns
+returns c = omega (arith, longest_end c.requires c.loop-j.j c.loop-j-test.false)

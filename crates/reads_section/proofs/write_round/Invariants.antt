@@ -1,0 +1,23 @@
+-- `write_round`: the lanes from i on are still to be stored, from word 2i of the round on.
+-- Assumes nothing.
+use mathlib.Core.Path.{◌≡◌, refl, sym, ◌∙◌}
+use Prim.Native.Nat.{◌+◌, ◌*◌, ◌-◌, ◌≤◌, ◌<◌}
+use native.Mathlib.Nat.{add-zero}
+use native.Mathlib.Omega.{arith}
+use lib.ListN.{length, drop, length-set}
+use lib.Seq.{sets}
+use Rattle.reads.specs.ReadSection.{round_words}
+use Rattle.reads_try.specs.TableLanes.{lanes_at}
+use Rattle.reads_try.proofs.LaneTableLaws.{filled_named}
+use Rattle.reads_section.proofs.ReadoutLaws.{read_word, read_mask, round_step, round_end}
+use borrow.Author.Rules.{rules}
+use Rattle.reads_section.proofs.write_round.Given as goal
+
+abbrev pub invariant-loop-i : goal.invariant-loop-i
+invariant-loop-i l =
+    (l.i ≤ l.lanes)
+    × (length l.out ≡ length l.initial.out)
+    × (sets l.out (l.at + 2 * l.i) (round_words (drop l.i (lanes_at l.set l.room l.lanes)) l.r) ≡ sets l.initial.out l.at (round_words (lanes_at l.set l.room l.lanes) l.r))
+
+abbrev pub decreases-loop-i : goal.decreases-loop-i
+decreases-loop-i l = l.lanes - l.i

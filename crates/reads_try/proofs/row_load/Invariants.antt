@@ -1,0 +1,21 @@
+-- `row_load`: what is summed, with what the rest of the row says, is what the row says.
+-- Assumes nothing.
+use mathlib.Core.Path.{◌≡◌, ap}
+use Prim.Native.Nat.{◌+◌, ◌*◌, ◌-◌, ◌≤◌, ◌<◌}
+use native.Mathlib.Omega.{arith}
+use lib.ListN.{length, get_or, drop}
+use borrow.Author.Rules.{rules}
+use Rattle.reads.specs.ReadSet.{total}
+use Rattle.reads_try.specs.TableLanes.{lane_of}
+use Rattle.reads_try.proofs.SetPairLaws.{mask_bits_le}
+use Rattle.reads_try.proofs.LaneTableLaws.{row_end, row_stop, row_length-on, row_total_on}
+use Rattle.reads_try.proofs.row_load.Given as goal
+
+abbrev pub invariant-loop-pairs : goal.invariant-loop-pairs
+invariant-loop-pairs l =
+    (l.pairs ≤ length l.row) × (l.bits ≤ 32 * l.pairs)
+    × (l.bits + total (lane_of l.set (drop l.pairs l.row)) ≡ total (lane_of l.set l.row))
+    × (l.pairs + length (lane_of l.set (drop l.pairs l.row)) ≡ length (lane_of l.set l.row))
+
+abbrev pub decreases-loop-pairs : goal.decreases-loop-pairs
+decreases-loop-pairs l = length l.row - l.pairs

@@ -1,0 +1,14 @@
+-- `repair::place_of` meets its contract: the place's subtree is inside the stage.
+-- Assumes nothing.
+use native.Mathlib.Omega.{arith}
+use Rattle.repair.proofs.RepairCodeLaws.{placed_place}
+use borrow.Author.Rules.{rules}
+use Rattle.repair.proofs.place_of.Goals as goal
+
+pub overflow_add-result : goal.overflow_add-result
+overflow_add-result c =
+    omega (arith, c.width_of-width.ensures.1)
+
+pub returns : goal.returns
+returns c =
+    placed_place c.args.height c.args.level c.args.slot _ c.requires.1 c.requires.2 c.width_of-width.ensures.0

@@ -1,0 +1,34 @@
+-- `repair::purge_bit` meets its contract: 32 before all others, and a room that is cleared whole.
+-- Assumes nothing.
+use mathlib.Core.Path.{sym, ◌∙◌}
+use Prim.Native.Nat.{◌≤◌, ◌<◌}
+use native.Mathlib.Omega.{arith}
+use borrow.Author.Tests.{leb-true, leb-false}
+use lib.ListN.{length}
+use Rattle.repair_nodes.specs.RepairAnswer.{repair_room_words}
+use Rattle.repair_settle.proofs.EndLaws.{refused_end}
+use Rattle.repair.proofs.RepairAnswerLaws.{room_short, clear_32}
+use Rattle.repair.proofs.RepairWholeLaws.{zeros_length, zeros_own, room_left_lem, whole_end}
+use borrow.Author.Rules.{rules}
+use Rattle.repair.proofs.purge_bit.Goals as goal
+
+pub purge_in-answer-requires : goal.purge_in-answer-requires
+purge_in-answer-requires c =
+    let h : repair_room_words c.args.counts.now ≤ length c.args.room.now = leb-true _ _ (sym c.room_enough.ensures ∙ c.if-room_enough.true) in
+    (zeros_own c.args.room.now c.clear.new.l c.clear.ensures, omega (arith, zeros_length c.args.room.now c.clear.new.l c.clear.ensures))
+
+pub returns-then-room_enough : goal.returns-then-room_enough
+returns-then-room_enough c =
+    let h : repair_room_words c.args.counts.now ≤ length c.args.room.now = leb-true _ _ (sym c.room_enough.ensures ∙ c.if-room_enough.true) in
+    let l = zeros_length c.args.room.now c.clear.new.l c.clear.ensures in
+    let told = whole_end _ _ _ _ _ _ _ c.args.counts.now c.args.room.now (rw l at c.purge_in-answer.ensures)
+    (room_left_lem c.args.room.now c.clear.new.l c.clear.ensures c.args.counts.now c.purge_in-answer.new.map _ h c.purge_in-answer.auto.map c.clear-then-room_enough.ensures) in
+    record { value = told.0; slots_after = told.1.0; after_after = told.1.1.0; room_after = told.1.1.1 }
+
+pub returns : goal.returns
+returns c =
+    let h : length c.args.room.now < repair_room_words c.args.counts.now = leb-false _ _ (sym c.room_enough.ensures ∙ c.if-room_enough.false) in
+    let told = whole_end _ _ _ _ _ _ _ c.args.counts.now c.args.room.now
+    (refused_end _ _ c.args.slots.now c.args.after.now 32 0 (clear_32 c.args.edition c.args.counts.now c.args.slots.now (length c.args.after.now) c.args.level c.args.slot (length c.args.room.now) h) c.refused.ensures)
+    (sym (room_short c.args.counts.now c.args.room.now h)) in
+    record { value = told.0; slots_after = told.1.0; after_after = told.1.1.0; room_after = told.1.1.1 }

@@ -1,0 +1,26 @@
+use mathlib.Core.Path.{◌≡◌, refl, sym, ◌∙◌}
+use Prim.Native.Nat.{◌*◌, ◌-◌, ◌/◌, ◌≤◌}
+use native.Mathlib.Omega.{arith}
+use lib.ListN.{length}
+use lib.Seq.{sets}
+use Rattle.repair_nodes.specs.CountList.{count_words}
+use Rattle.repair_list.specs.Relist.{entries_in}
+use Rattle.repair_list.proofs.RelistLaws.{entries_from, write_on, write_end}
+use borrow.Author.Rules.{rules}
+use Rattle.repair_list.proofs.write_old.Goals as goal
+
+pub loop-i-init : goal.loop-i-init
+loop-i-init c =
+    (omega arith, refl, refl)
+
+pub write_entry-requires : goal.write_entry-requires
+write_entry-requires c =
+    (c.requires.0 c.loop-i.i (omega arith), omega (arith, c.requires.1))
+
+pub loop-i-preserved : goal.loop-i-preserved
+loop-i-preserved c =
+    (omega arith, omega arith, write_on c.args.map.now c.args.counts.now c.loop-i.after _ c.loop-i.i (omega arith) c.write_entry.ensures ∙ c.loop-i.invariant.2)
+
+pub returns : goal.returns
+returns c =
+    sym (write_end c.args.map.now c.args.counts.now c.loop-i.after c.loop-i.i (omega arith)) ∙ c.loop-i.invariant.2

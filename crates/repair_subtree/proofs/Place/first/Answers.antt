@@ -1,0 +1,22 @@
+-- `repair_subtree::Place::first` meets its contract: the subtree below is inside the stage as the place's is.
+-- Assumes nothing.
+use mathlib.Core.Path.{refl}
+use Prim.Native.Nat.{◌+◌, ◌*◌, ◌<◌}
+use native.Mathlib.Omega.{arith}
+use Rattle.repair_subtree.proofs.SubtreeLaws.{below_a, below_small}
+use borrow.Author.Rules.{rules}
+use Rattle.repair_subtree.proofs.Place.first.Goals as goal
+
+pub overflow_mul-result : goal.overflow_mul-result
+overflow_mul-result c =
+    let b : c.args.self.index + 2 * c.args.self.width < 16384 = below_small c.args.self.level _ _ c.requires.1 c.requires.0 in
+    omega arith
+
+pub overflow_add-result : goal.overflow_add-result
+overflow_add-result c =
+    let b : c.args.self.index + 2 * c.args.self.width < 16384 = below_small c.args.self.level _ _ c.requires.1 c.requires.0 in
+    omega arith
+
+pub returns : goal.returns
+returns c =
+    record { level = refl; width = refl; index = refl; rooted = below_a c.args.self.level c.args.self.width c.args.self.index c.requires.1 c.requires.0 }

@@ -1,0 +1,19 @@
+-- `repair_tally::tally_up` meets its contract. The loop's invariant: the way from slot k on ends as the whole way does; no more nodes are new than slots were seen.
+-- Assumes nothing.
+use mathlib.Core.Path.{◌≡◌, refl, sym, ◌∙◌}
+use mathlib.Core.List.{[]}
+use Prim.Native.Nat.{◌*◌, ◌-◌, ◌/◌, ◌≤◌}
+use native.Mathlib.Omega.{arith}
+use lib.ListN.{length, take}
+use Rattle.repair_tally.specs.Tally.{through, raised, raising, nodes_in}
+use Rattle.repair_tally.proofs.TallyStepLaws.{nodes_from, told_new, told_over, new_most, way_on, way_stop, way_skip, way_end}
+use borrow.Author.Rules.{rules}
+use Rattle.repair_tally.proofs.tally_up.Given as goal
+
+abbrev pub invariant-loop-k : goal.invariant-loop-k
+invariant-loop-k l =
+    (l.k ≤ length l.spots / 2) × (l.n ≤ l.k) × (l.n ≤ length l.fresh) × (length l.map ≡ length l.initial.map) × (length l.fresh ≡ length l.initial.fresh)
+    × (through raising (raised l.map (take l.n l.fresh)) (nodes_from l.height l.spots l.k) ≡ through raising (raised l.initial.map []) (nodes_in l.height l.spots))
+
+abbrev pub decreases-loop-k : goal.decreases-loop-k
+decreases-loop-k l = l.count - l.k

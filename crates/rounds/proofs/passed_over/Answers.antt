@@ -1,0 +1,22 @@
+-- `passed_over`: each test is a part of the answer.
+-- Assumes nothing.
+use native.Mathlib.Omega.{arith}
+use borrow.Author.Tests.{not-true, not-false}
+use Rattle.rounds.proofs.PieceSizeLaws.{not_looked, look_last, look_late}
+use Rattle.rounds.proofs.passed_over.Goals as goal
+
+pub returns-then-not-look : goal.returns-then-not-look
+returns-then-not-look c = not_looked c.args.look _ (not-true _ c.if-not-look.true)
+
+pub returns-then-k-le1 : goal.returns-then-k-le1
+returns-then-k-le1 c = look_last c.args.look c.args.k _ (not-false _ c.if-not-look.false) c.if-k-le1.true
+
+pub late_full-requires : goal.late_full-requires
+late_full-requires c =
+    let s = c.requires in
+    (s.whole, s.few, s.few-lanes, omega (arith, s.few, s.size))
+
+pub returns : goal.returns
+returns c =
+    let a = c.args in
+    look_late a.look a.k _ _ (not-false _ c.if-not-look.false) c.if-k-le1.false c.late_full.ensures

@@ -1,0 +1,18 @@
+-- `run_form::form::block_form` meets its contract: one law for each way through.
+-- Assumes nothing.
+use mathlib.Core.Path.{sym, ◌∙◌}
+use Rattle.run_form.proofs.BlockFormLaws.{block_none, block_outside, block_empty, block_parts_lem}
+use borrow.Author.Rules.{rules}
+use Rattle.run_form.proofs.form.block_form.Goals as goal
+
+pub returns-then-e-at : goal.returns-then-e-at
+returns-then-e-at c = block_none _ _ _ _ _ _ c.if-e-at.true
+
+pub returns-then-words-e : goal.returns-then-words-e
+returns-then-words-e c = block_outside _ _ _ _ _ _ c.if-e-at.false c.if-words-e.true
+
+pub returns-then-empty_form : goal.returns-then-empty_form
+returns-then-empty_form c = block_empty _ _ _ _ _ _ c.if-e-at.false c.if-words-e.false (sym c.empty_form.ensures ∙ c.if-empty_form.true)
+
+pub returns : goal.returns
+returns c = block_parts_lem _ _ _ _ _ _ _ c.if-e-at.false c.if-words-e.false (sym c.empty_form.ensures ∙ c.if-empty_form.false) c.parts_form.ensures

@@ -1,0 +1,23 @@
+use mathlib.Core.Path.{◌≡◌}
+use Prim.Native.Nat.{◌-◌, ◌≤◌}
+use borrow.Author.Rules.{rules}
+use native.Mathlib.Omega.{arith}
+use Rattle.reads.specs.ReadTurn.{lane_word}
+use Rattle.words.proofs.SectionLaws.{list_of-is}
+use Rattle.run_machine.specs.Part.{rounds_at, read_word_at, read_mask_at}
+use Rattle.run_machine.specs.Turn.{state_word, read_row}
+use Rattle.run_stage.specs.StoreLoop.{Filled}
+use Rattle.run_stage.proofs.StoreLoopLaws.{filled_none, filled_more}
+use Rattle.run_read.proofs.read_turn.Goals as goal
+
+pub loop-i-init : goal.loop-i-init
+loop-i-init c = (omega arith, filled_none _ _ _)
+
+pub loop-i-preserved : goal.loop-i-preserved
+loop-i-preserved c =
+    (omega arith, filled_more _ 0 _ c.args.row.now _ _ c.loop-i.invariant.1 (omega arith) (omega arith) c.read_lane.ensures)
+
+pub returns : goal.returns
+unfolding read_row
+returns c =
+    list_of-is _ _ c.loop-i.row (omega arith) (λ i h. c.loop-i.invariant.1.done i (omega arith) (omega arith))

@@ -1,0 +1,13 @@
+-- `run_stage::levels` meets its contract. The invariant: the levels of m words and more are right.
+-- Assumes nothing.
+use borrow.Author.Rules.{rules}
+use native.Mathlib.Omega.{arith}
+use lib.ListN.{length-set}
+use Rattle.run_stage.proofs.LevelLaws.{LevelsGoing, going_none, going_more, levels_end}
+use Rattle.run_stage.proofs.levels.Given as goal
+
+abbrev pub invariant-loop-m : goal.invariant-loop-m
+invariant-loop-m l = LevelsGoing l.t l.initial.l l.l l.n l.m
+
+abbrev pub decreases-loop-m : goal.decreases-loop-m
+decreases-loop-m l = l.m

@@ -1,0 +1,34 @@
+-- Eight stores over zeros.
+-- Assumes nothing.
+use native.Mathlib.Omega.{arith}
+use lib.ListN.{length, length-set}
+use Rattle.script.specs.Writers.{number_words}
+use Rattle.script.proofs.HeadLaws.{numbers_stored}
+use borrow.Author.Rules.{rules}
+use Rattle.script.proofs.head.write_numbers.Goals as goal
+
+pub bounds-out-1 : goal.bounds-out-1
+bounds-out-1 c = simp length-set (omega arith)
+
+pub bounds-out-2 : goal.bounds-out-2
+bounds-out-2 c = simp length-set (omega arith)
+
+pub bounds-out-3 : goal.bounds-out-3
+bounds-out-3 c = simp length-set (omega arith)
+
+pub bounds-out-4 : goal.bounds-out-4
+bounds-out-4 c = simp length-set (omega arith)
+
+pub bounds-out-5 : goal.bounds-out-5
+bounds-out-5 c = simp length-set (omega arith)
+
+pub bounds-out-6 : goal.bounds-out-6
+bounds-out-6 c = simp length-set (omega arith)
+
+pub bounds-out-7 : goal.bounds-out-7
+bounds-out-7 c = simp length-set (omega arith)
+
+pub returns : goal.returns
+unfolding number_words
+returns c =
+    numbers_stored c.clear.new.l (length c.args.out.now) _ _ _ _ _ _ _ _ c.clear.ensures c.requires

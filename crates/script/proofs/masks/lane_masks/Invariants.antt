@@ -1,0 +1,20 @@
+-- After k turns the words have the bits of the lane's first k positions.
+-- Assumes nothing.
+use mathlib.Core.Path.{◌≡◌, refl, ap, ◌∙◌}
+use Prim.Native.Nat.{◌+◌, ◌*◌, ◌-◌, ◌≤◌}
+use native.Mathlib.Omega.{arith}
+use Rattle.words.specs.Bit.{word_of}
+use Rattle.script.specs.Script.{xora_bit, xorb_bit, orb_bit}
+use Rattle.script.proofs.MaskLaws.{xora_lt, xorb_lt, orb_lt, word_more}
+use borrow.Author.Rules.{rules}
+use Rattle.script.proofs.masks.lane_masks.Given as goal
+
+abbrev pub invariant-loop-k : goal.invariant-loop-k
+invariant-loop-k l =
+    (l.k ≤ 32)
+    × (l.xora ≡ word_of (λ i. xora_bit l.d l.p l.s (32 * l.w + i)) l.k)
+    × (l.xorb ≡ word_of (λ i. xorb_bit l.d l.p l.s (32 * l.w + i)) l.k)
+    × (l.orb ≡ word_of (λ i. orb_bit l.d l.p l.s (32 * l.w + i)) l.k)
+
+abbrev pub decreases-loop-k : goal.decreases-loop-k
+decreases-loop-k l = 32 - l.k

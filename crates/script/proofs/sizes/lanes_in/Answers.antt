@@ -1,0 +1,12 @@
+-- At most 256 times 255.
+-- Assumes nothing.
+use mathlib.Core.Path.{refl}
+use native.Mathlib.Nat.{mul-le-mul}
+use native.Mathlib.Omega.{arith}
+use Rattle.script.proofs.sizes.lanes_in.Goals as goal
+
+pub overflow_mul-result : goal.overflow_mul-result
+overflow_mul-result c = omega (arith, mul-le-mul c.requires.0 c.requires.1)
+
+pub returns : goal.returns
+returns c = (refl, mul-le-mul c.requires.0 c.requires.1)

@@ -1,0 +1,29 @@
+-- The loop's invariant: the words of the parts before rank k stand from word `at` on.
+-- Assumes nothing.
+use mathlib.Core.Path.{◌≡◌, refl, ap, ◌∙◌}
+use mathlib.Core.List.{List}
+use Prim.Native.Nat.{ℕ, ◌+◌, ◌-◌, ◌≤◌, ◌<◌}
+use native.Mathlib.Omega.{arith}
+use lib.ListN.{length}
+use lib.Seq.{sets}
+use Rattle.plan_record.specs.Record.{plan_lanes, parts_of}
+use Rattle.script_assembly.specs.WrittenSoFar.{last_mark, parts_words, parts_in, first_rank}
+use Rattle.script_layout.proofs.RowLaws.{cell_in}
+use Rattle.script_layout.proofs.ListStoreLaws.{stores_length, lists_long}
+use Rattle.script_layout.proofs.PlacedLaws.{end_in, to_in, turn_room, turn_next, turn_stored, none_stored, none_long, all_words}
+use borrow.Author.Rules.{rules}
+use Rattle.script_layout.proofs.placed.write_parts.Given as goal
+
+abbrev pub invariant-loop-k : goal.invariant-loop-k
+invariant-loop-k l =
+    (l.from ≤ l.k)
+    × (l.k ≤ l.to)
+    × (l.room ≡ l.initial.room)
+    × (l.next ≡ l.at + length (parts_words (plan_lanes l.d) l.d l.s (parts_in l.d l.s l.b) (l.k - l.from)))
+    × (l.words ≡ sets l.initial.words l.at (parts_words (plan_lanes l.d) l.d l.s (parts_in l.d l.s l.b) (l.k - l.from)))
+    × (length l.keys ≡ length l.initial.keys)
+    × (length l.scratch ≡ length l.initial.scratch)
+    × (length l.set ≡ length l.initial.set)
+
+abbrev pub decreases-loop-k : goal.decreases-loop-k
+decreases-loop-k l = l.to - l.k

@@ -1,0 +1,23 @@
+-- Three arrays of the full edition, lent as a word a lane each.
+-- Assumes nothing.
+use mathlib.Core.Path.{refl, sym}
+use Rattle.script_sections.proofs.ScriptLaws.{lent_long}
+use borrow.Author.Rules.{rules}
+use Rattle.script_sections.proofs.stages.write_stage.Goals as goal
+
+pub slice_bounds-put_stage-end : goal.slice_bounds-put_stage-end
+slice_bounds-put_stage-end c =
+    sym (lent_long _ _ 256 refl c.requires.0.body.laid.lanes)
+
+pub slice_bounds-put_stage-end-2 : goal.slice_bounds-put_stage-end-2
+slice_bounds-put_stage-end-2 c =
+    sym (lent_long _ _ 256 refl c.requires.0.body.laid.lanes)
+
+pub slice_bounds-put_stage-end-3 : goal.slice_bounds-put_stage-end-3
+slice_bounds-put_stage-end-3 c =
+    sym (lent_long _ _ 256 refl c.requires.0.body.laid.lanes)
+
+pub put_stage-requires : goal.put_stage-requires
+put_stage-requires c =
+    let room = lent_long _ _ 256 refl c.requires.0.body.laid.lanes in
+    (c.requires.0, c.requires.1, c.requires.2, record { first = room; second = room; third = room }, c.requires.3)
