@@ -18,20 +18,17 @@ returns-then-room-lt16384 c =
 
 pub slice_bounds-lanes_over-end-2 : goal.slice_bounds-lanes_over-end-2
 slice_bounds-lanes_over-end-2 c =
-    let room = c.args.room.now in
-    let h : 8192 ≤ length room = omega (arith, c.if-room-lt16384.false) in
-    sym (length-take-le 8192 room h)
+    let h : 8192 ≤ length c.args.room.now = omega (arith, c.if-room-lt16384.false) in
+    sym (length-take-le 8192 c.args.room.now h)
 
 pub lanes_over-answer-requires : goal.lanes_over-answer-requires
 lanes_over-answer-requires c =
-    let room = c.args.room.now in
-    let h : 8192 ≤ length room = omega (arith, c.if-room-lt16384.false) in
-    record { room = length-take-le 8192 room h; some_lanes = search rules; few-lanes = search rules; marks = search rules }
+    let h : 8192 ≤ length c.args.room.now = omega (arith, c.if-room-lt16384.false) in
+    record { c.args.room.now = length-take-le 8192 c.args.room.now h; some_lanes = search rules; few-lanes = search rules; marks = search rules }
 
 pub returns : goal.returns
 returns c =
-    let a = c.args in
-    let h : 8192 ≤ length a.room.now = omega (arith, c.if-room-lt16384.false) in
-    let told = handed_long 256 a.set.now a.lanes.now a.out.now a.room.now _ _ _ (c.lanes_over-answer.new.table ++ drop 8192 a.room.now) c.if-room-lt16384.false c.lanes_over-answer.ensures.value c.lanes_over-answer.ensures.out_after
-    c.clear.ensures (part_length 8192 a.room.now c.lanes_over-answer.new.table h c.lanes_over-answer.auto.table) in
+    let h : 8192 ≤ length c.args.room.now = omega (arith, c.if-room-lt16384.false) in
+    let told = handed_long 256 c.args.set.now c.args.lanes.now c.args.out.now c.args.room.now _ _ _ (c.lanes_over-answer.new.table ++ drop 8192 c.args.room.now) c.if-room-lt16384.false c.lanes_over-answer.ensures.value c.lanes_over-answer.ensures.out_after
+    c.clear.ensures (part_length 8192 c.args.room.now c.lanes_over-answer.new.table h c.lanes_over-answer.auto.table) in
     record { value = told.0; out_after = told.1.0; room_after = told.1.1 }

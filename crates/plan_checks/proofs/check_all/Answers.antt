@@ -20,17 +20,16 @@ check_lists-lists-requires c =
 
 pub returns-then-is_refused : goal.returns-then-is_refused
 returns-then-is_refused c =
-    let d = c.args.plan.now in
-    let is = plan_lists d _ _ c.check_lists-lists.ensures c.is_refused.ensures c.if-is_refused.true in
-    record { value = is; room_after = λ e. never (plan_refusal d) _ is _ c.is_refused.ensures c.if-is_refused.true e }
+    let is = plan_lists c.args.plan.now _ _ c.check_lists-lists.ensures c.is_refused.ensures c.if-is_refused.true in
+    record { value = is; room_after = λ e. never (plan_refusal c.args.plan.now) _ is _ c.is_refused.ensures c.if-is_refused.true e }
 
 pub check_totals-totals-requires : goal.check_totals-totals-requires
 check_totals-totals-requires c =
     let lists : list_refusal (begun (listed c.before.before.before)).args.plan.now ≡ none = went_on (list_refusal (begun (listed c.before.before.before)).args.plan.now) _ c.check_lists-lists.ensures _ c.is_refused.ensures c.if-is_refused.false in
-    let k = c.check_lists-lists.auto in (
+    (
       may_fill c.args.plan.now c.args.room.now c.requires.0 (lists),
-      omega (arith, k.1.0, c.requires.1.keys-room),
-      omega (arith, k.1.1.0, c.requires.1.scratch-room),
+      omega (arith, c.check_lists-lists.auto.keys, c.requires.1.keys-room),
+      omega (arith, c.check_lists-lists.auto.scratch, c.requires.1.scratch-room),
     )
 
 pub shape_of-keys-then-is_refused-2 : goal.shape_of-keys-then-is_refused-2
@@ -88,8 +87,8 @@ check_places-places-requires c =
     let totals : total_refusal (begun (listed (on-lists (summed c.before.before.before.before.before.before.before.before)))).args.plan.now ≡ none = let d = (begun (listed (on-lists (summed c.before.before.before.before.before.before.before.before)))).args.plan.now in
     went_on (total_refusal d) _ c.check_totals-totals.ensures.value _ c.is_refused-2.ensures c.if-is_refused-2.false in
     let keys-summed : length c.check_totals-totals.new.keys ≡ length (begun (listed (on-lists c.before.before.before.before.before.before.before.before.before.before.before.before.before.before.before.before))).args.keys.now = c.check_totals-totals.auto.keys ∙ (listed (on-lists c.before.before.before.before.before.before.before.before.before.before.before.before.before.before.before.before)).check-lists.auto.1.0 in
-    let t = c.check_totals-totals in (
-      may_judge c.args.plan.now c.args.room.now c.requires.0 (lists) (totals) _ (c.check_pins-pins.ensures.room_unchanged ∙ t.ensures.1),
+    (
+      may_judge c.args.plan.now c.args.room.now c.requires.0 (lists) (totals) _ (c.check_pins-pins.ensures.room_unchanged ∙ c.check_totals-totals.ensures.room_after),
       omega (arith, keys-summed, c.requires.1.keys-room),
     )
 
@@ -131,9 +130,8 @@ check_reading-requires c =
     let keys-summed : length c.check_totals-totals.new.keys ≡ length (begun (listed (on-lists c.before.before.before.before.before.before.before.before.before.before.before.before.before.before.before.before.before.before.before.before.before.before.before.before.before.before.before))).args.keys.now = c.check_totals-totals.auto.keys ∙ (listed (on-lists c.before.before.before.before.before.before.before.before.before.before.before.before.before.before.before.before.before.before.before.before.before.before.before.before.before.before.before)).check-lists.auto.1.0 in
     let keys-placed : length c.check_places-places.new.keys ≡ length (begun (listed (on-lists (summed (on-totals (pinned (on-pins c.before.before.before.before.before.before.before.before.before.before))))))).args.keys.now = c.check_places-places.auto.keys ∙ keys-summed in
     let scratch-summed : length c.check_totals-totals.new.scratch ≡ length (begun (listed (on-lists c.before.before.before.before.before.before.before.before.before.before.before.before.before.before.before.before.before.before.before.before.before.before.before.before.before.before.before))).args.scratch.now = c.check_totals-totals.auto.scratch ∙ (listed (on-lists c.before.before.before.before.before.before.before.before.before.before.before.before.before.before.before.before.before.before.before.before.before.before.before.before.before.before.before)).check-lists.auto.1.1.0 in
-    let t = c.check_totals-totals in
-    let w = c.check_places-places in (
-      may_search c.args.plan.now c.args.room.now c.requires.0 (lists) (totals) _ (w.ensures.1 ∙ (c.check_pins-pins.ensures.room_unchanged ∙ t.ensures.1)) (places),
+    (
+      may_search c.args.plan.now c.args.room.now c.requires.0 (lists) (totals) _ (c.check_places-places.ensures.room_unchanged ∙ (c.check_pins-pins.ensures.room_unchanged ∙ c.check_totals-totals.ensures.room_after)) (places),
       record {
         keys-room = omega (arith, keys-placed, c.requires.1.keys-room);
         scratch-room = omega (arith, scratch-summed, c.requires.1.scratch-room);
@@ -170,5 +168,4 @@ returns c =
     went_on (pin_refusal d) _ c.check_pins-pins.ensures.value _ c.is_refused-3.ensures c.if-is_refused-3.false in
     let places : place_refusal (begun (listed (on-lists (summed (on-totals (pinned (on-pins (placed c.before.before.before.before.before.before.before.before.before.before.before.before.before)))))))).args.plan.now ≡ none = let d = (begun (listed (on-lists (summed (on-totals (pinned (on-pins (placed c.before.before.before.before.before.before.before.before.before.before.before.before.before)))))))).args.plan.now in
     went_on (place_refusal d) _ c.check_places-places.ensures.value _ c.is_refused-4.ensures c.if-is_refused-4.false in
-    let t = c.check_totals-totals.ensures.room_after in
-    record { value = plan_reads c.args.plan.now _ (lists) (totals) (pins) (places) c.check_reading.ensures.value; room_after = λ e. room_ready c.args.plan.now c.args.room.now c.requires.0 (lists) (totals) _ (c.check_places-places.ensures.room_unchanged ∙ (c.check_pins-pins.ensures.room_unchanged ∙ t)) _ c.check_reading.ensures.room_after e }
+    record { value = plan_reads c.args.plan.now _ (lists) (totals) (pins) (places) c.check_reading.ensures.value; room_after = λ e. room_ready c.args.plan.now c.args.room.now c.requires.0 (lists) (totals) _ (c.check_places-places.ensures.room_unchanged ∙ (c.check_pins-pins.ensures.room_unchanged ∙ c.check_totals-totals.ensures.room_after)) _ c.check_reading.ensures.room_after e }

@@ -17,28 +17,25 @@ use Rattle.plan_checks.proofs.check_plan.Goals as goal
 
 pub returns-then-room-room_words : goal.returns-then-room-room_words
 returns-then-room-room_words c =
-    let s = c.args in
-    let h : length s.room.now < plan_room_words s.plan.now = omega (arith, c.if-room-room_words.true, c.room_words.ensures.0) in
-    let is = short_verdict s.plan.now (length s.room.now) h in
-    record { value = ap verdict_of (sym is); room_after = short_room s.plan.now s.room.now h; plan_ready = λ e. absurd (some_not_none (sym is ∙ e)) }
+    let h : length c.args.room.now < plan_room_words c.args.plan.now = omega (arith, c.if-room-room_words.true, c.room_words.ensures.0) in
+    let is = short_verdict c.args.plan.now (length c.args.room.now) h in
+    record { value = ap verdict_of (sym is); room_after = short_room c.args.plan.now c.args.room.now h; plan_ready = λ e. absurd (some_not_none (sym is ∙ e)) }
 
 pub check_all-verdict-requires : goal.check_all-verdict-requires
 check_all-verdict-requires c =
-    let wide : let s = c.args in plan_room_words s.plan.now ≤ length s.room.now = omega (arith, c.if-room-room_words.false, c.room_words.ensures.0) in
+    let wide : plan_room_words c.args.plan.now ≤ length c.args.room.now = omega (arith, c.if-room-room_words.false, c.room_words.ensures.0) in
     (room_cleared c.args.plan.now c.args.room.now _ (wide) c.clear.ensures, c.requires)
 
 pub returns-then-is_refused : goal.returns-then-is_refused
 returns-then-is_refused c =
-    let wide : let s = c.args in plan_room_words s.plan.now ≤ length s.room.now = omega (arith, c.if-room-room_words.false, c.room_words.ensures.0) in
-    let s = c.args in
+    let wide : plan_room_words c.args.plan.now ≤ length c.args.room.now = omega (arith, c.if-room-room_words.false, c.room_words.ensures.0) in
     let h = wide in
-    let is = wide_verdict s.plan.now (length s.room.now) h in
-    let not : plan_refusal s.plan.now ≡ none → ⊥ = never (plan_refusal s.plan.now) _ c.check_all-verdict.ensures.value _ c.is_refused.ensures c.if-is_refused.true in record { value = c.check_all-verdict.ensures.value ∙ ap verdict_of (sym is); room_after = again_room s.plan.now s.room.now h _ c.check_all-verdict.new.room _ c.clear.ensures c.check_all-verdict.auto.room c.clear-then-is_refused.ensures not; plan_ready = λ e. absurd (not (sym is ∙ e)) }
+    let is = wide_verdict c.args.plan.now (length c.args.room.now) h in
+    let not : plan_refusal c.args.plan.now ≡ none → ⊥ = never (plan_refusal c.args.plan.now) _ c.check_all-verdict.ensures.value _ c.is_refused.ensures c.if-is_refused.true in record { value = c.check_all-verdict.ensures.value ∙ ap verdict_of (sym is); room_after = again_room c.args.plan.now c.args.room.now h _ c.check_all-verdict.new.room _ c.clear.ensures c.check_all-verdict.auto.room c.clear-then-is_refused.ensures not; plan_ready = λ e. absurd (not (sym is ∙ e)) }
 
 pub returns-else-is_refused : goal.returns-else-is_refused
 returns-else-is_refused c =
-    let wide : let s = c.args in plan_room_words s.plan.now ≤ length s.room.now = omega (arith, c.if-room-room_words.false, c.room_words.ensures.0) in
-    let s = c.args in
+    let wide : plan_room_words c.args.plan.now ≤ length c.args.room.now = omega (arith, c.if-room-room_words.false, c.room_words.ensures.0) in
     let h = wide in
-    let is = wide_verdict s.plan.now (length s.room.now) h in
-    let accepted = went_on (plan_refusal s.plan.now) _ c.check_all-verdict.ensures.value _ c.is_refused.ensures c.if-is_refused.false in record { value = c.check_all-verdict.ensures.value ∙ ap verdict_of (sym is); room_after = last_room s.plan.now s.room.now h _ _ c.clear.ensures accepted (c.check_all-verdict.ensures.room_after accepted); plan_ready = λ e. last_ready s.plan.now s.room.now h _ _ c.clear.ensures accepted (c.check_all-verdict.ensures.room_after accepted) }
+    let is = wide_verdict c.args.plan.now (length c.args.room.now) h in
+    let accepted = went_on (plan_refusal c.args.plan.now) _ c.check_all-verdict.ensures.value _ c.is_refused.ensures c.if-is_refused.false in record { value = c.check_all-verdict.ensures.value ∙ ap verdict_of (sym is); room_after = last_room c.args.plan.now c.args.room.now h _ _ c.clear.ensures accepted (c.check_all-verdict.ensures.room_after accepted); plan_ready = λ e. last_ready c.args.plan.now c.args.room.now h _ _ c.clear.ensures accepted (c.check_all-verdict.ensures.room_after accepted) }

@@ -13,10 +13,8 @@ returns-then-k-le1 c = look_last c.args.look c.args.k _ (not-false _ c.if-not-lo
 
 pub late_full-requires : goal.late_full-requires
 late_full-requires c =
-    let s = c.requires in
-    (s.whole, s.few, s.few-lanes, omega (arith, s.few, s.size))
+    (c.requires.whole, c.requires.few, c.requires.few-lanes, omega (arith, c.requires.few, c.requires.size))
 
 pub returns : goal.returns
 returns c =
-    let a = c.args in
-    look_late a.look a.k _ _ (not-false _ c.if-not-look.false) c.if-k-le1.false c.late_full.ensures
+    look_late c.args.look c.args.k _ _ (not-false _ c.if-not-look.false) c.if-k-le1.false c.late_full.ensures

@@ -40,7 +40,7 @@ passed_over-requires c =
 pub returns-then-passed_over : goal.returns-then-passed_over
 returns-then-passed_over c =
     let keys-long : length c.order.new.keys ≡ piece_count (length c.args.set.now / 2) c.args.k = c.order.auto.keys ∙ length-take-le _ c.args.keys.now (count_few c.requires.0 c.requires.1) in
-    let keys-are : let a = c.args in take (piece_count (length a.set.now / 2) a.k) (c.order.new.keys ++ drop (piece_count (length a.set.now / 2) a.k) a.keys.now) ≡ keys_of a.k (pairs_of a.set.now) = take_at c.order.new.keys _ _ (keys-long) ∙ c.order.ensures.keys_after in
+    let keys-are : take (piece_count (length c.args.set.now / 2) c.args.k) (c.order.new.keys ++ drop (piece_count (length c.args.set.now / 2) c.args.k) c.args.keys.now) ≡ keys_of c.args.k (pairs_of c.args.set.now) = take_at c.order.new.keys _ _ (keys-long) ∙ c.order.ensures.keys_after in
     let s = try_set c.requires.0 c.requires.1 c.requires.2 in
     let told = passed_lost s _ (keys-are) c.args.look _ c.passed_over.ensures c.if-passed_over.true _ c.requires.3 in
     record { value = told.0; table_after = told.1 }
@@ -58,5 +58,5 @@ slice_bounds-try_ordered-end-2 c =
 pub try_ordered-requires : goal.try_ordered-requires
 try_ordered-requires c =
     let keys-long : length c.order.new.keys ≡ piece_count (length c.args.set.now / 2) c.args.k = c.order.auto.keys ∙ length-take-le _ c.args.keys.now (count_few c.requires.0 c.requires.1) in
-    let keys-are : let a = c.args in take (piece_count (length a.set.now / 2) a.k) (c.order.new.keys ++ drop (piece_count (length a.set.now / 2) a.k) a.keys.now) ≡ keys_of a.k (pairs_of a.set.now) = take_at c.order.new.keys _ _ (keys-long) ∙ c.order.ensures.keys_after in
+    let keys-are : take (piece_count (length c.args.set.now / 2) c.args.k) (c.order.new.keys ++ drop (piece_count (length c.args.set.now / 2) c.args.k) c.args.keys.now) ≡ keys_of c.args.k (pairs_of c.args.set.now) = take_at c.order.new.keys _ _ (keys-long) ∙ c.order.ensures.keys_after in
     (try_set c.requires.0 c.requires.1 c.requires.2, keys-are, c.requires.3, c.requires.4, c.requires.5)

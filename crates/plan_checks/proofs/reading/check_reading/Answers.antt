@@ -12,5 +12,4 @@ of_reads-requires c =
 
 pub returns : goal.returns
 returns c =
-    let d = c.args.plan.now in
-    record { value = c.of_reads.ensures ∙ ap verdict_of (reads_told d _ c.check_reads.ensures.value); room_after = c.check_reads.ensures.room_after }
+    record { value = c.of_reads.ensures ∙ ap verdict_of (reads_told c.args.plan.now _ c.check_reads.ensures.value); room_after = c.check_reads.ensures.room_after }
