@@ -24,14 +24,14 @@ body_at-body-requires c =
 
 pub returns-then-not-endpoints_form : goal.returns-then-not-endpoints_form
 returns-then-not-endpoints_form c =
-    sym (all_fault (endpointsRight c.args.d.now) (parts_of c.args.d.now) c.loop-p.p (omega arith) (sym c.endpoints_form.ensures ∙ not-true _ c.if-not-endpoints_form.true))
+    sym (all_fault (endpointsRight c.args.d.now) (parts_of c.args.d.now) c.loop-p.p (omega arith) (sym c.endpoints_form.ensures ∙ c.if-not-endpoints_form.true))
 
 pub loop-p-preserved : goal.loop-p-preserved
 loop-p-preserved c =
     (
       omega arith,
       c.body_at-body.ensures.end,
-      all_on (endpointsRight c.args.d.now) c.loop-p.p c.loop-p.invariant.2 (sym c.endpoints_form.ensures ∙ not-false _ c.if-not-endpoints_form.false),
+      all_on (endpointsRight c.args.d.now) c.loop-p.p c.loop-p.invariant.2 (sym c.endpoints_form.ensures ∙ c.if-not-endpoints_form.false),
     )
 
 pub returns : goal.returns

@@ -16,11 +16,11 @@ loop-i-init c = (omega arith, refl)
 
 pub returns-then-not-endpoint_form : goal.returns-then-not-endpoint_form
 returns-then-not-endpoint_form c =
-    sym (all_fault (endpoint_form c.args.d.now c.args.p) (endpoints_of c.args.d.now c.args.p) c.loop-i.i (omega arith) (sym c.endpoint_form.ensures ∙ not-true _ c.if-not-endpoint_form.true))
+    sym (all_fault (endpoint_form c.args.d.now c.args.p) (endpoints_of c.args.d.now c.args.p) c.loop-i.i (omega arith) (sym c.endpoint_form.ensures ∙ c.if-not-endpoint_form.true))
 
 pub loop-i-preserved : goal.loop-i-preserved
 loop-i-preserved c =
-    (omega arith, all_on (endpoint_form c.args.d.now c.args.p) c.loop-i.i c.loop-i.invariant.1 (sym c.endpoint_form.ensures ∙ not-false _ c.if-not-endpoint_form.false))
+    (omega arith, all_on (endpoint_form c.args.d.now c.args.p) c.loop-i.i c.loop-i.invariant.1 (sym c.endpoint_form.ensures ∙ c.if-not-endpoint_form.false))
 
 pub returns : goal.returns
 returns c =

@@ -21,11 +21,11 @@ gate_form-requires c =
 
 pub returns-then-not-gate_form : goal.returns-then-not-gate_form
 returns-then-not-gate_form c =
-    sym (all_fault (gate_form c.args.d.now) (gates_of c.args.d.now) c.loop-g.g (omega arith) (sym c.gate_form.ensures ∙ not-true _ c.if-not-gate_form.true))
+    sym (all_fault (gate_form c.args.d.now) (gates_of c.args.d.now) c.loop-g.g (omega arith) (sym c.gate_form.ensures ∙ c.if-not-gate_form.true))
 
 pub loop-g-preserved : goal.loop-g-preserved
 loop-g-preserved c =
-    (omega arith, all_on (gate_form c.args.d.now) c.loop-g.g c.loop-g.invariant.1 (sym c.gate_form.ensures ∙ not-false _ c.if-not-gate_form.false))
+    (omega arith, all_on (gate_form c.args.d.now) c.loop-g.g c.loop-g.invariant.1 (sym c.gate_form.ensures ∙ c.if-not-gate_form.false))
 
 pub returns : goal.returns
 returns c =

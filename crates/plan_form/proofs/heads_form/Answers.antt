@@ -16,11 +16,11 @@ loop-p-init c = (omega arith, refl)
 
 pub returns-then-not-part_form : goal.returns-then-not-part_form
 returns-then-not-part_form c =
-    sym (all_fault (part_head_form c.args.d.now) (parts_of c.args.d.now) c.loop-p.p (omega arith) (sym c.part_form.ensures ∙ not-true _ c.if-not-part_form.true))
+    sym (all_fault (part_head_form c.args.d.now) (parts_of c.args.d.now) c.loop-p.p (omega arith) (sym c.part_form.ensures ∙ c.if-not-part_form.true))
 
 pub loop-p-preserved : goal.loop-p-preserved
 loop-p-preserved c =
-    (omega arith, all_on (part_head_form c.args.d.now) c.loop-p.p c.loop-p.invariant.1 (sym c.part_form.ensures ∙ not-false _ c.if-not-part_form.false))
+    (omega arith, all_on (part_head_form c.args.d.now) c.loop-p.p c.loop-p.invariant.1 (sym c.part_form.ensures ∙ c.if-not-part_form.false))
 
 pub returns : goal.returns
 returns c =

@@ -21,11 +21,11 @@ layout_form-requires c =
 
 pub returns-then-not-layout_form : goal.returns-then-not-layout_form
 returns-then-not-layout_form c =
-    sym (all_fault (layout_form c.args.d.now) (layout_of c.args.d.now) c.loop-i.i (omega arith) (sym c.layout_form.ensures ∙ not-true _ c.if-not-layout_form.true))
+    sym (all_fault (layout_form c.args.d.now) (layout_of c.args.d.now) c.loop-i.i (omega arith) (sym c.layout_form.ensures ∙ c.if-not-layout_form.true))
 
 pub loop-i-preserved : goal.loop-i-preserved
 loop-i-preserved c =
-    (omega arith, all_on (layout_form c.args.d.now) c.loop-i.i c.loop-i.invariant.1 (sym c.layout_form.ensures ∙ not-false _ c.if-not-layout_form.false))
+    (omega arith, all_on (layout_form c.args.d.now) c.loop-i.i c.loop-i.invariant.1 (sym c.layout_form.ensures ∙ c.if-not-layout_form.false))
 
 pub returns : goal.returns
 returns c =

@@ -21,11 +21,11 @@ position_form-requires c =
 
 pub returns-then-not-position_form : goal.returns-then-not-position_form
 returns-then-not-position_form c =
-    sym (all_fault (position_form c.args.d.now) (positions_of c.args.d.now) c.loop-i.i (omega arith) (sym c.position_form.ensures ∙ not-true _ c.if-not-position_form.true))
+    sym (all_fault (position_form c.args.d.now) (positions_of c.args.d.now) c.loop-i.i (omega arith) (sym c.position_form.ensures ∙ c.if-not-position_form.true))
 
 pub loop-i-preserved : goal.loop-i-preserved
 loop-i-preserved c =
-    (omega arith, all_on (position_form c.args.d.now) c.loop-i.i c.loop-i.invariant.1 (sym c.position_form.ensures ∙ not-false _ c.if-not-position_form.false))
+    (omega arith, all_on (position_form c.args.d.now) c.loop-i.i c.loop-i.invariant.1 (sym c.position_form.ensures ∙ c.if-not-position_form.false))
 
 pub returns : goal.returns
 returns c =

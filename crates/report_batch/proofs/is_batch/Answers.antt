@@ -11,20 +11,20 @@ returns-then-word-gt-MOST_PARTS c =
 
 pub returns-then-not-is_counted : goal.returns-then-not-is_counted
 returns-then-not-is_counted c =
-    form_uncounted c.args.batch.now _ c.word.ensures c.if-word-gt-MOST_PARTS.false (sym c.is_counted.ensures ∙ not-true _ c.if-not-is_counted.true)
+    form_uncounted c.args.batch.now _ c.word.ensures c.if-word-gt-MOST_PARTS.false (sym c.is_counted.ensures ∙ c.if-not-is_counted.true)
 
 pub returns-then-not-is_named : goal.returns-then-not-is_named
 returns-then-not-is_named c =
-    let counted = sym c.is_counted.ensures ∙ not-false _ c.if-not-is_counted.false in
-    form_unnamed c.args.batch.now _ c.word.ensures c.if-word-gt-MOST_PARTS.false counted (sym c.is_named.ensures ∙ not-true _ c.if-not-is_named.true)
+    let counted = sym c.is_counted.ensures ∙ c.if-not-is_counted.false in
+    form_unnamed c.args.batch.now _ c.word.ensures c.if-word-gt-MOST_PARTS.false counted (sym c.is_named.ensures ∙ c.if-not-is_named.true)
 
 pub are_totals_right-requires : goal.are_totals_right-requires
 are_totals_right-requires c =
-    let counted = sym c.is_counted.ensures ∙ not-false _ c.if-not-is_counted.false in
-    form_totals c.args.batch.now _ c.word.ensures c.if-word-gt-MOST_PARTS.false counted (sym c.is_named.ensures ∙ not-false _ c.if-not-is_named.false)
+    let counted = sym c.is_counted.ensures ∙ c.if-not-is_counted.false in
+    form_totals c.args.batch.now _ c.word.ensures c.if-word-gt-MOST_PARTS.false counted (sym c.is_named.ensures ∙ c.if-not-is_named.false)
 
 pub returns : goal.returns
 returns c =
-    let counted = sym c.is_counted.ensures ∙ not-false _ c.if-not-is_counted.false in
-    let named = sym c.is_named.ensures ∙ not-false _ c.if-not-is_named.false in
+    let counted = sym c.is_counted.ensures ∙ c.if-not-is_counted.false in
+    let named = sym c.is_named.ensures ∙ c.if-not-is_named.false in
     c.are_totals_right.ensures ∙ form_rest c.args.batch.now _ c.word.ensures c.if-word-gt-MOST_PARTS.false counted named

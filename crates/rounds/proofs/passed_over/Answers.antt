@@ -6,10 +6,10 @@ use Rattle.rounds.proofs.PieceSizeLaws.{not_looked, look_last, look_late}
 use Rattle.rounds.proofs.passed_over.Goals as goal
 
 pub returns-then-not-look : goal.returns-then-not-look
-returns-then-not-look c = not_looked c.args.look _ (not-true _ c.if-not-look.true)
+returns-then-not-look c = not_looked c.args.look _ c.if-not-look.true
 
 pub returns-then-k-le1 : goal.returns-then-k-le1
-returns-then-k-le1 c = look_last c.args.look c.args.k _ (not-false _ c.if-not-look.false) c.if-k-le1.true
+returns-then-k-le1 c = look_last c.args.look c.args.k _ c.if-not-look.false c.if-k-le1.true
 
 pub late_full-requires : goal.late_full-requires
 late_full-requires c =
@@ -17,4 +17,4 @@ late_full-requires c =
 
 pub returns : goal.returns
 returns c =
-    look_late c.args.look c.args.k _ _ (not-false _ c.if-not-look.false) c.if-k-le1.false c.late_full.ensures
+    look_late c.args.look c.args.k _ _ c.if-not-look.false c.if-k-le1.false c.late_full.ensures

@@ -17,24 +17,24 @@ returns-then-room-blocks_of c =
 
 pub returns-then-not-is_edition : goal.returns-then-not-is_edition
 returns-then-not-is_edition c =
-    let unknown = sym c.is_edition.ensures ∙ not-true _ c.if-not-is_edition.true in
+    let unknown = sym c.is_edition.ensures ∙ c.if-not-is_edition.true in
     let told = told_edition _ c.args.words.now c.args.starts.now c.args.turns.now c.args.old.now c.args.new.now c.args.room.now _
     c.blocks_of.ensures c.if-room-blocks_of.false _ c.clear.ensures unknown _ c.refuse-then-not-is_edition.ensures in
     record { answer = told.0; state = told.1.0; room = told.1.1 }
 
 pub bad_block-requires : goal.bad_block-requires
-bad_block-requires c = lanes_of_lem _ (known_number _ (sym c.is_edition.ensures ∙ not-false _ c.if-not-is_edition.false))
+bad_block-requires c = lanes_of_lem _ (known_number _ (sym c.is_edition.ensures ∙ c.if-not-is_edition.false))
 
 pub run_well-requires : goal.run_well-requires
 run_well-requires c =
-    let known = sym c.is_edition.ensures ∙ not-false _ c.if-not-is_edition.false in
+    let known = sym c.is_edition.ensures ∙ c.if-not-is_edition.false in
     accepted _ c.args.words.now c.args.starts.now c.args.turns.now c.args.old.now c.args.new.now c.args.room.now _
     c.blocks_of.ensures c.if-room-blocks_of.false _ c.clear.ensures known (item_none _ (sym c.bad_block.ensures ∙ c.in-Fine.is))
     (item_none _ (sym c.bad_turn.ensures ∙ c.in-Fine-bad_turn.is)) _ (search rules)
 
 pub returns-in-At : goal.returns-in-At
 returns-in-At c =
-    let known = sym c.is_edition.ensures ∙ not-false _ c.if-not-is_edition.false in
+    let known = sym c.is_edition.ensures ∙ c.if-not-is_edition.false in
     let told = told_block _ c.args.words.now c.args.starts.now c.args.turns.now c.args.old.now c.args.new.now c.args.room.now _
     c.blocks_of.ensures c.if-room-blocks_of.false _ c.clear.ensures known _ (item_some _ _ (sym c.bad_block.ensures ∙ c.in-At.is)) _
     c.refuse-in-At.ensures in
@@ -42,7 +42,7 @@ returns-in-At c =
 
 pub returns-in-At-bad_turn : goal.returns-in-At-bad_turn
 returns-in-At-bad_turn c =
-    let known = sym c.is_edition.ensures ∙ not-false _ c.if-not-is_edition.false in
+    let known = sym c.is_edition.ensures ∙ c.if-not-is_edition.false in
     let told = told_turn _ c.args.words.now c.args.starts.now c.args.turns.now c.args.old.now c.args.new.now c.args.room.now _
     c.blocks_of.ensures c.if-room-blocks_of.false _ c.clear.ensures known (item_none _ (sym c.bad_block.ensures ∙ c.in-Fine.is)) _
     (item_some _ _ (sym c.bad_turn.ensures ∙ c.in-At-bad_turn.is)) _ c.refuse-in-At-bad_turn.ensures in
@@ -50,7 +50,7 @@ returns-in-At-bad_turn c =
 
 pub returns-in-Fine-bad_turn : goal.returns-in-Fine-bad_turn
 returns-in-Fine-bad_turn c =
-    let known = sym c.is_edition.ensures ∙ not-false _ c.if-not-is_edition.false in
+    let known = sym c.is_edition.ensures ∙ c.if-not-is_edition.false in
     let told = told_run _ c.args.words.now c.args.starts.now c.args.turns.now c.args.old.now c.args.new.now c.args.room.now _ c.blocks_of.ensures
     c.if-room-blocks_of.false _ (again (length c.args.room.now) c.clear.new.l _ c.run_well.ensures.room (search rules)) known
     (item_none _ (sym c.bad_block.ensures ∙ c.in-Fine.is))

@@ -28,24 +28,24 @@ returns-then-not-is_edition c =
     let enough : plan_room_words c.args.plan.now ≤ length c.args.room.now = omega (arith, c.room_words.ensures.0, c.if-room-room_words.false) in
     let o = c.args in
     let e = out_edition o.plan.now o.part o.old.now o.new.now (length o.bits.now) o.pin.0 (length o.room.now) (enough)
-    (sym (c.is_edition.ensures ∙ ap known c.edition_of.ensures) ∙ not-true _ c.if-not-is_edition.true) in
+    (sym (c.is_edition.ensures ∙ ap known c.edition_of.ensures) ∙ c.if-not-is_edition.true) in
     let zeros = room_zeros o.plan.now o.room.now (enough) _ c.clear.ensures in
     record { value = c.refuse-then-not-is_edition.ensures ∙ ap valued_of (sym e); room_after = zeros; bits_after = bits_kept _ 29 0 o.bits.now e }
 
 pub returns-then-not-plan_form : goal.returns-then-not-plan_form
 returns-then-not-plan_form c =
     let enough : plan_room_words c.args.plan.now ≤ length c.args.room.now = omega (arith, c.room_words.ensures.0, c.if-room-room_words.false) in
-    let named : known (edition_of c.args.plan.now) ≡ true = sym (c.is_edition.ensures ∙ ap known c.edition_of.ensures) ∙ not-false _ c.if-not-is_edition.false in
+    let named : known (edition_of c.args.plan.now) ≡ true = sym (c.is_edition.ensures ∙ ap known c.edition_of.ensures) ∙ c.if-not-is_edition.false in
     let o = c.args in
     let e = out_form o.plan.now o.part o.old.now o.new.now (length o.bits.now) o.pin.0 (length o.room.now) (enough) (named)
-    (sym c.plan_form.ensures ∙ not-true _ c.if-not-plan_form.true) in
+    (sym c.plan_form.ensures ∙ c.if-not-plan_form.true) in
     let zeros = room_zeros o.plan.now o.room.now (enough) _ c.clear.ensures in
     record { value = c.refuse-then-not-plan_form.ensures ∙ ap valued_of (sym e); room_after = zeros; bits_after = bits_kept _ 5 0 o.bits.now e }
 
 pub value_lent-requires : goal.value_lent-requires
 value_lent-requires c =
     let enough : plan_room_words c.args.plan.now ≤ length c.args.room.now = omega (arith, c.room_words.ensures.0, c.if-room-room_words.false) in
-    let formed : plan_form (begun (read_at c.before.before.before.before.before.before)).args.plan.now ≡ true = sym c.plan_form.ensures ∙ not-false _ c.if-not-plan_form.false in
+    let formed : plan_form (begun (read_at c.before.before.before.before.before.before)).args.plan.now ≡ true = sym c.plan_form.ensures ∙ c.if-not-plan_form.false in
     let o = c.args in
     room_asked o.plan.now o.room.now (enough) _ c.clear.ensures (formed)
     (item_none _ (sym c.check_gates.ensures ∙ c.in-Fine.is))
@@ -53,8 +53,8 @@ value_lent-requires c =
 pub returns-in-At : goal.returns-in-At
 returns-in-At c =
     let enough : plan_room_words c.args.plan.now ≤ length c.args.room.now = omega (arith, c.room_words.ensures.0, c.if-room-room_words.false) in
-    let named : known (edition_of c.args.plan.now) ≡ true = sym (c.is_edition.ensures ∙ ap known c.edition_of.ensures) ∙ not-false _ c.if-not-is_edition.false in
-    let formed : plan_form (begun (read_at c.before.before.before.before.before.before)).args.plan.now ≡ true = sym c.plan_form.ensures ∙ not-false _ c.if-not-plan_form.false in
+    let named : known (edition_of c.args.plan.now) ≡ true = sym (c.is_edition.ensures ∙ ap known c.edition_of.ensures) ∙ c.if-not-is_edition.false in
+    let formed : plan_form (begun (read_at c.before.before.before.before.before.before)).args.plan.now ≡ true = sym c.plan_form.ensures ∙ c.if-not-plan_form.false in
     let o = c.args in
     let e = out_gate o.plan.now o.part o.old.now o.new.now (length o.bits.now) o.pin.0 (length o.room.now) (enough) (named)
     (formed)
@@ -66,8 +66,8 @@ returns-in-At c =
 pub returns-in-Fine : goal.returns-in-Fine
 returns-in-Fine c =
     let enough : plan_room_words c.args.plan.now ≤ length c.args.room.now = omega (arith, c.room_words.ensures.0, c.if-room-room_words.false) in
-    let named : known (edition_of c.args.plan.now) ≡ true = sym (c.is_edition.ensures ∙ ap known c.edition_of.ensures) ∙ not-false _ c.if-not-is_edition.false in
-    let formed : plan_form (begun (read_at c.before.before.before.before.before.before.before.before.before.before.before)).args.plan.now ≡ true = sym c.plan_form.ensures ∙ not-false _ c.if-not-plan_form.false in
+    let named : known (edition_of c.args.plan.now) ≡ true = sym (c.is_edition.ensures ∙ ap known c.edition_of.ensures) ∙ c.if-not-is_edition.false in
+    let formed : plan_form (begun (read_at c.before.before.before.before.before.before.before.before.before.before.before)).args.plan.now ≡ true = sym c.plan_form.ensures ∙ c.if-not-plan_form.false in
     let o = c.args in
     let e = out_lent o.plan.now o.part o.old.now o.new.now (length o.bits.now) o.pin.0 (length o.room.now) (enough) (named)
     (formed)

@@ -15,11 +15,11 @@ loop-j-init c = (omega arith, look_start _ _)
 
 pub returns-then-not-slot_right : goal.returns-then-not-slot_right
 returns-then-not-slot_right c =
-    look_fault _ _ _ _ c.loop-j.invariant.1 (omega (arith, c.requires.body.lanes)) (sym c.slot_right.ensures ∙ not-true _ c.if-not-slot_right.true)
+    look_fault _ _ _ _ c.loop-j.invariant.1 (omega (arith, c.requires.body.lanes)) (sym c.slot_right.ensures ∙ c.if-not-slot_right.true)
 
 pub loop-j-preserved : goal.loop-j-preserved
 loop-j-preserved c =
-    (omega arith, look_next _ _ _ _ c.loop-j.invariant.1 (omega (arith, c.requires.body.lanes)) (sym c.slot_right.ensures ∙ not-false _ c.if-not-slot_right.false))
+    (omega arith, look_next _ _ _ _ c.loop-j.invariant.1 (omega (arith, c.requires.body.lanes)) (sym c.slot_right.ensures ∙ c.if-not-slot_right.false))
 
 pub returns : goal.returns
 returns c =

@@ -24,11 +24,11 @@ pin_right-requires c =
 
 pub returns-then-not-pin_right : goal.returns-then-not-pin_right
 returns-then-not-pin_right c =
-    sym (all_fault (listed_pin_right c.args.d.now c.args.n c.args.list.now) (length c.args.list.now) c.loop-i.i c.loop-i-test.true (sym c.pin_right.ensures ∙ not-true _ c.if-not-pin_right.true))
+    sym (all_fault (listed_pin_right c.args.d.now c.args.n c.args.list.now) (length c.args.list.now) c.loop-i.i c.loop-i-test.true (sym c.pin_right.ensures ∙ c.if-not-pin_right.true))
 
 pub loop-i-preserved : goal.loop-i-preserved
 loop-i-preserved c =
-    (omega (arith, c.loop-i-test.true), all_on (listed_pin_right c.args.d.now c.args.n c.args.list.now) c.loop-i.i c.loop-i.invariant.1 (sym c.pin_right.ensures ∙ not-false _ c.if-not-pin_right.false))
+    (omega (arith, c.loop-i-test.true), all_on (listed_pin_right c.args.d.now c.args.n c.args.list.now) c.loop-i.i c.loop-i.invariant.1 (sym c.pin_right.ensures ∙ c.if-not-pin_right.false))
 
 pub returns : goal.returns
 returns c =

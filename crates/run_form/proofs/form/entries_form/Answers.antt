@@ -22,7 +22,7 @@ pub returns-then-not-section_form : goal.returns-then-not-section_form
 unfolding entries_form
 returns-then-not-section_form c =
     let within : c.loop-k.k < stages_at c.args.words.now c.args.at + 2 = omega arith in
-    sym (all_fault _ _ _ within (sym c.section_form.ensures ∙ not-true _ c.if-not-section_form.true))
+    sym (all_fault _ _ _ within (sym c.section_form.ensures ∙ c.if-not-section_form.true))
 
 pub overflow_add-k : goal.overflow_add-k
 overflow_add-k c =
@@ -30,7 +30,7 @@ overflow_add-k c =
 
 pub loop-k-preserved : goal.loop-k-preserved
 loop-k-preserved c =
-    (omega arith, c.loop-k.invariant.1, all_on _ _ c.loop-k.invariant.2 (sym c.section_form.ensures ∙ not-false _ c.if-not-section_form.false))
+    (omega arith, c.loop-k.invariant.1, all_on _ _ c.loop-k.invariant.2 (sym c.section_form.ensures ∙ c.if-not-section_form.false))
 
 pub returns : goal.returns
 unfolding entries_form

@@ -20,11 +20,11 @@ pub returns-then-not-location_form : goal.returns-then-not-location_form
 unfolding locations_form
 returns-then-not-location_form c =
     let within : c.loop-l.l < normal_at c.args.words.now c.args.at = omega arith in
-    sym (all_fault _ _ _ within (sym c.location_form.ensures ∙ not-true _ c.if-not-location_form.true))
+    sym (all_fault _ _ _ within (sym c.location_form.ensures ∙ c.if-not-location_form.true))
 
 pub loop-l-preserved : goal.loop-l-preserved
 loop-l-preserved c =
-    (omega arith, c.loop-l.invariant.1, all_on _ _ c.loop-l.invariant.2 (sym c.location_form.ensures ∙ not-false _ c.if-not-location_form.false))
+    (omega arith, c.loop-l.invariant.1, all_on _ _ c.loop-l.invariant.2 (sym c.location_form.ensures ∙ c.if-not-location_form.false))
 
 pub returns : goal.returns
 unfolding locations_form

@@ -9,13 +9,13 @@ use borrow.Author.Rules.{rules}
 use Rattle.run_form.proofs.form.part_form.Goals as goal
 
 pub returns-then-not-head_form : goal.returns-then-not-head_form
-returns-then-not-head_form c = part_bad _ _ _ _ _ _ (sym c.head_form.ensures ∙ not-true _ c.if-not-head_form.true)
+returns-then-not-head_form c = part_bad _ _ _ _ _ _ (sym c.head_form.ensures ∙ c.if-not-head_form.true)
 
 pub body_form-requires : goal.body_form-requires
 unfolding end_at
 body_form-requires c =
-    let ends = head_ends _ _ _ _ (sym c.head_form.ensures ∙ not-false _ c.if-not-head_form.false) in
+    let ends = head_ends _ _ _ _ (sym c.head_form.ensures ∙ c.if-not-head_form.false) in
     record { lanes = c.requires.0; inside = omega (arith, ends.1) }
 
 pub returns : goal.returns
-returns c = part_rest _ _ _ _ _ _ _ (sym c.head_form.ensures ∙ not-false _ c.if-not-head_form.false) c.body_form.ensures
+returns c = part_rest _ _ _ _ _ _ _ (sym c.head_form.ensures ∙ c.if-not-head_form.false) c.body_form.ensures

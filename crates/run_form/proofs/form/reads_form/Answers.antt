@@ -19,11 +19,11 @@ pub returns-then-not-round_form : goal.returns-then-not-round_form
 unfolding reads_form
 returns-then-not-round_form c =
     let within : c.loop-r.r < rounds_at c.args.words.now c.args.at = omega arith in
-    sym (all_fault _ _ _ within (sym c.round_form.ensures ∙ not-true _ c.if-not-round_form.true))
+    sym (all_fault _ _ _ within (sym c.round_form.ensures ∙ c.if-not-round_form.true))
 
 pub loop-r-preserved : goal.loop-r-preserved
 loop-r-preserved c =
-    (omega arith, c.loop-r.invariant.1, all_on _ _ c.loop-r.invariant.2 (sym c.round_form.ensures ∙ not-false _ c.if-not-round_form.false))
+    (omega arith, c.loop-r.invariant.1, all_on _ _ c.loop-r.invariant.2 (sym c.round_form.ensures ∙ c.if-not-round_form.false))
 
 pub returns : goal.returns
 unfolding reads_form

@@ -18,12 +18,12 @@ loop-i-init c = (omega arith, refl)
 pub returns-then-not-pair_form : goal.returns-then-not-pair_form
 returns-then-not-pair_form c =
     let good = c.pair_form.ensures ∙ ap₂ (λ (w m : ℕ). read_form w m c.args.s c.args.t) c.pair.ensures.0 c.pair.ensures.1 in
-    sym (all_fault _ _ _ c.loop-i-test.true (sym good ∙ not-true _ c.if-not-pair_form.true))
+    sym (all_fault _ _ _ c.loop-i-test.true (sym good ∙ c.if-not-pair_form.true))
 
 pub loop-i-preserved : goal.loop-i-preserved
 loop-i-preserved c =
     let good = c.pair_form.ensures ∙ ap₂ (λ (w m : ℕ). read_form w m c.args.s c.args.t) c.pair.ensures.0 c.pair.ensures.1 in
-    (omega arith, all_on _ _ c.loop-i.invariant.1 (sym good ∙ not-false _ c.if-not-pair_form.false))
+    (omega arith, all_on _ _ c.loop-i.invariant.1 (sym good ∙ c.if-not-pair_form.false))
 
 pub returns : goal.returns
 returns c =

@@ -15,10 +15,10 @@ unfolding all_below
 loop-w-init c = (omega arith, refl)
 
 pub returns-then-not-halves_form : goal.returns-then-not-halves_form
-returns-then-not-halves_form c = sym (all_fault _ _ _ c.loop-w-test.true (sym c.halves_form.ensures ∙ not-true _ c.if-not-halves_form.true))
+returns-then-not-halves_form c = sym (all_fault _ _ _ c.loop-w-test.true (sym c.halves_form.ensures ∙ c.if-not-halves_form.true))
 
 pub loop-w-preserved : goal.loop-w-preserved
-loop-w-preserved c = (omega arith, all_on _ _ c.loop-w.invariant.1 (sym c.halves_form.ensures ∙ not-false _ c.if-not-halves_form.false))
+loop-w-preserved c = (omega arith, all_on _ _ c.loop-w.invariant.1 (sym c.halves_form.ensures ∙ c.if-not-halves_form.false))
 
 pub returns : goal.returns
 returns c =

@@ -19,12 +19,12 @@ loop-i-init c = (omega arith, refl, c.if-starts-lt2.false, first_block _ _ _ _ _
 pub returns-then-not-block_form : goal.returns-then-not-block_form
 returns-then-not-block_form c =
     let good = block_good c.args.n c.args.words.now c.args.starts.now c.args.s c.args.t in
-    look_fault good (length c.args.starts.now - 1) c.loop-i.i _ c.loop-i.invariant.3 (omega arith) (sym c.block_form.ensures ∙ not-true _ c.if-not-block_form.true)
+    look_fault good (length c.args.starts.now - 1) c.loop-i.i _ c.loop-i.invariant.3 (omega arith) (sym c.block_form.ensures ∙ c.if-not-block_form.true)
 
 pub loop-i-preserved : goal.loop-i-preserved
 loop-i-preserved c =
     let good = block_good c.args.n c.args.words.now c.args.starts.now c.args.s c.args.t in
-    let next = look_next good (length c.args.starts.now - 1) c.loop-i.i _ c.loop-i.invariant.3 (omega arith) (sym c.block_form.ensures ∙ not-false _ c.if-not-block_form.false) in
+    let next = look_next good (length c.args.starts.now - 1) c.loop-i.i _ c.loop-i.invariant.3 (omega arith) (sym c.block_form.ensures ∙ c.if-not-block_form.false) in
     (omega arith, refl, c.loop-i.invariant.2, next)
 
 pub returns : goal.returns
