@@ -1,6 +1,7 @@
 // The form of a plan record: refusal 5. The head is looked at first, then the numbers of parts, the part heads and the record's length; what the
 // lists hold comes last, when they are known to be there. So past the 64 counts no loop runs longer than the record, and each ends at the first fault.
 #![tactic(auto)]
+
 ghost use Rattle.std.specs.Prelude.{◌≡◌, ◌&&◌, ◌||◌, ◌+◌, ◌*◌, ◌/◌, ◌^◌, ◌≤◌, ◌<◌, leb, length};
 ghost use Rattle.plan_record.specs.Record.{majors_of, parts_of, gates_of, layout_of, positions_of, endpoints_of, gate_base, layout_base, position_base, head_base, position_words};
 ghost use Rattle.words.specs.Tests.{all_below};

@@ -27,12 +27,11 @@ returns-then-not-endpoints_form c =
     sym (all_fault (endpointsRight c.args.d.now) (parts_of c.args.d.now) c.loop-p.p (omega arith) (sym c.endpoints_form.ensures ∙ c.if-not-endpoints_form.true))
 
 pub loop-p-preserved : goal.loop-p-preserved
-loop-p-preserved c =
-    (
-      omega arith,
-      c.body_at-body.ensures.end,
-      all_on (endpointsRight c.args.d.now) c.loop-p.p c.loop-p.invariant.2 (sym c.endpoints_form.ensures ∙ c.if-not-endpoints_form.false),
-    )
+loop-p-preserved c = (
+  omega arith,
+  c.body_at-body.ensures.end,
+  all_on (endpointsRight c.args.d.now) c.loop-p.p c.loop-p.invariant.2 (sym c.endpoints_form.ensures ∙ c.if-not-endpoints_form.false),
+)
 
 pub returns : goal.returns
 returns c =

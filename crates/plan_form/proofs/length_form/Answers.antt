@@ -30,12 +30,11 @@ body_words-at-requires c =
     (omega arith, omega (arith, r), omega (arith, r))
 
 pub loop-p-preserved : goal.loop-p-preserved
-loop-p-preserved c =
-    (
-      omega arith,
-      body_step c.args.d.now c.loop-p.p _ _ _ _ c.loop-p.invariant.1 (c.word_at-stages.ensures ∙ stages_at_lem c.args.d.now _ c.loop-p.p c.head_base-heads.ensures.0) (c.word_at-endpoints.ensures ∙ endpoints_at c.args.d.now _ c.loop-p.p c.head_base-heads.ensures.0) c.body_words-at.ensures.0,
-      omega arith,
-    )
+loop-p-preserved c = (
+  omega arith,
+  body_step c.args.d.now c.loop-p.p _ _ _ _ c.loop-p.invariant.1 (c.word_at-stages.ensures ∙ stages_at_lem c.args.d.now _ c.loop-p.p c.head_base-heads.ensures.0) (c.word_at-endpoints.ensures ∙ endpoints_at c.args.d.now _ c.loop-p.p c.head_base-heads.ensures.0) c.body_words-at.ensures.0,
+  omega arith,
+)
 
 pub returns : goal.returns
 unfolding length_form
