@@ -13,10 +13,10 @@ loop-i-init c = (omega arith, omega arith, omega arith, sym (least_start _))
 
 pub loop-i-preserved : goal.loop-i-preserved
 loop-i-preserved c =
-    let costs = costs_of c.args.n c.args.t1 in
+    let costs = costs_of c.args.n c.args.blocks in
     let e : c.cheaper-best.result ≡ least_to costs (c.loop-i.i + 1 - 1) =
     c.cheaper-best.ensures
-    ∙ ap₂ (λ (x y : ℕ). lesser c.loop-i.best x c.loop-i.i y) (cost_at c.args.n c.args.t1 c.loop-i.best (omega arith)) (cost_at c.args.n c.args.t1 c.loop-i.i (omega arith))
+    ∙ ap₂ (λ (x y : ℕ). lesser c.loop-i.best x c.loop-i.i y) (cost_at c.args.n c.args.blocks c.loop-i.best (omega arith)) (cost_at c.args.n c.args.blocks c.loop-i.i (omega arith))
     ∙ least_next costs c.loop-i.best c.loop-i.i c.loop-i.invariant.0 c.loop-i.invariant.3
     in
     (omega arith, omega arith, omega (arith, e, (least_is costs (c.loop-i.i + 1 - 1)).within), e)
@@ -24,4 +24,4 @@ loop-i-preserved c =
 pub returns : goal.returns
 returns c =
     let e : c.loop-i.i ≡ c.args.n = omega arith in
-    (c.loop-i.invariant.3 ∙ ap (λ (m : ℕ). least_to (costs_of c.args.n c.args.t1) (m - 1)) e, omega arith)
+    (c.loop-i.invariant.3 ∙ ap (λ (m : ℕ). least_to (costs_of c.args.n c.args.blocks) (m - 1)) e, omega arith)

@@ -23,20 +23,18 @@ with_part-next-requires c =
     (omega (arith, c.requires.0.few, c.loop-i-test.true)) (λ j v. c.requires.0.stages j (omega (arith, c.loop-i-test.true)))
 
 pub put_block-requires : goal.put_block-requires
-put_block-requires c =
-    (
-      omega (arith, c.requires.0.parts),
-      omega (arith, placed_long _ _ _ _ c.requires.0.some_block c.requires.0.few-blocks _ _ _ c.loop-i.invariant.1, c.requires.0.inside),
-      omega (arith, c.block_for-b.ensures.1, c.requires.0.few-blocks),
-    )
+put_block-requires c = (
+  omega (arith, c.requires.0.parts),
+  omega (arith, placed_long _ _ _ _ c.requires.0.some_block c.requires.0.few-blocks _ _ _ c.loop-i.invariant.1, c.requires.0.inside),
+  omega (arith, c.block_for-b.ensures.1, c.requires.0.few-blocks),
+)
 
 pub loop-i-preserved : goal.loop-i-preserved
-loop-i-preserved c =
-    (
-      omega arith,
-      placed_more _ _ _ _ c.requires.0.some_block c.requires.0.few-blocks _ _ _ c.loop-i.invariant.1 _ c.block_for-b.ensures.0 _ c.part_cost.ensures
-          _ c.with_part-next.ensures _ c.put_block.ensures,
-    )
+loop-i-preserved c = (
+  omega arith,
+  placed_more _ _ _ _ c.requires.0.some_block c.requires.0.few-blocks _ _ _ c.loop-i.invariant.1 _ c.block_for-b.ensures.0 _ c.part_cost.ensures
+      _ c.with_part-next.ensures _ c.put_block.ensures,
+)
 
 pub shape_of-room : goal.shape_of-room
 shape_of-room c =

@@ -13,10 +13,9 @@ loop-b-init c = (refl, taken_none _ _ (sym (counts_length _ _)))
 
 pub loop-b-preserved : goal.loop-b-preserved
 loop-b-preserved c =
-    let n = length c.args.counts.now in
-    (
+    let n = length c.args.counts.now in (
       length-set c.loop-b.counts c.loop-b.b _ ∙ c.loop-b.invariant.0,
-      taken_more _ _ c.loop-b.b _ c.loop-b.invariant.1 (omega (arith, c.loop-b.invariant.1.long)) (count_at n c.args.t1 c.loop-b.b (omega arith)),
+      taken_more _ _ c.loop-b.b _ c.loop-b.invariant.1 (omega (arith, c.loop-b.invariant.1.long)) (count_at n c.args.blocks c.loop-b.b (omega arith)),
     )
 
 pub shape_of-counts : goal.shape_of-counts
