@@ -1,5 +1,6 @@
 // The gate list: its form, a gate by its pin, the value of a pin. Document 01, refusal 6 and "The run".
 #![tactic(auto)]
+
 ghost use Rattle.std.specs.Prelude.{◌≡◌, ◌%◌, ◌<◌, min, ◌&&◌, length, ◌==◌, nat_lt};
 ghost use Rattle.std.proofs.Math.Option.{none};
 ghost use Rattle.std.specs.Int.Bits.{differ};

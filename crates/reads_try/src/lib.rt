@@ -1,5 +1,6 @@
 // The lanes: the search for room, and one try.
 #![tactic(auto)]
+
 ghost use Rattle.std.specs.Prelude.{◌≡◌, ◌++◌, ◌+◌, ◌*◌, ◌-◌, ◌/◌, ◌%◌, ◌≤◌, min, length, get_or, set, drop};
 ghost use Rattle.std.proofs.Math.Seq.{slice};
 ghost use Rattle.reads.specs.ReadSet.{total, pairs_of};

@@ -1,5 +1,6 @@
 // Numbers and bytes as text. A writer puts its text from byte `at` on, as far as the lent bytes go, and answers with the byte after it.
 #![tactic(auto)]
+
 ghost use Rattle.std.specs.Prelude.{◌≡◌, [], ◌∷◌, ◌++◌, ◌+◌, ◌^◌, ◌<◌, length};
 ghost use Rattle.text.specs.Text.{decimal};
 ghost use Rattle.text.specs.TextPut.{Put};

@@ -19,14 +19,18 @@ overflow_add-a c =
 
 pub returns-then-full_in : goal.returns-then-full_in
 returns-then-full_in c =
-    let looked : late_full c.loop-t.left c.args.k c.args.set.now (drop c.loop-t.t c.args.keys.now) ≡ elim c.full_in.result [ true ↦ true | false ↦ late_full (c.loop-t.left - (c.least-e.result - c.least-a.result)) c.args.k c.args.set.now (drop (c.loop-t.t + 1) c.args.keys.now) ] = late_step c.args.set.now c.requires.0 c.args.k c.args.keys.now c.loop-t.t _ _ c.loop-t.left _ c.loop-t-test.taken
+    let looked : late_full c.loop-t.left c.args.k c.args.set.now (drop c.loop-t.t c.args.keys.now)
+    ≡ elim c.full_in.result [ true ↦ true | false ↦ late_full (c.loop-t.left - (c.least-e.result - c.least-a.result)) c.args.k c.args.set.now (drop (c.loop-t.t + 1) c.args.keys.now) ] =
+    late_step c.args.set.now c.requires.0 c.args.k c.args.keys.now c.loop-t.t _ _ c.loop-t.left _ c.loop-t-test.true
     c.least-a.ensures c.least-e.ensures c.full_in.ensures in
     let found = rw c.if-full_in.true at (looked) in
     sym found ∙ c.loop-t.invariant.2
 
 pub loop-t-preserved : goal.loop-t-preserved
 loop-t-preserved c =
-    let looked : late_full c.loop-t.left c.args.k c.args.set.now (drop c.loop-t.t c.args.keys.now) ≡ elim c.full_in.result [ true ↦ true | false ↦ late_full (c.loop-t.left - (c.least-e.result - c.least-a.result)) c.args.k c.args.set.now (drop (c.loop-t.t + 1) c.args.keys.now) ] = late_step c.args.set.now c.requires.0 c.args.k c.args.keys.now c.loop-t.t _ _ c.loop-t.left _ c.loop-t-test.taken
+    let looked : late_full c.loop-t.left c.args.k c.args.set.now (drop c.loop-t.t c.args.keys.now)
+    ≡ elim c.full_in.result [ true ↦ true | false ↦ late_full (c.loop-t.left - (c.least-e.result - c.least-a.result)) c.args.k c.args.set.now (drop (c.loop-t.t + 1) c.args.keys.now) ] =
+    late_step c.args.set.now c.requires.0 c.args.k c.args.keys.now c.loop-t.t _ _ c.loop-t.left _ c.loop-t-test.true
     c.least-a.ensures c.least-e.ensures c.full_in.ensures in
     let on = rw c.if-full_in.false at (looked) in
     (omega arith, omega (arith, c.left_of-left.ensures), rw c.left_of-left.ensures (sym on ∙ c.loop-t.invariant.2))

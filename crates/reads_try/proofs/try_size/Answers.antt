@@ -11,7 +11,7 @@ use Rattle.reads_try.specs.LaneTable.{run_of}
 use Rattle.reads_try.specs.TableLanes.{pair_at}
 use Rattle.reads_try.specs.Tries.{tried_of}
 use Rattle.reads_try.proofs.SetPairLaws.{span_step}
-use Rattle.reads_try.proofs.TryLaws.{Held, Piece, held_start, held_length, held_used, held_held, held_stop, held_placeable, run_step, run_next, run_ended, piece_step, piece_small}
+use Rattle.reads_try.proofs.TryLaws.{Held, Ended, Piece, held_start, held_length, held_used, held_held, held_stop, held_placeable, run_step, run_next, run_ended, piece_step, piece_small}
 use Rattle.reads_try.proofs.try_size.Goals as goal
 
 pub pieces-init : goal.pieces-init
@@ -64,8 +64,7 @@ bounds-set-p c =
 pub pairs-preserved : goal.pairs-preserved
 pairs-preserved c =
     let begin : ℕ = get_or c.args.keys.now c.pieces.t 0 % 8192 * c.args.k in
-    let end_in : c.least-end.result ≤ length c.args.set.now / 2 = omega (arith, c.least-end.ensures) in
-    (
+    let end_in : c.least-end.result ≤ length c.args.set.now / 2 = omega (arith, c.least-end.ensures) in (
       c.pairs.invariant.0,
       piece_step c.requires (begin) _ _ _ _ _ c.pairs.p c.pairs.room c.pairs.used c.pairs.held c.pairs.cur c.pairs.invariant.1 c.pairs-test.true (end_in) _ _ _ _
           (c.place.ensures.value, (c.place.ensures.room_after, (c.place.ensures.used_after, c.place.ensures.held_after))) _ c.in-Lane.is,
@@ -81,71 +80,11 @@ pieces-preserved c =
     let piece-in : HeldIn (Left (begin)) c.pieces.room c.pieces.used c.pieces.held c.pieces.cur = run_step c.requires c.args.keys.now c.pieces.t c.pieces-test.true c.pieces.invariant.2 _ c.least-end.result refl c.least-end.ensures in
     (omega arith, c.pairs.invariant.0, run_next _ _ _ c.pairs-test.false (c.pairs.invariant.1 _ _ _ (piece-in)))
 
-pub shape_of-room-after-pieces : goal.shape_of-room-after-pieces
-shape_of-room-after-pieces c =
-    let HeldIn : List Pair → (room used held : List ℕ) → ℕ → Type 0 = λ run room used held cur. Held c.args.set.now c.args.lanes (drop (32 * c.args.lanes) c.args.room.now)
-    (tried_of c.args.lanes c.args.k c.args.set.now c.args.keys.now) run room used held cur in
-    let same-room : {run : List Pair} {room used held : List ℕ} {cur : ℕ} → HeldIn run room used held cur → length room ≡ length c.args.room.now = λ h. omega (arith, held_length h, length-drop (32 * c.args.lanes) c.args.room.now, c.requires.in-room) in
-    same-room c.pieces.invariant.2
-
-pub shape_of-used-after-pieces : goal.shape_of-used-after-pieces
-shape_of-used-after-pieces c =
-    let HeldIn : List Pair → (room used held : List ℕ) → ℕ → Type 0 = λ run room used held cur. Held c.args.set.now c.args.lanes (drop (32 * c.args.lanes) c.args.room.now)
-    (tried_of c.args.lanes c.args.k c.args.set.now c.args.keys.now) run room used held cur in
-    let same-used : {run : List Pair} {room used held : List ℕ} {cur : ℕ} → HeldIn run room used held cur → length used ≡ length c.args.used.now = λ h. omega (arith, held_used h, ap length c.requires.no_bits, length-replicate {A = ℕ} c.args.lanes 0) in
-    same-used c.pieces.invariant.2
-
-pub shape_of-held-after-pieces : goal.shape_of-held-after-pieces
-shape_of-held-after-pieces c =
-    let HeldIn : List Pair → (room used held : List ℕ) → ℕ → Type 0 = λ run room used held cur. Held c.args.set.now c.args.lanes (drop (32 * c.args.lanes) c.args.room.now)
-    (tried_of c.args.lanes c.args.k c.args.set.now c.args.keys.now) run room used held cur in
-    let same-held : {run : List Pair} {room used held : List ℕ} {cur : ℕ} → HeldIn run room used held cur → length held ≡ length c.args.held.now = λ h. omega (arith, held_held h, ap length c.requires.no_pairs, length-replicate {A = ℕ} c.args.lanes 0) in
-    same-held c.pieces.invariant.2
-
 pub returns-after-pieces : goal.returns-after-pieces
-returns-after-pieces c = let told = rw c.pieces.invariant.1 (run_ended _ _ _ c.pieces-test.false c.pieces.invariant.2) in record { value = told.0; room_after = told.1.0; used_after = told.1.1.0; held_after = told.1.1.1 }
-
-pub shape_of-room-in-Full : goal.shape_of-room-in-Full
-shape_of-room-in-Full c =
-    let HeldIn : List Pair → (room used held : List ℕ) → ℕ → Type 0 = λ run room used held cur. Held c.args.set.now c.args.lanes (drop (32 * c.args.lanes) c.args.room.now)
-    (tried_of c.args.lanes c.args.k c.args.set.now c.args.keys.now) run room used held cur in
-    let same-room : {run : List Pair} {room used held : List ℕ} {cur : ℕ} → HeldIn run room used held cur → length room ≡ length c.args.room.now = λ h. omega (arith, held_length h, length-drop (32 * c.args.lanes) c.args.room.now, c.requires.in-room) in
-    let Left : ℕ → List Pair = λ p. slice p c.least-end.result (pairs_of c.args.set.now)
-    ++ run_of c.args.k (pairs_of c.args.set.now) (drop (c.pieces.t + 1) c.args.keys.now) in
-    let end_in : c.least-end.result ≤ length c.args.set.now / 2 = omega (arith, c.least-end.ensures) in
-    let begin : ℕ = get_or c.args.keys.now c.pieces.t 0 % 8192 * c.args.k in
-    let piece-in : HeldIn (Left (begin)) c.pieces.room c.pieces.used c.pieces.held c.pieces.cur = run_step c.requires c.args.keys.now c.pieces.t c.pieces-test.true c.pieces.invariant.2 _ c.least-end.result refl c.least-end.ensures in
-    let pair_in : HeldIn (pair_at c.args.set.now c.pairs.p ∷ Left (c.pairs.p + 1)) c.pairs.room c.pairs.used c.pairs.held c.pairs.cur = rw (span_step c.args.set.now c.pairs.p c.least-end.result c.pairs-test.true (end_in))
-    at (c.pairs.invariant.1 _ _ _ (piece-in)) in
-    c.place.kept.1.0 ∙ same-room (pair_in)
-
-pub shape_of-used-in-Full : goal.shape_of-used-in-Full
-shape_of-used-in-Full c =
-    let HeldIn : List Pair → (room used held : List ℕ) → ℕ → Type 0 = λ run room used held cur. Held c.args.set.now c.args.lanes (drop (32 * c.args.lanes) c.args.room.now)
-    (tried_of c.args.lanes c.args.k c.args.set.now c.args.keys.now) run room used held cur in
-    let same-used : {run : List Pair} {room used held : List ℕ} {cur : ℕ} → HeldIn run room used held cur → length used ≡ length c.args.used.now = λ h. omega (arith, held_used h, ap length c.requires.no_bits, length-replicate {A = ℕ} c.args.lanes 0) in
-    let Left : ℕ → List Pair = λ p. slice p c.least-end.result (pairs_of c.args.set.now)
-    ++ run_of c.args.k (pairs_of c.args.set.now) (drop (c.pieces.t + 1) c.args.keys.now) in
-    let end_in : c.least-end.result ≤ length c.args.set.now / 2 = omega (arith, c.least-end.ensures) in
-    let begin : ℕ = get_or c.args.keys.now c.pieces.t 0 % 8192 * c.args.k in
-    let piece-in : HeldIn (Left (begin)) c.pieces.room c.pieces.used c.pieces.held c.pieces.cur = run_step c.requires c.args.keys.now c.pieces.t c.pieces-test.true c.pieces.invariant.2 _ c.least-end.result refl c.least-end.ensures in
-    let pair_in : HeldIn (pair_at c.args.set.now c.pairs.p ∷ Left (c.pairs.p + 1)) c.pairs.room c.pairs.used c.pairs.held c.pairs.cur = rw (span_step c.args.set.now c.pairs.p c.least-end.result c.pairs-test.true (end_in))
-    at (c.pairs.invariant.1 _ _ _ (piece-in)) in
-    c.place.kept.1.1.0 ∙ same-used (pair_in)
-
-pub shape_of-held-in-Full : goal.shape_of-held-in-Full
-shape_of-held-in-Full c =
-    let HeldIn : List Pair → (room used held : List ℕ) → ℕ → Type 0 = λ run room used held cur. Held c.args.set.now c.args.lanes (drop (32 * c.args.lanes) c.args.room.now)
-    (tried_of c.args.lanes c.args.k c.args.set.now c.args.keys.now) run room used held cur in
-    let same-held : {run : List Pair} {room used held : List ℕ} {cur : ℕ} → HeldIn run room used held cur → length held ≡ length c.args.held.now = λ h. omega (arith, held_held h, ap length c.requires.no_pairs, length-replicate {A = ℕ} c.args.lanes 0) in
-    let Left : ℕ → List Pair = λ p. slice p c.least-end.result (pairs_of c.args.set.now)
-    ++ run_of c.args.k (pairs_of c.args.set.now) (drop (c.pieces.t + 1) c.args.keys.now) in
-    let end_in : c.least-end.result ≤ length c.args.set.now / 2 = omega (arith, c.least-end.ensures) in
-    let begin : ℕ = get_or c.args.keys.now c.pieces.t 0 % 8192 * c.args.k in
-    let piece-in : HeldIn (Left (begin)) c.pieces.room c.pieces.used c.pieces.held c.pieces.cur = run_step c.requires c.args.keys.now c.pieces.t c.pieces-test.true c.pieces.invariant.2 _ c.least-end.result refl c.least-end.ensures in
-    let pair_in : HeldIn (pair_at c.args.set.now c.pairs.p ∷ Left (c.pairs.p + 1)) c.pairs.room c.pairs.used c.pairs.held c.pairs.cur = rw (span_step c.args.set.now c.pairs.p c.least-end.result c.pairs-test.true (end_in))
-    at (c.pairs.invariant.1 _ _ _ (piece-in)) in
-    c.place.kept.1.1.1.0 ∙ same-held (pair_in)
+returns-after-pieces c =
+    let told : Ended (tried_of c.args.lanes c.args.k c.args.set.now c.args.keys.now) (drop (32 * c.args.lanes) c.args.room.now) c.pieces.ending-1 c.pieces.room c.pieces.used c.pieces.held =
+    rw c.pieces.invariant.1 (run_ended _ _ _ c.pieces-test.false c.pieces.invariant.2) in
+    record { value = told.0; room_after = told.1.0; used_after = told.1.1.0; held_after = told.1.1.1 }
 
 pub returns-in-Full : goal.returns-in-Full
 returns-in-Full c =

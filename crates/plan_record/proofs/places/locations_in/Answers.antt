@@ -12,12 +12,11 @@ unfolding locations_in sum_to
 loop-s-init c = (omega arith, refl, omega arith)
 
 pub loop-s-preserved : goal.loop-s-preserved
-loop-s-preserved c =
-    (
-      omega arith,
-      ap₂ ◌+◌ c.loop-s.invariant.1 c.word_at.ensures ∙ sym (locations_more c.args.d.now c.args.b c.loop-s.s c.args.e),
-      omega arith,
-    )
+loop-s-preserved c = (
+  omega arith,
+  ap₂ ◌+◌ c.loop-s.invariant.1 c.word_at.ensures ∙ sym (locations_more c.args.d.now c.args.b c.loop-s.s c.args.e),
+  omega arith,
+)
 
 pub returns : goal.returns
 returns c =

@@ -12,12 +12,11 @@ unfolding parts_before sum_to
 loop-i-init c = (omega arith, refl, omega arith)
 
 pub loop-i-preserved : goal.loop-i-preserved
-loop-i-preserved c =
-    (
-      omega arith,
-      ap₂ ◌+◌ c.loop-i.invariant.1 c.word_at.ensures ∙ sym (parts_more c.args.d.now c.loop-i.i),
-      omega arith,
-    )
+loop-i-preserved c = (
+  omega arith,
+  ap₂ ◌+◌ c.loop-i.invariant.1 c.word_at.ensures ∙ sym (parts_more c.args.d.now c.loop-i.i),
+  omega arith,
+)
 
 pub returns : goal.returns
 returns c =
