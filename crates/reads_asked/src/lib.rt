@@ -1,5 +1,6 @@
 // The read set that asks for given bits, each an `AskedBit` of `words`.
 #![tactic(auto)]
+
 ghost use Rattle.std.specs.Prelude.{◌≡◌, ◌++◌, length, take, drop, replicate};
 ghost use Rattle.std.proofs.lemmas.List.Edits.{sets};
 ghost use Rattle.reads.specs.Asked.{ask, read_set_of};

@@ -1,5 +1,6 @@
 // A read set's form, and what is read out of the lanes' table: the number of rounds, and their words.
 #![tactic(auto)]
+
 ghost use Rattle.std.specs.Prelude.{◌≡◌, ◌+◌, ◌*◌, ◌/◌, ◌≤◌, ◌<◌, length};
 ghost use Rattle.std.proofs.lemmas.List.Edits.{sets};
 ghost use Rattle.reads.specs.ReadSet.{pairs_of, broken};

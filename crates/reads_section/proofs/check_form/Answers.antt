@@ -21,10 +21,6 @@ pub returns-then-set-i-eq0 : goal.returns-then-set-i-eq0
 returns-then-set-i-eq0 c =
     ap item_of (sym (bad_mask c.args.set.now c.loop-i.i c.loop-i.low (omega arith) c.if-w-low.false c.if-w-ge134217728.false c.if-set-i-eq0.true) ∙ c.loop-i.invariant.1)
 
-pub overflow_add-low : goal.overflow_add-low
-overflow_add-low c =
-    omega (arith, c.shared_slice_known-1.given (2 * c.loop-i.i))
-
 pub loop-i-preserved : goal.loop-i-preserved
 loop-i-preserved c =
     (omega arith, sym (good_pair c.args.set.now c.loop-i.i c.loop-i.low (omega arith) c.if-w-low.false c.if-w-ge134217728.false (omega arith)) ∙ c.loop-i.invariant.1)

@@ -23,14 +23,13 @@ overflow_add-at c =
     omega (arith, c.requires.fits, at_step (2 * c.args.lanes) c.loop-r.r c.args.rounds c.loop-r-test.true)
 
 pub loop-r-preserved : goal.loop-r-preserved
-loop-r-preserved c =
-    (
-      omega arith,
-      at_next (2 * c.args.lanes) c.loop-r.r c.loop-r.at c.loop-r.invariant.1,
-      c.write_round.auto.out ∙ c.loop-r.invariant.2,
-      rw c.write_round.ensures
-          (rounds_step _ c.args.rounds c.loop-r.out c.loop-r.at c.loop-r.r c.args.lanes c.requires.table.filled.kept.wide c.loop-r-test.true ∙ c.loop-r.invariant.3),
-    )
+loop-r-preserved c = (
+  omega arith,
+  at_next (2 * c.args.lanes) c.loop-r.r c.loop-r.at c.loop-r.invariant.1,
+  c.write_round.auto.out ∙ c.loop-r.invariant.2,
+  rw c.write_round.ensures
+      (rounds_step _ c.args.rounds c.loop-r.out c.loop-r.at c.loop-r.r c.args.lanes c.requires.table.filled.kept.wide c.loop-r-test.true ∙ c.loop-r.invariant.3),
+)
 
 pub returns : goal.returns
 returns c =

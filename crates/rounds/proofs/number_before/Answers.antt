@@ -18,11 +18,11 @@ total_bits-bits-requires c = (omega arith, omega (arith, c.requires.1))
 
 pub returns-then-lanes-bits : goal.returns-then-lanes-bits
 returns-then-lanes-bits c =
-    before_bits c.args.lanes c.args.set.now c.requires.0 c.if-n-eq0.left _ c.total_bits-bits.ensures c.if-lanes-bits.true
+    before_bits c.args.lanes c.args.set.now c.requires.0 c.if-n-eq0.false _ c.total_bits-bits.ensures c.if-lanes-bits.true
 
 pub returns-then-bits-lanes : goal.returns-then-bits-lanes
 returns-then-bits-lanes c =
-    before_narrow c.args.lanes c.args.set.now c.requires.0 c.if-n-eq0.left _ c.total_bits-bits.ensures c.if-bits-lanes.true
+    before_narrow c.args.lanes c.args.set.now c.requires.0 c.if-n-eq0.false _ c.total_bits-bits.ensures c.if-bits-lanes.true
 
 pub wide_pairs-wide-requires : goal.wide_pairs-wide-requires
 wide_pairs-wide-requires c =
@@ -30,10 +30,10 @@ wide_pairs-wide-requires c =
 
 pub returns-then-lanes-wide : goal.returns-then-lanes-wide
 returns-then-lanes-wide c =
-    before_wide c.args.lanes c.args.set.now c.requires.0 c.if-n-eq0.left _ c.total_bits-bits.ensures c.if-lanes-bits.left _
+    before_wide c.args.lanes c.args.set.now c.requires.0 c.if-n-eq0.false _ c.total_bits-bits.ensures c.if-lanes-bits.false _
     c.wide_pairs-wide.ensures c.if-lanes-wide.true
 
 pub returns : goal.returns
 returns c =
-    before_fine c.args.lanes c.args.set.now c.requires.0 c.if-n-eq0.left _ c.total_bits-bits.ensures c.if-lanes-bits.left _
+    before_fine c.args.lanes c.args.set.now c.requires.0 c.if-n-eq0.false _ c.total_bits-bits.ensures c.if-lanes-bits.false _
     c.wide_pairs-wide.ensures c.if-lanes-wide.false
