@@ -1,7 +1,7 @@
 -- The tests of refusals 9, 10 and 11 in the code's terms: one law for each way out.
 -- Assumes nothing.
 use mathlib.Core.Path.{◌≡◌, refl, sym, ap, ap₂, ◌∙◌}
-use mathlib.Core.Bool.{Bool, true, false, not, ◌&&◌, ◌||◌, and_true}
+use mathlib.Core.Bool.{Bool, true, false, not, ◌&&◌, ◌||◌, and-true}
 use mathlib.Core.List.{List}
 use mathlib.Core.Option.{Option}
 use Prim.Native.Nat.{ℕ, zero, suc, ◌+◌, ◌*◌, ◌/◌, ◌^◌, ◌≤◌, ◌<◌}
@@ -96,7 +96,7 @@ module _ (d : List ℕ) (p s x : ℕ) (r : Bool) (level : r ≡ pin_right (level
 -- item 0 has no position
 pub nine_zero : (d : List ℕ) (p s : ℕ) → nine_right d p s 0 ≡ pin_right (level_at d p s 0)
 unfolding nine_right
-nine_zero d p s = and_true (pin_right (level_at d p s 0))
+nine_zero d p s = and-true (pin_right (level_at d p s 0))
 
 -- ---- 10
 

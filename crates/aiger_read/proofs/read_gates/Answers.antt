@@ -52,7 +52,7 @@ fill-requires c =
     let bytes-in : List ℕ = c.args.bytes.now in
     let start-in : start_told (gates_start (bytes-in)) ≡ StartAt c.in-At.header c.in-At.at = sym c.start_of.ensures ∙ c.in-At.is in
     record {
-      c.before.before = sym c.judge.ensures ∙ c.in-Good.is;
+      good = sym c.judge.ensures ∙ c.in-Good.is;
       room = c.if-words-gates.false;
       fits = omega (arith, header_bound _ _ _ (start-in));
     }

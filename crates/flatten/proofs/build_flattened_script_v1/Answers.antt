@@ -56,4 +56,4 @@ shape_of-pieces c =
 pub returns-in-Accepted : goal.returns-in-Accepted
 returns-in-Accepted c =
     let e = accepted_is (plan_verdict c.args.plan.now (length c.args.room.now)) (sym c.in-Accepted.is ∙ c.check_plan.ensures.value) in
-    let k = accepted_building c.args.plan.now c.args.room.now e (length c.args.starts.now) (length c.args.words.now) (length c.args.pieces.now) in record { value = c.build_accepted.ensures.value ∙ ap flattened_of k; room_after = cleared_room c.args.plan.now c.args.room.now e _ _ c.check_plan.auto.room c.build_accepted.ensures.room_after; starts_after = c.build_accepted.ensures.starts_after ∙ ap (λ (c.before.before.before.before.before.before.before.before.before.before.before.before.before.before.before.before.before.before.before.before.before.before.before.before.before.before.before.before.before.before.before.before.before.before.before.before : Answer Sizes). laid c.before.before.before.before.before.before.before.before.before.before.before.before.before.before.before.before.before.before.before.before.before.before.before.before.before.before.before.before.before.before.before.before.before.before.before.before (script_starts (plan_lanes c.args.plan.now) c.args.plan.now) c.args.starts.now) k; words_after = c.build_accepted.ensures.words_after ∙ ap (λ (c.before.before.before.before.before.before.before.before.before.before.before.before.before.before.before.before.before.before.before.before.before.before.before.before.before.before.before.before.before.before.before.before.before.before.before.before : Answer Sizes). laid c.before.before.before.before.before.before.before.before.before.before.before.before.before.before.before.before.before.before.before.before.before.before.before.before.before.before.before.before.before.before.before.before.before.before.before.before (script_words (plan_lanes c.args.plan.now) c.args.plan.now) c.args.words.now) k; pieces_after = c.build_accepted.ensures.pieces_after ∙ ap (λ (c.before.before.before.before.before.before.before.before.before.before.before.before.before.before.before.before.before.before.before.before.before.before.before.before.before.before.before.before.before.before.before.before.before.before.before.before : Answer Sizes). laid c.before.before.before.before.before.before.before.before.before.before.before.before.before.before.before.before.before.before.before.before.before.before.before.before.before.before.before.before.before.before.before.before.before.before.before.before (piece_sizes (plan_lanes c.args.plan.now) c.args.plan.now) c.args.pieces.now) k }
+    let k = accepted_building c.args.plan.now c.args.room.now e (length c.args.starts.now) (length c.args.words.now) (length c.args.pieces.now) in record { value = c.build_accepted.ensures.value ∙ ap flattened_of k; room_after = cleared_room c.args.plan.now c.args.room.now e _ _ c.check_plan.auto.room c.build_accepted.ensures.room_after; starts_after = c.build_accepted.ensures.starts_after ∙ ap (λ (x : Answer Sizes). laid x (script_starts (plan_lanes c.args.plan.now) c.args.plan.now) c.args.starts.now) k; words_after = c.build_accepted.ensures.words_after ∙ ap (λ (x : Answer Sizes). laid x (script_words (plan_lanes c.args.plan.now) c.args.plan.now) c.args.words.now) k; pieces_after = c.build_accepted.ensures.pieces_after ∙ ap (λ (x : Answer Sizes). laid x (piece_sizes (plan_lanes c.args.plan.now) c.args.plan.now) c.args.pieces.now) k }

@@ -25,7 +25,7 @@ returns-then-is_refused c =
 
 pub check_totals-totals-requires : goal.check_totals-totals-requires
 check_totals-totals-requires c =
-    let lists : list_refusal (begun (listed c.before.before.before)).args.plan.now ≡ none = went_on (list_refusal (begun (listed c.before.before.before)).args.plan.now) _ c.check_lists-lists.ensures _ c.is_refused.ensures c.if-is_refused.false in
+    let lists : list_refusal c.args.plan.now ≡ none = went_on (list_refusal c.args.plan.now) _ c.check_lists-lists.ensures _ c.is_refused.ensures c.if-is_refused.false in
     (
       may_fill c.args.plan.now c.args.room.now c.requires.0 (lists),
       omega (arith, c.check_lists-lists.auto.keys, c.requires.1.keys-room),
@@ -34,59 +34,59 @@ check_totals-totals-requires c =
 
 pub shape_of-keys-then-is_refused-2 : goal.shape_of-keys-then-is_refused-2
 shape_of-keys-then-is_refused-2 c =
-    let keys-summed : length c.check_totals-totals.new.keys ≡ length (begun (listed (on-lists c.before.before.before.before.before.before.before.before))).args.keys.now = c.check_totals-totals.auto.keys ∙ (listed (on-lists c.before.before.before.before.before.before.before.before)).check-lists.auto.1.0 in
+    let keys-summed : length c.check_totals-totals.new.keys ≡ length c.args.keys.now = c.check_totals-totals.auto.keys ∙ c.check_lists-lists.auto.keys in
     keys-summed
 
 pub shape_of-scratch-then-is_refused-2 : goal.shape_of-scratch-then-is_refused-2
 shape_of-scratch-then-is_refused-2 c =
-    let scratch-summed : length c.check_totals-totals.new.scratch ≡ length (begun (listed (on-lists c.before.before.before.before.before.before.before.before))).args.scratch.now = c.check_totals-totals.auto.scratch ∙ (listed (on-lists c.before.before.before.before.before.before.before.before)).check-lists.auto.1.1.0 in
+    let scratch-summed : length c.check_totals-totals.new.scratch ≡ length c.args.scratch.now = c.check_totals-totals.auto.scratch ∙ c.check_lists-lists.auto.scratch in
     scratch-summed
 
 pub returns-then-is_refused-2 : goal.returns-then-is_refused-2
 returns-then-is_refused-2 c =
-    let lists : list_refusal (begun (listed c.before.before.before.before.before.before.before.before.before.before.before.before)).args.plan.now ≡ none = went_on (list_refusal (begun (listed c.before.before.before.before.before.before.before.before.before.before.before.before)).args.plan.now) _ c.check_lists-lists.ensures _ c.is_refused.ensures c.if-is_refused.false in
-    let d = (begun (listed c.before.before.before.before.before.before.before.before.before.before.before.before)).args.plan.now in
+    let lists : list_refusal c.args.plan.now ≡ none = went_on (list_refusal c.args.plan.now) _ c.check_lists-lists.ensures _ c.is_refused.ensures c.if-is_refused.false in
+    let d = c.args.plan.now in
     let is = plan_totals d _ (lists) _ c.check_totals-totals.ensures.value c.is_refused-2.ensures c.if-is_refused-2.true in
     record { value = is; room_after = λ e. never (plan_refusal d) _ is _ c.is_refused-2.ensures c.if-is_refused-2.true e }
 
 pub check_pins-pins-requires : goal.check_pins-pins-requires
 check_pins-pins-requires c =
-    let lists : list_refusal (begun (listed c.before.before.before.before.before.before.before.before.before.before.before.before.before)).args.plan.now ≡ none = went_on (list_refusal (begun (listed c.before.before.before.before.before.before.before.before.before.before.before.before.before)).args.plan.now) _ c.check_lists-lists.ensures _ c.is_refused.ensures c.if-is_refused.false in
-    let totals : total_refusal (begun (listed (on-lists (summed c.before)))).args.plan.now ≡ none = let d = (begun (listed (on-lists (summed c.before)))).args.plan.now in
+    let lists : list_refusal c.args.plan.now ≡ none = went_on (list_refusal c.args.plan.now) _ c.check_lists-lists.ensures _ c.is_refused.ensures c.if-is_refused.false in
+    let totals : total_refusal c.args.plan.now ≡ none = let d = c.args.plan.now in
     went_on (total_refusal d) _ c.check_totals-totals.ensures.value _ c.is_refused-2.ensures c.if-is_refused-2.false in
     let l = lists_passed c.args.plan.now (lists) in
     (l.0, l.1, stays_clear c.args.plan.now c.args.room.now c.requires.0 (lists) (totals) _ c.check_totals-totals.ensures.room_after)
 
 pub shape_of-room-then-is_refused-3 : goal.shape_of-room-then-is_refused-3
 shape_of-room-then-is_refused-3 c =
-    let room-pinned : length c.check_pins-pins.new.room ≡ length (begun (listed (on-lists (summed (on-totals c.before.before.before.before))))).args.room.now = c.check_pins-pins.auto.room ∙ (summed (on-totals c.before.before.before.before)).check-totals.auto.1.0 in
+    let room-pinned : length c.check_pins-pins.new.room ≡ length c.args.room.now = c.check_pins-pins.auto.room ∙ c.check_totals-totals.auto.room in
     room-pinned
 
 pub shape_of-keys-then-is_refused-3 : goal.shape_of-keys-then-is_refused-3
 shape_of-keys-then-is_refused-3 c =
-    let keys-summed : length c.check_totals-totals.new.keys ≡ length (begun (listed (on-lists c.before.before.before.before.before.before.before.before.before.before.before.before.before.before))).args.keys.now = c.check_totals-totals.auto.keys ∙ (listed (on-lists c.before.before.before.before.before.before.before.before.before.before.before.before.before.before)).check-lists.auto.1.0 in
+    let keys-summed : length c.check_totals-totals.new.keys ≡ length c.args.keys.now = c.check_totals-totals.auto.keys ∙ c.check_lists-lists.auto.keys in
     keys-summed
 
 pub shape_of-scratch-then-is_refused-3 : goal.shape_of-scratch-then-is_refused-3
 shape_of-scratch-then-is_refused-3 c =
-    let scratch-summed : length c.check_totals-totals.new.scratch ≡ length (begun (listed (on-lists c.before.before.before.before.before.before.before.before.before.before.before.before.before.before))).args.scratch.now = c.check_totals-totals.auto.scratch ∙ (listed (on-lists c.before.before.before.before.before.before.before.before.before.before.before.before.before.before)).check-lists.auto.1.1.0 in
+    let scratch-summed : length c.check_totals-totals.new.scratch ≡ length c.args.scratch.now = c.check_totals-totals.auto.scratch ∙ c.check_lists-lists.auto.scratch in
     scratch-summed
 
 pub returns-then-is_refused-3 : goal.returns-then-is_refused-3
 returns-then-is_refused-3 c =
-    let lists : list_refusal (begun (listed c.before.before.before.before.before.before.before.before.before.before.before.before.before.before.before.before.before.before)).args.plan.now ≡ none = went_on (list_refusal (begun (listed c.before.before.before.before.before.before.before.before.before.before.before.before.before.before.before.before.before.before)).args.plan.now) _ c.check_lists-lists.ensures _ c.is_refused.ensures c.if-is_refused.false in
-    let totals : total_refusal (begun (listed (on-lists (summed c.before.before.before.before.before.before)))).args.plan.now ≡ none = let d = (begun (listed (on-lists (summed c.before.before.before.before.before.before)))).args.plan.now in
+    let lists : list_refusal c.args.plan.now ≡ none = went_on (list_refusal c.args.plan.now) _ c.check_lists-lists.ensures _ c.is_refused.ensures c.if-is_refused.false in
+    let totals : total_refusal c.args.plan.now ≡ none = let d = c.args.plan.now in
     went_on (total_refusal d) _ c.check_totals-totals.ensures.value _ c.is_refused-2.ensures c.if-is_refused-2.false in
-    let d = (begun (listed c.before.before.before.before.before.before.before.before.before.before.before.before.before.before.before.before.before.before)).args.plan.now in
+    let d = c.args.plan.now in
     let is = plan_pins d _ (lists) (totals) _ c.check_pins-pins.ensures.value c.is_refused-3.ensures c.if-is_refused-3.true in
     record { value = is; room_after = λ e. never (plan_refusal d) _ is _ c.is_refused-3.ensures c.if-is_refused-3.true e }
 
 pub check_places-places-requires : goal.check_places-places-requires
 check_places-places-requires c =
-    let lists : list_refusal (begun (listed c.before.before.before.before.before.before.before.before.before.before.before.before.before.before.before.before.before.before.before.before)).args.plan.now ≡ none = went_on (list_refusal (begun (listed c.before.before.before.before.before.before.before.before.before.before.before.before.before.before.before.before.before.before.before.before)).args.plan.now) _ c.check_lists-lists.ensures _ c.is_refused.ensures c.if-is_refused.false in
-    let totals : total_refusal (begun (listed (on-lists (summed c.before.before.before.before.before.before.before.before)))).args.plan.now ≡ none = let d = (begun (listed (on-lists (summed c.before.before.before.before.before.before.before.before)))).args.plan.now in
+    let lists : list_refusal c.args.plan.now ≡ none = went_on (list_refusal c.args.plan.now) _ c.check_lists-lists.ensures _ c.is_refused.ensures c.if-is_refused.false in
+    let totals : total_refusal c.args.plan.now ≡ none = let d = c.args.plan.now in
     went_on (total_refusal d) _ c.check_totals-totals.ensures.value _ c.is_refused-2.ensures c.if-is_refused-2.false in
-    let keys-summed : length c.check_totals-totals.new.keys ≡ length (begun (listed (on-lists c.before.before.before.before.before.before.before.before.before.before.before.before.before.before.before.before))).args.keys.now = c.check_totals-totals.auto.keys ∙ (listed (on-lists c.before.before.before.before.before.before.before.before.before.before.before.before.before.before.before.before)).check-lists.auto.1.0 in
+    let keys-summed : length c.check_totals-totals.new.keys ≡ length c.args.keys.now = c.check_totals-totals.auto.keys ∙ c.check_lists-lists.auto.keys in
     (
       may_judge c.args.plan.now c.args.room.now c.requires.0 (lists) (totals) _ (c.check_pins-pins.ensures.room_unchanged ∙ c.check_totals-totals.ensures.room_after),
       omega (arith, keys-summed, c.requires.1.keys-room),
@@ -94,42 +94,42 @@ check_places-places-requires c =
 
 pub shape_of-room-then-is_refused-4 : goal.shape_of-room-then-is_refused-4
 shape_of-room-then-is_refused-4 c =
-    let room-pinned : length c.check_pins-pins.new.room ≡ length (begun (listed (on-lists (summed (on-totals c.before.before.before.before.before.before.before.before.before.before.before.before.before))))).args.room.now = c.check_pins-pins.auto.room ∙ (summed (on-totals c.before.before.before.before.before.before.before.before.before.before.before.before.before)).check-totals.auto.1.0 in
-    let room-placed : length c.check_places-places.new.room ≡ length (begun (listed (on-lists (summed (on-totals (pinned (on-pins c.before.before.before.before.before.before))))))).args.room.now = c.check_places-places.auto.room ∙ room-pinned in
+    let room-pinned : length c.check_pins-pins.new.room ≡ length c.args.room.now = c.check_pins-pins.auto.room ∙ c.check_totals-totals.auto.room in
+    let room-placed : length c.check_places-places.new.room ≡ length c.args.room.now = c.check_places-places.auto.room ∙ room-pinned in
     room-placed
 
 pub shape_of-keys-then-is_refused-4 : goal.shape_of-keys-then-is_refused-4
 shape_of-keys-then-is_refused-4 c =
-    let keys-summed : length c.check_totals-totals.new.keys ≡ length (begun (listed (on-lists c.before.before.before.before.before.before.before.before.before.before.before.before.before.before.before.before.before.before.before.before.before.before.before))).args.keys.now = c.check_totals-totals.auto.keys ∙ (listed (on-lists c.before.before.before.before.before.before.before.before.before.before.before.before.before.before.before.before.before.before.before.before.before.before.before)).check-lists.auto.1.0 in
-    let keys-placed : length c.check_places-places.new.keys ≡ length (begun (listed (on-lists (summed (on-totals (pinned (on-pins c.before.before.before.before.before.before))))))).args.keys.now = c.check_places-places.auto.keys ∙ keys-summed in
+    let keys-summed : length c.check_totals-totals.new.keys ≡ length c.args.keys.now = c.check_totals-totals.auto.keys ∙ c.check_lists-lists.auto.keys in
+    let keys-placed : length c.check_places-places.new.keys ≡ length c.args.keys.now = c.check_places-places.auto.keys ∙ keys-summed in
     keys-placed
 
 pub shape_of-scratch-then-is_refused-4 : goal.shape_of-scratch-then-is_refused-4
 shape_of-scratch-then-is_refused-4 c =
-    let scratch-summed : length c.check_totals-totals.new.scratch ≡ length (begun (listed (on-lists c.before.before.before.before.before.before.before.before.before.before.before.before.before.before.before.before.before.before.before.before.before.before.before))).args.scratch.now = c.check_totals-totals.auto.scratch ∙ (listed (on-lists c.before.before.before.before.before.before.before.before.before.before.before.before.before.before.before.before.before.before.before.before.before.before.before)).check-lists.auto.1.1.0 in
+    let scratch-summed : length c.check_totals-totals.new.scratch ≡ length c.args.scratch.now = c.check_totals-totals.auto.scratch ∙ c.check_lists-lists.auto.scratch in
     scratch-summed
 
 pub returns-then-is_refused-4 : goal.returns-then-is_refused-4
 returns-then-is_refused-4 c =
-    let lists : list_refusal (begun (listed c.before.before.before.before.before.before.before.before.before.before.before.before.before.before.before.before.before.before.before.before.before.before.before.before.before.before.before)).args.plan.now ≡ none = went_on (list_refusal (begun (listed c.before.before.before.before.before.before.before.before.before.before.before.before.before.before.before.before.before.before.before.before.before.before.before.before.before.before.before)).args.plan.now) _ c.check_lists-lists.ensures _ c.is_refused.ensures c.if-is_refused.false in
-    let totals : total_refusal (begun (listed (on-lists (summed c.before.before.before.before.before.before.before.before.before.before.before.before.before.before.before)))).args.plan.now ≡ none = let d = (begun (listed (on-lists (summed c.before.before.before.before.before.before.before.before.before.before.before.before.before.before.before)))).args.plan.now in
+    let lists : list_refusal c.args.plan.now ≡ none = went_on (list_refusal c.args.plan.now) _ c.check_lists-lists.ensures _ c.is_refused.ensures c.if-is_refused.false in
+    let totals : total_refusal c.args.plan.now ≡ none = let d = c.args.plan.now in
     went_on (total_refusal d) _ c.check_totals-totals.ensures.value _ c.is_refused-2.ensures c.if-is_refused-2.false in
-    let pins : pin_refusal (begun (listed (on-lists (summed (on-totals (pinned c.before.before.before.before.before.before.before.before.before)))))).args.plan.now ≡ none = let d = (begun (listed (on-lists (summed (on-totals (pinned c.before.before.before.before.before.before.before.before.before)))))).args.plan.now in
+    let pins : pin_refusal c.args.plan.now ≡ none = let d = c.args.plan.now in
     went_on (pin_refusal d) _ c.check_pins-pins.ensures.value _ c.is_refused-3.ensures c.if-is_refused-3.false in
-    let d = (begun (listed c.before.before.before.before.before.before.before.before.before.before.before.before.before.before.before.before.before.before.before.before.before.before.before.before.before.before.before)).args.plan.now in
+    let d = c.args.plan.now in
     let is = plan_places d _ (lists) (totals) (pins) _ c.check_places-places.ensures.value c.is_refused-4.ensures c.if-is_refused-4.true in
     record { value = is; room_after = λ e. never (plan_refusal d) _ is _ c.is_refused-4.ensures c.if-is_refused-4.true e }
 
 pub check_reading-requires : goal.check_reading-requires
 check_reading-requires c =
-    let lists : list_refusal (begun (listed c.before.before.before.before.before.before.before.before.before.before.before.before.before.before.before.before.before.before.before.before.before.before.before.before.before.before.before.before.before.before.before)).args.plan.now ≡ none = went_on (list_refusal (begun (listed c.before.before.before.before.before.before.before.before.before.before.before.before.before.before.before.before.before.before.before.before.before.before.before.before.before.before.before.before.before.before.before)).args.plan.now) _ c.check_lists-lists.ensures _ c.is_refused.ensures c.if-is_refused.false in
-    let totals : total_refusal (begun (listed (on-lists (summed c.before.before.before.before.before.before.before.before.before.before.before.before.before.before.before.before.before.before.before)))).args.plan.now ≡ none = let d = (begun (listed (on-lists (summed c.before.before.before.before.before.before.before.before.before.before.before.before.before.before.before.before.before.before.before)))).args.plan.now in
+    let lists : list_refusal c.args.plan.now ≡ none = went_on (list_refusal c.args.plan.now) _ c.check_lists-lists.ensures _ c.is_refused.ensures c.if-is_refused.false in
+    let totals : total_refusal c.args.plan.now ≡ none = let d = c.args.plan.now in
     went_on (total_refusal d) _ c.check_totals-totals.ensures.value _ c.is_refused-2.ensures c.if-is_refused-2.false in
-    let places : place_refusal (begun (listed (on-lists (summed (on-totals (pinned (on-pins (placed c.before.before.before.before)))))))).args.plan.now ≡ none = let d = (begun (listed (on-lists (summed (on-totals (pinned (on-pins (placed c.before.before.before.before)))))))).args.plan.now in
+    let places : place_refusal c.args.plan.now ≡ none = let d = c.args.plan.now in
     went_on (place_refusal d) _ c.check_places-places.ensures.value _ c.is_refused-4.ensures c.if-is_refused-4.false in
-    let keys-summed : length c.check_totals-totals.new.keys ≡ length (begun (listed (on-lists c.before.before.before.before.before.before.before.before.before.before.before.before.before.before.before.before.before.before.before.before.before.before.before.before.before.before.before))).args.keys.now = c.check_totals-totals.auto.keys ∙ (listed (on-lists c.before.before.before.before.before.before.before.before.before.before.before.before.before.before.before.before.before.before.before.before.before.before.before.before.before.before.before)).check-lists.auto.1.0 in
-    let keys-placed : length c.check_places-places.new.keys ≡ length (begun (listed (on-lists (summed (on-totals (pinned (on-pins c.before.before.before.before.before.before.before.before.before.before))))))).args.keys.now = c.check_places-places.auto.keys ∙ keys-summed in
-    let scratch-summed : length c.check_totals-totals.new.scratch ≡ length (begun (listed (on-lists c.before.before.before.before.before.before.before.before.before.before.before.before.before.before.before.before.before.before.before.before.before.before.before.before.before.before.before))).args.scratch.now = c.check_totals-totals.auto.scratch ∙ (listed (on-lists c.before.before.before.before.before.before.before.before.before.before.before.before.before.before.before.before.before.before.before.before.before.before.before.before.before.before.before)).check-lists.auto.1.1.0 in
+    let keys-summed : length c.check_totals-totals.new.keys ≡ length c.args.keys.now = c.check_totals-totals.auto.keys ∙ c.check_lists-lists.auto.keys in
+    let keys-placed : length c.check_places-places.new.keys ≡ length c.args.keys.now = c.check_places-places.auto.keys ∙ keys-summed in
+    let scratch-summed : length c.check_totals-totals.new.scratch ≡ length c.args.scratch.now = c.check_totals-totals.auto.scratch ∙ c.check_lists-lists.auto.scratch in
     (
       may_search c.args.plan.now c.args.room.now c.requires.0 (lists) (totals) _ (c.check_places-places.ensures.room_unchanged ∙ (c.check_pins-pins.ensures.room_unchanged ∙ c.check_totals-totals.ensures.room_after)) (places),
       record {
@@ -141,31 +141,31 @@ check_reading-requires c =
 
 pub shape_of-room : goal.shape_of-room
 shape_of-room c =
-    let room-pinned : length c.check_pins-pins.new.room ≡ length (begun (listed (on-lists (summed (on-totals c.before.before.before.before.before.before.before.before.before.before.before.before.before.before.before.before.before.before.before.before.before.before.before.before.before.before))))).args.room.now = c.check_pins-pins.auto.room ∙ (summed (on-totals c.before.before.before.before.before.before.before.before.before.before.before.before.before.before.before.before.before.before.before.before.before.before.before.before.before.before)).check-totals.auto.1.0 in
-    let room-placed : length c.check_places-places.new.room ≡ length (begun (listed (on-lists (summed (on-totals (pinned (on-pins c.before.before.before.before.before.before.before.before.before.before.before.before.before.before.before.before.before.before.before))))))).args.room.now = c.check_places-places.auto.room ∙ room-pinned in
-    c.check_reading.kept.1.0 ∙ room-placed
+    let room-pinned : length c.check_pins-pins.new.room ≡ length c.args.room.now = c.check_pins-pins.auto.room ∙ c.check_totals-totals.auto.room in
+    let room-placed : length c.check_places-places.new.room ≡ length c.args.room.now = c.check_places-places.auto.room ∙ room-pinned in
+    c.check_reading.auto.room ∙ room-placed
 
 pub shape_of-keys : goal.shape_of-keys
 shape_of-keys c =
-    let keys-summed : length c.check_totals-totals.new.keys ≡ length (begun (listed (on-lists c.before.before.before.before.before.before.before.before.before.before.before.before.before.before.before.before.before.before.before.before.before.before.before.before.before.before.before.before.before.before.before.before.before.before.before.before))).args.keys.now = c.check_totals-totals.auto.keys ∙ (listed (on-lists c.before.before.before.before.before.before.before.before.before.before.before.before.before.before.before.before.before.before.before.before.before.before.before.before.before.before.before.before.before.before.before.before.before.before.before.before)).check-lists.auto.1.0 in
-    let keys-placed : length c.check_places-places.new.keys ≡ length (begun (listed (on-lists (summed (on-totals (pinned (on-pins c.before.before.before.before.before.before.before.before.before.before.before.before.before.before.before.before.before.before.before))))))).args.keys.now = c.check_places-places.auto.keys ∙ keys-summed in
-    c.check_reading.kept.1.1.0 ∙ keys-placed
+    let keys-summed : length c.check_totals-totals.new.keys ≡ length c.args.keys.now = c.check_totals-totals.auto.keys ∙ c.check_lists-lists.auto.keys in
+    let keys-placed : length c.check_places-places.new.keys ≡ length c.args.keys.now = c.check_places-places.auto.keys ∙ keys-summed in
+    c.check_reading.auto.keys ∙ keys-placed
 
 pub shape_of-scratch : goal.shape_of-scratch
 shape_of-scratch c =
-    let scratch-summed : length c.check_totals-totals.new.scratch ≡ length (begun (listed (on-lists c.before.before.before.before.before.before.before.before.before.before.before.before.before.before.before.before.before.before.before.before.before.before.before.before.before.before.before.before.before.before.before.before.before.before.before.before))).args.scratch.now = c.check_totals-totals.auto.scratch ∙ (listed (on-lists c.before.before.before.before.before.before.before.before.before.before.before.before.before.before.before.before.before.before.before.before.before.before.before.before.before.before.before.before.before.before.before.before.before.before.before.before)).check-lists.auto.1.1.0 in
-    c.check_reading.kept.1.1.1.0 ∙ scratch-summed
+    let scratch-summed : length c.check_totals-totals.new.scratch ≡ length c.args.scratch.now = c.check_totals-totals.auto.scratch ∙ c.check_lists-lists.auto.scratch in
+    c.check_reading.auto.scratch ∙ scratch-summed
 
 pub shape_of-set : goal.shape_of-set
 shape_of-set c = c.check_reading.auto.set
 
 pub returns : goal.returns
 returns c =
-    let lists : list_refusal (begun (listed c.before.before.before.before.before.before.before.before.before.before.before.before.before.before.before.before.before.before.before.before.before.before.before.before.before.before.before.before.before.before.before.before.before.before.before.before.before.before.before.before)).args.plan.now ≡ none = went_on (list_refusal (begun (listed c.before.before.before.before.before.before.before.before.before.before.before.before.before.before.before.before.before.before.before.before.before.before.before.before.before.before.before.before.before.before.before.before.before.before.before.before.before.before.before.before)).args.plan.now) _ c.check_lists-lists.ensures _ c.is_refused.ensures c.if-is_refused.false in
-    let totals : total_refusal (begun (listed (on-lists (summed c.before.before.before.before.before.before.before.before.before.before.before.before.before.before.before.before.before.before.before.before.before.before.before.before.before.before.before.before)))).args.plan.now ≡ none = let d = (begun (listed (on-lists (summed c.before.before.before.before.before.before.before.before.before.before.before.before.before.before.before.before.before.before.before.before.before.before.before.before.before.before.before.before)))).args.plan.now in
+    let lists : list_refusal c.args.plan.now ≡ none = went_on (list_refusal c.args.plan.now) _ c.check_lists-lists.ensures _ c.is_refused.ensures c.if-is_refused.false in
+    let totals : total_refusal c.args.plan.now ≡ none = let d = c.args.plan.now in
     went_on (total_refusal d) _ c.check_totals-totals.ensures.value _ c.is_refused-2.ensures c.if-is_refused-2.false in
-    let pins : pin_refusal (begun (listed (on-lists (summed (on-totals (pinned c.before.before.before.before.before.before.before.before.before.before.before.before.before.before.before.before.before.before.before.before.before.before)))))).args.plan.now ≡ none = let d = (begun (listed (on-lists (summed (on-totals (pinned c.before.before.before.before.before.before.before.before.before.before.before.before.before.before.before.before.before.before.before.before.before.before)))))).args.plan.now in
+    let pins : pin_refusal c.args.plan.now ≡ none = let d = c.args.plan.now in
     went_on (pin_refusal d) _ c.check_pins-pins.ensures.value _ c.is_refused-3.ensures c.if-is_refused-3.false in
-    let places : place_refusal (begun (listed (on-lists (summed (on-totals (pinned (on-pins (placed c.before.before.before.before.before.before.before.before.before.before.before.before.before)))))))).args.plan.now ≡ none = let d = (begun (listed (on-lists (summed (on-totals (pinned (on-pins (placed c.before.before.before.before.before.before.before.before.before.before.before.before.before)))))))).args.plan.now in
+    let places : place_refusal c.args.plan.now ≡ none = let d = c.args.plan.now in
     went_on (place_refusal d) _ c.check_places-places.ensures.value _ c.is_refused-4.ensures c.if-is_refused-4.false in
     record { value = plan_reads c.args.plan.now _ (lists) (totals) (pins) (places) c.check_reading.ensures.value; room_after = λ e. room_ready c.args.plan.now c.args.room.now c.requires.0 (lists) (totals) _ (c.check_places-places.ensures.room_unchanged ∙ (c.check_pins-pins.ensures.room_unchanged ∙ c.check_totals-totals.ensures.room_after)) _ c.check_reading.ensures.room_after e }

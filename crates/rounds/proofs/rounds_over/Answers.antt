@@ -38,22 +38,22 @@ search_sizes-requires c =
 
 pub longest_row-rounds-requires : goal.longest_row-rounds-requires
 longest_row-rounds-requires c =
-    let won-in : let a = (called (formed (found c.before))).args in (x : Packed) × (packed a.lanes (pairs_of a.set.now) ≡ good x) × (x.size ≡ c.in-Won.size) = won_is _ _ (sym c.search_sizes.ensures.value ∙ c.in-Won.is) in
+    let won-in : let a = c.args in (x : Packed) × (packed a.lanes (pairs_of a.set.now) ≡ good x) × (x.size ≡ c.in-Won.size) = won_is _ _ (sym c.search_sizes.ensures.value ∙ c.in-Won.is) in
     let few-in : length c.args.set.now ≤ 16384 = c.if-set-gt-SET_WORDS.false in
     let form_in : broken (pairs_of c.args.set.now) ≡ none = item_none _ (sym c.check_form.ensures ∙ c.in_default.is) in
     let search-in : SetSearchable c.args.set.now (length c.args.table.now) (length c.args.keys.now) (length c.args.scratch.now) c.args.lanes = searchable_set c.requires (few-in) (form_in) (λ x. (c.type_inv.set x).fits) in
-    let table-in : let a = (called (formed (found c.before))).args in TableReadable a.set.now c.search_sizes.new.table a.lanes × (lanes_at a.set.now c.search_sizes.new.table a.lanes ≡ (won-in).0.lanes) = let x = won-in in
-    won_table (search-in) x.0.lanes c.search_sizes.last.1.0 (placed_lanes _ _ x.0 x.1) c.search_sizes.ensures.table_after (c.search_sizes.kept.1.0 ∙ c.requires.room) in
+    let table-in : let a = c.args in TableReadable a.set.now c.search_sizes.new.table a.lanes × (lanes_at a.set.now c.search_sizes.new.table a.lanes ≡ (won-in).0.lanes) = let x = won-in in
+    won_table (search-in) x.0.lanes c.search_sizes.new.table (placed_lanes _ _ x.0 x.1) c.search_sizes.ensures.table_after (c.search_sizes.auto.table ∙ c.requires.room) in
     (table-in).0
 
 pub overflow_mul-lanes-in-Won : goal.overflow_mul-lanes-in-Won
 overflow_mul-lanes-in-Won c =
-    let won-in : let a = (called (formed (found c.before.before))).args in (x : Packed) × (packed a.lanes (pairs_of a.set.now) ≡ good x) × (x.size ≡ c.in-Won.size) = won_is _ _ (sym c.search_sizes.ensures.value ∙ c.in-Won.is) in
+    let won-in : let a = c.args in (x : Packed) × (packed a.lanes (pairs_of a.set.now) ≡ good x) × (x.size ≡ c.in-Won.size) = won_is _ _ (sym c.search_sizes.ensures.value ∙ c.in-Won.is) in
     let few-in : length c.args.set.now ≤ 16384 = c.if-set-gt-SET_WORDS.false in
     let form_in : broken (pairs_of c.args.set.now) ≡ none = item_none _ (sym c.check_form.ensures ∙ c.in_default.is) in
     let search-in : SetSearchable c.args.set.now (length c.args.table.now) (length c.args.keys.now) (length c.args.scratch.now) c.args.lanes = searchable_set c.requires (few-in) (form_in) (λ x. (c.type_inv.set x).fits) in
-    let table-in : let a = (called (formed (found c.before.before))).args in TableReadable a.set.now c.search_sizes.new.table a.lanes × (lanes_at a.set.now c.search_sizes.new.table a.lanes ≡ (won-in).0.lanes) = let x = won-in in
-    won_table (search-in) x.0.lanes c.search_sizes.last.1.0 (placed_lanes _ _ x.0 x.1) c.search_sizes.ensures.table_after (c.search_sizes.kept.1.0 ∙ c.requires.room) in
+    let table-in : let a = c.args in TableReadable a.set.now c.search_sizes.new.table a.lanes × (lanes_at a.set.now c.search_sizes.new.table a.lanes ≡ (won-in).0.lanes) = let x = won-in in
+    won_table (search-in) x.0.lanes c.search_sizes.new.table (placed_lanes _ _ x.0 x.1) c.search_sizes.ensures.table_after (c.search_sizes.auto.table ∙ c.requires.room) in
     let rounds-in : c.longest_row-rounds.result ≡ longest (won-in).0.lanes = c.longest_row-rounds.ensures ∙ ap longest (table-in).1 in
     let most-in : c.longest_row-rounds.result ≤ 32 = let x = won-in in
     let read = is_read c.args.lanes c.args.set.now 0 (few-in) (form_in) ∙ x.1 in
@@ -63,12 +63,12 @@ overflow_mul-lanes-in-Won c =
 
 pub returns-then-out-lanes : goal.returns-then-out-lanes
 returns-then-out-lanes c =
-    let won-in : let a = (called (formed (found c.before.before.before.before))).args in (x : Packed) × (packed a.lanes (pairs_of a.set.now) ≡ good x) × (x.size ≡ c.in-Won.size) = won_is _ _ (sym c.search_sizes.ensures.value ∙ c.in-Won.is) in
+    let won-in : let a = c.args in (x : Packed) × (packed a.lanes (pairs_of a.set.now) ≡ good x) × (x.size ≡ c.in-Won.size) = won_is _ _ (sym c.search_sizes.ensures.value ∙ c.in-Won.is) in
     let few-in : length c.args.set.now ≤ 16384 = c.if-set-gt-SET_WORDS.false in
     let form_in : broken (pairs_of c.args.set.now) ≡ none = item_none _ (sym c.check_form.ensures ∙ c.in_default.is) in
     let search-in : SetSearchable c.args.set.now (length c.args.table.now) (length c.args.keys.now) (length c.args.scratch.now) c.args.lanes = searchable_set c.requires (few-in) (form_in) (λ x. (c.type_inv.set x).fits) in
-    let table-in : let a = (called (formed (found c.before.before.before.before))).args in TableReadable a.set.now c.search_sizes.new.table a.lanes × (lanes_at a.set.now c.search_sizes.new.table a.lanes ≡ (won-in).0.lanes) = let x = won-in in
-    won_table (search-in) x.0.lanes c.search_sizes.last.1.0 (placed_lanes _ _ x.0 x.1) c.search_sizes.ensures.table_after (c.search_sizes.kept.1.0 ∙ c.requires.room) in
+    let table-in : let a = c.args in TableReadable a.set.now c.search_sizes.new.table a.lanes × (lanes_at a.set.now c.search_sizes.new.table a.lanes ≡ (won-in).0.lanes) = let x = won-in in
+    won_table (search-in) x.0.lanes c.search_sizes.new.table (placed_lanes _ _ x.0 x.1) c.search_sizes.ensures.table_after (c.search_sizes.auto.table ∙ c.requires.room) in
     let rounds-in : c.longest_row-rounds.result ≡ longest (won-in).0.lanes = c.longest_row-rounds.ensures ∙ ap longest (table-in).1 in
     let x = won-in in
     let short = is_short c.args.lanes c.args.set.now _ (few-in) (form_in) x.0 x.1 (rw (rounds-in) at c.if-out-lanes.true) in
@@ -77,12 +77,12 @@ returns-then-out-lanes c =
 
 pub write_rounds-requires : goal.write_rounds-requires
 write_rounds-requires c =
-    let won-in : let a = (called (formed (found c.before.before.before.before))).args in (x : Packed) × (packed a.lanes (pairs_of a.set.now) ≡ good x) × (x.size ≡ c.in-Won.size) = won_is _ _ (sym c.search_sizes.ensures.value ∙ c.in-Won.is) in
+    let won-in : let a = c.args in (x : Packed) × (packed a.lanes (pairs_of a.set.now) ≡ good x) × (x.size ≡ c.in-Won.size) = won_is _ _ (sym c.search_sizes.ensures.value ∙ c.in-Won.is) in
     let few-in : length c.args.set.now ≤ 16384 = c.if-set-gt-SET_WORDS.false in
     let form_in : broken (pairs_of c.args.set.now) ≡ none = item_none _ (sym c.check_form.ensures ∙ c.in_default.is) in
     let search-in : SetSearchable c.args.set.now (length c.args.table.now) (length c.args.keys.now) (length c.args.scratch.now) c.args.lanes = searchable_set c.requires (few-in) (form_in) (λ x. (c.type_inv.set x).fits) in
-    let table-in : let a = (called (formed (found c.before.before.before.before))).args in TableReadable a.set.now c.search_sizes.new.table a.lanes × (lanes_at a.set.now c.search_sizes.new.table a.lanes ≡ (won-in).0.lanes) = let x = won-in in
-    won_table (search-in) x.0.lanes c.search_sizes.last.1.0 (placed_lanes _ _ x.0 x.1) c.search_sizes.ensures.table_after (c.search_sizes.kept.1.0 ∙ c.requires.room) in
+    let table-in : let a = c.args in TableReadable a.set.now c.search_sizes.new.table a.lanes × (lanes_at a.set.now c.search_sizes.new.table a.lanes ≡ (won-in).0.lanes) = let x = won-in in
+    won_table (search-in) x.0.lanes c.search_sizes.new.table (placed_lanes _ _ x.0 x.1) c.search_sizes.ensures.table_after (c.search_sizes.auto.table ∙ c.requires.room) in
     let rounds-in : c.longest_row-rounds.result ≡ longest (won-in).0.lanes = c.longest_row-rounds.ensures ∙ ap longest (table-in).1 in
     let most-in : c.longest_row-rounds.result ≤ 32 = let x = won-in in
     let read = is_read c.args.lanes c.args.set.now 0 (few-in) (form_in) ∙ x.1 in
@@ -92,12 +92,12 @@ write_rounds-requires c =
 
 pub overflow_cast-result : goal.overflow_cast-result
 overflow_cast-result c =
-    let won-in : let a = (called (formed (found c.before.before.before.before.before.before.before))).args in (x : Packed) × (packed a.lanes (pairs_of a.set.now) ≡ good x) × (x.size ≡ c.in-Won.size) = won_is _ _ (sym c.search_sizes.ensures.value ∙ c.in-Won.is) in
+    let won-in : let a = c.args in (x : Packed) × (packed a.lanes (pairs_of a.set.now) ≡ good x) × (x.size ≡ c.in-Won.size) = won_is _ _ (sym c.search_sizes.ensures.value ∙ c.in-Won.is) in
     let few-in : length c.args.set.now ≤ 16384 = c.if-set-gt-SET_WORDS.false in
     let form_in : broken (pairs_of c.args.set.now) ≡ none = item_none _ (sym c.check_form.ensures ∙ c.in_default.is) in
     let search-in : SetSearchable c.args.set.now (length c.args.table.now) (length c.args.keys.now) (length c.args.scratch.now) c.args.lanes = searchable_set c.requires (few-in) (form_in) (λ x. (c.type_inv.set x).fits) in
-    let table-in : let a = (called (formed (found c.before.before.before.before.before.before.before))).args in TableReadable a.set.now c.search_sizes.new.table a.lanes × (lanes_at a.set.now c.search_sizes.new.table a.lanes ≡ (won-in).0.lanes) = let x = won-in in
-    won_table (search-in) x.0.lanes c.search_sizes.last.1.0 (placed_lanes _ _ x.0 x.1) c.search_sizes.ensures.table_after (c.search_sizes.kept.1.0 ∙ c.requires.room) in
+    let table-in : let a = c.args in TableReadable a.set.now c.search_sizes.new.table a.lanes × (lanes_at a.set.now c.search_sizes.new.table a.lanes ≡ (won-in).0.lanes) = let x = won-in in
+    won_table (search-in) x.0.lanes c.search_sizes.new.table (placed_lanes _ _ x.0 x.1) c.search_sizes.ensures.table_after (c.search_sizes.auto.table ∙ c.requires.room) in
     let rounds-in : c.longest_row-rounds.result ≡ longest (won-in).0.lanes = c.longest_row-rounds.ensures ∙ ap longest (table-in).1 in
     let most-in : c.longest_row-rounds.result ≤ 32 = let x = won-in in
     let read = is_read c.args.lanes c.args.set.now 0 (few-in) (form_in) ∙ x.1 in
@@ -107,7 +107,7 @@ overflow_cast-result c =
 
 pub overflow_cast-result-in-Won : goal.overflow_cast-result-in-Won
 overflow_cast-result-in-Won c =
-    let won-in : let a = (called (formed (found c.before.before.before.before.before.before.before))).args in (x : Packed) × (packed a.lanes (pairs_of a.set.now) ≡ good x) × (x.size ≡ c.in-Won.size) = won_is _ _ (sym c.search_sizes.ensures.value ∙ c.in-Won.is) in
+    let won-in : let a = c.args in (x : Packed) × (packed a.lanes (pairs_of a.set.now) ≡ good x) × (x.size ≡ c.in-Won.size) = won_is _ _ (sym c.search_sizes.ensures.value ∙ c.in-Won.is) in
     let few-in : length c.args.set.now ≤ 16384 = c.if-set-gt-SET_WORDS.false in
     let form_in : broken (pairs_of c.args.set.now) ≡ none = item_none _ (sym c.check_form.ensures ∙ c.in_default.is) in
     let search-in : SetSearchable c.args.set.now (length c.args.table.now) (length c.args.keys.now) (length c.args.scratch.now) c.args.lanes = searchable_set c.requires (few-in) (form_in) (λ x. (c.type_inv.set x).fits) in
@@ -125,12 +125,12 @@ returns-in-Lost c =
 
 pub returns-else-out-lanes : goal.returns-else-out-lanes
 returns-else-out-lanes c =
-    let won-in : let a = (called (formed (found c.before.before.before.before.before.before.before))).args in (x : Packed) × (packed a.lanes (pairs_of a.set.now) ≡ good x) × (x.size ≡ c.in-Won.size) = won_is _ _ (sym c.search_sizes.ensures.value ∙ c.in-Won.is) in
+    let won-in : let a = c.args in (x : Packed) × (packed a.lanes (pairs_of a.set.now) ≡ good x) × (x.size ≡ c.in-Won.size) = won_is _ _ (sym c.search_sizes.ensures.value ∙ c.in-Won.is) in
     let few-in : length c.args.set.now ≤ 16384 = c.if-set-gt-SET_WORDS.false in
     let form_in : broken (pairs_of c.args.set.now) ≡ none = item_none _ (sym c.check_form.ensures ∙ c.in_default.is) in
     let search-in : SetSearchable c.args.set.now (length c.args.table.now) (length c.args.keys.now) (length c.args.scratch.now) c.args.lanes = searchable_set c.requires (few-in) (form_in) (λ x. (c.type_inv.set x).fits) in
-    let table-in : let a = (called (formed (found c.before.before.before.before.before.before.before))).args in TableReadable a.set.now c.search_sizes.new.table a.lanes × (lanes_at a.set.now c.search_sizes.new.table a.lanes ≡ (won-in).0.lanes) = let x = won-in in
-    won_table (search-in) x.0.lanes c.search_sizes.last.1.0 (placed_lanes _ _ x.0 x.1) c.search_sizes.ensures.table_after (c.search_sizes.kept.1.0 ∙ c.requires.room) in
+    let table-in : let a = c.args in TableReadable a.set.now c.search_sizes.new.table a.lanes × (lanes_at a.set.now c.search_sizes.new.table a.lanes ≡ (won-in).0.lanes) = let x = won-in in
+    won_table (search-in) x.0.lanes c.search_sizes.new.table (placed_lanes _ _ x.0 x.1) c.search_sizes.ensures.table_after (c.search_sizes.auto.table ∙ c.requires.room) in
     let rounds-in : c.longest_row-rounds.result ≡ longest (won-in).0.lanes = c.longest_row-rounds.ensures ∙ ap longest (table-in).1 in
     let x = won-in in
     let fits = is_placed c.args.lanes c.args.set.now _ (few-in) (form_in) x.0 x.1 (rw (rounds-in) at c.if-out-lanes.false) in

@@ -37,4 +37,4 @@ shape_of-l c = simp length-set (omega arith)
 pub returns : goal.returns
 returns c =
     λ k e.
-    levels_end c.args.t.now c.args.l.now c.loop-m.l _ _ k _ c.loop-m.invariant c.loop-m-test.false (omega arith) c.low_word.type-inv c.low_word.ensures e
+    levels_end c.args.t.now c.args.l.now c.loop-m.l _ _ k _ c.loop-m.invariant c.loop-m-test.false (omega arith) c.low_word.type_inv c.low_word.ensures e

@@ -17,5 +17,5 @@ overflow_cast-result c = record { fits = mask_lt c.low_step-x-5.result 32 }
 
 pub returns : goal.returns
 returns c =
-    low_chain _ _ _ _ _ _ _ _ _ c.ranges.one.fits c.low_step-x-5.type-inv
+    low_chain _ _ _ _ _ _ _ _ _ c.ranges.one.fits c.low_step-x-5.type_inv
     c.low_step-x.ensures c.low_step-x-2.ensures c.low_step-x-3.ensures c.low_step-x-4.ensures c.low_step-x-5.ensures

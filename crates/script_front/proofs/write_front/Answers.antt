@@ -76,7 +76,7 @@ write_reads-requires c =
     front = set_front c.args.d.now c.args.p c.args.set.now _ _ c.find_reads-n.ensures.value c.find_reads-n.ensures.set_after c.requires.2.reads.set_room;
     } in
     let pairs-in : 8192 ≤ length c.find_reads-n.new.keys = omega (arith, c.find_reads-n.auto.keys, c.requires.2.reads.keys-room) in
-    reads_room (reads_found) c.args.rounds c.requires.1 c.find_reads-n.last.1.1.1.1.0 c.args.out.now (pairs-in) c.requires.2.sections
+    reads_room (reads_found) c.args.rounds c.requires.1 c.find_reads-n.new.keys c.args.out.now (pairs-in) c.requires.2.sections
 
 pub slice_bounds-write_first-end-2 : goal.slice_bounds-write_first-end-2
 slice_bounds-write_first-end-2 c =
@@ -89,7 +89,7 @@ slice_bounds-write_first-end-2 c =
     few = c.find_reads-n.ensures.value.1;
     front = set_front c.args.d.now c.args.p c.args.set.now _ _ c.find_reads-n.ensures.value c.find_reads-n.ensures.set_after c.requires.2.reads.set_room;
     } in
-    sym (length-take-le 32768 c.find_reads-n.last.1.1.1.0 (omega (arith, (reads_found).wide)))
+    sym (length-take-le 32768 c.find_reads-n.new.room (omega (arith, (reads_found).wide)))
 
 pub offset_bounds-out-reads : goal.offset_bounds-out-reads
 offset_bounds-out-reads c =
@@ -107,11 +107,11 @@ offset_bounds-out-reads c =
 
 pub slice_bounds-write_first-count : goal.slice_bounds-write_first-count
 slice_bounds-write_first-count c =
-    omega (arith, front_length (2 * (c.args.body.lanes * c.args.rounds)) (20 * c.args.body.lanes) c.args.out.now c.requires.2.sections c.write_reads.last.1.1.1.1.1.0 c.write_reads.kept.1.1.1.1.1.0)
+    omega (arith, front_length (2 * (c.args.body.lanes * c.args.rounds)) (20 * c.args.body.lanes) c.args.out.now c.requires.2.sections c.write_reads.new.out c.write_reads.auto.out)
 
 pub slice_bounds-write_first-start : goal.slice_bounds-write_first-start
 slice_bounds-write_first-start c =
-    omega (arith, front_length (2 * (c.args.body.lanes * c.args.rounds)) (20 * c.args.body.lanes) c.args.out.now c.requires.2.sections c.write_reads.last.1.1.1.1.1.0 c.write_reads.kept.1.1.1.1.1.0)
+    omega (arith, front_length (2 * (c.args.body.lanes * c.args.rounds)) (20 * c.args.body.lanes) c.args.out.now c.requires.2.sections c.write_reads.new.out c.write_reads.auto.out)
 
 pub write_first-requires : goal.write_first-requires
 write_first-requires c =
@@ -129,29 +129,29 @@ write_first-requires c =
     (
       c.requires.0,
       pins_won_there reads,
-      pairs_numbered reads c.find_reads-n.last.1.1.1.1.0 _ (pairs-in) c.write_reads.ensures.bases_after,
+      pairs_numbered reads c.find_reads-n.new.keys _ (pairs-in) c.write_reads.ensures.bases_after,
       record {
-        words = omega (arith, c.find_reads-n.ensures.value, c.find_reads-n.kept.1.1.1.1.1.1.0, c.requires.2.reads.set_room);
-        section = first_length (2 * (c.args.body.lanes * c.args.rounds)) (20 * c.args.body.lanes) c.args.out.now c.requires.2.sections c.write_reads.last.1.1.1.1.1.0 c.write_reads.kept.1.1.1.1.1.0;
-        slots = omega (arith, c.find_reads-n.kept.1.1.1.1.1.0, c.requires.2.reads.scratch-room, c.requires.0.body.laid.lanes);
-        entries = omega (arith, c.find_reads-n.kept.1.1.1.1.1.1.0, c.requires.2.reads.set_room, c.requires.0.body.laid.lanes);
+        words = omega (arith, c.find_reads-n.ensures.value, c.find_reads-n.auto.set, c.requires.2.reads.set_room);
+        section = first_length (2 * (c.args.body.lanes * c.args.rounds)) (20 * c.args.body.lanes) c.args.out.now c.requires.2.sections c.write_reads.new.out c.write_reads.auto.out;
+        slots = omega (arith, c.find_reads-n.auto.scratch, c.requires.2.reads.scratch-room, c.requires.0.body.laid.lanes);
+        entries = omega (arith, c.find_reads-n.auto.set, c.requires.2.reads.set_room, c.requires.0.body.laid.lanes);
       },
     )
 
 pub shape_of-room : goal.shape_of-room
-shape_of-room c = (found (listed (written (started (ended c))))).find-reads.auto.1.1.1.0
+shape_of-room c = c.find_reads-n.auto.room
 
 pub shape_of-keys : goal.shape_of-keys
 shape_of-keys c =
-    c.write_reads.kept.1.1.1.1.0 ∙ (found (listed c.before.before.before.before.before.before.before.before.before.before.before.before.before.before)).find-reads.auto.1.1.1.1.0
+    c.write_reads.auto.bases ∙ c.find_reads-n.auto.keys
 
 pub shape_of-scratch : goal.shape_of-scratch
 shape_of-scratch c =
-    c.write_first.kept.1.1.1.1.1.1.1.0 ∙ (found (listed (written (started c.before.before.before.before.before.before)))).find-reads.auto.1.1.1.1.1.0
+    c.write_first.auto.list ∙ c.find_reads-n.auto.scratch
 
 pub shape_of-set : goal.shape_of-set
 shape_of-set c =
-    c.write_first.kept.1.1.1.1.1.1.1.1.0 ∙ (found (listed (written (started c.before.before.before.before.before.before)))).find-reads.auto.1.1.1.1.1.1.0
+    c.write_first.auto.set ∙ c.find_reads-n.auto.set
 
 pub returns : goal.returns
 returns c =
@@ -166,4 +166,4 @@ returns c =
     } in
     let reads = reads_found in
     let words = 2 * (c.args.body.lanes * c.args.rounds) in
-    let size = c.write_reads.kept.1.1.1.1.1.0 ∙ length-take-le words c.args.out.now (omega (arith, c.requires.2.sections)) in record { out_after = two_parts words c.args.out.now c.write_reads.last.1.1.1.1.1.0 _ size ∙ ap₂ ◌++◌ (c.write_reads.ensures.out_after ∙ ap read_section (lanes_are reads)) c.write_first.ensures; rounds_bound = rounds_few reads c.args.rounds c.requires.1 }
+    let size = c.write_reads.auto.out ∙ length-take-le words c.args.out.now (omega (arith, c.requires.2.sections)) in record { out_after = two_parts words c.args.out.now c.write_reads.new.out _ size ∙ ap₂ ◌++◌ (c.write_reads.ensures.out_after ∙ ap read_section (lanes_are reads)) c.write_first.ensures; rounds_bound = rounds_few reads c.args.rounds c.requires.1 }

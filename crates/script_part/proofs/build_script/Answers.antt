@@ -43,27 +43,27 @@ pub slice_bounds-clear-end-2 : goal.slice_bounds-clear-end-2
 slice_bounds-clear-end-2 c =
     let tables : ℕ = 32768 + 32 * c.args.body.lanes in
     let few-in : tables ≤ 65536 = omega (arith, c.requires.0.body.laid.lanes) in
-    sym (lent_size (tables) c.args.room.now c.write_words.last.1.1.1.1.0 (few-in) c.requires.2 c.write_words.kept.1.1.1.1.0)
+    sym (lent_size (tables) c.args.room.now c.write_words.new.room (few-in) c.requires.2 c.write_words.auto.room)
 
 pub shape_of-room : goal.shape_of-room
 shape_of-room c =
     let tables : ℕ = 32768 + 32 * c.args.body.lanes in
-    length_front (c.write_words.last.1.1.1.1.0 ++ drop (tables) c.args.room.now) c.clear.last.0 65536 c.clear.kept.0 ∙ length_front c.args.room.now c.write_words.last.1.1.1.1.0 (tables) c.write_words.kept.1.1.1.1.0
+    length_front (c.write_words.new.room ++ drop (tables) c.args.room.now) c.clear.new.l 65536 c.clear.auto.l ∙ length_front c.args.room.now c.write_words.new.room (tables) c.write_words.auto.room
 
 pub shape_of-out : goal.shape_of-out
-shape_of-out c = (written (before-clear (cleared c))).write-words.auto.1.1.1.1.1.0
+shape_of-out c = c.write_words.auto.out
 
 pub shape_of-keys : goal.shape_of-keys
-shape_of-keys c = (written (before-clear (cleared c))).write-words.auto.1.1.1.1.1.1.0
+shape_of-keys c = c.write_words.auto.keys
 
 pub shape_of-scratch : goal.shape_of-scratch
-shape_of-scratch c = (written (before-clear (cleared c))).write-words.auto.1.1.1.1.1.1.1.0
+shape_of-scratch c = c.write_words.auto.scratch
 
 pub shape_of-set : goal.shape_of-set
-shape_of-set c = (written (before-clear (cleared c))).write-words.auto.1.1.1.1.1.1.1.1.0
+shape_of-set c = c.write_words.auto.set
 
 pub returns : goal.returns
 returns c =
     let tables : ℕ = 32768 + 32 * c.args.body.lanes in
     let few-in : tables ≤ 65536 = omega (arith, c.requires.0.body.laid.lanes) in
-    record { out_after = c.write_words.ensures; room_after = room_left_lem (tables) c.args.room.now c.write_words.last.1.1.1.1.0 (few-in) c.requires.2 c.write_words.kept.1.1.1.1.0 _ c.clear.ensures }
+    record { out_after = c.write_words.ensures; room_after = room_left_lem (tables) c.args.room.now c.write_words.new.room (few-in) c.requires.2 c.write_words.auto.room _ c.clear.ensures }

@@ -62,7 +62,7 @@ write_front-requires c =
 
 pub slice_bounds-write_script-end-2 : goal.slice_bounds-write_script-end-2
 slice_bounds-write_script-end-2 c =
-    sym (length-take-le 32768 c.write_front.last.1.1.1.1.0 (omega (arith, c.write_front.kept.1.1.1.1.0, c.requires.2)))
+    sym (length-take-le 32768 c.write_front.new.room (omega (arith, c.write_front.auto.room, c.requires.2)))
 
 pub slice_bounds-write_script-end-3 : goal.slice_bounds-write_script-end-3
 slice_bounds-write_script-end-3 c =
@@ -72,34 +72,34 @@ slice_bounds-write_script-end-3 c =
 pub slice_bounds-write_script-end-4 : goal.slice_bounds-write_script-end-4
 slice_bounds-write_script-end-4 c =
     let slots-in : 32 * c.args.body.lanes ≤ length c.write_front.new.set = omega (arith, c.write_front.auto.set, c.requires.4.set_room, c.requires.0.body.laid.lanes) in
-    sym (length-take-le (32 * c.args.body.lanes) c.write_front.last.1.1.1.1.1.1.1.1.0 (slots-in))
+    sym (length-take-le (32 * c.args.body.lanes) c.write_front.new.set (slots-in))
 
 pub write_script-requires : goal.write_script-requires
 write_script-requires c =
     let slots-in : 32 * c.args.body.lanes ≤ length c.write_front.new.set = omega (arith, c.write_front.auto.set, c.requires.4.set_room, c.requires.0.body.laid.lanes) in
-    let lent = length-take-le 32768 c.write_front.last.1.1.1.1.0 (omega (arith, c.write_front.kept.1.1.1.1.0, c.requires.2)) in
+    let lent = length-take-le 32768 c.write_front.new.room (omega (arith, c.write_front.auto.room, c.requires.2)) in
     let slots : 32 * c.args.body.lanes ≡ slots_of c.args.d.now = omega (arith, c.requires.0.body.lanes) in (
       part_accepted _ _ _ c.requires.0,
-      script_room c.args.d.now c.args.p c.args.body c.requires.0 c.args.x c.requires.1 c.args.out.now c.requires.3 _ c.write_front.last.1.1.1.1.1.0 c.write_front.ensures.out_after (omega (arith, lent)) c.write_front.ensures.rounds_bound,
-      length-take-le (32 * c.args.body.lanes) c.write_front.last.1.1.1.1.1.1.1.1.0 (slots-in) ∙ slots,
+      script_room c.args.d.now c.args.p c.args.body c.requires.0 c.args.x c.requires.1 c.args.out.now c.requires.3 _ c.write_front.new.out c.write_front.ensures.out_after (omega (arith, lent)) c.write_front.ensures.rounds_bound,
+      length-take-le (32 * c.args.body.lanes) c.write_front.new.set (slots-in) ∙ slots,
     )
 
 pub shape_of-room : goal.shape_of-room
 shape_of-room c =
-    let f = (fronted (prepared c.before.before.before.before.before.before)).write-front in
-    length_front f.last.1.1.1.1.0 c.write_script.last.1.1.1.1.0 32768 c.write_script.kept.1.1.1.1.0 ∙ f.kept.1.1.1.1.0
+    let f = c.write_front in
+    length_front f.last.1.1.1.1.0 c.write_script.new.table 32768 c.write_script.auto.table ∙ f.kept.1.1.1.1.0
 
 pub shape_of-out : goal.shape_of-out
 shape_of-out c =
-    let long = same_len_mid c.args.body.lanes (c.args.body.lanes + 2 * (c.args.body.lanes * c.args.x.rounds) + 20 * c.args.body.lanes - c.args.body.lanes) c.args.out.now c.write_front.last.1.1.1.1.1.0 c.write_front.kept.1.1.1.1.1.0 in
-    c.write_script.kept.1.1.1.1.1.0 ∙ long
+    let long = same_len_mid c.args.body.lanes (c.args.body.lanes + 2 * (c.args.body.lanes * c.args.x.rounds) + 20 * c.args.body.lanes - c.args.body.lanes) c.args.out.now c.write_front.new.out c.write_front.auto.out in
+    c.write_script.auto.out ∙ long
 
 pub shape_of-keys : goal.shape_of-keys
-shape_of-keys c = (fronted (prepared (scripted c))).write-front.auto.1.1.1.1.1.1.0
+shape_of-keys c = c.write_front.auto.keys
 
 pub shape_of-scratch : goal.shape_of-scratch
-shape_of-scratch c = (fronted (prepared (scripted c))).write-front.auto.1.1.1.1.1.1.1.0
+shape_of-scratch c = c.write_front.auto.scratch
 
 pub shape_of-set : goal.shape_of-set
 shape_of-set c =
-    length_front c.write_front.last.1.1.1.1.1.1.1.1.0 c.write_script.last.1.1.1.1.1.1.0 (32 * c.args.body.lanes) c.write_script.kept.1.1.1.1.1.1.0 ∙ c.write_front.kept.1.1.1.1.1.1.1.1.0
+    length_front c.write_front.new.set c.write_script.new.entries (32 * c.args.body.lanes) c.write_script.auto.entries ∙ c.write_front.auto.set

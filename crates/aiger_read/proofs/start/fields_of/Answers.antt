@@ -78,7 +78,7 @@ overflow_add-inputs-2 c =
     let o-in : Number = record { value = c.in-Number-field_at-3.outputs; next = c.in-Number-field_at-3.o_end } in
     let a_in : Number = record { value = c.in-Number-field_at-4.gates; next = c.in-Number-field_at-4.end } in
     let a-known : ValueIs (m-in).value (field_at (bytes-at) 10 (o-in).next) (a_in).value (a_in).next = value_parts _ _ _ _ (sym c.field_at-5.ensures ∙ c.in-Number-field_at-4.is) in
-    omega (arith, (m-known).fits, (i-known).fits, (l-known).fits, (a-known).ranges)
+    omega (arith, (m-known).fits, (i-known).fits, (l-known).fits, (a-known).fits)
 
 pub returns-then-inputs-latches : goal.returns-then-inputs-latches
 returns-then-inputs-latches c =

@@ -44,7 +44,7 @@ check_counts-requires c =
     let plan-in : List ℕ = c.args.plan.now in
     let plan-of : List ℕ = plan-in in
     let form : plan_form (plan-of) ≡ true = held 5 _ _ (unless_told 5 _ _ _ c.plan_form.ensures c.of_test-form.ensures) _ c.is_refused-2.ensures c.if-is_refused-2.false in
-    let s = (judged c.before.before.before.before.before.before.before.before.before.before).before.before.before.before.before in
+    let s = c.before.before.before.before.before in
     (form, s.pre.0, s.pre.1)
 
 pub of_lowest-requires : goal.of_lowest-requires

@@ -46,4 +46,4 @@ loop-s-preserved c =
 
 pub returns : goal.returns
 returns c =
-    let long = c.loop-s.invariant.2 ∙ (c.requires.1.room ∙ ap (λ (i : ℕ). 20 * (plan_lanes c.args.d.now * i)) c.requires.0.body.stages) in record { table_after = c.clear.ensures ∙ ap (λ (c.requires.0.body.stages : ℕ). replicate c.requires.0.body.stages 0) c.loop-s.invariant.1; out_after = stages_end (plan_lanes c.args.d.now) c.args.d.now c.args.p c.loop-s.out (c.loop-s.s + 1) (stages_of c.args.d.now c.args.p) long (omega (arith, c.requires.0.body.stages)) c.loop-s.invariant.4 }
+    let long = c.loop-s.invariant.2 ∙ (c.requires.1.room ∙ ap (λ (i : ℕ). 20 * (plan_lanes c.args.d.now * i)) c.requires.0.body.stages) in record { table_after = c.clear.ensures ∙ ap (λ (x : ℕ). replicate x 0) c.loop-s.invariant.1; out_after = stages_end (plan_lanes c.args.d.now) c.args.d.now c.args.p c.loop-s.out (c.loop-s.s + 1) (stages_of c.args.d.now c.args.p) long (omega (arith, c.requires.0.body.stages)) c.loop-s.invariant.4 }

@@ -42,7 +42,7 @@ write_section-requires c =
       first = ap length c.read_table-2.ensures ∙ (length_list_of _ _ ∙ c.requires.1.first);
       second = ap length c.read_table-3.ensures ∙ (length_list_of _ _ ∙ c.requires.1.second);
       third = ap length c.read_table-4.ensures ∙ (length_list_of _ _ ∙ c.requires.1.third);
-      c.requires.1 = omega (arith, c.requires.2, c.requires.0.body.lanes);
+      room = omega (arith, c.requires.2, c.requires.0.body.lanes);
     }
 
 pub returns : goal.returns
