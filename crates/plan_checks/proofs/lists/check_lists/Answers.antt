@@ -37,15 +37,14 @@ returns-then-is_refused-3 c =
     let edition : known (edition_of (plan-in)) ≡ true = held 29 _ _ (unless_told 29 _ _ _ (named) c.of_test-edition.ensures) _ c.is_refused.ensures c.if-is_refused.false in
     let form : plan_form (plan-of) ≡ true = held 5 _ _ (unless_told 5 _ _ _ c.plan_form.ensures c.of_test-form.ensures) _ c.is_refused-2.ensures c.if-is_refused-2.false in
     let d = plan-of in
-    list_six d _ (edition.before) (form) _ (at_told 6 _ (gate_place (bad_gate d)) _ (list_told (bad_gate d) _ c.check_gates.ensures) c.of_gates-gates.ensures) c.is_refused-3.ensures c.if-is_refused-3.true
+    list_six d _ (edition) (form) _ (at_told 6 _ (gate_place (bad_gate d)) _ (list_told (bad_gate d) _ c.check_gates.ensures) c.of_gates-gates.ensures) c.is_refused-3.ensures c.if-is_refused-3.true
 
 pub check_counts-requires : goal.check_counts-requires
 check_counts-requires c =
     let plan-in : List ℕ = c.args.plan.now in
     let plan-of : List ℕ = plan-in in
     let form : plan_form (plan-of) ≡ true = held 5 _ _ (unless_told 5 _ _ _ c.plan_form.ensures c.of_test-form.ensures) _ c.is_refused-2.ensures c.if-is_refused-2.false in
-    let s = c.before.before.before.before.before in
-    (form, s.pre.0, s.pre.1)
+    (form, c.requires.0, c.requires.1)
 
 pub of_lowest-requires : goal.of_lowest-requires
 of_lowest-requires c =
@@ -64,4 +63,4 @@ returns c =
     let form : plan_form (plan-of) ≡ true = held 5 _ _ (unless_told 5 _ _ _ c.plan_form.ensures c.of_test-form.ensures) _ c.is_refused-2.ensures c.if-is_refused-2.false in
     let d = plan-of in
     let gates = went_past 6 _ _ (at_told 6 _ (gate_place (bad_gate d)) _ (list_told (bad_gate d) _ c.check_gates.ensures) c.of_gates-gates.ensures) _ c.is_refused-3.ensures c.if-is_refused-3.false in
-    list_seven d _ (edition.before) (form) gates (at_told 7 _ (refusal7 d) _ (lowest_told (refusal7 d) _ c.check_counts.ensures) c.of_lowest.ensures)
+    list_seven d _ (edition) (form) gates (at_told 7 _ (refusal7 d) _ (lowest_told (refusal7 d) _ c.check_counts.ensures) c.of_lowest.ensures)
