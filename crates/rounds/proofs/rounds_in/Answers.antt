@@ -43,5 +43,4 @@ rounds_of_any-requires c =
 pub returns : goal.returns
 returns c =
     let named : known c.args.edition ≡ true = sym c.is_edition.ensures ∙ c.if-not-is_edition.false in
-    let told = rw (is_known c.args.edition c.args.set.now (length c.args.out.now) (named)) (c.rounds_of_any.ensures.value, c.rounds_of_any.ensures.out_after) in
-    record { value = told.0; out_after = told.1 }
+    rw (is_known c.args.edition c.args.set.now (length c.args.out.now) named) (record { value = c.rounds_of_any.ensures.value; out_after = c.rounds_of_any.ensures.out_after })

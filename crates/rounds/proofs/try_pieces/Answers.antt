@@ -48,12 +48,12 @@ returns-then-passed_over c =
 pub slice_bounds-try_ordered-end : goal.slice_bounds-try_ordered-end
 slice_bounds-try_ordered-end c =
     let keys-long : length c.order.new.keys ≡ piece_count (length c.args.set.now / 2) c.args.k = c.order.auto.keys ∙ length-take-le _ c.args.keys.now (count_few c.requires.0 c.requires.1) in
-    front_room c.order.last.1.0 _ _ (keys-long)
+    front_room c.order.new.keys _ _ (keys-long)
 
 pub slice_bounds-try_ordered-end-2 : goal.slice_bounds-try_ordered-end-2
 slice_bounds-try_ordered-end-2 c =
     let keys-long : length c.order.new.keys ≡ piece_count (length c.args.set.now / 2) c.args.k = c.order.auto.keys ∙ length-take-le _ c.args.keys.now (count_few c.requires.0 c.requires.1) in
-    sym (length-take-le _ (c.order.last.1.0 ++ _) (front_room c.order.last.1.0 _ _ (keys-long)))
+    sym (length-take-le _ (c.order.new.keys ++ _) (front_room c.order.new.keys _ _ (keys-long)))
 
 pub try_ordered-requires : goal.try_ordered-requires
 try_ordered-requires c =
