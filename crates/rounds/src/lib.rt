@@ -1,5 +1,6 @@
 // Read rounds: document 01, "Read rounds". The Rust is `map_global_read_to_rounds`.
 #![tactic(auto)]
+
 ghost use Rattle.std.specs.Prelude.{◌≡◌, ◌&&◌, ◌*◌, ◌/◌, ◌%◌, ◌≤◌, ◌<◌, ltb, length, replicate};
 ghost use Rattle.reads.specs.ReadSet.{pairs_of};
 ghost use Rattle.reads.specs.Search.{try, lanes_of};

@@ -43,5 +43,4 @@ rounds_of_any-requires c =
 pub returns : goal.returns
 returns c =
     let named : known c.args.edition ≡ true = sym c.is_edition.ensures ∙ c.if-not-is_edition.false in
-    rw (is_known c.args.edition c.args.set.now (length c.args.out.now) named)
-    (record { value = c.rounds_of_any.ensures.value; out_after = c.rounds_of_any.ensures.out_after })
+    rw (is_known c.args.edition c.args.set.now (length c.args.out.now) named) (record { value = c.rounds_of_any.ensures.value; out_after = c.rounds_of_any.ensures.out_after })

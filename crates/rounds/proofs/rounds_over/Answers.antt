@@ -33,86 +33,85 @@ pub search_sizes-requires : goal.search_sizes-requires
 search_sizes-requires c =
     let few-in : length c.args.set.now ≤ 16384 = c.if-set-gt-SET_WORDS.false in
     let form_in : broken (pairs_of c.args.set.now) ≡ none = item_none _ (sym c.check_form.ensures ∙ c.in_default.is) in
-    let search-in : SetSearchable c.args.set.now (length c.args.table.now) (length c.args.keys.now) (length c.args.scratch.now) c.args.lanes = searchable_set c.requires (few-in) (form_in) (λ x. (c.type_inv.set x).fits) in
+    let search-in : SetSearchable c.args.set.now (length c.args.table.now) (length c.args.keys.now) (length c.args.scratch.now) c.args.lanes = searchable_set c.requires few-in form_in (λ x. (c.type_inv.set x).fits) in
     search-in
 
 pub longest_row-rounds-requires : goal.longest_row-rounds-requires
 longest_row-rounds-requires c =
-    let won-in : let a = c.args in (x : Packed) × (packed a.lanes (pairs_of a.set.now) ≡ good x) × (x.size ≡ c.in-Won.size) = won_is _ _ (sym c.search_sizes.ensures.value ∙ c.in-Won.is) in
+    let won-in : (x : Packed) × (packed c.args.lanes (pairs_of c.args.set.now) ≡ good x) × (x.size ≡ c.in-Won.size) = won_is _ _ (sym c.search_sizes.ensures.value ∙ c.in-Won.is) in
     let few-in : length c.args.set.now ≤ 16384 = c.if-set-gt-SET_WORDS.false in
     let form_in : broken (pairs_of c.args.set.now) ≡ none = item_none _ (sym c.check_form.ensures ∙ c.in_default.is) in
-    let search-in : SetSearchable c.args.set.now (length c.args.table.now) (length c.args.keys.now) (length c.args.scratch.now) c.args.lanes = searchable_set c.requires (few-in) (form_in) (λ x. (c.type_inv.set x).fits) in
-    let table-in : let a = c.args in TableReadable a.set.now c.search_sizes.new.table a.lanes × (lanes_at a.set.now c.search_sizes.new.table a.lanes ≡ (won-in).0.lanes) = let x = won-in in
-    won_table (search-in) x.0.lanes c.search_sizes.new.table (placed_lanes _ _ x.0 x.1) c.search_sizes.ensures.table_after (c.search_sizes.auto.table ∙ c.requires.room) in
-    (table-in).0
+    let search-in : SetSearchable c.args.set.now (length c.args.table.now) (length c.args.keys.now) (length c.args.scratch.now) c.args.lanes = searchable_set c.requires few-in form_in (λ x. (c.type_inv.set x).fits) in
+    let table-in : TableReadable c.args.set.now c.search_sizes.new.table c.args.lanes × (lanes_at c.args.set.now c.search_sizes.new.table c.args.lanes ≡ won-in.0.lanes) =
+    won_table search-in won-in.0.lanes c.search_sizes.new.table (placed_lanes _ _ won-in.0 won-in.1) c.search_sizes.ensures.table_after (c.search_sizes.auto.table ∙ c.requires.room) in
+    table-in.0
 
 pub overflow_mul-lanes-in-Won : goal.overflow_mul-lanes-in-Won
 overflow_mul-lanes-in-Won c =
-    let won-in : let a = c.args in (x : Packed) × (packed a.lanes (pairs_of a.set.now) ≡ good x) × (x.size ≡ c.in-Won.size) = won_is _ _ (sym c.search_sizes.ensures.value ∙ c.in-Won.is) in
+    let won-in : (x : Packed) × (packed c.args.lanes (pairs_of c.args.set.now) ≡ good x) × (x.size ≡ c.in-Won.size) = won_is _ _ (sym c.search_sizes.ensures.value ∙ c.in-Won.is) in
     let few-in : length c.args.set.now ≤ 16384 = c.if-set-gt-SET_WORDS.false in
     let form_in : broken (pairs_of c.args.set.now) ≡ none = item_none _ (sym c.check_form.ensures ∙ c.in_default.is) in
-    let search-in : SetSearchable c.args.set.now (length c.args.table.now) (length c.args.keys.now) (length c.args.scratch.now) c.args.lanes = searchable_set c.requires (few-in) (form_in) (λ x. (c.type_inv.set x).fits) in
-    let table-in : let a = c.args in TableReadable a.set.now c.search_sizes.new.table a.lanes × (lanes_at a.set.now c.search_sizes.new.table a.lanes ≡ (won-in).0.lanes) = let x = won-in in
-    won_table (search-in) x.0.lanes c.search_sizes.new.table (placed_lanes _ _ x.0 x.1) c.search_sizes.ensures.table_after (c.search_sizes.auto.table ∙ c.requires.room) in
-    let rounds-in : c.longest_row-rounds.result ≡ longest (won-in).0.lanes = c.longest_row-rounds.ensures ∙ ap longest (table-in).1 in
-    let most-in : c.longest_row-rounds.result ≤ 32 = let x = won-in in
-    let read = is_read c.args.lanes c.args.set.now 0 (few-in) (form_in) ∙ x.1 in
-    let sound = placed_sound c.args.lanes c.args.set.now x.0 c.requires.some_lanes (λ i. (c.type_inv.set i).fits) read in
+    let search-in : SetSearchable c.args.set.now (length c.args.table.now) (length c.args.keys.now) (length c.args.scratch.now) c.args.lanes = searchable_set c.requires few-in form_in (λ x. (c.type_inv.set x).fits) in
+    let table-in : TableReadable c.args.set.now c.search_sizes.new.table c.args.lanes × (lanes_at c.args.set.now c.search_sizes.new.table c.args.lanes ≡ won-in.0.lanes) =
+    won_table search-in won-in.0.lanes c.search_sizes.new.table (placed_lanes _ _ won-in.0 won-in.1) c.search_sizes.ensures.table_after (c.search_sizes.auto.table ∙ c.requires.room) in
+    let rounds-in : c.longest_row-rounds.result ≡ longest won-in.0.lanes = c.longest_row-rounds.ensures ∙ ap longest table-in.1 in
+    let most-in : c.longest_row-rounds.result ≤ 32 =
+    let read = is_read c.args.lanes c.args.set.now 0 few-in form_in ∙ won-in.1 in
+    let sound = placed_sound c.args.lanes c.args.set.now won-in.0 c.requires.some_lanes (λ i. (c.type_inv.set i).fits) read in
     omega (arith, rounds-in, sound.rounds.1) in
-    omega (arith, size_fits c.args.lanes _ c.requires.few-lanes (most-in))
+    omega (arith, size_fits c.args.lanes _ c.requires.few-lanes most-in)
 
 pub returns-then-out-lanes : goal.returns-then-out-lanes
 returns-then-out-lanes c =
-    let won-in : let a = c.args in (x : Packed) × (packed a.lanes (pairs_of a.set.now) ≡ good x) × (x.size ≡ c.in-Won.size) = won_is _ _ (sym c.search_sizes.ensures.value ∙ c.in-Won.is) in
+    let won-in : (x : Packed) × (packed c.args.lanes (pairs_of c.args.set.now) ≡ good x) × (x.size ≡ c.in-Won.size) = won_is _ _ (sym c.search_sizes.ensures.value ∙ c.in-Won.is) in
     let few-in : length c.args.set.now ≤ 16384 = c.if-set-gt-SET_WORDS.false in
     let form_in : broken (pairs_of c.args.set.now) ≡ none = item_none _ (sym c.check_form.ensures ∙ c.in_default.is) in
-    let search-in : SetSearchable c.args.set.now (length c.args.table.now) (length c.args.keys.now) (length c.args.scratch.now) c.args.lanes = searchable_set c.requires (few-in) (form_in) (λ x. (c.type_inv.set x).fits) in
-    let table-in : let a = c.args in TableReadable a.set.now c.search_sizes.new.table a.lanes × (lanes_at a.set.now c.search_sizes.new.table a.lanes ≡ (won-in).0.lanes) = let x = won-in in
-    won_table (search-in) x.0.lanes c.search_sizes.new.table (placed_lanes _ _ x.0 x.1) c.search_sizes.ensures.table_after (c.search_sizes.auto.table ∙ c.requires.room) in
-    let rounds-in : c.longest_row-rounds.result ≡ longest (won-in).0.lanes = c.longest_row-rounds.ensures ∙ ap longest (table-in).1 in
+    let search-in : SetSearchable c.args.set.now (length c.args.table.now) (length c.args.keys.now) (length c.args.scratch.now) c.args.lanes = searchable_set c.requires few-in form_in (λ x. (c.type_inv.set x).fits) in
+    let table-in : TableReadable c.args.set.now c.search_sizes.new.table c.args.lanes × (lanes_at c.args.set.now c.search_sizes.new.table c.args.lanes ≡ won-in.0.lanes) =
+    won_table search-in won-in.0.lanes c.search_sizes.new.table (placed_lanes _ _ won-in.0 won-in.1) c.search_sizes.ensures.table_after (c.search_sizes.auto.table ∙ c.requires.room) in
+    let rounds-in : c.longest_row-rounds.result ≡ longest won-in.0.lanes = c.longest_row-rounds.ensures ∙ ap longest table-in.1 in
     let x = won-in in
-    let short = is_short c.args.lanes c.args.set.now _ (few-in) (form_in) x.0 x.1 (rw (rounds-in) at c.if-out-lanes.true) in
+    let short = is_short c.args.lanes c.args.set.now _ few-in form_in x.0 x.1 (rw rounds-in at c.if-out-lanes.true) in
     let told = refused_post _ _ _ _ short c.refused-then-out-lanes.ensures in
     record { value = told.0; out_after = told.1 }
 
 pub write_rounds-requires : goal.write_rounds-requires
 write_rounds-requires c =
-    let won-in : let a = c.args in (x : Packed) × (packed a.lanes (pairs_of a.set.now) ≡ good x) × (x.size ≡ c.in-Won.size) = won_is _ _ (sym c.search_sizes.ensures.value ∙ c.in-Won.is) in
+    let won-in : (x : Packed) × (packed c.args.lanes (pairs_of c.args.set.now) ≡ good x) × (x.size ≡ c.in-Won.size) = won_is _ _ (sym c.search_sizes.ensures.value ∙ c.in-Won.is) in
     let few-in : length c.args.set.now ≤ 16384 = c.if-set-gt-SET_WORDS.false in
     let form_in : broken (pairs_of c.args.set.now) ≡ none = item_none _ (sym c.check_form.ensures ∙ c.in_default.is) in
-    let search-in : SetSearchable c.args.set.now (length c.args.table.now) (length c.args.keys.now) (length c.args.scratch.now) c.args.lanes = searchable_set c.requires (few-in) (form_in) (λ x. (c.type_inv.set x).fits) in
-    let table-in : let a = c.args in TableReadable a.set.now c.search_sizes.new.table a.lanes × (lanes_at a.set.now c.search_sizes.new.table a.lanes ≡ (won-in).0.lanes) = let x = won-in in
-    won_table (search-in) x.0.lanes c.search_sizes.new.table (placed_lanes _ _ x.0 x.1) c.search_sizes.ensures.table_after (c.search_sizes.auto.table ∙ c.requires.room) in
-    let rounds-in : c.longest_row-rounds.result ≡ longest (won-in).0.lanes = c.longest_row-rounds.ensures ∙ ap longest (table-in).1 in
-    let most-in : c.longest_row-rounds.result ≤ 32 = let x = won-in in
-    let read = is_read c.args.lanes c.args.set.now 0 (few-in) (form_in) ∙ x.1 in
-    let sound = placed_sound c.args.lanes c.args.set.now x.0 c.requires.some_lanes (λ i. (c.type_inv.set i).fits) read in
+    let search-in : SetSearchable c.args.set.now (length c.args.table.now) (length c.args.keys.now) (length c.args.scratch.now) c.args.lanes = searchable_set c.requires few-in form_in (λ x. (c.type_inv.set x).fits) in
+    let table-in : TableReadable c.args.set.now c.search_sizes.new.table c.args.lanes × (lanes_at c.args.set.now c.search_sizes.new.table c.args.lanes ≡ won-in.0.lanes) =
+    won_table search-in won-in.0.lanes c.search_sizes.new.table (placed_lanes _ _ won-in.0 won-in.1) c.search_sizes.ensures.table_after (c.search_sizes.auto.table ∙ c.requires.room) in
+    let rounds-in : c.longest_row-rounds.result ≡ longest won-in.0.lanes = c.longest_row-rounds.ensures ∙ ap longest table-in.1 in
+    let most-in : c.longest_row-rounds.result ≤ 32 =
+    let read = is_read c.args.lanes c.args.set.now 0 few-in form_in ∙ won-in.1 in
+    let sound = placed_sound c.args.lanes c.args.set.now won-in.0 c.requires.some_lanes (λ i. (c.type_inv.set i).fits) read in
     omega (arith, rounds-in, sound.rounds.1) in
-    record { table = (table-in).0; rounds = most-in; fits = c.if-out-lanes.false }
+    record { table = table-in.0; rounds = most-in; fits = c.if-out-lanes.false }
 
 pub overflow_cast-result : goal.overflow_cast-result
 overflow_cast-result c =
-    let won-in : let a = c.args in (x : Packed) × (packed a.lanes (pairs_of a.set.now) ≡ good x) × (x.size ≡ c.in-Won.size) = won_is _ _ (sym c.search_sizes.ensures.value ∙ c.in-Won.is) in
+    let won-in : (x : Packed) × (packed c.args.lanes (pairs_of c.args.set.now) ≡ good x) × (x.size ≡ c.in-Won.size) = won_is _ _ (sym c.search_sizes.ensures.value ∙ c.in-Won.is) in
     let few-in : length c.args.set.now ≤ 16384 = c.if-set-gt-SET_WORDS.false in
     let form_in : broken (pairs_of c.args.set.now) ≡ none = item_none _ (sym c.check_form.ensures ∙ c.in_default.is) in
-    let search-in : SetSearchable c.args.set.now (length c.args.table.now) (length c.args.keys.now) (length c.args.scratch.now) c.args.lanes = searchable_set c.requires (few-in) (form_in) (λ x. (c.type_inv.set x).fits) in
-    let table-in : let a = c.args in TableReadable a.set.now c.search_sizes.new.table a.lanes × (lanes_at a.set.now c.search_sizes.new.table a.lanes ≡ (won-in).0.lanes) = let x = won-in in
-    won_table (search-in) x.0.lanes c.search_sizes.new.table (placed_lanes _ _ x.0 x.1) c.search_sizes.ensures.table_after (c.search_sizes.auto.table ∙ c.requires.room) in
-    let rounds-in : c.longest_row-rounds.result ≡ longest (won-in).0.lanes = c.longest_row-rounds.ensures ∙ ap longest (table-in).1 in
-    let most-in : c.longest_row-rounds.result ≤ 32 = let x = won-in in
-    let read = is_read c.args.lanes c.args.set.now 0 (few-in) (form_in) ∙ x.1 in
-    let sound = placed_sound c.args.lanes c.args.set.now x.0 c.requires.some_lanes (λ i. (c.type_inv.set i).fits) read in
+    let search-in : SetSearchable c.args.set.now (length c.args.table.now) (length c.args.keys.now) (length c.args.scratch.now) c.args.lanes = searchable_set c.requires few-in form_in (λ x. (c.type_inv.set x).fits) in
+    let table-in : TableReadable c.args.set.now c.search_sizes.new.table c.args.lanes × (lanes_at c.args.set.now c.search_sizes.new.table c.args.lanes ≡ won-in.0.lanes) =
+    won_table search-in won-in.0.lanes c.search_sizes.new.table (placed_lanes _ _ won-in.0 won-in.1) c.search_sizes.ensures.table_after (c.search_sizes.auto.table ∙ c.requires.room) in
+    let rounds-in : c.longest_row-rounds.result ≡ longest won-in.0.lanes = c.longest_row-rounds.ensures ∙ ap longest table-in.1 in
+    let most-in : c.longest_row-rounds.result ≤ 32 =
+    let read = is_read c.args.lanes c.args.set.now 0 few-in form_in ∙ won-in.1 in
+    let sound = placed_sound c.args.lanes c.args.set.now won-in.0 c.requires.some_lanes (λ i. (c.type_inv.set i).fits) read in
     omega (arith, rounds-in, sound.rounds.1) in
     omega (arith, most-in)
 
 pub overflow_cast-result-in-Won : goal.overflow_cast-result-in-Won
 overflow_cast-result-in-Won c =
-    let won-in : let a = c.args in (x : Packed) × (packed a.lanes (pairs_of a.set.now) ≡ good x) × (x.size ≡ c.in-Won.size) = won_is _ _ (sym c.search_sizes.ensures.value ∙ c.in-Won.is) in
+    let won-in : (x : Packed) × (packed c.args.lanes (pairs_of c.args.set.now) ≡ good x) × (x.size ≡ c.in-Won.size) = won_is _ _ (sym c.search_sizes.ensures.value ∙ c.in-Won.is) in
     let few-in : length c.args.set.now ≤ 16384 = c.if-set-gt-SET_WORDS.false in
     let form_in : broken (pairs_of c.args.set.now) ≡ none = item_none _ (sym c.check_form.ensures ∙ c.in_default.is) in
-    let search-in : SetSearchable c.args.set.now (length c.args.table.now) (length c.args.keys.now) (length c.args.scratch.now) c.args.lanes = searchable_set c.requires (few-in) (form_in) (λ x. (c.type_inv.set x).fits) in
-    let size_in : c.in-Won.size ≤ 8192 = let x = won-in in
-    omega (arith, won_small (search-in) x.0 x.1, x.2) in
+    let search-in : SetSearchable c.args.set.now (length c.args.table.now) (length c.args.keys.now) (length c.args.scratch.now) c.args.lanes = searchable_set c.requires few-in form_in (λ x. (c.type_inv.set x).fits) in
+    let size_in : c.in-Won.size ≤ 8192 = omega (arith, won_small search-in won-in.0 won-in.1, won-in.2) in
     omega (arith, size_in)
 
 pub returns-in-Lost : goal.returns-in-Lost
@@ -120,19 +119,19 @@ returns-in-Lost c =
     let few-in : length c.args.set.now ≤ 16384 = c.if-set-gt-SET_WORDS.false in
     let form_in : broken (pairs_of c.args.set.now) ≡ none = item_none _ (sym c.check_form.ensures ∙ c.in_default.is) in
     let out = lost_is _ _ (sym c.search_sizes.ensures.value ∙ c.in-Lost.is) in
-    let told = refused_post _ _ _ _ (is_lost c.args.lanes c.args.set.now _ (few-in) (form_in) _ out) refl in
+    let told = refused_post _ _ _ _ (is_lost c.args.lanes c.args.set.now _ few-in form_in _ out) refl in
     record { value = told.0; out_after = told.1 }
 
 pub returns-else-out-lanes : goal.returns-else-out-lanes
 returns-else-out-lanes c =
-    let won-in : let a = c.args in (x : Packed) × (packed a.lanes (pairs_of a.set.now) ≡ good x) × (x.size ≡ c.in-Won.size) = won_is _ _ (sym c.search_sizes.ensures.value ∙ c.in-Won.is) in
+    let won-in : (x : Packed) × (packed c.args.lanes (pairs_of c.args.set.now) ≡ good x) × (x.size ≡ c.in-Won.size) = won_is _ _ (sym c.search_sizes.ensures.value ∙ c.in-Won.is) in
     let few-in : length c.args.set.now ≤ 16384 = c.if-set-gt-SET_WORDS.false in
     let form_in : broken (pairs_of c.args.set.now) ≡ none = item_none _ (sym c.check_form.ensures ∙ c.in_default.is) in
-    let search-in : SetSearchable c.args.set.now (length c.args.table.now) (length c.args.keys.now) (length c.args.scratch.now) c.args.lanes = searchable_set c.requires (few-in) (form_in) (λ x. (c.type_inv.set x).fits) in
-    let table-in : let a = c.args in TableReadable a.set.now c.search_sizes.new.table a.lanes × (lanes_at a.set.now c.search_sizes.new.table a.lanes ≡ (won-in).0.lanes) = let x = won-in in
-    won_table (search-in) x.0.lanes c.search_sizes.new.table (placed_lanes _ _ x.0 x.1) c.search_sizes.ensures.table_after (c.search_sizes.auto.table ∙ c.requires.room) in
-    let rounds-in : c.longest_row-rounds.result ≡ longest (won-in).0.lanes = c.longest_row-rounds.ensures ∙ ap longest (table-in).1 in
+    let search-in : SetSearchable c.args.set.now (length c.args.table.now) (length c.args.keys.now) (length c.args.scratch.now) c.args.lanes = searchable_set c.requires few-in form_in (λ x. (c.type_inv.set x).fits) in
+    let table-in : TableReadable c.args.set.now c.search_sizes.new.table c.args.lanes × (lanes_at c.args.set.now c.search_sizes.new.table c.args.lanes ≡ won-in.0.lanes) =
+    won_table search-in won-in.0.lanes c.search_sizes.new.table (placed_lanes _ _ won-in.0 won-in.1) c.search_sizes.ensures.table_after (c.search_sizes.auto.table ∙ c.requires.room) in
+    let rounds-in : c.longest_row-rounds.result ≡ longest won-in.0.lanes = c.longest_row-rounds.ensures ∙ ap longest table-in.1 in
     let x = won-in in
-    let fits = is_placed c.args.lanes c.args.set.now _ (few-in) (form_in) x.0 x.1 (rw (rounds-in) at c.if-out-lanes.false) in
-    let told = placed_post _ x.0 _ _ _ c.args.out.now _ fits (table-in).1 c.longest_row-rounds.ensures x.2 c.write_rounds.ensures in
+    let fits = is_placed c.args.lanes c.args.set.now _ few-in form_in x.0 x.1 (rw rounds-in at c.if-out-lanes.false) in
+    let told = placed_post _ x.0 _ _ _ c.args.out.now _ fits table-in.1 c.longest_row-rounds.ensures x.2 c.write_rounds.ensures in
     record { value = told.0; out_after = told.1 }
