@@ -45,7 +45,7 @@ returns-then-not-plan_form c =
 pub value_lent-requires : goal.value_lent-requires
 value_lent-requires c =
     let enough : plan_room_words c.args.plan.now ≤ length c.args.room.now = omega (arith, c.room_words.ensures.0, c.if-room-room_words.false) in
-    let formed : plan_form (begun (read_at c.before.before.before.before.before.before)).args.plan.now ≡ true = sym c.plan_form.ensures ∙ c.if-not-plan_form.false in
+    let formed : plan_form c.args.plan.now ≡ true = sym c.plan_form.ensures ∙ c.if-not-plan_form.false in
     let o = c.args in
     room_asked o.plan.now o.room.now (enough) _ c.clear.ensures (formed)
     (item_none _ (sym c.check_gates.ensures ∙ c.in-Fine.is))
@@ -54,7 +54,7 @@ pub returns-in-At : goal.returns-in-At
 returns-in-At c =
     let enough : plan_room_words c.args.plan.now ≤ length c.args.room.now = omega (arith, c.room_words.ensures.0, c.if-room-room_words.false) in
     let named : known (edition_of c.args.plan.now) ≡ true = sym (c.is_edition.ensures ∙ ap known c.edition_of.ensures) ∙ c.if-not-is_edition.false in
-    let formed : plan_form (begun (read_at c.before.before.before.before.before.before)).args.plan.now ≡ true = sym c.plan_form.ensures ∙ c.if-not-plan_form.false in
+    let formed : plan_form c.args.plan.now ≡ true = sym c.plan_form.ensures ∙ c.if-not-plan_form.false in
     let o = c.args in
     let e = out_gate o.plan.now o.part o.old.now o.new.now (length o.bits.now) o.pin.0 (length o.room.now) (enough) (named)
     (formed)
@@ -67,7 +67,7 @@ pub returns-in-Fine : goal.returns-in-Fine
 returns-in-Fine c =
     let enough : plan_room_words c.args.plan.now ≤ length c.args.room.now = omega (arith, c.room_words.ensures.0, c.if-room-room_words.false) in
     let named : known (edition_of c.args.plan.now) ≡ true = sym (c.is_edition.ensures ∙ ap known c.edition_of.ensures) ∙ c.if-not-is_edition.false in
-    let formed : plan_form (begun (read_at c.before.before.before.before.before.before.before.before.before.before.before)).args.plan.now ≡ true = sym c.plan_form.ensures ∙ c.if-not-plan_form.false in
+    let formed : plan_form c.args.plan.now ≡ true = sym c.plan_form.ensures ∙ c.if-not-plan_form.false in
     let o = c.args in
     let e = out_lent o.plan.now o.part o.old.now o.new.now (length o.bits.now) o.pin.0 (length o.room.now) (enough) (named)
     (formed)
