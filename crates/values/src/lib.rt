@@ -1,5 +1,6 @@
 // The value of a pin by the gates, for any arguments: document 01, "The run".
 #![tactic(auto)]
+
 ghost use Rattle.std.specs.Prelude.{◌≡◌, length, replicate};
 ghost use Rattle.words.specs.Answer.{refused, at_item};
 ghost use Rattle.values.specs.Values.{ValueAsked, bit_words, pin_value, gate_values, lent_bits, value_answer, valued_of, bits_after, value_room_after};
