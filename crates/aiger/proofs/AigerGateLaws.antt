@@ -202,7 +202,8 @@ gates_written bs (suc n) v at l next B e =
     let one = difference_written bs at (2 * v - S.first) G.mid B G.first in
     let two = difference_written bs G.mid (S.first - S.second) S.mid B G.second in
     let rest = gates_written bs n (v + 1) S.mid S.rest next B S.tail in
-    rw S.is (stands_then _ _ bs (stands_then _ _ bs one two) (rw (bytes-behind v S.first S.second S.rest n 0) rest))
+    subst (λ (x : List ℕ). Stands (gates_bytes x (suc n) 0) bs at next) (sym S.is)
+    (stands_then _ _ bs (stands_then _ _ bs one two) (rw (bytes-behind v S.first S.second S.rest n 0) rest))
 
 -- what is known of a list of n gates that was read, its pins from v on
 pub record GateAs (l : List ℕ) (g v : ℕ) : Type 0 where
