@@ -12,5 +12,4 @@ returns-in-Text c =
 
 pub returns-in-Refused : goal.returns-in-Refused
 returns-in-Refused c =
-    let told = absurd (text_never c.args.records.now c.args.out.now 16384 c.requires (lit≤ tt) _ (sym c.in-Refused.is ∙ c.list.ensures.value)) in
-    record { upper_bound = told.0; value = told.1.0; out_after = told.1.1 }
+    absurd (text_never c.args.records.now c.args.out.now 16384 c.requires (lit≤ tt) _ (sym c.in-Refused.is ∙ c.list.ensures.value))

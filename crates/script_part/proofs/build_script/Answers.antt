@@ -36,8 +36,7 @@ write_words-requires c =
 pub slice_bounds-clear-end : goal.slice_bounds-clear-end
 slice_bounds-clear-end c =
     let tables : ℕ = 32768 + 32 * c.args.body.lanes in
-    let w = c.write_words in
-    omega (arith, c.requires.2, length_front c.args.room.now w.last.1.1.1.1.0 (tables) w.kept.1.1.1.1.0)
+    omega (arith, c.requires.2, length_front c.args.room.now c.write_words.new.room (tables) c.write_words.auto.room)
 
 pub slice_bounds-clear-end-2 : goal.slice_bounds-clear-end-2
 slice_bounds-clear-end-2 c =

@@ -86,8 +86,7 @@ write_script-requires c =
 
 pub shape_of-room : goal.shape_of-room
 shape_of-room c =
-    let f = c.write_front in
-    length_front f.last.1.1.1.1.0 c.write_script.new.table 32768 c.write_script.auto.table ∙ f.kept.1.1.1.1.0
+    length_front c.write_front.new.room c.write_script.new.table 32768 c.write_script.auto.table ∙ c.write_front.auto.room
 
 pub shape_of-out : goal.shape_of-out
 shape_of-out c =
