@@ -42,15 +42,15 @@ write_stages-requires c =
     in
     (c.requires.0, room, c.requires.2)
 
-pub slice_bounds-write_tables-count : goal.slice_bounds-write_tables-count
-slice_bounds-write_tables-count c = part-write-tables-start c
-
 pub slice_bounds-write_tables-start : goal.slice_bounds-write_tables-start
 slice_bounds-write_tables-start c =
     let long : length c.args.out.now ≡ c.args.body.lanes + 2 * c.lanes_in.result + 20 * c.lanes_in-2.result + 40 * c.args.body.lanes = whole c.args.d.now c.args.p c.args.body c.args.x c.args.table.now c.args.out.now c.requires.0.body.stages c.requires.1 _ _ _ c.requires.0.body.lanes c.lanes_in.ensures.0 c.lanes_in-2.ensures.0 in
     let head_long : length (take c.args.body.lanes c.args.out.now) ≡ c.args.body.lanes = length-take-le c.args.body.lanes c.args.out.now (omega (arith, long)) in
     tables_begin c.args.d.now c.args.p c.args.body c.args.x c.args.table.now c.args.out.now c.requires.0.body.stages c.requires.1 _ _ _ c.requires.0.body.lanes c.lanes_in.ensures.0 c.lanes_in-2.ensures.0
     c.write_head.new.out (c.write_head.auto.out ∙ head_long) _ c.write_stages.ensures.out_after
+
+pub slice_bounds-write_tables-count : goal.slice_bounds-write_tables-count
+slice_bounds-write_tables-count c = slice_bounds-write_tables-start c
 
 pub write_tables-requires : goal.write_tables-requires
 write_tables-requires c =
