@@ -1,8 +1,6 @@
 # Sourced by host/check and ./run. Builds by cargo, offline: the workspace in host/ names no crate of a registry.
 # Everything it makes goes to $OUT (target/host, target/run), but the archive, which goes to target/staticlib.
 
-. "$HOST/room.sh"
-
 # at_once WORDS..: begins a command beside others, as many as there are processors. all_done waits for the last of them.
 # A command that fails ends the script.
 at_once() {
@@ -59,39 +57,65 @@ cargo_build() {
     done
 }
 
-# Proves the crates below capi, as many at once as there are processors (rt staticlib would take one at a time), and makes the
-# archive. Says each crate that it proved, and which of how many it is; $OUT/archive.log has all that rt printed.
+# Proves the crates that the archive is made of, where that is not done, and makes it. A copy of it, which outlasts the next
+# `rt ci`, goes to target/staticlib. After the gate (GATE=yes) the libraries that it proved are there, and the archive is made over
+# them. Says each crate that is proved here, and which of how many it is; $OUT/archive.log has all that was printed.
 build_archive() {
-    local log=$OUT/archive.log below
-    below=$(sed -n 's/^capi: //p' crates.txt)
-    # shellcheck disable=SC2086
-    if ! (export TMPDIR=$ROOM && rt check $below && rt staticlib capi) 2>&1 | tee "$log" | numbered "$(crates_below capi)"; then
-        cat "$log" >&2
-        return 1
+    local log=$OUT/archive.log
+    if [ "${GATE:-no}" != yes ] || ! over_gate >"$log" 2>&1; then
+        if ! (cd crates/capi && rt lib) 2>&1 | tee "$log" | numbered; then
+            cat "$log" >&2
+            return 1
+        fi
     fi
+    mkdir -p "$ARCHIVE"
+    cp crates/capi/out/libcapi.a "$ARCHIVE/"
 }
 
-# numbered COUNT: rt's lines of crates that it proved, each as `crate n of COUNT`. Those that were proved before are counted too.
+# over_gate: capi is proved once more, over the libraries that `rt ci` left, and built. Fails where others lie there (those have a
+# stamp, and `rt lib` takes them). `rt lib` would prove the libraries again.
+over_gate() {
+    local kit name words=()
+    kit=$(dirname "$(rt doc)")
+    for name in $(crates_below capi); do
+        [ "$name" != capi ] || continue
+        [ -e "crates/$name/out/rlib/$name.rlib/format" ] && [ ! -e "crates/$name/out/rlib/stamp" ] || return 1
+        words+=(-L "dependency=../$name/out/rlib")
+    done
+    for name in $(sed -n 's/^capi staticlib: //p' crates.txt); do
+        words+=(--extern "$name=../$name/out/rlib/$name.rlib")
+    done
+    (
+        cd crates/capi
+        mkdir -p out
+        rm -f out/libcapi.a
+        "$kit/bin/rattle" build --crate-name capi src/lib.rt --crate-type staticlib --extern "std=$kit/rlibs/std.rlib" \
+            -L "dependency=$kit/rlibs" "${words[@]}" --antt-project "$kit/rattle/logic/antt-project.json" \
+            --logic-built "$kit/logic_built" --toolchain "$kit/toolchain" --backend llvm -o out/libcapi.a
+    )
+}
+
+# numbered: of what `rt lib` prints, each crate that it proved, as `crate n of N`: it takes them in the order of crates_below.
 numbered() {
-    awk -v all="$1" '/^rt: [a-z0-9_]+ proved/ && !($2 in seen) {
-        seen[$2]
-        n++
-        if (/ s\)$/) { printf "  crate %d of %d: %s\n", n, all, substr($0, 5); fflush() }
-    }'
+    awk -v names="$(crates_below capi | tr '\n' ' ')" '
+        BEGIN { all = split(names, list, " "); for (i = 1; i <= all; i++) at[list[i]] = i }
+        /^crate [a-z0-9_]+: / { name = substr($2, 1, length($2) - 1) }
+        /^logic=proved / && name in at { printf "  crate %d of %d: %s\n", at[name], all, name; fflush() }'
 }
 
-# crates_below NAME: how many crates it stands on, and itself.
+# crates_below NAME: the crates that it stands on, each after those that it stands on, and itself.
 crates_below() {
-    awk -F': *' -v name="$1" '
+    awk -v name="$1" '
         function visit(name, list, i, count) {
             if (name in seen || !(name in needs)) return
             seen[name]
-            all++
             count = split(needs[name], list, " ")
             for (i = 1; i <= count; i++) visit(list[i])
+            print name
         }
-        !/^#/ && NF { needs[$1] = $2 }
-        END { visit(name); print all }' crates.txt
+        { sub(/#.*/, "") }
+        /:/ { needs[$1 ~ /:$/ ? substr($1, 1, length($1) - 1) : $1] = substr($0, index($0, ":") + 1) }
+        END { visit(name) }' crates.txt
 }
 
 # build_juolgesot MAKER REFERENCE: the program juolgesot.
@@ -141,7 +165,7 @@ try_outside() {
     # Without the archive it is said in a sentence what to do.
     says_why "$at" "JUOLGESOT_ARCHIVE names $at/none.a, which is no file" "$at/none.a"
     rm "$installed/lib/libjuolgesot.a"
-    says_why "$at" "the archive is not there: \`rt staticlib capi\` in the repository makes"
+    says_why "$at" "the archive is not there: \`rt lib\` in the repository's crates/capi makes"
     rm -rf "$at"
     echo "a C program and a cargo project outside of the repository: linked and run"
 }

@@ -4,8 +4,9 @@ use std::path::{Path, PathBuf};
 use std::process::{self, Command};
 use std::{env, fs};
 
-/// Where it is looked for, from here: where the tree's `rt staticlib capi` puts it, and where host/install-lib does.
-const PLACES: [&str; 2] = ["../../target/staticlib/libcapi.a", "../../lib/libjuolgesot.a"];
+/// Where it is looked for, from here: where `rt lib` in the tree's crates/capi puts it, where the scripts put a copy, and where
+/// host/install-lib does.
+const PLACES: [&str; 3] = ["../../crates/capi/out/libcapi.a", "../../target/staticlib/libcapi.a", "../../lib/libjuolgesot.a"];
 
 fn main() {
     println!("cargo:rerun-if-env-changed=JUOLGESOT_ARCHIVE");
@@ -40,17 +41,17 @@ fn archive() -> PathBuf {
     match PLACES.iter().map(|place| here.join(place)).find(|path| path.is_file()) {
         Some(path) => whole(&path),
         None => stop(
-            "the archive is not there: `rt staticlib capi` in the repository makes target/staticlib/libcapi.a (some ten minutes; JUOLGESOT_ARCHIVE=build does it from here), JUOLGESOT_ARCHIVE=FILE names one, and `--features model` does without",
+            "the archive is not there: `rt lib` in the repository's crates/capi makes crates/capi/out/libcapi.a (it proves all crates below first; JUOLGESOT_ARCHIVE=build does it from here), JUOLGESOT_ARCHIVE=FILE names one, and `--features model` does without",
         ),
     }
 }
 
 /// Proves and builds it, if that is not done.
 fn build(root: &Path) {
-    let done = Command::new("rt").args(["staticlib", "capi"]).current_dir(root).status();
+    let done = Command::new("rt").arg("lib").current_dir(root.join("crates/capi")).status();
     if !done.map_or(false, |status| status.success()) {
         stop(
-            "`rt staticlib capi` failed in the repository (above is what it said; `rt` is Rattle's own tool)",
+            "`rt lib` failed in the repository's crates/capi (above is what it said; `rt` is Rattle's own tool)",
         );
     }
 }
