@@ -2,39 +2,46 @@
 // The files: nothing at all; an end alone; position 5 with no end; a body cut after two bytes; kind 3 after a position; a byte after the end;
 // positions 0 to 8191 and the end; 8193 positions; 257 words of 17 bits; M5; positions out of order, twice, staged, and the last there is.
 #![tactic(auto)]
-use libc::STDOUT_FILENO;
-use listing::{RECORD_BYTES, TEXT_BYTES};
+ghost use Rattle.std.specs.Prelude.{◌≡◌, IfOk, IfSome, take};
 
-// Places for the records that matter and for any text, as in `lanes`.
-fn input_place() -> [u8; RECORD_BYTES] {
-    [0u8; RECORD_BYTES]
+use listing::{RECORD_BYTES, TEXT_BYTES};
+use std::alloc::Global;
+use std::fs::File;
+use std::io::Read;
+use std::rt::Files;
+use std::{env, io};
+
+// The first bytes that a reader has left, RECORD_BYTES of them, as in `lanes`.
+fn input_of<R: Read>(alloc: Global, from: R) -> io::Result<Vec<u8>>
+where
+    R: Drop,
+    ensures { IfOk result (λ input. IfSome (R.remaining from) (λ s. input.items ≡ take RECORD_BYTES s)) }
+{
+    let mut input = Vec::new(alloc);
+    from.take(RECORD_BYTES as u64).read_to_end(&mut input)?;
+    Ok(input)
 }
 
+// Place for any text, as in `lanes`.
 fn text_place() -> [u8; TEXT_BYTES] {
     [0u8; TEXT_BYTES]
 }
 
-fn show(i: usize) {
-    let mut path = io::buffer();
-    let length = os::arg(i, &mut path);
-    let file = os::open_read(&path[..length]);
-    if file < 0 {
-        os::fail(&path[..length]);
-        return;
-    }
-    let mut input = input_place();
-    let n = io::read_full(file, &mut input);
-    libc::close(file);
+// A file that cannot be opened is named on standard error, and the next one follows.
+fn show(rt: &(impl Files + Print + Eprint + AllocGlobal), path: &str) -> io::Result<()> {
+    let file = match File::open(rt, path) {
+        Ok(file) => file,
+        Err(error) => return eprintln!(rt; "{path}: {error}"),
+    };
+    let input = input_of(rt.alloc(), file)?;
     let mut out = text_place();
-    let size = listing::text_of(&input[..n], &mut out);
-    io::write_all(STDOUT_FILENO, &out[..size]);
+    let size = listing::text_of(&input, &mut out);
+    rt.write_all(&out[..size])
 }
 
-fn main() {
-    let n = os::arg_count();
-    let mut i = 1;
-    while i < n {
-        show(i);
-        i += 1;
+fn main(rt: HostRuntime) -> io::Result<()> {
+    for path in env::args(&rt)?.skip(1) {
+        show(&rt, &path)?;
     }
+    Ok(())
 }

@@ -1,16 +1,21 @@
 // Builds stored plans and holds each to the script that GEM's Rust built: every start, word and size, or the refusal with its place. The file
 // comes on standard input; host/README.md says its form, and `make_answers plans` of host/ makes it.
 #![tactic(auto)]
-ghost use Rattle.std.specs.Prelude.{◌≡◌, true, ◌+◌, ◌<◌, ◌^◌, take};
+ghost use Rattle.std.specs.Prelude.{◌≡◌, true, ◌+◌, ◌<◌, ◌^◌, take, IfOk, IfSome};
 ghost use Rattle.stored_lists.specs.Stored.{list_at, Halves, RefusalAt, SizesAt, ListsAt};
 
 use flatten::sizes::Sizes;
 use flatten::{Flattened, build_flattened_script_v1};
-use libc::{STDIN_FILENO, STDOUT_FILENO};
 use plan_record::places::word_at;
+use std::alloc::Global;
+use std::io;
+use std::io::Read;
 use stored_lists::list::{expand, list_words, put_words};
 use stored_lists::same::{same_halves, same_words};
 use words::refusals::Refusal;
+
+// The bytes of the file that are looked at.
+const FILE_BYTES: usize = 262144;
 
 // Whether a refusal is the one at word `at`: number, part, item.
 fn refusal_agrees(file: &[u8], at: usize, refusal: Refusal) -> bool
@@ -210,26 +215,31 @@ fn agreeing(
 
 // Says how many plans the file has and how many agree.
 fn tell(
+    rt: &impl Print,
     file: &[u8],
     list: &mut [u32],
     plan: &mut [u8],
     room: &mut [u32],
     starts: &mut [u64],
     words: &mut [u32],
-) {
+) -> io::Result<()> {
     let cases = word_at(file, 0);
     let agree = agreeing(file, cases, list, plan, room, starts, words);
-    io::print_decimal(STDOUT_FILENO, cases as u64);
-    io::write_all(STDOUT_FILENO, b" plans, ");
-    io::print_decimal(STDOUT_FILENO, agree as u64);
-    io::write_all(STDOUT_FILENO, b" agree\n");
+    println!(rt; "{cases} plans, {agree} agree")
 }
 
-// Places for the file, a list, a plan, the working room and a script. A function's result is an array that the prover does not compute.
-fn file_place() -> [u8; 262144] {
-    [0u8; 262144]
+// The first bytes that a reader has left, FILE_BYTES of them: what is behind them is not read.
+fn file_of<R: Read>(alloc: Global, from: R) -> io::Result<Vec<u8>>
+where
+    R: Drop,
+    ensures { IfOk result (λ file. IfSome (R.remaining from) (λ s. file.items ≡ take FILE_BYTES s)) }
+{
+    let mut file = Vec::new(alloc);
+    from.take(FILE_BYTES as u64).read_to_end(&mut file)?;
+    Ok(file)
 }
 
+// Places for a list, a plan, the working room and a script. A function's result is an array that the prover does not compute.
 fn list_place() -> [u32; 120000] {
     [0u32; 120000]
 }
@@ -246,20 +256,20 @@ fn words_place() -> [u32; 65536] {
     [0u32; 65536]
 }
 
-fn main() {
-    let mut file = file_place();
+fn main(rt: HostRuntime) -> io::Result<()> {
+    let file = file_of(rt.alloc(), rt.reader())?;
     let mut list = list_place();
     let mut plan = plan_place();
     let mut room = room_place();
     let mut starts = [0u64; 64];
     let mut words = words_place();
-    let length = io::read_full(STDIN_FILENO, &mut file);
     tell(
-        &file[..length],
+        &rt,
+        &file,
         &mut list,
         &mut plan,
         &mut room,
         &mut starts,
         &mut words,
-    );
+    )
 }

@@ -1,12 +1,17 @@
 // Stored answers of GEM's Rust: each read set of the file is searched anew, and held to the stored rounds and places, or to the stored
 // refusal. The file comes on standard input; host/README.md says its form, and `make_answers` of host/ makes it.
 #![tactic(auto)]
-ghost use Rattle.std.specs.Prelude.{◌^◌, ◌≤◌, ◌<◌, length};
+ghost use Rattle.std.specs.Prelude.{◌≡◌, ◌^◌, ◌≤◌, ◌<◌, length, IfOk, IfSome, take};
 
-use libc::{STDIN_FILENO, STDOUT_FILENO};
 use plan_record::places::word_at;
 use rounds::Rounds;
+use std::alloc::Global;
+use std::io;
+use std::io::Read;
 use words::edition::Edition;
+
+// The bytes of the file that are looked at.
+const FILE_BYTES: usize = 524288;
 
 // Fills `words` with those of the file from word `at` on.
 fn load(file: &[u8], at: usize, words: &mut [u32])
@@ -120,23 +125,24 @@ fn agreeing(file: &[u8], cases: u32) -> u32 {
 }
 
 // Says how many cases the file has and how many agree.
-fn tell(file: &[u8]) {
+fn tell(rt: &impl Print, file: &[u8]) -> io::Result<()> {
     let cases = word_at(file, 0);
     let agree = agreeing(file, cases);
-    io::write_all(STDOUT_FILENO, b"cases ");
-    io::print_decimal(STDOUT_FILENO, cases as u64);
-    io::write_all(STDOUT_FILENO, b"\nagree ");
-    io::print_decimal(STDOUT_FILENO, agree as u64);
-    io::write_all(STDOUT_FILENO, b"\n");
+    println!(rt; "cases {cases}\nagree {agree}")
 }
 
-// Place for the file. A function's result is an array that the prover does not compute.
-fn place() -> [u8; 524288] {
-    [0u8; 524288]
+// The first bytes that a reader has left, FILE_BYTES of them: what is behind them is not read.
+fn file_of<R: Read>(alloc: Global, from: R) -> io::Result<Vec<u8>>
+where
+    R: Drop,
+    ensures { IfOk result (λ file. IfSome (R.remaining from) (λ s. file.items ≡ take FILE_BYTES s)) }
+{
+    let mut file = Vec::new(alloc);
+    from.take(FILE_BYTES as u64).read_to_end(&mut file)?;
+    Ok(file)
 }
 
-fn main() {
-    let mut file = place();
-    let length = io::read_full(STDIN_FILENO, &mut file);
-    tell(&file[..length]);
+fn main(rt: HostRuntime) -> io::Result<()> {
+    let file = file_of(rt.alloc(), rt.reader())?;
+    tell(&rt, &file)
 }

@@ -1,10 +1,7 @@
 -- Indices are in range, and the loop ends.
 -- Assumes nothing.
-use mathlib.Core.Logic.{⊎_elim}
 use Prim.Native.Nat.{◌-◌, ◌≤◌}
-use native.Mathlib.Omega.{arith}
 use lib.ListN.{length}
-use borrow.Author.Rules.{rules}
 use Rattle.stored_reads.proofs.reads.Given as goal
 
 abbrev pub invariant-loop-i : goal.invariant-loop-i
