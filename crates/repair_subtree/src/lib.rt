@@ -1,6 +1,7 @@
 // The subtree of a slot: whether it is empty, the judgement of a node, and the list of slots that a placing or a clearing changes. Document 02, 7/13, and
 // `place_bit` and `purge_bit` of src/pe.rs.
 #![tactic(auto)]
+
 ghost use Rattle.std.specs.Prelude.{◌≡◌, [], ◌∷◌, ◌<◌, length};
 ghost use Rattle.std.proofs.Math.Option.{none};
 ghost use Rattle.gatelist.specs.ListWords.{bad_list};
