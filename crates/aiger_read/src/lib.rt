@@ -1,5 +1,6 @@
 // Gates read from binary AIGER. Document 02, 1/13.
 #![tactic(auto)]
+
 pub mod differences;
 pub mod fields;
 pub mod lists;

@@ -1,5 +1,6 @@
 // A gate list written as binary AIGER. Document 02, 1/13.
 #![tactic(auto)]
+
 pub mod bytes;
 pub mod lists;
 

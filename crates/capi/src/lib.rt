@@ -2,6 +2,7 @@
 // lent for them: what a good answer says, or the refusal's place. Each contract is one equation: the numbers, then every slice that is written.
 // An edition is named by its number of lanes, the last number before those; a plan names its own.
 #![tactic(auto)]
+
 ghost use Rattle.std.specs.Prelude.{◌≡◌, [], ◌∷◌};
 ghost use Rattle.capi.specs.Exported.{after_read_rounds, after_local_position, after_list, after_value, after_run, after_plan_sizes, after_build, after_place_bit, after_purge_bit, after_read_aiger, after_write_aiger, after_join};
 ghost use Rattle.capi.specs.Numbers.{rounds_numbers, brought_numbers, listed_numbers, valued_numbers, ran_numbers, flattened_numbers, repaired_numbers, gates_numbers, text_numbers, joined_numbers};

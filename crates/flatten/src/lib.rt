@@ -1,5 +1,6 @@
 // The whole build: refusals in order, then the sizes or the words. The Rust is `build_flattened_script_v1`.
 #![tactic(auto)]
+
 pub mod pieces;
 pub mod sizes;
 

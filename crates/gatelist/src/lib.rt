@@ -1,5 +1,6 @@
 // A gate list as words, three a gate: its form, and a gate by its pin. Document 01, refusal 6.
 #![tactic(auto)]
+
 ghost use Rattle.std.specs.Prelude.{◌≡◌, ◌<◌, ◌&&◌, ◌==◌, nat_lt};
 ghost use Rattle.std.proofs.Math.Option.{none};
 ghost use Rattle.sort.specs.HalfSearch.{least};

@@ -1,5 +1,6 @@
 // A packing from outside: document 02, 8/13. The lanes handed in are judged, and their rounds are written as those of our own search.
 #![tactic(auto)]
+
 pub mod fill;
 
 ghost use Rattle.std.specs.Prelude.{◌≡◌, length};

@@ -1,5 +1,6 @@
 // The pairs that are handed in, one by one: the number of each in the set, whether it may stand where it does, its mark. Document 02, 8/13.
 #![tactic(auto)]
+
 ghost use Rattle.std.specs.Prelude.{◌≡◌, ◌&&◌, ◌*◌, ◌/◌, ◌≤◌, ◌<◌, eqb, length, get_or};
 ghost use Rattle.sort.specs.HalfSearch.{least};
 ghost use Rattle.words.specs.Bit.{bit_at, set_bit};

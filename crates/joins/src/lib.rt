@@ -1,5 +1,6 @@
 // Read sets joined: document 02, 11/13.
 #![tactic(auto)]
+
 pub mod merging;
 
 ghost use Rattle.std.specs.Prelude.{◌≡◌, ◌&&◌, leb, length};

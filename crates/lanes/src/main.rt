@@ -1,5 +1,6 @@
 // The listing program: records on standard input, the lanes of their read set on standard output. Document 01, "Listing program".
 #![tactic(auto)]
+
 ghost use Rattle.std.specs.Prelude.{◌≡◌, IfOk, IfSome, take};
 
 use listing::{RECORD_BYTES, TEXT_BYTES};

@@ -2,6 +2,7 @@
 // The files: nothing at all; an end alone; position 5 with no end; a body cut after two bytes; kind 3 after a position; a byte after the end;
 // positions 0 to 8191 and the end; 8193 positions; 257 words of 17 bits; M5; positions out of order, twice, staged, and the last there is.
 #![tactic(auto)]
+
 ghost use Rattle.std.specs.Prelude.{◌≡◌, IfOk, IfSome, take};
 
 use listing::{RECORD_BYTES, TEXT_BYTES};

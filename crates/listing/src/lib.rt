@@ -1,5 +1,6 @@
 // The listing program's work: records read, lanes printed. Document 01, "Listing program".
 #![tactic(auto)]
+
 mod answer;
 mod lines;
 

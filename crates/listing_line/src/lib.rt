@@ -1,5 +1,6 @@
 // A line of the listing as text: its writers put their text as those of crate `text` do. Document 01, "Listing program".
 #![tactic(auto)]
+
 ghost use Rattle.std.specs.Prelude.{◌≡◌, ◌^◌, ◌<◌};
 ghost use Rattle.text.specs.TextPut.{Put};
 ghost use Rattle.listing_line.specs.Line.{hex_digit, hex, kind_letter, line};

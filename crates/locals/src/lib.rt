@@ -1,5 +1,6 @@
 // The local position of one bit of a read set, as the search packs it.
 #![tactic(auto)]
+
 ghost use Rattle.std.specs.Prelude.{◌≡◌, ◌+◌, ◌*◌, ◌<◌, ◌≤◌, length};
 ghost use Rattle.words.specs.Answer.{refused, at_item};
 ghost use Rattle.reads.specs.ReadSet.{pairs_of};

@@ -13,7 +13,8 @@ use Rattle.words.specs.Section.{list_of}
 use Rattle.words.proofs.SectionLaws.{length_list_of, get_d_list_of}
 use Rattle.plan_record.proofs.RecordLaws.{lanes_other, word_there, word_missing}
 use Rattle.plan_record.specs.Record.{plan_lanes, slot_words, design_of, handed_words}
-use Rattle.plan_record.specs.Record.{word_at, count_at, parts_before, parts_of, gate_base, layout_base, position_base, head_base, body_at, body_words, locations_in, stages_of, endpoints_of, count_base, stage_locations, locations_of, slot_base, slot_at, location_base, location_at, table_base, table_at}
+use Rattle.plan_record.specs.Record.{word_at, count_at, parts_before, parts_of, gate_base, layout_base, position_base, head_base, body_at, body_words, locations_in, stages_of, endpoints_of, count_base}
+use Rattle.plan_record.specs.Record.{stage_locations, locations_of, slot_base, slot_at, location_base, location_at, table_base, table_at}
 use Rattle.promise_decode.proofs.LaneListLaws.{behind}
 use Rattle.marked_plan.specs.GatePlan.{bytes_of, record_head, slot_pin, table_word, record_words, gate_record}
 

@@ -1,6 +1,7 @@
 // Pins to numbers in lent words, by open addressing. Zeros are the empty map. A pin has 32 homes of its own; only where all of them are
 // taken by other pins does a probe go round the slots. So a probe looks at 32 slots, then at each slot once: no smaller bound is proved.
 #![tactic(auto)]
+
 ghost use Rattle.std.specs.Prelude.{◌≡◌, ◌+◌, ◌*◌, ◌-◌, ◌<◌, ◌^◌, set};
 ghost use Rattle.pinmap.specs.PinMap.{capacity, key_at, value_at, scattered, scattered_on, home, probe_from, slot_of, put_answer, put_in, put_there, look, look_answer};
 

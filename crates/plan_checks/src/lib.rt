@@ -1,5 +1,6 @@
 // The refusals of a plan, in their order: document 01, "Numbered refusals".
 #![tactic(auto)]
+
 pub mod lists;
 pub mod pins;
 pub mod places;

@@ -1,5 +1,6 @@
 // Activations, duplicate words and write-out words: refusal 7. Document 01, "Positions and counts".
 #![tactic(auto)]
+
 pub mod activations;
 
 ghost use Rattle.std.specs.Prelude.{◌≡◌, true, ◌≤◌, length};

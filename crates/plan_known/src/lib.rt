@@ -1,5 +1,6 @@
 // The state bits of the pins that a part reads, as a table of pins in the first words of the room.
 #![tactic(auto)]
+
 ghost use Rattle.std.specs.Prelude.{◌≡◌, true, ◌++◌, ◌*◌, ◌-◌, ◌^◌, ◌<◌, take, drop};
 ghost use Rattle.std.proofs.Math.Option.{some};
 ghost use Rattle.words.specs.Bit.{bit_at};

@@ -1,5 +1,6 @@
 // The part table in a plan's working room: its columns by name, one reader and one writer of a cell. What the checks and the builder keep of each part.
 #![tactic(auto)]
+
 ghost use Rattle.std.specs.Prelude.{◌≡◌, ◌^◌, ◌<◌, set};
 ghost use Rattle.words.specs.Sum.{sum_to};
 ghost use Rattle.plan_rows.specs.Rows.{cell, cell_at, CellIn, ColumnIn};

@@ -19,7 +19,7 @@ use Rattle.plan_record.specs.Form.{plan_form, plan_room_words}
 use Rattle.plan_record.proofs.PlanFormLaws.{formed}
 use Rattle.plan_record.proofs.RecordLaws.{lanes_range}
 use Rattle.plan_counts.specs.declared.Counts.{Counts}
-use Rattle.plan_counts.specs.Counts.{srams, duplicates, write_outs, refusal7}
+use Rattle.plan_counts.specs.Counts.{write_outs, refusal7}
 use Rattle.plan_counts.specs.Parts.{CountsOf}
 use Rattle.plan_counts.proofs.PartCountLaws.{countable, counts_passed}
 use Rattle.plan_blocks.specs.declared.firsts.Firsts.{Firsts}

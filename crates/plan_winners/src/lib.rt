@@ -1,5 +1,6 @@
 // Winners: for each pin of a table the number of the entry, of the input layout or of the positions, that gives its planned position.
 #![tactic(auto)]
+
 ghost use Rattle.std.specs.Prelude.{◌≡◌, ◌<◌};
 ghost use Rattle.std.proofs.Math.Option.{some};
 ghost use Rattle.pinmap.specs.PinMap.{after_renewals};

@@ -1,6 +1,7 @@
 // Local positions. For each pair of the set one number is kept, where its bits begin; a bit is found by its pair. The numbers are small: they
 // stand in words of 64 bits since the lent list of keys is free by then.
 #![tactic(auto)]
+
 ghost use Rattle.std.specs.Prelude.{◌≡◌, ◌*◌, ◌/◌, ◌≤◌, ◌<◌, length};
 ghost use Rattle.sort.specs.HalfSearch.{Monotone, least};
 ghost use Rattle.reads_try.specs.TableLanes.{lane_of, row_at, lanes_at};

@@ -1,5 +1,6 @@
 // Placing and clearing one node of a stage: document 02, 7/13. The Rust is `place_bit` and `purge_bit` of src/pe.rs.
 #![tactic(auto)]
+
 ghost use Rattle.std.specs.Prelude.{◌≡◌, ◌^◌, ◌≤◌, ◌<◌, leb, length, replicate};
 ghost use Rattle.std.proofs.Math.Option.{none};
 ghost use Rattle.gatelist.specs.ListWords.{bad_list};

@@ -1,5 +1,6 @@
 // Spots placed or cleared, from the counting on: 34 and 14 before anything is written. Document 02, 7/13.
 #![tactic(auto)]
+
 ghost use Rattle.std.specs.Prelude.{◌≡◌, ◌+◌, ◌-◌, ◌^◌, ◌≤◌, length};
 ghost use Rattle.words.specs.Answer.{refused, at_item};
 ghost use Rattle.repair_nodes.specs.Stage.{spots_of};

@@ -1,5 +1,6 @@
 // Counts of nodes in a map: the count list's form, nodes placed, nodes cleared. Document 02, 7/13.
 #![tactic(auto)]
+
 ghost use Rattle.std.specs.Prelude.{◌≡◌, [], ◌*◌, ◌-◌, ◌^◌, ◌≤◌, ◌<◌, length, take};
 ghost use Rattle.repair_nodes.specs.CountList.{counted};
 ghost use Rattle.repair_tally.specs.Tally.{through, entering, entering_all, raised, raising, lowering, Told, ToldNew, nodes_in, SpotsAskable};

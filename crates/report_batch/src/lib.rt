@@ -1,5 +1,6 @@
 // The words of a batch of the monthly report, and whether they are one. Document 02, 9/13.
 #![tactic(auto)]
+
 ghost use Rattle.std.specs.Prelude.{◌≡◌, ◌+◌, ◌*◌, ◌≤◌, ◌&&◌, leb, eqb};
 ghost use Rattle.report.specs.Batch.{batch_at, refused_below, edition_right, totals_right, batch_form};
 

@@ -1,5 +1,6 @@
 // A part is fed to a batch. Document 02, 9/13.
 #![tactic(auto)]
+
 ghost use Rattle.std.specs.Prelude.{◌≡◌, ◌*◌, ◌≤◌, ◌<◌, length};
 ghost use Rattle.words.specs.Answer.{good};
 ghost use Rattle.reads.specs.SetAnswer.{set_room_after};

@@ -1,5 +1,6 @@
 // The run of one major stage, for any arguments: document 01, "The run", and refusals 32, 29, 15 and 16.
 #![tactic(auto)]
+
 pub mod left;
 pub mod states;
 pub mod taking;

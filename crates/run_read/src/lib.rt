@@ -1,5 +1,6 @@
 // The read turn: document 01, "In the read turn the one-word window comes from the old state or the new, by bit 31. Unused lane bits are 0."
 #![tactic(auto)]
+
 ghost use Rattle.std.specs.Prelude.{◌≡◌, ◌+◌, ◌*◌, ◌^◌, ◌<◌, ◌≤◌, length, get_or};
 ghost use Rattle.words.specs.Bit.{pop};
 ghost use Rattle.reads.specs.ReadTurn.{appended, lane_word};

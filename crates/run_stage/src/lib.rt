@@ -1,6 +1,7 @@
 // A stage: document 01, "A stage gathers by permutation, then level by level: (a xor xora) and ((b xor xorb) or orb); position 0 holds 0."
 // The bits of n lanes stand in 2n words: words 0 .. n - 1 hold the positions before and after, words n .. 2n - 1 take the gathered bits.
 #![tactic(auto)]
+
 ghost use Rattle.std.specs.Prelude.{◌≡◌, ◌++◌, ℕ, ◌+◌, ◌*◌, ◌-◌, ◌/◌, ◌%◌, ◌^◌, ◌<◌, ◌≤◌, length, take};
 ghost use Rattle.words.specs.Bit.{bit, bit_at};
 ghost use Rattle.words.specs.Edition.{levels_for};

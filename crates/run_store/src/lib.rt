@@ -1,5 +1,6 @@
 // The store turn: document 01, "The store turn puts normal captured words .. at state start onward", by 5/13 where they are enabled.
 #![tactic(auto)]
+
 ghost use Rattle.std.specs.Prelude.{◌≡◌, ℕ, ◌+◌, ◌*◌, ◌-◌, ◌<◌, ◌≤◌, min, length, get_or, take};
 ghost use Rattle.std.proofs.lemmas.List.Edits.{sets};
 ghost use Rattle.words.specs.Bit.{bit, bit_at};

@@ -1,5 +1,6 @@
 // The assembled script of an accepted plan, whose part table stands in the room: document 01, "Blocks and offsets", second half.
 #![tactic(auto)]
+
 pub mod parts;
 pub mod placed;
 pub mod sizes;

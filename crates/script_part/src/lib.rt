@@ -1,5 +1,6 @@
 // The script of one part of an accepted plan: document 01, "The script of a part". The Rust is `build_script`.
 #![tactic(auto)]
+
 ghost use Rattle.std.specs.Prelude.{◌≡◌, ◌++◌, ◌+◌, ◌*◌, ◌≤◌, length, drop, replicate};
 ghost use Rattle.words.specs.Edition.{part_words};
 ghost use Rattle.plan_record.specs.Record.{plan_lanes};

@@ -1,6 +1,7 @@
 // Builds stored plans and holds each to the script that GEM's Rust built: every start, word and size, or the refusal with its place. The file
 // comes on standard input; host/README.md says its form, and `make_answers plans` of host/ makes it.
 #![tactic(auto)]
+
 ghost use Rattle.std.specs.Prelude.{◌≡◌, true, ◌+◌, ◌<◌, ◌^◌, take, IfOk, IfSome};
 ghost use Rattle.stored_lists.specs.Stored.{list_at, Halves, RefusalAt, SizesAt, ListsAt};
 

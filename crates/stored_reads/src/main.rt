@@ -1,6 +1,7 @@
 // Stored answers of GEM's Rust: each read set of the file is searched anew, and held to the stored rounds and places, or to the stored
 // refusal. The file comes on standard input; host/README.md says its form, and `make_answers` of host/ makes it.
 #![tactic(auto)]
+
 ghost use Rattle.std.specs.Prelude.{◌≡◌, ◌^◌, ◌≤◌, ◌<◌, length, IfOk, IfSome, take};
 
 use plan_record::places::word_at;

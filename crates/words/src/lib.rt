@@ -1,5 +1,6 @@
 // Bits and halves of 32-bit words, words cleared, the four units, the script edition, the refusals' numbers, what is handed out, places in a round.
 #![tactic(auto)]
+
 pub mod answer;
 pub mod bits;
 pub mod clear;

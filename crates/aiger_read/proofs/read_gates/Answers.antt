@@ -3,7 +3,6 @@ use mathlib.Core.Path.{◌≡◌, sym, ◌∙◌}
 use mathlib.Core.List.{List}
 use Prim.Native.Nat.{ℕ}
 use native.Mathlib.Omega.{arith}
-use borrow.Author.Rules.{rules}
 use Rattle.aiger.specs.Reading.{gates_start}
 use Rattle.aiger_read.specs.ReadTold.{start_told}
 use Rattle.aiger_read.specs.declared.start.Start.TheVariants.{At as StartAt}

@@ -1,6 +1,5 @@
 -- `aiger_write::write_gates` meets its contract: 33, then 14, else the text. Assumes nothing.
 use mathlib.Core.Path.{sym, ◌∙◌}
-use borrow.Author.Rules.{rules}
 use Rattle.aiger_write.proofs.WritePassLaws.{measured, write_other, write_short, write_whole}
 use Rattle.aiger_write.proofs.write_gates.Goals as goal
 

@@ -2,7 +2,6 @@
 -- Assumes nothing.
 use mathlib.Core.Path.{refl, ap, ◌∙◌}
 use lib.ListN.{length}
-use borrow.Author.Rules.{rules}
 use Rattle.joins_sets.specs.Join.{joining}
 use Rattle.capi.specs.Exported.{after_join}
 use Rattle.capi.specs.Numbers.{joined_numbers}

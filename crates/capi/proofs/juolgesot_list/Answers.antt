@@ -2,7 +2,6 @@
 -- Assumes nothing.
 use mathlib.Core.Path.{refl, ap, ◌∙◌}
 use lib.ListN.{length}
-use borrow.Author.Rules.{rules}
 use Rattle.listing.specs.Listing.{listed}
 use Rattle.capi.specs.Exported.{after_list}
 use Rattle.capi.specs.Numbers.{listed_numbers}

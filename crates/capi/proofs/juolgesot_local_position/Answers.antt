@@ -2,7 +2,6 @@
 -- Assumes nothing.
 use mathlib.Core.Path.{refl, ap, ◌∙◌}
 use lib.ListN.{length}
-use borrow.Author.Rules.{rules}
 use Rattle.locals.specs.LocalAnswer.{local_answer}
 use Rattle.capi.specs.Exported.{after_local_position}
 use Rattle.capi.specs.Numbers.{brought_numbers}

@@ -2,7 +2,6 @@
 -- Assumes nothing.
 use mathlib.Core.Path.{refl, ap, ◌∙◌}
 use lib.ListN.{length}
-use borrow.Author.Rules.{rules}
 use Rattle.repair_nodes.specs.RepairAnswer.{placed}
 use Rattle.capi.specs.Exported.{after_place_bit}
 use Rattle.capi.specs.Numbers.{repaired_numbers}

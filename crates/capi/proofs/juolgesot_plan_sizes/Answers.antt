@@ -2,7 +2,6 @@
 -- Assumes nothing.
 use mathlib.Core.Path.{refl, ap, ◌∙◌}
 use lib.ListN.{length}
-use borrow.Author.Rules.{rules}
 use Rattle.plan_record.specs.Record.{plan_lanes}
 use Rattle.flatten.specs.Flatten.{sizing}
 use Rattle.capi.specs.Exported.{after_plan_sizes}

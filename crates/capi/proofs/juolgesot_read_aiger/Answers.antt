@@ -2,7 +2,6 @@
 -- Assumes nothing.
 use mathlib.Core.Path.{refl, ap, ◌∙◌}
 use lib.ListN.{length}
-use borrow.Author.Rules.{rules}
 use Rattle.aiger.specs.Reading.{read_aiger}
 use Rattle.aiger.specs.AigerAnswer.{fitting}
 use Rattle.capi.specs.Exported.{after_read_aiger}

@@ -2,7 +2,6 @@
 -- Assumes nothing.
 use mathlib.Core.Path.{refl, ap, ◌∙◌}
 use lib.ListN.{length}
-use borrow.Author.Rules.{rules}
 use Rattle.rounds.specs.RoundsAnswer.{rounds_answer}
 use Rattle.capi.specs.Exported.{after_read_rounds}
 use Rattle.capi.specs.Numbers.{rounds_numbers}

@@ -2,7 +2,6 @@
 -- Assumes nothing.
 use mathlib.Core.Path.{refl, ap, ◌∙◌}
 use lib.ListN.{length}
-use borrow.Author.Rules.{rules}
 use Rattle.words.specs.Edition.{levels_for}
 use Rattle.run_machine.specs.Run.{run_answer}
 use Rattle.capi.specs.Exported.{after_run}

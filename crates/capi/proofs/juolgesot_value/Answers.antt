@@ -2,7 +2,6 @@
 -- Assumes nothing.
 use mathlib.Core.Path.{refl, ap, ◌∙◌}
 use lib.ListN.{length}
-use borrow.Author.Rules.{rules}
 use Rattle.values.specs.Values.{value_answer}
 use Rattle.capi.specs.Exported.{after_value}
 use Rattle.capi.specs.Numbers.{valued_numbers}

@@ -2,7 +2,6 @@
 -- Assumes nothing.
 use mathlib.Core.Path.{refl, ap, ◌∙◌}
 use lib.ListN.{length}
-use borrow.Author.Rules.{rules}
 use Rattle.aiger.specs.Writing.{write_aiger}
 use Rattle.aiger.specs.AigerAnswer.{holding}
 use Rattle.capi.specs.Exported.{after_write_aiger}

@@ -1,7 +1,6 @@
 -- A bit that is not asked for, and a refusal, are told by their numbers.
 -- Assumes nothing.
 use mathlib.Core.Path.{sym, ap, ◌∙◌}
-use borrow.Author.Rules.{rules}
 use Rattle.capi.specs.Numbers.{brought_numbers}
 use Rattle.capi.proofs.tell_brought.Goals as goal
 

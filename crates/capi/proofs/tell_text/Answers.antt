@@ -1,7 +1,6 @@
 -- A refusal is told by its numbers.
 -- Assumes nothing.
 use mathlib.Core.Path.{sym, ap, ◌∙◌}
-use borrow.Author.Rules.{rules}
 use Rattle.capi.specs.Numbers.{text_numbers}
 use Rattle.capi.proofs.tell_text.Goals as goal
 

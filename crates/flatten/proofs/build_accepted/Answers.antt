@@ -11,7 +11,6 @@ use Rattle.flatten.specs.Flatten.{sizes_of, piece_sizes}
 use Rattle.flatten.specs.FlattenedAnswer.{flattened_of}
 use Rattle.flatten.proofs.ScriptSizeLaws.{majors_few}
 use Rattle.flatten.proofs.BuildAnswerLaws.{pieces_room, plan_room, long_enough, too_short, laid_built, laid_refused}
-use borrow.Author.Rules.{rules}
 use Rattle.flatten.proofs.build_accepted.Goals as goal
 
 pub parts_of-parts-requires : goal.parts_of-parts-requires
@@ -56,7 +55,15 @@ shape_of-set-then-enough c =
 
 pub returns-then-enough : goal.returns-then-enough
 returns-then-enough c =
-    let e = long_enough c.args.plan.now (length c.args.starts.now) (length c.args.words.now) (length c.args.pieces.now) c.sizes_of-sizes.result c.sizes_of-sizes.ensures _ c.parts_of-parts.ensures.0 c.enough.result c.enough.ensures c.if-enough.true in record { value = ap Built c.sizes_of-sizes.ensures ∙ sym (ap flattened_of e); room_after = c.clear.ensures ∙ ap (λ (n : ℕ). replicate n 0) c.write_plan.auto.room; starts_after = laid_built _ (sizes_of (plan_lanes c.args.plan.now) c.args.plan.now) e (script_starts (plan_lanes c.args.plan.now) c.args.plan.now) c.args.starts.now _ c.write_plan.ensures.starts_after; words_after = laid_built _ (sizes_of (plan_lanes c.args.plan.now) c.args.plan.now) e (script_words (plan_lanes c.args.plan.now) c.args.plan.now) c.args.words.now _ c.write_plan.ensures.words_after; pieces_after = laid_built _ (sizes_of (plan_lanes c.args.plan.now) c.args.plan.now) e (piece_sizes (plan_lanes c.args.plan.now) c.args.plan.now) c.args.pieces.now _ c.write_pieces.ensures }
+    let e =
+    long_enough c.args.plan.now (length c.args.starts.now) (length c.args.words.now) (length c.args.pieces.now) c.sizes_of-sizes.result c.sizes_of-sizes.ensures _ c.parts_of-parts.ensures.0 c.enough.result c.enough.ensures c.if-enough.true in
+    record {
+      value = ap Built c.sizes_of-sizes.ensures ∙ sym (ap flattened_of e);
+      room_after = c.clear.ensures ∙ ap (λ (n : ℕ). replicate n 0) c.write_plan.auto.room;
+      starts_after = laid_built _ (sizes_of (plan_lanes c.args.plan.now) c.args.plan.now) e (script_starts (plan_lanes c.args.plan.now) c.args.plan.now) c.args.starts.now _ c.write_plan.ensures.starts_after;
+      words_after = laid_built _ (sizes_of (plan_lanes c.args.plan.now) c.args.plan.now) e (script_words (plan_lanes c.args.plan.now) c.args.plan.now) c.args.words.now _ c.write_plan.ensures.words_after;
+      pieces_after = laid_built _ (sizes_of (plan_lanes c.args.plan.now) c.args.plan.now) e (piece_sizes (plan_lanes c.args.plan.now) c.args.plan.now) c.args.pieces.now _ c.write_pieces.ensures;
+    }
 
 pub shape_of-room : goal.shape_of-room
 shape_of-room c =
@@ -64,4 +71,12 @@ shape_of-room c =
 
 pub returns : goal.returns
 returns c =
-    let e = too_short c.args.plan.now (length c.args.starts.now) (length c.args.words.now) (length c.args.pieces.now) c.sizes_of-sizes.result c.sizes_of-sizes.ensures _ c.parts_of-parts.ensures.0 c.enough.result c.enough.ensures c.if-enough.false in record { value = sym (ap flattened_of e); room_after = c.clear-2.ensures; starts_after = laid_refused _ (nowhere 14) e (script_starts (plan_lanes c.args.plan.now) c.args.plan.now) c.args.starts.now; words_after = laid_refused _ (nowhere 14) e (script_words (plan_lanes c.args.plan.now) c.args.plan.now) c.args.words.now; pieces_after = laid_refused _ (nowhere 14) e (piece_sizes (plan_lanes c.args.plan.now) c.args.plan.now) c.args.pieces.now }
+    let e =
+    too_short c.args.plan.now (length c.args.starts.now) (length c.args.words.now) (length c.args.pieces.now) c.sizes_of-sizes.result c.sizes_of-sizes.ensures _ c.parts_of-parts.ensures.0 c.enough.result c.enough.ensures c.if-enough.false in
+    record {
+      value = sym (ap flattened_of e);
+      room_after = c.clear-2.ensures;
+      starts_after = laid_refused _ (nowhere 14) e (script_starts (plan_lanes c.args.plan.now) c.args.plan.now) c.args.starts.now;
+      words_after = laid_refused _ (nowhere 14) e (script_words (plan_lanes c.args.plan.now) c.args.plan.now) c.args.words.now;
+      pieces_after = laid_refused _ (nowhere 14) e (piece_sizes (plan_lanes c.args.plan.now) c.args.plan.now) c.args.pieces.now;
+    }

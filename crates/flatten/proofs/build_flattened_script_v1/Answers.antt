@@ -10,7 +10,6 @@ use Rattle.flatten.specs.FlattenedAnswer.{flattened_of}
 use Rattle.script_assembly.specs.Assembly.{script_starts, script_words}
 use Rattle.flatten.specs.Flatten.{Sizes, piece_sizes, laid}
 use Rattle.flatten.proofs.BuildAnswerLaws.{accepted_is, sound, refused_sized, refused_built, refused_kept, accepted_building, cleared_room}
-use borrow.Author.Rules.{rules}
 use Rattle.flatten.proofs.build_flattened_script_v1.Goals as goal
 
 pub check_plan-requires : goal.check_plan-requires
@@ -35,7 +34,13 @@ shape_of-room-in-Refused c =
 pub returns-in-Refused : goal.returns-in-Refused
 returns-in-Refused c =
     let q = sym c.in-Refused.is ∙ c.check_plan.ensures.value in
-    record { value = refused_built c.args.plan.now c.args.room.now c.in-Refused.x q c.check_plan.new.room c.check_plan.ensures.room_after c.args.starts.now c.args.words.now c.args.pieces.now; room_after = (refused_sized c.args.plan.now c.args.room.now c.in-Refused.x q c.check_plan.new.room c.check_plan.ensures.room_after).1; starts_after = refused_kept c.args.plan.now c.args.room.now c.in-Refused.x q c.check_plan.new.room c.check_plan.ensures.room_after c.args.starts.now c.args.words.now c.args.pieces.now (script_starts (plan_lanes c.args.plan.now) c.args.plan.now) c.args.starts.now; words_after = refused_kept c.args.plan.now c.args.room.now c.in-Refused.x q c.check_plan.new.room c.check_plan.ensures.room_after c.args.starts.now c.args.words.now c.args.pieces.now (script_words (plan_lanes c.args.plan.now) c.args.plan.now) c.args.words.now; pieces_after = refused_kept c.args.plan.now c.args.room.now c.in-Refused.x q c.check_plan.new.room c.check_plan.ensures.room_after c.args.starts.now c.args.words.now c.args.pieces.now (piece_sizes (plan_lanes c.args.plan.now) c.args.plan.now) c.args.pieces.now }
+    record {
+      value = refused_built c.args.plan.now c.args.room.now c.in-Refused.x q c.check_plan.new.room c.check_plan.ensures.room_after c.args.starts.now c.args.words.now c.args.pieces.now;
+      room_after = (refused_sized c.args.plan.now c.args.room.now c.in-Refused.x q c.check_plan.new.room c.check_plan.ensures.room_after).1;
+      starts_after = refused_kept c.args.plan.now c.args.room.now c.in-Refused.x q c.check_plan.new.room c.check_plan.ensures.room_after c.args.starts.now c.args.words.now c.args.pieces.now (script_starts (plan_lanes c.args.plan.now) c.args.plan.now) c.args.starts.now;
+      words_after = refused_kept c.args.plan.now c.args.room.now c.in-Refused.x q c.check_plan.new.room c.check_plan.ensures.room_after c.args.starts.now c.args.words.now c.args.pieces.now (script_words (plan_lanes c.args.plan.now) c.args.plan.now) c.args.words.now;
+      pieces_after = refused_kept c.args.plan.now c.args.room.now c.in-Refused.x q c.check_plan.new.room c.check_plan.ensures.room_after c.args.starts.now c.args.words.now c.args.pieces.now (piece_sizes (plan_lanes c.args.plan.now) c.args.plan.now) c.args.pieces.now;
+    }
 
 pub shape_of-room-in-Accepted : goal.shape_of-room-in-Accepted
 shape_of-room-in-Accepted c =
@@ -56,4 +61,11 @@ shape_of-pieces c =
 pub returns-in-Accepted : goal.returns-in-Accepted
 returns-in-Accepted c =
     let e = accepted_is (plan_verdict c.args.plan.now (length c.args.room.now)) (sym c.in-Accepted.is ∙ c.check_plan.ensures.value) in
-    let k = accepted_building c.args.plan.now c.args.room.now e (length c.args.starts.now) (length c.args.words.now) (length c.args.pieces.now) in record { value = c.build_accepted.ensures.value ∙ ap flattened_of k; room_after = cleared_room c.args.plan.now c.args.room.now e _ _ c.check_plan.auto.room c.build_accepted.ensures.room_after; starts_after = c.build_accepted.ensures.starts_after ∙ ap (λ (x : Answer Sizes). laid x (script_starts (plan_lanes c.args.plan.now) c.args.plan.now) c.args.starts.now) k; words_after = c.build_accepted.ensures.words_after ∙ ap (λ (x : Answer Sizes). laid x (script_words (plan_lanes c.args.plan.now) c.args.plan.now) c.args.words.now) k; pieces_after = c.build_accepted.ensures.pieces_after ∙ ap (λ (x : Answer Sizes). laid x (piece_sizes (plan_lanes c.args.plan.now) c.args.plan.now) c.args.pieces.now) k }
+    let k = accepted_building c.args.plan.now c.args.room.now e (length c.args.starts.now) (length c.args.words.now) (length c.args.pieces.now) in
+    record {
+      value = c.build_accepted.ensures.value ∙ ap flattened_of k;
+      room_after = cleared_room c.args.plan.now c.args.room.now e _ _ c.check_plan.auto.room c.build_accepted.ensures.room_after;
+      starts_after = c.build_accepted.ensures.starts_after ∙ ap (λ (x : Answer Sizes). laid x (script_starts (plan_lanes c.args.plan.now) c.args.plan.now) c.args.starts.now) k;
+      words_after = c.build_accepted.ensures.words_after ∙ ap (λ (x : Answer Sizes). laid x (script_words (plan_lanes c.args.plan.now) c.args.plan.now) c.args.words.now) k;
+      pieces_after = c.build_accepted.ensures.pieces_after ∙ ap (λ (x : Answer Sizes). laid x (piece_sizes (plan_lanes c.args.plan.now) c.args.plan.now) c.args.pieces.now) k;
+    }

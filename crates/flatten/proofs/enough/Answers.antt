@@ -2,7 +2,6 @@
 -- Assumes nothing.
 use mathlib.Core.Path.{◌∙◌}
 use native.Mathlib.Omega.{arith}
-use borrow.Author.Rules.{rules}
 use borrow.Author.Tests.{lt-leb}
 use Rattle.flatten.proofs.BuildAnswerLaws.{test_on}
 use Rattle.flatten.proofs.enough.Goals as goal

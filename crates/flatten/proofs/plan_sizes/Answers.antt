@@ -6,7 +6,6 @@ use lib.ListN.{length}
 use Rattle.plan_refusals.specs.Refusals.{plan_verdict}
 use Rattle.flatten.specs.FlattenedAnswer.{flattened_of}
 use Rattle.flatten.proofs.BuildAnswerLaws.{accepted_is, sound, refused_sized, accepted_sizing, cleared_room}
-use borrow.Author.Rules.{rules}
 use Rattle.flatten.proofs.plan_sizes.Goals as goal
 
 pub check_plan-requires : goal.check_plan-requires

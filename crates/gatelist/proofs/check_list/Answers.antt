@@ -1,7 +1,5 @@
-use Rattle.std.proofs.Common.{◌≡◌, ◌-◌, ◌≤◌, sym, ◌∙◌, arith, rules}
-use Rattle.words.specs.Tests.{first_from}
-use Rattle.gatelist.specs.GateList.{before_over}
-use Rattle.gatelist.specs.ListWords.{list_pin, whole_gates, all_gates, list_right, bad_list}
+use Rattle.std.proofs.Common.{sym, ◌∙◌, arith}
+use Rattle.gatelist.specs.ListWords.{list_pin}
 use Rattle.gatelist.proofs.GateListLaws.{before_first, before_next}
 use Rattle.gatelist.proofs.ListWordLaws.{list_from, list_fault, list_next, list_cut, list_good}
 use Rattle.gatelist.proofs.check_list.Goals as goal

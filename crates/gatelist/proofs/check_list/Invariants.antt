@@ -1,11 +1,9 @@
 -- `gatelist::check_list` meets its contract. The loop's invariant: the answer from gate g on is the answer, and `before` is the pin before it.
 -- Assumes nothing.
-use Rattle.std.proofs.Common.{◌≡◌, ◌-◌, ◌≤◌, sym, ◌∙◌, arith, rules}
+use Rattle.std.proofs.Common.{◌≡◌, ◌-◌, ◌≤◌}
 use Rattle.words.specs.Tests.{first_from}
 use Rattle.gatelist.specs.GateList.{before_over}
 use Rattle.gatelist.specs.ListWords.{list_pin, whole_gates, all_gates, list_right, bad_list}
-use Rattle.gatelist.proofs.GateListLaws.{before_first, before_next}
-use Rattle.gatelist.proofs.ListWordLaws.{list_from, list_fault, list_next, list_cut, list_good}
 use Rattle.gatelist.proofs.check_list.Given as goal
 
 abbrev pub invariant-loop-g : goal.invariant-loop-g

@@ -1,6 +1,6 @@
 -- `gatelist::find_in` meets its contract: a gate that has the pin is the pin's gate, and where the pin has a gate the search by halves ends at it.
 -- Assumes nothing.
-use Rattle.std.proofs.Common.{sym, ap, ◌∙◌, rules}
+use Rattle.std.proofs.Common.{sym, ap, ◌∙◌}
 use Rattle.gatelist.specs.ListWords.{gate_listed_of}
 use Rattle.gatelist.proofs.ListWordLaws.{found_gate, found_none}
 use Rattle.gatelist.proofs.find_in.Goals as goal

@@ -1,5 +1,4 @@
-use Rattle.std.proofs.Common.{◌≡◌, ◌-◌, arith, rules}
-use Rattle.sort.specs.HalfSearch.{Between}
+use Rattle.std.proofs.Common.{◌≡◌, arith}
 use Rattle.sort.proofs.HalfSearchLaws.{search_right, search_left, between_least}
 use Rattle.gatelist.specs.ListWords.{list_pin, whole_gates}
 use Rattle.gatelist.proofs.ListWordLaws.{ascending}

@@ -1,10 +1,8 @@
 -- `gatelist::first_not_below` meets its contract: the search by halves of crate sort, over the pins of the gates, which ascend.
 -- Assumes nothing.
-use Rattle.std.proofs.Common.{◌≡◌, ◌-◌, arith, rules}
+use Rattle.std.proofs.Common.{◌-◌}
 use Rattle.sort.specs.HalfSearch.{Between}
-use Rattle.sort.proofs.HalfSearchLaws.{search_right, search_left, between_least}
 use Rattle.gatelist.specs.ListWords.{list_pin, whole_gates}
-use Rattle.gatelist.proofs.ListWordLaws.{ascending}
 use Rattle.gatelist.proofs.first_not_below.Given as goal
 
 abbrev pub invariant-loop-low : goal.invariant-loop-low

@@ -1,6 +1,6 @@
 -- `gatelist::gate_right` meets its contract: the three tests in the definition's order.
 -- Assumes nothing.
-use Rattle.std.proofs.Common.{◌≡◌, ◌/◌, ◌<◌, ◌≤◌, ltb, sym, ◌∙◌, ap₂, arith, rules}
+use Rattle.std.proofs.Common.{◌≡◌, ◌/◌, ◌<◌, ◌≤◌, ltb, sym, ◌∙◌, ap₂, arith}
 use Rattle.gatelist.specs.GateList.{before_over}
 use Rattle.gatelist.specs.ListWords.{list_pin, list_first, list_second}
 use Rattle.gatelist.proofs.GateListLaws.{right_not_above, right_not_first, right_last}

@@ -1,6 +1,6 @@
 -- `gatelist::has_pin` meets its contract: by the two tests.
 -- Assumes nothing.
-use Rattle.std.proofs.Common.{ℕ, ◌<◌, ◌≤◌, Bool, ◌&&◌, eqb, sym, ap, ◌∙◌, arith, rules, le-ltb, lt-ltb}
+use Rattle.std.proofs.Common.{ℕ, ◌<◌, ◌≤◌, Bool, ◌&&◌, eqb, sym, ap, ◌∙◌, arith, le-ltb, lt-ltb}
 use Rattle.gatelist.specs.ListWords.{list_pin, whole_gates}
 use Rattle.gatelist.proofs.has_pin.Goals as goal
 

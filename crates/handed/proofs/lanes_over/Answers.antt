@@ -5,7 +5,6 @@ use mathlib.Core.Option.{none}
 use Prim.Native.Nat.{ℕ, ◌^◌, ◌≤◌, ◌<◌}
 use native.Mathlib.Omega.{arith}
 use lib.ListN.{length, get_or}
-use borrow.Author.Rules.{rules}
 use Rattle.words.proofs.FoundLaws.{item_some, item_none}
 use Rattle.reads.specs.ReadSet.{pairs_of, broken}
 use Rattle.reads.specs.Search.{longest}
@@ -59,7 +58,8 @@ longest_row-rounds-requires c =
     let form_in : broken (pairs_of c.args.set.now) ≡ none = item_none _ (sym c.check_form.ensures ∙ c.in_default.is) in
     let small-in : (x : ℕ) → get_or c.args.set.now x 0 < 2 ^ 32 = λ x. (c.type_inv.set x).fits in
     let fine-in : let a = (called (formed (filled c))).args in fault a.n (pairs_of a.set.now) (lanes_in (pairs_of a.set.now) a.lanes.now) ≡ none = told_none _ (item_none _ (sym c.fill_lanes.ensures.value ∙ c.in_default-fill_lanes.is)) in
-    let table-in : let a = (called (formed (filled c))).args in TableReadable a.set.now c.fill_lanes.new.table a.n × (lanes_at a.set.now c.fill_lanes.new.table a.n ≡ lanes_in (pairs_of a.set.now) a.lanes.now) = fine_table c.args.n c.args.set.now c.args.lanes.now (form_in) (small-in) (fine-in) _
+    let table-in : let a =
+    (called (formed (filled c))).args in TableReadable a.set.now c.fill_lanes.new.table a.n × (lanes_at a.set.now c.fill_lanes.new.table a.n ≡ lanes_in (pairs_of a.set.now) a.lanes.now) = fine_table c.args.n c.args.set.now c.args.lanes.now (form_in) (small-in) (fine-in) _
     c.requires.few-lanes (c.fill_lanes.kept.1.1.0 ∙ c.requires.room) c.fill_lanes.ensures.table_after in
     (table-in).0
 
@@ -72,7 +72,8 @@ overflow_mul-n-2 c =
     let form_in : broken (pairs_of c.args.set.now) ≡ none = item_none _ (sym c.check_form.ensures ∙ c.in_default.is) in
     let small-in : (x : ℕ) → get_or c.args.set.now x 0 < 2 ^ 32 = λ x. (c.type_inv.set x).fits in
     let fine-in : let a = (called (formed (filled c.before))).args in fault a.n (pairs_of a.set.now) (lanes_in (pairs_of a.set.now) a.lanes.now) ≡ none = told_none _ (item_none _ (sym c.fill_lanes.ensures.value ∙ c.in_default-fill_lanes.is)) in
-    let table-in : let a = (called (formed (filled c.before))).args in TableReadable a.set.now c.fill_lanes.new.table a.n × (lanes_at a.set.now c.fill_lanes.new.table a.n ≡ lanes_in (pairs_of a.set.now) a.lanes.now) = fine_table c.args.n c.args.set.now c.args.lanes.now (form_in) (small-in) (fine-in) _
+    let table-in : let a =
+    (called (formed (filled c.before))).args in TableReadable a.set.now c.fill_lanes.new.table a.n × (lanes_at a.set.now c.fill_lanes.new.table a.n ≡ lanes_in (pairs_of a.set.now) a.lanes.now) = fine_table c.args.n c.args.set.now c.args.lanes.now (form_in) (small-in) (fine-in) _
     c.requires.few-lanes (c.fill_lanes.kept.1.1.0 ∙ c.requires.room) c.fill_lanes.ensures.table_after in
     let rounds-in : let a = (called (formed (filled c.before.before))).args in c.longest_row-rounds.result ≡ longest (lanes_in (pairs_of a.set.now) a.lanes.now) = c.longest_row-rounds.ensures ∙ ap longest (table-in).1 in
     let most-in : c.longest_row-rounds.result ≤ 32 = let some_pairs = nonempty c.args.n c.args.set.now c.args.lanes.now 0 (few-in) (form_in) c.if-set-eq0.false in
@@ -85,7 +86,8 @@ returns-then-out-n c =
     let form_in : broken (pairs_of c.args.set.now) ≡ none = item_none _ (sym c.check_form.ensures ∙ c.in_default.is) in
     let fine-in : let a = (called (formed (filled c.before.before.before))).args in fault a.n (pairs_of a.set.now) (lanes_in (pairs_of a.set.now) a.lanes.now) ≡ none = told_none _ (item_none _ (sym c.fill_lanes.ensures.value ∙ c.in_default-fill_lanes.is)) in
     let small-in : (x : ℕ) → get_or c.args.set.now x 0 < 2 ^ 32 = λ x. (c.type_inv.set x).fits in
-    let table-in : let a = (called (formed (filled c.before.before.before))).args in TableReadable a.set.now c.fill_lanes.new.table a.n × (lanes_at a.set.now c.fill_lanes.new.table a.n ≡ lanes_in (pairs_of a.set.now) a.lanes.now) = fine_table c.args.n c.args.set.now c.args.lanes.now (form_in) (small-in) (fine-in) _
+    let table-in : let a =
+    (called (formed (filled c.before.before.before))).args in TableReadable a.set.now c.fill_lanes.new.table a.n × (lanes_at a.set.now c.fill_lanes.new.table a.n ≡ lanes_in (pairs_of a.set.now) a.lanes.now) = fine_table c.args.n c.args.set.now c.args.lanes.now (form_in) (small-in) (fine-in) _
     c.requires.few-lanes (c.fill_lanes.kept.1.1.0 ∙ c.requires.room) c.fill_lanes.ensures.table_after in
     let rounds-in : let a = (called (formed (filled c.before.before.before.before))).args in c.longest_row-rounds.result ≡ longest (lanes_in (pairs_of a.set.now) a.lanes.now) = c.longest_row-rounds.ensures ∙ ap longest (table-in).1 in
     let short = is_short c.args.n c.args.set.now c.args.lanes.now _ (few-in) (form_in) c.if-set-eq0.left (fine-in) (rw (rounds-in) at c.if-out-n.true) in
@@ -97,7 +99,8 @@ write_rounds-requires c =
     let form_in : broken (pairs_of c.args.set.now) ≡ none = item_none _ (sym c.check_form.ensures ∙ c.in_default.is) in
     let small-in : (x : ℕ) → get_or c.args.set.now x 0 < 2 ^ 32 = λ x. (c.type_inv.set x).fits in
     let fine-in : let a = (called (formed (filled c.before.before.before))).args in fault a.n (pairs_of a.set.now) (lanes_in (pairs_of a.set.now) a.lanes.now) ≡ none = told_none _ (item_none _ (sym c.fill_lanes.ensures.value ∙ c.in_default-fill_lanes.is)) in
-    let table-in : let a = (called (formed (filled c.before.before.before))).args in TableReadable a.set.now c.fill_lanes.new.table a.n × (lanes_at a.set.now c.fill_lanes.new.table a.n ≡ lanes_in (pairs_of a.set.now) a.lanes.now) = fine_table c.args.n c.args.set.now c.args.lanes.now (form_in) (small-in) (fine-in) _
+    let table-in : let a =
+    (called (formed (filled c.before.before.before))).args in TableReadable a.set.now c.fill_lanes.new.table a.n × (lanes_at a.set.now c.fill_lanes.new.table a.n ≡ lanes_in (pairs_of a.set.now) a.lanes.now) = fine_table c.args.n c.args.set.now c.args.lanes.now (form_in) (small-in) (fine-in) _
     c.requires.few-lanes (c.fill_lanes.kept.1.1.0 ∙ c.requires.room) c.fill_lanes.ensures.table_after in
     let few-in : length c.args.set.now ≤ 16384 = c.if-set-gt-SET_WORDS.false in
     let rounds-in : let a = (called (formed (filled c.before.before.before.before))).args in c.longest_row-rounds.result ≡ longest (lanes_in (pairs_of a.set.now) a.lanes.now) = c.longest_row-rounds.ensures ∙ ap longest (table-in).1 in
@@ -111,7 +114,8 @@ overflow_cast-result c =
     let form_in : broken (pairs_of c.args.set.now) ≡ none = item_none _ (sym c.check_form.ensures ∙ c.in_default.is) in
     let small-in : (x : ℕ) → get_or c.args.set.now x 0 < 2 ^ 32 = λ x. (c.type_inv.set x).fits in
     let fine-in : let a = (called (formed (filled c.before.before.before.before.before.before))).args in fault a.n (pairs_of a.set.now) (lanes_in (pairs_of a.set.now) a.lanes.now) ≡ none = told_none _ (item_none _ (sym c.fill_lanes.ensures.value ∙ c.in_default-fill_lanes.is)) in
-    let table-in : let a = (called (formed (filled c.before.before.before.before.before.before))).args in TableReadable a.set.now c.fill_lanes.new.table a.n × (lanes_at a.set.now c.fill_lanes.new.table a.n ≡ lanes_in (pairs_of a.set.now) a.lanes.now) = fine_table c.args.n c.args.set.now c.args.lanes.now (form_in) (small-in) (fine-in) _
+    let table-in : let a =
+    (called (formed (filled c.before.before.before.before.before.before))).args in TableReadable a.set.now c.fill_lanes.new.table a.n × (lanes_at a.set.now c.fill_lanes.new.table a.n ≡ lanes_in (pairs_of a.set.now) a.lanes.now) = fine_table c.args.n c.args.set.now c.args.lanes.now (form_in) (small-in) (fine-in) _
     c.requires.few-lanes (c.fill_lanes.kept.1.1.0 ∙ c.requires.room) c.fill_lanes.ensures.table_after in
     let rounds-in : let a = (called (formed (filled c.before.before.before.before.before.before.before))).args in c.longest_row-rounds.result ≡ longest (lanes_in (pairs_of a.set.now) a.lanes.now) = c.longest_row-rounds.ensures ∙ ap longest (table-in).1 in
     let most-in : c.longest_row-rounds.result ≤ 32 = let some_pairs = nonempty c.args.n c.args.set.now c.args.lanes.now 0 (few-in) (form_in) c.if-set-eq0.false in
@@ -124,7 +128,8 @@ returns c =
     let form_in : broken (pairs_of c.args.set.now) ≡ none = item_none _ (sym c.check_form.ensures ∙ c.in_default.is) in
     let fine-in : let a = (called (formed (filled c.before.before.before.before.before.before))).args in fault a.n (pairs_of a.set.now) (lanes_in (pairs_of a.set.now) a.lanes.now) ≡ none = told_none _ (item_none _ (sym c.fill_lanes.ensures.value ∙ c.in_default-fill_lanes.is)) in
     let small-in : (x : ℕ) → get_or c.args.set.now x 0 < 2 ^ 32 = λ x. (c.type_inv.set x).fits in
-    let table-in : let a = (called (formed (filled c.before.before.before.before.before.before))).args in TableReadable a.set.now c.fill_lanes.new.table a.n × (lanes_at a.set.now c.fill_lanes.new.table a.n ≡ lanes_in (pairs_of a.set.now) a.lanes.now) = fine_table c.args.n c.args.set.now c.args.lanes.now (form_in) (small-in) (fine-in) _
+    let table-in : let a =
+    (called (formed (filled c.before.before.before.before.before.before))).args in TableReadable a.set.now c.fill_lanes.new.table a.n × (lanes_at a.set.now c.fill_lanes.new.table a.n ≡ lanes_in (pairs_of a.set.now) a.lanes.now) = fine_table c.args.n c.args.set.now c.args.lanes.now (form_in) (small-in) (fine-in) _
     c.requires.few-lanes (c.fill_lanes.kept.1.1.0 ∙ c.requires.room) c.fill_lanes.ensures.table_after in
     let rounds-in : let a = (called (formed (filled c.before.before.before.before.before.before.before))).args in c.longest_row-rounds.result ≡ longest (lanes_in (pairs_of a.set.now) a.lanes.now) = c.longest_row-rounds.ensures ∙ ap longest (table-in).1 in
     let fits = is_placed c.args.n c.args.set.now c.args.lanes.now _ (few-in) (form_in) c.if-set-eq0.left (fine-in) (rw (rounds-in) at c.if-out-n.false) in

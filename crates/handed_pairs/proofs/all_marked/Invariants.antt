@@ -1,17 +1,12 @@
 -- `all_marked`: each pair before p is marked.
 -- Assumes nothing.
-use mathlib.Core.Path.{◌≡◌, refl, sym, ap, ◌∙◌}
+use mathlib.Core.Path.{◌≡◌}
 use mathlib.Core.Bool.{Bool, true}
 use Prim.Native.Nat.{ℕ, ◌-◌, ◌≤◌}
 use mathlib.Core.List.{List}
-use native.Mathlib.Omega.{arith}
-use borrow.Author.Rules.{rules}
-use borrow.Author.Tests.{eq-eqb, ne_eqb}
 use lib.Dec.{eqb}
 use Rattle.words.specs.Bit.{bit_at}
 use Rattle.words.specs.Tests.{all_below}
-use Rattle.words.proofs.BitLaws.{at_lt}
-use Rattle.words.proofs.TestLaws.{all_on, all_fault}
 use Rattle.handed_pairs.proofs.all_marked.Given as goal
 
 -- whether pair p is marked

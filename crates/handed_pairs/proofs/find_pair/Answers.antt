@@ -1,6 +1,5 @@
 -- `find_pair`: the pair is where the search by halves ends, or nowhere.
 -- Assumes nothing.
-use borrow.Author.Rules.{rules}
 use Rattle.handed_pairs.proofs.SetSearchLaws.{pair_here, past_none, word_none, mask_none}
 use Rattle.handed_pairs.proofs.find_pair.Goals as goal
 

@@ -1,9 +1,7 @@
 use mathlib.Core.Path.{◌≡◌}
-use Prim.Native.Nat.{◌-◌, ◌/◌}
+use Prim.Native.Nat.{◌/◌}
 use native.Mathlib.Omega.{arith}
 use lib.ListN.{length}
-use borrow.Author.Rules.{rules}
-use Rattle.sort.specs.HalfSearch.{Between}
 use Rattle.sort.proofs.HalfSearchLaws.{search_start, search_right, search_left, between_least}
 use Rattle.handed_pairs.proofs.SetSearchLaws.{word_at, words_rise}
 use Rattle.handed_pairs.proofs.first_not_below.Goals as goal

@@ -1,13 +1,9 @@
 -- `first_not_below`: the search by halves of crate sort, over the words of the set, which ascend.
 -- Assumes nothing.
-use mathlib.Core.Path.{◌≡◌}
 use Prim.Native.Nat.{◌-◌, ◌/◌}
-use native.Mathlib.Omega.{arith}
 use lib.ListN.{length}
-use borrow.Author.Rules.{rules}
 use Rattle.sort.specs.HalfSearch.{Between}
-use Rattle.sort.proofs.HalfSearchLaws.{search_start, search_right, search_left, between_least}
-use Rattle.handed_pairs.proofs.SetSearchLaws.{word_at, words_rise}
+use Rattle.handed_pairs.proofs.SetSearchLaws.{word_at}
 use Rattle.handed_pairs.proofs.first_not_below.Given as goal
 
 abbrev pub invariant-loop-low : goal.invariant-loop-low

@@ -1,7 +1,6 @@
 -- `fit`: each way through is a test of the definition.
 -- Assumes nothing.
 use native.Mathlib.Omega.{arith}
-use borrow.Author.Rules.{rules}
 use Rattle.words.proofs.PopLaws.{pop_le}
 use Rattle.handed_pairs.proofs.SetSearchLaws.{number_le, fit_foreign, fit_marked, fit_over, fit_fits}
 use Rattle.handed_pairs.proofs.fit.Goals as goal

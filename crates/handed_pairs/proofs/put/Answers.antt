@@ -1,6 +1,5 @@
 -- `put`: the two cases of the definition.
 -- Assumes nothing.
-use borrow.Author.Rules.{rules}
 use Rattle.handed_pairs.proofs.SetSearchLaws.{tabled_in, tabled_out}
 use Rattle.handed_pairs.proofs.put.Goals as goal
 

@@ -10,7 +10,6 @@ use Rattle.joins.specs.Merge.{Joinable}
 use Rattle.joins_sets.proofs.JoinPutLaws.{join_shorter}
 use Rattle.joins_sets.proofs.JoinAnswerLaws.{fine_set, first_refused, second_refused, join_many, join_short, join_good, join_pairs}
 use Rattle.joins.proofs.JoinCodeLaws.{tested_bad, tested_fine, joinable, roomy_true, refused_told, join_told}
-use borrow.Author.Rules.{rules}
 use Rattle.joins.proofs.join_sets.Goals as goal
 
 pub returns-in-Refused : goal.returns-in-Refused

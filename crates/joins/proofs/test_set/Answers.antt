@@ -4,7 +4,6 @@ use mathlib.Core.Path.{sym, ap, ◌∙◌}
 use Rattle.words.proofs.FoundLaws.{item_some, item_none}
 use Rattle.joins.specs.Merge.{tested_of}
 use Rattle.joins_sets.proofs.JoinAnswerLaws.{set-many, set-bad, set_fine}
-use borrow.Author.Rules.{rules}
 use Rattle.joins.proofs.test_set.Goals as goal
 
 pub returns-then-set-gt16384 : goal.returns-then-set-gt16384

@@ -7,7 +7,6 @@ use mathlib.Core.Path.{sym, ap, ◌∙◌}
 use Prim.Native.Nat.{ℕ}
 use lib.ListN.{replicate}
 use lib.Seq.{length-take-le}
-use borrow.Author.Rules.{rules}
 use Rattle.listing.proofs.answer_to.Goals as goal
 
 pub slice_bounds-read_set_of-end-2 : goal.slice_bounds-read_set_of-end-2
@@ -33,4 +32,8 @@ returns-in-Refused c =
 
 pub returns-in-Asked : goal.returns-in-Asked
 returns-in-Asked c =
-    record { value = to_said (records c.args.s.now) (keys_few _ 8192 0) c.args.room.now c.requires.0 c.read_set_of.ensures.set_after _ (sym c.in-Asked.is ∙ c.read_set_of.ensures.value) c.args.lanes _ c.rounds_of-said.ensures.value; room_after = c.clear-in-Asked.ensures ∙ ap (λ (n : ℕ). replicate n 0) (room_size c.args.room.now c.read_set_of.new.set c.requires.0 c.read_set_of.auto.set); section_after = to_section (records c.args.s.now) (keys_few _ 8192 0) c.args.room.now c.requires.0 c.read_set_of.ensures.set_after _ (sym c.in-Asked.is ∙ c.read_set_of.ensures.value) c.args.lanes _ _ c.rounds_of-said.ensures.section_after }
+    record {
+      value = to_said (records c.args.s.now) (keys_few _ 8192 0) c.args.room.now c.requires.0 c.read_set_of.ensures.set_after _ (sym c.in-Asked.is ∙ c.read_set_of.ensures.value) c.args.lanes _ c.rounds_of-said.ensures.value;
+      room_after = c.clear-in-Asked.ensures ∙ ap (λ (n : ℕ). replicate n 0) (room_size c.args.room.now c.read_set_of.new.set c.requires.0 c.read_set_of.auto.set);
+      section_after = to_section (records c.args.s.now) (keys_few _ 8192 0) c.args.room.now c.requires.0 c.read_set_of.ensures.set_after _ (sym c.in-Asked.is ∙ c.read_set_of.ensures.value) c.args.lanes _ _ c.rounds_of-said.ensures.section_after;
+    }

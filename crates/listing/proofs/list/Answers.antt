@@ -3,7 +3,6 @@
 use mathlib.Core.Path.{sym, ◌∙◌}
 use native.Mathlib.Omega.{arith}
 use borrow.Author.Rules.{rules}
-use borrow.Author.Tests.{not-true, not-false}
 use Rattle.words.proofs.EditionLaws.{known_number, known_least, known_most}
 use Rattle.listing.proofs.ListedTextLaws.{list_short_room, list_unknown, room_kept, room_zeros, lists_short, lists_text}
 use Rattle.listing.proofs.list.Goals as goal

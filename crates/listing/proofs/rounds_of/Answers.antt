@@ -7,7 +7,6 @@ use Prim.Native.Nat.{ℕ, ◌*◌}
 use native.Mathlib.Omega.{arith}
 use lib.ListN.{replicate, length-replicate}
 use lib.Seq.{length-take-le}
-use borrow.Author.Rules.{rules}
 use Rattle.listing.proofs.rounds_of.Goals as goal
 
 pub slice_bounds-table-end : goal.slice_bounds-table-end

@@ -2,7 +2,6 @@
 use Rattle.listing.proofs.TextLengthLaws.{text_never, text_given}
 use lib.Dec.{lit≤}
 use mathlib.Core.Path.{sym, ◌∙◌}
-use borrow.Author.Rules.{rules}
 use Rattle.listing.proofs.text_of.Goals as goal
 
 pub returns-in-Text : goal.returns-in-Text

@@ -1,6 +1,5 @@
 -- `listing_line::hex_digit` meets its contract, by the two cases of a digit. Assumes nothing.
 use Rattle.listing_line.proofs.LineLaws.{hex_low, hex_high}
-use borrow.Author.Rules.{rules}
 use Rattle.listing_line.proofs.hex_digit.Goals as goal
 
 pub returns-then-d-lt10 : goal.returns-then-d-lt10

@@ -1,11 +1,9 @@
-use Rattle.listing_line.specs.Line.{hex, hex_in}
-use Prim.Native.Nat.{◌-◌, ◌≤◌}
+use Rattle.listing_line.specs.Line.{hex_in}
 use mathlib.Core.List.{[], ◌∷◌}
-use Rattle.text.proofs.WritingLaws.{TextGoing, going_start, going_long, going_more, going_done}
+use Rattle.text.proofs.WritingLaws.{going_start, going_long, going_more, going_done}
 use Rattle.listing_line.proofs.LineLaws.{hex_top}
 use mathlib.Core.Path.{◌≡◌, ◌∙◌}
 use native.Mathlib.Omega.{arith}
-use borrow.Author.Rules.{rules}
 use Rattle.listing_line.proofs.put_hex.Goals as goal
 
 pub loop-k-init : goal.loop-k-init

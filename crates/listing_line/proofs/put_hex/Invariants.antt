@@ -1,12 +1,7 @@
 -- `listing_line::put_hex` meets its contract. The invariant: what is stored, with the k digits that are left, is the whole text. Assumes nothing.
 use Rattle.listing_line.specs.Line.{hex, hex_in}
 use Prim.Native.Nat.{◌-◌, ◌≤◌}
-use mathlib.Core.List.{[], ◌∷◌}
-use Rattle.text.proofs.WritingLaws.{TextGoing, going_start, going_long, going_more, going_done}
-use Rattle.listing_line.proofs.LineLaws.{hex_top}
-use mathlib.Core.Path.{◌≡◌, ◌∙◌}
-use native.Mathlib.Omega.{arith}
-use borrow.Author.Rules.{rules}
+use Rattle.text.proofs.WritingLaws.{TextGoing}
 use Rattle.listing_line.proofs.put_hex.Given as goal
 
 abbrev pub invariant-loop-k : goal.invariant-loop-k

@@ -1,6 +1,5 @@
 -- `listing_line::put_line` meets its contract: its fields, one after the other. Assumes nothing.
 use Rattle.listing_line.proofs.LineLaws.{put_fields}
-use borrow.Author.Rules.{rules}
 use Rattle.listing_line.proofs.put_line.Goals as goal
 
 pub returns : goal.returns

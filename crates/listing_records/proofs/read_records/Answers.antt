@@ -1,9 +1,6 @@
-use Rattle.listing_records.proofs.ListingRecordLaws.{Reading, reading_start, reading_more, reading_asked, reading_refused, stop_full, stop_bad}
-use lib.ListN.{length}
-use Prim.Native.Nat.{◌-◌}
+use Rattle.listing_records.proofs.ListingRecordLaws.{reading_start, reading_more, reading_asked, reading_refused, stop_full, stop_bad}
 use mathlib.Core.Path.{sym, ◌∙◌}
 use native.Mathlib.Omega.{arith}
-use borrow.Author.Rules.{rules}
 use Rattle.listing_records.proofs.read_records.Goals as goal
 
 pub loop-asked-init : goal.loop-asked-init

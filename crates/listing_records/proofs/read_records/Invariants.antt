@@ -1,11 +1,8 @@
 -- `listing_records::read_records` meets its contract. The invariant: the keys stored, with those that the records from here on ask for, are all of
 -- them. Assumes nothing.
-use Rattle.listing_records.proofs.ListingRecordLaws.{Reading, reading_start, reading_more, reading_asked, reading_refused, stop_full, stop_bad}
+use Rattle.listing_records.proofs.ListingRecordLaws.{Reading}
 use lib.ListN.{length}
 use Prim.Native.Nat.{◌-◌}
-use mathlib.Core.Path.{sym, ◌∙◌}
-use native.Mathlib.Omega.{arith}
-use borrow.Author.Rules.{rules}
 use Rattle.listing_records.proofs.read_records.Given as goal
 
 abbrev pub invariant-loop-asked : goal.invariant-loop-asked

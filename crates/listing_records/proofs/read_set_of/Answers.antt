@@ -2,7 +2,6 @@
 -- Assumes nothing.
 use Rattle.listing_records.proofs.RecordBitLaws.{refused_in, set-refused, set_asked, told_none, told_few, told_keys, told_front, told_settable}
 use mathlib.Core.Path.{sym, ◌∙◌}
-use borrow.Author.Rules.{rules}
 use Rattle.listing_records.proofs.read_set_of.Goals as goal
 
 pub slice_bounds-read_set-end : goal.slice_bounds-read_set-end

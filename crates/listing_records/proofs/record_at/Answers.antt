@@ -3,7 +3,6 @@ use Rattle.listing_records.proofs.ListingRecordLaws.{at_length, after_end, right
 use Prim.Native.Nat.{ℕ, ◌+◌, ◌*◌, ◌^◌}
 use mathlib.Core.Path.{ap, ◌∙◌}
 use native.Mathlib.Omega.{arith}
-use borrow.Author.Rules.{rules}
 use Rattle.listing_records.proofs.record_at.Goals as goal
 
 pub returns-then-s-at : goal.returns-then-s-at

@@ -2,7 +2,6 @@
 -- Assumes nothing.
 use mathlib.Core.Path.{◌≡◌, sym, ◌∙◌}
 use mathlib.Core.Bool.{true}
-use borrow.Author.Rules.{rules}
 use Rattle.words.specs.Answer.{good}
 use Rattle.reads.specs.ReadSet.{pairs_of}
 use Rattle.reads.specs.SetAnswer.{Packed, packed}

@@ -1,7 +1,6 @@
 -- `locals::bring_any` meets its contract: 1, then 2, then what a set in form gets.
 -- Assumes nothing.
 use mathlib.Core.Path.{sym, ap, ◌∙◌}
-use borrow.Author.Rules.{rules}
 use Rattle.words.specs.Answer.{Answer}
 use Rattle.words.proofs.FoundLaws.{item_some, item_none}
 use Rattle.reads.specs.ReadSet.{pairs_of}

@@ -1,6 +1,5 @@
 -- `locals::is_asked` meets its contract: the pair that is found for the word decides.
 -- Assumes nothing.
-use borrow.Author.Rules.{rules}
 use Rattle.reads_local.proofs.LocalPositionLaws.{form_monotone}
 use Rattle.locals.proofs.AsksLaws.{past_all, other_word, mask_bit, too_high}
 use Rattle.locals.proofs.is_asked.Goals as goal

@@ -1,6 +1,5 @@
 -- `locals::local_position` meets its contract: 32 before all others, and a room that is cleared whole.
 -- Assumes nothing.
-use borrow.Author.Rules.{rules}
 use Rattle.locals.proofs.BroughtLaws.{short_room, long_room}
 use Rattle.locals.proofs.local_position.Goals as goal
 

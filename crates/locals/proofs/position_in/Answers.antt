@@ -3,7 +3,6 @@
 use mathlib.Core.Path.{ap, ◌∙◌}
 use mathlib.Core.List.{List}
 use Prim.Native.Nat.{ℕ}
-use borrow.Author.Rules.{rules}
 use Rattle.reads_local.specs.Bases.{local_by}
 use Rattle.locals.proofs.position_in.Goals as goal
 

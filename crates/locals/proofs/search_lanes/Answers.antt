@@ -1,6 +1,5 @@
 -- `locals::search_lanes` meets its contract: a set in form is searched.
 -- Assumes nothing.
-use borrow.Author.Rules.{rules}
 use Rattle.locals.proofs.BroughtLaws.{in_form}
 use Rattle.locals.proofs.search_lanes.Goals as goal
 

@@ -1,9 +1,6 @@
-use Prim.Native.Nat.{◌≤◌, ◌<◌}
 use native.Mathlib.Omega.{arith}
 use Rattle.words.proofs.RoundLaws.{next_lt}
-use Rattle.pinmap.specs.PinMap.{capacity}
-use Rattle.pinmap.proofs.PinMapCodeLaws.{Rounding, rounding_start, rounding_free, rounding_taken, rounding_on, rounding_over}
-use borrow.Author.Rules.{rules}
+use Rattle.pinmap.proofs.PinMapCodeLaws.{rounding_start, rounding_free, rounding_taken, rounding_on, rounding_over}
 use Rattle.pinmap.proofs.go_round.Goals as goal
 
 pub loop-left-init : goal.loop-left-init

@@ -1,11 +1,8 @@
 -- `pinmap::go_round` meets its contract. The loop's invariant: what is left ends where the whole round does (`Rounding`).
 -- Assumes nothing.
 use Prim.Native.Nat.{◌≤◌, ◌<◌}
-use native.Mathlib.Omega.{arith}
-use Rattle.words.proofs.RoundLaws.{next_lt}
 use Rattle.pinmap.specs.PinMap.{capacity}
-use Rattle.pinmap.proofs.PinMapCodeLaws.{Rounding, rounding_start, rounding_free, rounding_taken, rounding_on, rounding_over}
-use borrow.Author.Rules.{rules}
+use Rattle.pinmap.proofs.PinMapCodeLaws.{Rounding}
 use Rattle.pinmap.proofs.go_round.Given as goal
 
 abbrev pub invariant-loop-left : goal.invariant-loop-left

@@ -1,6 +1,5 @@
 -- `pinmap::look_up` meets its contract: one law of PinMapCodeLaws for each end of the probe.
 -- Assumes nothing.
-use borrow.Author.Rules.{rules}
 use Rattle.pinmap.proofs.PinMapCodeLaws.{within, look_free, look_taken, look_nowhere}
 use Rattle.pinmap.proofs.look_up.Goals as goal
 

@@ -1,10 +1,8 @@
 use mathlib.Core.Path.{sym}
-use Prim.Native.Nat.{◌≤◌, ◌<◌, ◌^◌}
 use native.Mathlib.Omega.{arith}
 use Rattle.pinmap.specs.PinMap.{capacity}
 use Rattle.pinmap.proofs.ProbeLaws.{scattered_lt, scattered_on_lt, home_lt, slot_none}
-use Rattle.pinmap.proofs.PinMapCodeLaws.{Homing, homing_start, homing_free, homing_taken, homing_on, homing_over}
-use borrow.Author.Rules.{rules}
+use Rattle.pinmap.proofs.PinMapCodeLaws.{homing_start, homing_free, homing_taken, homing_on, homing_over}
 use Rattle.pinmap.proofs.probe.Goals as goal
 
 pub returns-then-slots-eq0 : goal.returns-then-slots-eq0

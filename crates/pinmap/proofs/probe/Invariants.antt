@@ -1,12 +1,7 @@
 -- `pinmap::probe` meets its contract. The loop's invariant: what is left of the homes ends where the whole probe does (`Homing`).
 -- Assumes nothing.
-use mathlib.Core.Path.{sym}
 use Prim.Native.Nat.{◌≤◌, ◌<◌, ◌^◌}
-use native.Mathlib.Omega.{arith}
-use Rattle.pinmap.specs.PinMap.{capacity}
-use Rattle.pinmap.proofs.ProbeLaws.{scattered_lt, scattered_on_lt, home_lt, slot_none}
-use Rattle.pinmap.proofs.PinMapCodeLaws.{Homing, homing_start, homing_free, homing_taken, homing_on, homing_over}
-use borrow.Author.Rules.{rules}
+use Rattle.pinmap.proofs.PinMapCodeLaws.{Homing}
 use Rattle.pinmap.proofs.probe.Given as goal
 
 abbrev pub invariant-loop-left : goal.invariant-loop-left

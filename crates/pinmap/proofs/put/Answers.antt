@@ -1,7 +1,6 @@
 -- `pinmap::put` meets its contract: one law of PinMapCodeLaws for each end of the probe.
 -- Assumes nothing.
 use lib.ListN.{length-set}
-use borrow.Author.Rules.{rules}
 use Rattle.pinmap.proofs.PinMapCodeLaws.{within, put_free, put_taken, put_nowhere}
 use Rattle.pinmap.proofs.put.Goals as goal
 

@@ -1,6 +1,5 @@
 -- `pinmap::put_where_there` meets its contract: one law of PinMapCodeLaws for each end of the probe.
 -- Assumes nothing.
-use borrow.Author.Rules.{rules}
 use Rattle.pinmap.proofs.PinMapCodeLaws.{within, there_free, there_taken, there_nowhere}
 use Rattle.pinmap.proofs.put_where_there.Goals as goal
 

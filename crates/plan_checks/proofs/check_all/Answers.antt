@@ -11,7 +11,6 @@ use Rattle.plan_refusals.proofs.PassedLaws.{lists_passed}
 use Rattle.plan_checks.proofs.VerdictLaws.{went_on, never}
 use Rattle.plan_checks.proofs.RefusalGroupLaws.{plan_lists, plan_totals, plan_pins, plan_places, plan_reads}
 use Rattle.plan_checks.proofs.CheckedRoomLaws.{may_fill, stays_clear, may_judge, may_search, room_ready}
-use borrow.Author.Rules.{rules}
 use Rattle.plan_checks.proofs.check_all.Goals as goal
 
 pub check_lists-lists-requires : goal.check_lists-lists-requires
@@ -25,8 +24,7 @@ returns-then-is_refused c =
 
 pub check_totals-totals-requires : goal.check_totals-totals-requires
 check_totals-totals-requires c =
-    let lists : list_refusal c.args.plan.now ≡ none = went_on (list_refusal c.args.plan.now) _ c.check_lists-lists.ensures _ c.is_refused.ensures c.if-is_refused.false in
-    (
+    let lists : list_refusal c.args.plan.now ≡ none = went_on (list_refusal c.args.plan.now) _ c.check_lists-lists.ensures _ c.is_refused.ensures c.if-is_refused.false in (
       may_fill c.args.plan.now c.args.room.now c.requires.0 (lists),
       omega (arith, c.check_lists-lists.auto.keys, c.requires.1.keys-room),
       omega (arith, c.check_lists-lists.auto.scratch, c.requires.1.scratch-room),
@@ -86,8 +84,7 @@ check_places-places-requires c =
     let lists : list_refusal c.args.plan.now ≡ none = went_on (list_refusal c.args.plan.now) _ c.check_lists-lists.ensures _ c.is_refused.ensures c.if-is_refused.false in
     let totals : total_refusal c.args.plan.now ≡ none = let d = c.args.plan.now in
     went_on (total_refusal d) _ c.check_totals-totals.ensures.value _ c.is_refused-2.ensures c.if-is_refused-2.false in
-    let keys-summed : length c.check_totals-totals.new.keys ≡ length c.args.keys.now = c.check_totals-totals.auto.keys ∙ c.check_lists-lists.auto.keys in
-    (
+    let keys-summed : length c.check_totals-totals.new.keys ≡ length c.args.keys.now = c.check_totals-totals.auto.keys ∙ c.check_lists-lists.auto.keys in (
       may_judge c.args.plan.now c.args.room.now c.requires.0 (lists) (totals) _ (c.check_pins-pins.ensures.room_unchanged ∙ c.check_totals-totals.ensures.room_after),
       omega (arith, keys-summed, c.requires.1.keys-room),
     )
@@ -129,8 +126,7 @@ check_reading-requires c =
     went_on (place_refusal d) _ c.check_places-places.ensures.value _ c.is_refused-4.ensures c.if-is_refused-4.false in
     let keys-summed : length c.check_totals-totals.new.keys ≡ length c.args.keys.now = c.check_totals-totals.auto.keys ∙ c.check_lists-lists.auto.keys in
     let keys-placed : length c.check_places-places.new.keys ≡ length c.args.keys.now = c.check_places-places.auto.keys ∙ keys-summed in
-    let scratch-summed : length c.check_totals-totals.new.scratch ≡ length c.args.scratch.now = c.check_totals-totals.auto.scratch ∙ c.check_lists-lists.auto.scratch in
-    (
+    let scratch-summed : length c.check_totals-totals.new.scratch ≡ length c.args.scratch.now = c.check_totals-totals.auto.scratch ∙ c.check_lists-lists.auto.scratch in (
       may_search c.args.plan.now c.args.room.now c.requires.0 (lists) (totals) _ (c.check_places-places.ensures.room_unchanged ∙ (c.check_pins-pins.ensures.room_unchanged ∙ c.check_totals-totals.ensures.room_after)) (places),
       record {
         keys-room = omega (arith, keys-placed, c.requires.1.keys-room);
@@ -168,4 +164,7 @@ returns c =
     went_on (pin_refusal d) _ c.check_pins-pins.ensures.value _ c.is_refused-3.ensures c.if-is_refused-3.false in
     let places : place_refusal c.args.plan.now ≡ none = let d = c.args.plan.now in
     went_on (place_refusal d) _ c.check_places-places.ensures.value _ c.is_refused-4.ensures c.if-is_refused-4.false in
-    record { value = plan_reads c.args.plan.now _ (lists) (totals) (pins) (places) c.check_reading.ensures.value; room_after = λ e. room_ready c.args.plan.now c.args.room.now c.requires.0 (lists) (totals) _ (c.check_places-places.ensures.room_unchanged ∙ (c.check_pins-pins.ensures.room_unchanged ∙ c.check_totals-totals.ensures.room_after)) _ c.check_reading.ensures.room_after e }
+    record {
+      value = plan_reads c.args.plan.now _ (lists) (totals) (pins) (places) c.check_reading.ensures.value;
+      room_after = λ e. room_ready c.args.plan.now c.args.room.now c.requires.0 (lists) (totals) _ (c.check_places-places.ensures.room_unchanged ∙ (c.check_pins-pins.ensures.room_unchanged ∙ c.check_totals-totals.ensures.room_after)) _ c.check_reading.ensures.room_after e;
+    }

@@ -12,7 +12,6 @@ use Rattle.words.proofs.TestLaws.{some_not_none}
 use Rattle.plan_refusals.proofs.RefusalOrderLaws.{short_verdict, wide_verdict}
 use Rattle.plan_checks.proofs.VerdictLaws.{went_on, never}
 use Rattle.plan_checks.proofs.CheckedRoomLaws.{room_cleared, short_room, again_room, last_room, last_ready}
-use borrow.Author.Rules.{rules}
 use Rattle.plan_checks.proofs.check_plan.Goals as goal
 
 pub returns-then-room-room_words : goal.returns-then-room-room_words
@@ -31,11 +30,21 @@ returns-then-is_refused c =
     let wide : plan_room_words c.args.plan.now ≤ length c.args.room.now = omega (arith, c.if-room-room_words.false, c.room_words.ensures.0) in
     let h = wide in
     let is = wide_verdict c.args.plan.now (length c.args.room.now) h in
-    let not : plan_refusal c.args.plan.now ≡ none → ⊥ = never (plan_refusal c.args.plan.now) _ c.check_all-verdict.ensures.value _ c.is_refused.ensures c.if-is_refused.true in record { value = c.check_all-verdict.ensures.value ∙ ap verdict_of (sym is); room_after = again_room c.args.plan.now c.args.room.now h _ c.check_all-verdict.new.room _ c.clear.ensures c.check_all-verdict.auto.room c.clear-then-is_refused.ensures not; plan_ready = λ e. absurd (not (sym is ∙ e)) }
+    let not : plan_refusal c.args.plan.now ≡ none → ⊥ = never (plan_refusal c.args.plan.now) _ c.check_all-verdict.ensures.value _ c.is_refused.ensures c.if-is_refused.true in
+    record {
+      value = c.check_all-verdict.ensures.value ∙ ap verdict_of (sym is);
+      room_after = again_room c.args.plan.now c.args.room.now h _ c.check_all-verdict.new.room _ c.clear.ensures c.check_all-verdict.auto.room c.clear-then-is_refused.ensures not;
+      plan_ready = λ e. absurd (not (sym is ∙ e));
+    }
 
 pub returns-else-is_refused : goal.returns-else-is_refused
 returns-else-is_refused c =
     let wide : plan_room_words c.args.plan.now ≤ length c.args.room.now = omega (arith, c.if-room-room_words.false, c.room_words.ensures.0) in
     let h = wide in
     let is = wide_verdict c.args.plan.now (length c.args.room.now) h in
-    let accepted = went_on (plan_refusal c.args.plan.now) _ c.check_all-verdict.ensures.value _ c.is_refused.ensures c.if-is_refused.false in record { value = c.check_all-verdict.ensures.value ∙ ap verdict_of (sym is); room_after = last_room c.args.plan.now c.args.room.now h _ _ c.clear.ensures accepted (c.check_all-verdict.ensures.room_after accepted); plan_ready = λ e. last_ready c.args.plan.now c.args.room.now h _ _ c.clear.ensures accepted (c.check_all-verdict.ensures.room_after accepted) }
+    let accepted = went_on (plan_refusal c.args.plan.now) _ c.check_all-verdict.ensures.value _ c.is_refused.ensures c.if-is_refused.false in
+    record {
+      value = c.check_all-verdict.ensures.value ∙ ap verdict_of (sym is);
+      room_after = last_room c.args.plan.now c.args.room.now h _ _ c.clear.ensures accepted (c.check_all-verdict.ensures.room_after accepted);
+      plan_ready = λ e. last_ready c.args.plan.now c.args.room.now h _ _ c.clear.ensures accepted (c.check_all-verdict.ensures.room_after accepted);
+    }

@@ -2,7 +2,6 @@
 -- Assumes nothing.
 use native.Mathlib.Omega.{arith}
 use Rattle.plan_counts.proofs.PartCountLaws.{counts_location, counts_fine, counts_many}
-use borrow.Author.Rules.{rules}
 use Rattle.plan_counts.proofs.bad_counts.Goals as goal
 
 pub returns-in-At : goal.returns-in-At

@@ -1,14 +1,11 @@
-use mathlib.Core.Path.{◌≡◌, refl, ◌∙◌}
-use Prim.Native.Nat.{◌-◌, ◌≤◌, ◌<◌}
+use mathlib.Core.Path.{refl, ◌∙◌}
+use Prim.Native.Nat.{◌<◌}
 use native.Mathlib.Omega.{arith}
-use lib.ListN.{length}
-use Rattle.plan_record.specs.Record.{parts_of, body_at}
-use Rattle.words.specs.Tests.{lowest_from}
+use Rattle.plan_record.specs.Record.{parts_of}
 use Rattle.plan_record.proofs.PlanFormLaws.{formed, body_ready}
-use Rattle.plan_counts.specs.Counts.{bad_counts, refusal7}
+use Rattle.plan_counts.specs.Counts.{refusal7}
 use Rattle.words.proofs.FoundLaws.{pass_start, pass_fault, pass_next, pass_end}
 use Rattle.plan_counts.proofs.PartCountLaws.{countable}
-use borrow.Author.Rules.{rules}
 use Rattle.plan_counts.proofs.check_counts.Goals as goal
 
 pub parts_of-parts-requires : goal.parts_of-parts-requires
@@ -28,8 +25,7 @@ body_at-body-requires c =
 
 pub bad_counts-requires : goal.bad_counts-requires
 bad_counts-requires c =
-    let among : c.loop-p.p < parts_of c.args.d.now = omega (arith, c.loop-p-test.true, c.parts_of-parts.ensures.0) in
-    (
+    let among : c.loop-p.p < parts_of c.args.d.now = omega (arith, c.loop-p-test.true, c.parts_of-parts.ensures.0) in (
       countable _ _ _ c.requires.0 (among) c.body_at-body.ensures,
       omega (arith, c.loop-p.invariant.3, c.requires.1),
       omega (arith, c.loop-p.invariant.4, c.requires.2),
@@ -50,8 +46,7 @@ returns-in-At c =
 
 pub loop-p-preserved : goal.loop-p-preserved
 loop-p-preserved c =
-    let among : c.loop-p.p < parts_of c.args.d.now = omega (arith, c.loop-p-test.true, c.parts_of-parts.ensures.0) in
-    (
+    let among : c.loop-p.p < parts_of c.args.d.now = omega (arith, c.loop-p-test.true, c.parts_of-parts.ensures.0) in (
       omega arith,
       c.body_at-body.ensures.end,
       pass_next _ _ _ _ c.loop-p.invariant.2 (among) _ c.bad_counts.ensures c.in_default.is,

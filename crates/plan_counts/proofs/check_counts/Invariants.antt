@@ -1,16 +1,11 @@
 -- The lowest place from this part on is that of the plan; the bodies are walked from one's end to the next.
 -- Assumes nothing.
-use mathlib.Core.Path.{◌≡◌, refl, ◌∙◌}
-use Prim.Native.Nat.{◌-◌, ◌≤◌, ◌<◌}
-use native.Mathlib.Omega.{arith}
+use mathlib.Core.Path.{◌≡◌}
+use Prim.Native.Nat.{◌-◌, ◌≤◌}
 use lib.ListN.{length}
 use Rattle.plan_record.specs.Record.{parts_of, body_at}
 use Rattle.words.specs.Tests.{lowest_from}
-use Rattle.plan_record.proofs.PlanFormLaws.{formed, body_ready}
 use Rattle.plan_counts.specs.Counts.{bad_counts, refusal7}
-use Rattle.words.proofs.FoundLaws.{pass_start, pass_fault, pass_next, pass_end}
-use Rattle.plan_counts.proofs.PartCountLaws.{countable}
-use borrow.Author.Rules.{rules}
 use Rattle.plan_counts.proofs.check_counts.Given as goal
 
 abbrev pub invariant-loop-p : goal.invariant-loop-p

@@ -5,7 +5,6 @@ use native.Mathlib.Omega.{arith}
 use Rattle.plan_record.specs.Record.{endpoints_of}
 use Rattle.plan_counts.specs.Counts.{write_outs}
 use Rattle.plan_counts.proofs.PartCountLaws.{duplicates_few}
-use borrow.Author.Rules.{rules}
 use Rattle.plan_counts.proofs.counts_of.Goals as goal
 
 pub returns : goal.returns

@@ -1,12 +1,7 @@
-use mathlib.Core.Path.{◌≡◌}
-use Prim.Native.Nat.{◌-◌, ◌≤◌}
 use native.Mathlib.Omega.{arith}
 use borrow.Author.Tests.{le-ltb, lt-ltb}
-use Rattle.plan_record.specs.Record.{plan_lanes, locations_of, location_at}
-use Rattle.words.specs.Tests.{first_from}
-use Rattle.plan_counts.specs.Parts.{location_fits, bad_location}
+use Rattle.plan_record.specs.Record.{plan_lanes, location_at}
 use Rattle.words.proofs.FoundLaws.{look_start, look_fault, look_next, look_end}
-use borrow.Author.Rules.{rules}
 use Rattle.plan_counts.proofs.first_bad_location.Goals as goal
 
 pub loop-l-init : goal.loop-l-init

@@ -2,7 +2,6 @@
 -- Assumes nothing.
 use mathlib.Core.Path.{sym, ap}
 use native.Mathlib.Omega.{arith}
-use borrow.Author.Rules.{rules}
 use Rattle.plan_counts.specs.Counts.{is_sram}
 use Rattle.plan_counts.proofs.sram_of.Goals as goal
 

@@ -1,12 +1,6 @@
-use mathlib.Core.Path.{◌≡◌, sym, ◌∙◌}
-use Prim.Native.Nat.{◌-◌, ◌*◌, ◌≤◌}
+use mathlib.Core.Path.{sym, ◌∙◌}
 use native.Mathlib.Omega.{arith}
-use borrow.Author.Tests.{not-true, not-false}
-use borrow.Author.Rules.{rules}
-use Rattle.plan_record.specs.Record.{slots_of}
-use Rattle.words.specs.Tests.{first_from}
 use Rattle.words.proofs.FoundLaws.{look_start, look_fault, look_next, look_end}
-use Rattle.plan_entries.specs.TableEntries.{thirteen_right, bad_entry}
 use Rattle.plan_entries.proofs.bad_entry.Goals as goal
 
 pub loop-i-init : goal.loop-i-init

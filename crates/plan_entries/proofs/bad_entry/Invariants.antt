@@ -1,13 +1,9 @@
 -- The first bad entry from here on is that of the part.
 -- Assumes nothing.
-use mathlib.Core.Path.{◌≡◌, sym, ◌∙◌}
+use mathlib.Core.Path.{◌≡◌}
 use Prim.Native.Nat.{◌-◌, ◌*◌, ◌≤◌}
-use native.Mathlib.Omega.{arith}
-use borrow.Author.Tests.{not-true, not-false}
-use borrow.Author.Rules.{rules}
 use Rattle.plan_record.specs.Record.{slots_of}
 use Rattle.words.specs.Tests.{first_from}
-use Rattle.words.proofs.FoundLaws.{look_start, look_fault, look_next, look_end}
 use Rattle.plan_entries.specs.TableEntries.{thirteen_right, bad_entry}
 use Rattle.plan_entries.proofs.bad_entry.Given as goal
 

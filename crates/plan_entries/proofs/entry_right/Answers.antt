@@ -3,7 +3,6 @@
 use mathlib.Core.Path.{◌≡◌, ap, ap₂, ◌∙◌}
 use Prim.Native.Nat.{◌+◌, ◌*◌}
 use native.Mathlib.Omega.{arith}
-use borrow.Author.Rules.{rules}
 use lib.Dec.{ltb}
 use Rattle.plan_record.specs.Record.{plan_lanes, slots_of, table_at}
 use Rattle.plan_entries.proofs.TableEntryLaws.{entry_low, entry_high}

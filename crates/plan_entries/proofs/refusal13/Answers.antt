@@ -1,12 +1,8 @@
-use mathlib.Core.Path.{◌≡◌}
-use Prim.Native.Nat.{◌-◌, ◌≤◌, ◌<◌}
+use Prim.Native.Nat.{◌<◌}
 use native.Mathlib.Omega.{arith}
-use borrow.Author.Rules.{rules}
-use Rattle.plan_record.specs.Record.{parts_of, body_at}
-use Rattle.words.specs.Tests.{lowest_from}
+use Rattle.plan_record.specs.Record.{parts_of}
 use Rattle.plan_record.proofs.PlanFormLaws.{formed, body_ready}
 use Rattle.words.proofs.FoundLaws.{pass_start, pass_fault, pass_next, pass_end}
-use Rattle.plan_entries.specs.TableEntries.{bad_entry}
 use Rattle.plan_entries.specs.TableEntries as entries
 use Rattle.plan_entries.proofs.refusal13.Goals as goal
 
@@ -32,8 +28,7 @@ returns-in-At c =
 
 pub loop-p-preserved : goal.loop-p-preserved
 loop-p-preserved c =
-    let among : c.loop-p.p < parts_of c.args.d.now = omega (arith, c.loop-p-test.true, c.parts_of-parts.ensures.0) in
-    (
+    let among : c.loop-p.p < parts_of c.args.d.now = omega (arith, c.loop-p-test.true, c.parts_of-parts.ensures.0) in (
       omega arith,
       c.body_at-body.ensures.end,
       pass_next _ _ _ _ c.loop-p.invariant.2 (among) _ c.bad_entry.ensures c.in_default.is,

@@ -1,13 +1,9 @@
 -- The lowest place from this part on is that of the plan; the bodies are walked from one's end to the next.
 -- Assumes nothing.
 use mathlib.Core.Path.{◌≡◌}
-use Prim.Native.Nat.{◌-◌, ◌≤◌, ◌<◌}
-use native.Mathlib.Omega.{arith}
-use borrow.Author.Rules.{rules}
+use Prim.Native.Nat.{◌-◌, ◌≤◌}
 use Rattle.plan_record.specs.Record.{parts_of, body_at}
 use Rattle.words.specs.Tests.{lowest_from}
-use Rattle.plan_record.proofs.PlanFormLaws.{formed, body_ready}
-use Rattle.words.proofs.FoundLaws.{pass_start, pass_fault, pass_next, pass_end}
 use Rattle.plan_entries.specs.TableEntries.{bad_entry}
 use Rattle.plan_entries.specs.TableEntries as entries
 use Rattle.plan_entries.proofs.refusal13.Given as goal

@@ -1,13 +1,8 @@
-use mathlib.Core.Path.{◌≡◌, refl, sym, ◌∙◌}
-use mathlib.Core.Bool.{Bool, true}
-use mathlib.Core.List.{List}
-use Prim.Native.Nat.{ℕ, ◌-◌, ◌≤◌, ◌<◌}
+use mathlib.Core.Path.{refl, sym, ◌∙◌}
+use Prim.Native.Nat.{◌<◌}
 use native.Mathlib.Omega.{arith}
-use borrow.Author.Tests.{not-true, not-false}
-use borrow.Author.Rules.{rules}
 use Rattle.words.specs.Tests.{all_below}
-use Rattle.plan_record.specs.Record.{parts_of, endpoints_of, body_at}
-use Rattle.plan_record.specs.Form.{endpoint_form}
+use Rattle.plan_record.specs.Record.{parts_of}
 use Rattle.words.proofs.TestLaws.{all_on, all_less, all_fault}
 use Rattle.plan_record.proofs.PlanFormLaws.{body_ready}
 use Rattle.plan_form.proofs.bodies_form.Goals as goal

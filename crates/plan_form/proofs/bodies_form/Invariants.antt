@@ -1,17 +1,12 @@
 -- The endpoints of each part passed are right; a body begins where the one before ends.
 -- Assumes nothing.
-use mathlib.Core.Path.{◌≡◌, refl, sym, ◌∙◌}
+use mathlib.Core.Path.{◌≡◌}
 use mathlib.Core.Bool.{Bool, true}
 use mathlib.Core.List.{List}
-use Prim.Native.Nat.{ℕ, ◌-◌, ◌≤◌, ◌<◌}
-use native.Mathlib.Omega.{arith}
-use borrow.Author.Tests.{not-true, not-false}
-use borrow.Author.Rules.{rules}
+use Prim.Native.Nat.{ℕ, ◌-◌, ◌≤◌}
 use Rattle.words.specs.Tests.{all_below}
-use Rattle.plan_record.specs.Record.{parts_of, endpoints_of, body_at}
+use Rattle.plan_record.specs.Record.{endpoints_of, body_at}
 use Rattle.plan_record.specs.Form.{endpoint_form}
-use Rattle.words.proofs.TestLaws.{all_on, all_less, all_fault}
-use Rattle.plan_record.proofs.PlanFormLaws.{body_ready}
 use Rattle.plan_form.proofs.bodies_form.Given as goal
 
 -- whether the endpoints of part p are right

@@ -1,9 +1,6 @@
-use mathlib.Core.Path.{◌≡◌, refl, sym}
-use mathlib.Core.Bool.{true}
-use Prim.Native.Nat.{◌-◌, ◌≤◌}
+use mathlib.Core.Path.{refl, sym}
 use native.Mathlib.Omega.{arith}
 use borrow.Author.Tests.{le-leb, lt-leb}
-use borrow.Author.Rules.{rules}
 use lib.Dec.{leb}
 use Rattle.words.specs.Tests.{all_below}
 use Rattle.plan_record.specs.Record.{count_at, majors_of}

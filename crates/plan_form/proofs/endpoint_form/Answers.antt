@@ -3,7 +3,6 @@
 use mathlib.Core.Path.{ap, ap₂, ◌∙◌}
 use mathlib.Core.Bool.{◌&&◌}
 use Prim.Native.Nat.{ℕ}
-use borrow.Author.Rules.{rules}
 use lib.Dec.{leb}
 use Rattle.plan_record.specs.Form.{numbers_form, endpoint_form}
 use Rattle.plan_form.proofs.endpoint_form.Goals as goal

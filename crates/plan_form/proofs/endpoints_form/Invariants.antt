@@ -1,15 +1,10 @@
 -- Each endpoint passed is right, and the first that is not ends the loop.
 -- Assumes nothing.
-use mathlib.Core.Path.{◌≡◌, refl, sym, ◌∙◌}
+use mathlib.Core.Path.{◌≡◌}
 use mathlib.Core.Bool.{true}
 use Prim.Native.Nat.{◌-◌, ◌≤◌}
-use native.Mathlib.Omega.{arith}
-use borrow.Author.Tests.{not-true, not-false}
-use borrow.Author.Rules.{rules}
 use Rattle.words.specs.Tests.{all_below}
-use Rattle.plan_record.specs.Record.{endpoints_of}
 use Rattle.plan_record.specs.Form.{endpoint_form}
-use Rattle.words.proofs.TestLaws.{all_on, all_less, all_fault}
 use Rattle.plan_form.proofs.endpoints_form.Given as goal
 
 abbrev pub invariant-loop-i : goal.invariant-loop-i

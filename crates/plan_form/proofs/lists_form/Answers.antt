@@ -2,8 +2,6 @@
 -- Assumes nothing.
 use mathlib.Core.Path.{◌≡◌, refl, sym, ◌∙◌}
 use mathlib.Core.Bool.{true}
-use borrow.Author.Tests.{not-true, not-false}
-use borrow.Author.Rules.{rules}
 use Rattle.words.specs.Tests.{all_below}
 use Rattle.plan_record.specs.Record.{gates_of, layout_of, positions_of}
 use Rattle.plan_record.specs.Form.{gate_form, layout_form, position_form}

@@ -1,7 +1,6 @@
 -- One law of EndpointLaws for each kind.
 -- Assumes nothing.
 use mathlib.Core.Path.{◌∙◌}
-use borrow.Author.Rules.{rules}
 use Rattle.plan_record.proofs.EndpointLaws.{numbers_output, numbers_staged, numbers_register, numbers_sram}
 use Rattle.plan_form.proofs.numbers_form.Goals as goal
 

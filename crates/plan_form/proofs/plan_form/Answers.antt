@@ -3,8 +3,6 @@
 use mathlib.Core.Path.{◌≡◌, refl, sym, ◌∙◌}
 use mathlib.Core.Bool.{true}
 use Prim.Native.Nat.{◌≤◌}
-use borrow.Author.Tests.{not-true, not-false}
-use borrow.Author.Rules.{rules}
 use Rattle.plan_record.specs.Record.{majors_of}
 use Rattle.plan_record.specs.Form.{head_form, counts_form}
 use Rattle.plan_record.proofs.PlanFormLaws.{head_ranges, parts_range}

@@ -1,16 +1,10 @@
 -- Each position passed is right, and the first that is not ends the loop.
 -- Assumes nothing.
-use mathlib.Core.Path.{◌≡◌, refl, sym, ◌∙◌}
+use mathlib.Core.Path.{◌≡◌}
 use mathlib.Core.Bool.{true}
 use Prim.Native.Nat.{◌-◌, ◌≤◌}
-use native.Mathlib.Omega.{arith}
-use borrow.Author.Tests.{not-true, not-false}
-use borrow.Author.Rules.{rules}
 use Rattle.words.specs.Tests.{all_below}
-use Rattle.plan_record.specs.Record.{positions_of}
 use Rattle.plan_record.specs.Form.{position_form}
-use Rattle.plan_record.proofs.RecordLaws.{position_before}
-use Rattle.words.proofs.TestLaws.{all_on, all_less, all_fault}
 use Rattle.plan_form.proofs.positions_form.Given as goal
 
 abbrev pub invariant-loop-i : goal.invariant-loop-i

@@ -1,9 +1,9 @@
-use Rattle.std.proofs.Common.{◌≡◌, ℕ, ◌-◌, ◌*◌, ◌≤◌, length, replicate, sym, ap, ◌∙◌, arith, rules}
+use Rattle.std.proofs.Common.{◌≡◌, ℕ, ◌*◌, ◌≤◌, length, replicate, sym, ap, ◌∙◌, arith}
 use lib.ListN.{length-replicate}
 use Rattle.plan_record.specs.Record.{gates_of}
 use Rattle.pinmap.specs.PinMap.{look}
 use Rattle.plan_gates.specs.GateValues.{gate_words}
-use Rattle.plan_gates.proofs.ValueCodeLaws.{Stored, stored_none, stored_below, gates_stored_more, stored_all}
+use Rattle.plan_gates.proofs.ValueCodeLaws.{stored_none, stored_below, gates_stored_more, stored_all}
 use Rattle.plan_gates.proofs.all_values.Goals as goal
 
 pub loop-g-init : goal.loop-g-init

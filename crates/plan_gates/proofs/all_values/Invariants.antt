@@ -1,11 +1,8 @@
 -- `plan_gates::all_values` meets its contract. The loop's invariant: the gates before g have their values, and no other bit is set (`Stored`).
 -- Assumes nothing.
-use Rattle.std.proofs.Common.{◌≡◌, ℕ, ◌-◌, ◌*◌, ◌≤◌, length, replicate, sym, ap, ◌∙◌, arith, rules}
-use lib.ListN.{length-replicate}
+use Rattle.std.proofs.Common.{◌-◌, ◌≤◌, length}
 use Rattle.plan_record.specs.Record.{gates_of}
-use Rattle.pinmap.specs.PinMap.{look}
-use Rattle.plan_gates.specs.GateValues.{gate_words}
-use Rattle.plan_gates.proofs.ValueCodeLaws.{Stored, stored_none, stored_below, gates_stored_more, stored_all}
+use Rattle.plan_gates.proofs.ValueCodeLaws.{Stored}
 use Rattle.plan_gates.proofs.all_values.Given as goal
 
 abbrev pub invariant-loop-g : goal.invariant-loop-g

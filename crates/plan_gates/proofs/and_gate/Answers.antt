@@ -1,6 +1,5 @@
 -- `plan_gates::and_gate` meets its contract: on bits the code's operations are the definition's.
 -- Assumes nothing.
-use Rattle.std.proofs.Common.{rules}
 use Rattle.plan_gates.proofs.GateLaws.{and_gate_is}
 use Rattle.plan_gates.proofs.and_gate.Goals as goal
 

@@ -1,8 +1,7 @@
-use Rattle.std.proofs.Common.{◌≡◌, ◌-◌, ◌≤◌, sym, ◌∙◌, arith, rules}
+use Rattle.std.proofs.Common.{sym, ◌∙◌, arith}
 use Rattle.plan_record.specs.Record.{gates_of}
-use Rattle.words.specs.Tests.{first_from}
 use Rattle.words.proofs.FoundLaws.{look_fault, look_next, look_end}
-use Rattle.plan_gates.specs.Gates.{pin_before, gate_right, bad_gate}
+use Rattle.plan_gates.specs.Gates.{gate_right}
 use Rattle.plan_gates.proofs.GateLaws.{pin_before_first, pin_before_next, bad_from_lem}
 use Rattle.plan_gates.proofs.check_gates.Goals as goal
 

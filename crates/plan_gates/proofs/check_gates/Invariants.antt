@@ -1,11 +1,9 @@
 -- `plan_gates::check_gates` meets its contract. The loop's invariant: the answer from gate g on is the answer, and `before` is the pin before it.
 -- Assumes nothing.
-use Rattle.std.proofs.Common.{◌≡◌, ◌-◌, ◌≤◌, sym, ◌∙◌, arith, rules}
+use Rattle.std.proofs.Common.{◌≡◌, ◌-◌, ◌≤◌}
 use Rattle.plan_record.specs.Record.{gates_of}
 use Rattle.words.specs.Tests.{first_from}
-use Rattle.words.proofs.FoundLaws.{look_fault, look_next, look_end}
 use Rattle.plan_gates.specs.Gates.{pin_before, gate_right, bad_gate}
-use Rattle.plan_gates.proofs.GateLaws.{pin_before_first, pin_before_next, bad_from_lem}
 use Rattle.plan_gates.proofs.check_gates.Given as goal
 
 abbrev pub invariant-loop-g : goal.invariant-loop-g

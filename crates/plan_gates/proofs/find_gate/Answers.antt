@@ -1,6 +1,6 @@
 -- `plan_gates::find_gate` meets its contract: a gate that has the pin is the pin's gate, and where the pin has a gate the search by halves ends at it.
 -- Assumes nothing.
-use Rattle.std.proofs.Common.{sym, ap, ◌∙◌, rules}
+use Rattle.std.proofs.Common.{sym, ap, ◌∙◌}
 use Rattle.plan_gates.specs.GateValues.{gate_found_of}
 use Rattle.plan_gates.proofs.GateLaws.{has_gate, least_gate}
 use Rattle.plan_gates.proofs.find_gate.Goals as goal

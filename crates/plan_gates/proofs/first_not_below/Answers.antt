@@ -1,5 +1,4 @@
-use Rattle.std.proofs.Common.{◌≡◌, ◌-◌, arith, rules}
-use Rattle.sort.specs.HalfSearch.{Between}
+use Rattle.std.proofs.Common.{◌≡◌, arith}
 use Rattle.sort.proofs.HalfSearchLaws.{search_right, search_left, between_least}
 use Rattle.plan_record.specs.Record.{gates_of, gate_pin}
 use Rattle.plan_gates.proofs.GateLaws.{pins_monotone}

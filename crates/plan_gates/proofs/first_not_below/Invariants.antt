@@ -1,10 +1,8 @@
 -- `plan_gates::first_not_below` meets its contract: the search by halves of crate sort, over the pins of the gates, which ascend.
 -- Assumes nothing.
-use Rattle.std.proofs.Common.{◌≡◌, ◌-◌, arith, rules}
+use Rattle.std.proofs.Common.{◌-◌}
 use Rattle.sort.specs.HalfSearch.{Between}
-use Rattle.sort.proofs.HalfSearchLaws.{search_right, search_left, between_least}
 use Rattle.plan_record.specs.Record.{gates_of, gate_pin}
-use Rattle.plan_gates.proofs.GateLaws.{pins_monotone}
 use Rattle.plan_gates.proofs.first_not_below.Given as goal
 
 abbrev pub invariant-loop-low : goal.invariant-loop-low

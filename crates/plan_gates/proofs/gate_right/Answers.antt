@@ -1,6 +1,6 @@
 -- `plan_gates::gate_right` meets its contract: the three tests in the definition's order.
 -- Assumes nothing.
-use Rattle.std.proofs.Common.{◌≡◌, ◌/◌, ◌<◌, ◌≤◌, ltb, sym, ◌∙◌, ap₂, arith, rules}
+use Rattle.std.proofs.Common.{◌≡◌, ◌/◌, ◌<◌, ◌≤◌, ltb, sym, ◌∙◌, ap₂, arith}
 use Rattle.plan_record.specs.Record.{gate_pin, gate_first, gate_second}
 use Rattle.plan_gates.specs.Gates.{pin_before}
 use Rattle.plan_gates.proofs.GateLaws.{right_not_above, right_not_first, right_last}

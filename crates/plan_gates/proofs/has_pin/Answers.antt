@@ -1,6 +1,6 @@
 -- `plan_gates::has_pin` meets its contract: by the two tests.
 -- Assumes nothing.
-use Rattle.std.proofs.Common.{ℕ, ◌<◌, ◌≤◌, Bool, ◌&&◌, eqb, sym, ap, ◌∙◌, arith, rules, le-ltb, lt-ltb}
+use Rattle.std.proofs.Common.{ℕ, ◌<◌, ◌≤◌, Bool, ◌&&◌, eqb, sym, ap, ◌∙◌, arith, le-ltb, lt-ltb}
 use Rattle.plan_record.specs.Record.{gates_of, gate_pin}
 use Rattle.plan_gates.proofs.has_pin.Goals as goal
 

@@ -1,6 +1,6 @@
 -- `plan_gates::store_gate` meets its contract: a bit that is 0 needs no store.
 -- Assumes nothing.
-use Rattle.std.proofs.Common.{ap, ◌∙◌, rules}
+use Rattle.std.proofs.Common.{ap, ◌∙◌}
 use Rattle.pinmap.specs.PinMap.{look}
 use Rattle.plan_record.specs.Record.{gate_pin}
 use Rattle.plan_gates.specs.Gates.{value}

@@ -3,7 +3,6 @@
 use native.Mathlib.Omega.{arith}
 use Rattle.plan_record.proofs.PlanFormLaws.{formed}
 use Rattle.plan_known.proofs.KnownLaws.{fill_read, fill_past}
-use borrow.Author.Rules.{rules}
 use Rattle.plan_known.proofs.fill_known.Goals as goal
 
 pub parts_of-requires : goal.parts_of-requires

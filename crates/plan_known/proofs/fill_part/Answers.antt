@@ -1,13 +1,11 @@
 use Rattle.plan_known.proofs.KnownLaws.{fill_kept, fill_first, fill_next}
 use Rattle.plan_winners.proofs.WinnerLaws.{listed}
 use mathlib.Core.Path.{◌≡◌, refl, ap, ◌∙◌}
-use Prim.Native.Nat.{ℕ, ◌-◌, ◌≤◌}
+use Prim.Native.Nat.{ℕ}
 use native.Mathlib.Omega.{arith}
-use lib.ListN.{length, take}
 use Rattle.plan_record.specs.Record.{slots_of}
 use Rattle.plan_slots.specs.Puts.{filled}
-use Rattle.plan_known.specs.Known.{bit_puts, WinnersTabled}
-use borrow.Author.Rules.{rules}
+use Rattle.plan_known.specs.Known.{bit_puts}
 use Rattle.plan_known.proofs.fill_part.Goals as goal
 
 pub fill_planned-requires : goal.fill_planned-requires

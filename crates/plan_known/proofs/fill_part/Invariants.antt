@@ -1,15 +1,10 @@
 -- `plan_known::fill_part` meets its contract. The loop's invariant: the first words hold the entries of the first j slots, the words after them the winners.
 -- Assumes nothing.
-use Rattle.plan_known.proofs.KnownLaws.{fill_kept, fill_first, fill_next}
-use Rattle.plan_winners.proofs.WinnerLaws.{listed}
-use mathlib.Core.Path.{◌≡◌, refl, ap, ◌∙◌}
-use Prim.Native.Nat.{ℕ, ◌-◌, ◌≤◌}
-use native.Mathlib.Omega.{arith}
+use mathlib.Core.Path.{◌≡◌}
+use Prim.Native.Nat.{◌-◌, ◌≤◌}
 use lib.ListN.{length, take}
-use Rattle.plan_record.specs.Record.{slots_of}
 use Rattle.plan_slots.specs.Puts.{filled}
 use Rattle.plan_known.specs.Known.{bit_puts, WinnersTabled}
-use borrow.Author.Rules.{rules}
 use Rattle.plan_known.proofs.fill_part.Given as goal
 
 abbrev pub invariant-loop-j : goal.invariant-loop-j

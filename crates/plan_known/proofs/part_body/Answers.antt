@@ -1,9 +1,7 @@
-use mathlib.Core.Path.{◌≡◌, ap, ◌∙◌}
-use Prim.Native.Nat.{◌-◌, ◌≤◌}
+use mathlib.Core.Path.{ap, ◌∙◌}
 use native.Mathlib.Omega.{arith}
 use Rattle.plan_record.specs.Record.{body_at}
 use Rattle.plan_record.proofs.PlanFormLaws.{formed, body_ready}
-use borrow.Author.Rules.{rules}
 use Rattle.plan_known.proofs.part_body.Goals as goal
 
 pub first_body-at-requires : goal.first_body-at-requires

@@ -1,11 +1,8 @@
 -- `plan_known::part_body` meets its contract. The loop's invariant: `at` is where the body of part k begins.
 -- Assumes nothing.
-use mathlib.Core.Path.{◌≡◌, ap, ◌∙◌}
+use mathlib.Core.Path.{◌≡◌}
 use Prim.Native.Nat.{◌-◌, ◌≤◌}
-use native.Mathlib.Omega.{arith}
 use Rattle.plan_record.specs.Record.{body_at}
-use Rattle.plan_record.proofs.PlanFormLaws.{formed, body_ready}
-use borrow.Author.Rules.{rules}
 use Rattle.plan_known.proofs.part_body.Given as goal
 
 abbrev pub invariant-loop-k : goal.invariant-loop-k

@@ -1,7 +1,6 @@
 -- The position that the entry gives, in the old state or in the new.
 -- Assumes nothing.
 use Rattle.plan_known.proofs.PlannedBitLaws.{unstaged_bit, staged_bit}
-use borrow.Author.Rules.{rules}
 use Rattle.plan_known.proofs.planned_bit.Goals as goal
 
 pub returns-then-x-eq0 : goal.returns-then-x-eq0

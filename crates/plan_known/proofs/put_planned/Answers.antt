@@ -1,7 +1,6 @@
 -- `plan_known::put_planned` meets its contract: entry 0 is none and puts nothing.
 -- Assumes nothing.
 use Rattle.plan_known.proofs.KnownLaws.{put_none, put_bit}
-use borrow.Author.Rules.{rules}
 use Rattle.plan_known.proofs.put_planned.Goals as goal
 
 pub returns-then-w-eq0 : goal.returns-then-w-eq0

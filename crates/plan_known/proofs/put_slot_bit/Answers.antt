@@ -4,7 +4,6 @@ use mathlib.Core.Path.{sym}
 use native.Mathlib.Omega.{arith}
 use lib.Seq.{length-take-le}
 use Rattle.plan_known.proofs.KnownLaws.{bit_empty, bit_value, bit_missing, rest_is}
-use borrow.Author.Rules.{rules}
 use Rattle.plan_known.proofs.put_slot_bit.Goals as goal
 
 pub returns-then-pin : goal.returns-then-pin

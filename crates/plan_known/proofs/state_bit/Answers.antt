@@ -2,7 +2,6 @@
 -- Assumes nothing.
 use native.Mathlib.Omega.{arith}
 use Rattle.plan_known.proofs.PlannedBitLaws.{state_bit_is, beyond}
-use borrow.Author.Rules.{rules}
 use Rattle.plan_known.proofs.state_bit.Goals as goal
 
 pub returns-then-word-state : goal.returns-then-word-state

@@ -1,11 +1,8 @@
 -- The loop's invariant: the sum of the first p rows.
 -- Assumes nothing.
-use mathlib.Core.Path.{◌≡◌, refl, ap, ap₂, sym, ◌∙◌}
-use Prim.Native.Nat.{◌+◌, ◌*◌, ◌-◌, ◌≤◌}
-use native.Mathlib.Omega.{arith}
-use borrow.Author.Rules.{rules}
+use mathlib.Core.Path.{◌≡◌}
+use Prim.Native.Nat.{◌*◌, ◌-◌, ◌≤◌}
 use Rattle.words.specs.Sum.{sum_to}
-use Rattle.words.proofs.SumLaws.{sum_more}
 use Rattle.plan_rows.specs.Rows.{cell_at}
 use Rattle.plan_rows.proofs.column_sum.Given as goal
 

@@ -1,5 +1,5 @@
 use mathlib.Core.Path.{◌≡◌, ap, ◌∙◌}
-use Prim.Native.Nat.{ℕ, ◌-◌, ◌≤◌}
+use Prim.Native.Nat.{ℕ}
 use native.Mathlib.Omega.{arith}
 use borrow.Author.Rules.{rules}
 use lib.ListN.{length}
@@ -14,12 +14,11 @@ loop-i-init c =
     (search rules, chosen_none c.args.table.now (in_use c.args.d.now) (layout_pin c.args.d.now) layout_number)
 
 pub loop-i-preserved : goal.loop-i-preserved
-loop-i-preserved c =
-    (
-      omega arith,
-      c.renew_layout.ensures
-          ∙ chosen_more c.args.table.now _ (in_use c.args.d.now) (layout_pin c.args.d.now) layout_number c.loop-i.i c.loop-i.invariant.1,
-    )
+loop-i-preserved c = (
+  omega arith,
+  c.renew_layout.ensures
+      ∙ chosen_more c.args.table.now _ (in_use c.args.d.now) (layout_pin c.args.d.now) layout_number c.loop-i.i c.loop-i.invariant.1,
+)
 
 pub shape_of-table : goal.shape_of-table
 shape_of-table c = ap length c.loop-i.invariant.1 ∙ renewals_length _ _

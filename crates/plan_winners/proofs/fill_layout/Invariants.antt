@@ -1,14 +1,9 @@
 -- The table after i entries is that of the first i entries of the layout.
 -- Assumes nothing.
-use mathlib.Core.Path.{◌≡◌, ap, ◌∙◌}
-use Prim.Native.Nat.{ℕ, ◌-◌, ◌≤◌}
-use native.Mathlib.Omega.{arith}
-use borrow.Author.Rules.{rules}
-use lib.ListN.{length}
+use mathlib.Core.Path.{◌≡◌}
+use Prim.Native.Nat.{◌-◌, ◌≤◌}
 use Rattle.pinmap.specs.PinMap.{after_renewals}
-use Rattle.plan_record.specs.Record.{layout_of, layout_pin}
-use Rattle.plan_winners.specs.Winners.{layout_number, in_use, layout_puts}
-use Rattle.plan_winners.proofs.WinnerLaws.{renewals_length, chosen_none, chosen_more}
+use Rattle.plan_winners.specs.Winners.{layout_puts}
 use Rattle.plan_winners.proofs.fill_layout.Given as goal
 
 abbrev pub invariant-loop-i : goal.invariant-loop-i

@@ -1,5 +1,5 @@
 use mathlib.Core.Path.{◌≡◌, ap, ◌∙◌}
-use Prim.Native.Nat.{ℕ, ◌+◌, ◌-◌, ◌≤◌}
+use Prim.Native.Nat.{ℕ, ◌+◌}
 use native.Mathlib.Omega.{arith}
 use borrow.Author.Rules.{rules}
 use lib.ListN.{length}
@@ -25,12 +25,11 @@ renew_position-requires c =
     }
 
 pub loop-i-preserved : goal.loop-i-preserved
-loop-i-preserved c =
-    (
-      omega arith,
-      c.renew_position.ensures
-          ∙ chosen_more c.args.table.now _ (has_mark c.args.d.now c.args.mark) (position_pin c.args.d.now) (position_number c.args.d.now) c.loop-i.i c.loop-i.invariant.1,
-    )
+loop-i-preserved c = (
+  omega arith,
+  c.renew_position.ensures
+      ∙ chosen_more c.args.table.now _ (has_mark c.args.d.now c.args.mark) (position_pin c.args.d.now) (position_number c.args.d.now) c.loop-i.i c.loop-i.invariant.1,
+)
 
 pub shape_of-table : goal.shape_of-table
 shape_of-table c = ap length c.loop-i.invariant.1 ∙ renewals_length _ _

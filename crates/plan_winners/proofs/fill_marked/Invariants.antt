@@ -1,14 +1,9 @@
 -- The table after i entries is that of the first i positions with the mark.
 -- Assumes nothing.
-use mathlib.Core.Path.{◌≡◌, ap, ◌∙◌}
-use Prim.Native.Nat.{ℕ, ◌+◌, ◌-◌, ◌≤◌}
-use native.Mathlib.Omega.{arith}
-use borrow.Author.Rules.{rules}
-use lib.ListN.{length}
+use mathlib.Core.Path.{◌≡◌}
+use Prim.Native.Nat.{◌-◌, ◌≤◌}
 use Rattle.pinmap.specs.PinMap.{after_renewals}
-use Rattle.plan_record.specs.Record.{positions_of, position_pin}
-use Rattle.plan_winners.specs.Winners.{position_number, has_mark, marked_puts}
-use Rattle.plan_winners.proofs.WinnerLaws.{renewals_length, chosen_none, chosen_more}
+use Rattle.plan_winners.specs.Winners.{marked_puts}
 use Rattle.plan_winners.proofs.fill_marked.Given as goal
 
 abbrev pub invariant-loop-i : goal.invariant-loop-i

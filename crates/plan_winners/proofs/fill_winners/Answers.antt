@@ -1,6 +1,5 @@
 -- The three lists one after the other are the list of all entries.
 -- Assumes nothing.
-use borrow.Author.Rules.{rules}
 use Rattle.plan_winners.proofs.WinnerLaws.{winners_put}
 use Rattle.plan_winners.proofs.fill_winners.Goals as goal
 

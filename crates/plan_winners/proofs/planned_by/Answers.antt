@@ -3,7 +3,6 @@
 use Prim.Native.Nat.{◌-◌}
 use native.Mathlib.Omega.{arith}
 use mathlib.Core.Path.{◌∙◌}
-use borrow.Author.Rules.{rules}
 use Rattle.plan_winners.proofs.WinnerLaws.{by_layout, by_position}
 use Rattle.plan_winners.proofs.planned_by.Goals as goal
 

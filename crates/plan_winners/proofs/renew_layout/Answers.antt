@@ -1,6 +1,5 @@
 -- An entry with no pin is passed over; one with a pin is put for it.
 -- Assumes nothing.
-use borrow.Author.Rules.{rules}
 use Rattle.plan_winners.proofs.WinnerLaws.{layout_empty, layout_put}
 use Rattle.plan_winners.proofs.renew_layout.Goals as goal
 

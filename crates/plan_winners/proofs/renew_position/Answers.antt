@@ -1,6 +1,5 @@
 -- An entry with the mark is put for its pin; another is passed over.
 -- Assumes nothing.
-use borrow.Author.Rules.{rules}
 use Rattle.plan_winners.proofs.WinnerLaws.{position_put, position_other}
 use Rattle.plan_winners.proofs.renew_position.Goals as goal
 

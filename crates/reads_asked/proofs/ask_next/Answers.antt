@@ -3,7 +3,6 @@
 use mathlib.Core.Logic.{inl, inr}
 use native.Mathlib.Omega.{arith}
 use lib.ListN.{length-set}
-use borrow.Author.Rules.{rules}
 use Rattle.reads_asked.proofs.FrontStoreLaws.{next_joins, next_new, bit_mask_is}
 use Rattle.reads_asked.proofs.ask_next.Goals as goal
 use Rattle.reads_asked.proofs.ask_next.Goals.{then-n-ge2+else-set-n, else-n-ge2}

@@ -1,8 +1,5 @@
-use Prim.Native.Nat.{◌-◌}
 use native.Mathlib.Omega.{arith}
-use lib.ListN.{length}
-use borrow.Author.Rules.{rules}
-use Rattle.reads_asked.proofs.FrontStoreLaws.{Gathered, gather_start, gather_length, gather_askable, gather_more, gather_all}
+use Rattle.reads_asked.proofs.FrontStoreLaws.{gather_start, gather_length, gather_askable, gather_more, gather_all}
 use Rattle.reads_asked.proofs.gather.Goals as goal
 
 pub loop-i-init : goal.loop-i-init

@@ -1,10 +1,8 @@
 -- `reads_asked::gather` meets its contract: the set of the first i bits stands in the first n words.
 -- Assumes nothing.
 use Prim.Native.Nat.{◌-◌}
-use native.Mathlib.Omega.{arith}
 use lib.ListN.{length}
-use borrow.Author.Rules.{rules}
-use Rattle.reads_asked.proofs.FrontStoreLaws.{Gathered, gather_start, gather_length, gather_askable, gather_more, gather_all}
+use Rattle.reads_asked.proofs.FrontStoreLaws.{Gathered}
 use Rattle.reads_asked.proofs.gather.Given as goal
 
 abbrev pub invariant-loop-i : goal.invariant-loop-i

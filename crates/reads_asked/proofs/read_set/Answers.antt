@@ -1,6 +1,5 @@
 -- `reads_asked::read_set` meets its contract: the set does not depend on the bits' order.
 -- Assumes nothing.
-use borrow.Author.Rules.{rules}
 use Rattle.reads_asked.proofs.FrontStoreLaws.{sorted_gatherable, read_set-is}
 use Rattle.reads_asked.proofs.read_set.Goals as goal
 

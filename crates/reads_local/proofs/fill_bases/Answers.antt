@@ -1,9 +1,7 @@
-use mathlib.Core.Path.{◌≡◌, sym, ap, ◌∙◌}
-use Prim.Native.Nat.{◌≤◌, ◌-◌}
+use mathlib.Core.Path.{sym, ap, ◌∙◌}
 use native.Mathlib.Omega.{arith}
-use borrow.Author.Rules.{rules}
 use lib.ListN.{length}
-use Rattle.reads_local.proofs.BaseLaws.{lane_length, lanesLeft, lanes_on, lanes_end, readable_row}
+use Rattle.reads_local.proofs.BaseLaws.{lane_length, lanes_on, lanes_end, readable_row}
 use Rattle.reads_local.proofs.fill_bases.Goals as goal
 
 pub lane_bases-requires : goal.lane_bases-requires

@@ -1,11 +1,9 @@
 -- `reads_local::fill_bases` meets its contract. The loop's invariant: the lanes that are left give what all lanes gave at the start.
 -- Assumes nothing.
-use mathlib.Core.Path.{◌≡◌, sym, ap, ◌∙◌}
+use mathlib.Core.Path.{◌≡◌}
 use Prim.Native.Nat.{◌≤◌, ◌-◌}
-use native.Mathlib.Omega.{arith}
-use borrow.Author.Rules.{rules}
 use lib.ListN.{length}
-use Rattle.reads_local.proofs.BaseLaws.{lane_length, lanesLeft, lanes_on, lanes_end, readable_row}
+use Rattle.reads_local.proofs.BaseLaws.{lanesLeft}
 use Rattle.reads_local.proofs.fill_bases.Given as goal
 
 abbrev pub invariant-loop-j : goal.invariant-loop-j

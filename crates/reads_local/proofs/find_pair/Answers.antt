@@ -1,9 +1,7 @@
 use mathlib.Core.Path.{◌≡◌}
-use Prim.Native.Nat.{◌/◌, ◌-◌}
+use Prim.Native.Nat.{◌/◌}
 use native.Mathlib.Omega.{arith}
-use borrow.Author.Rules.{rules}
 use lib.ListN.{length}
-use Rattle.sort.specs.HalfSearch.{Between}
 use Rattle.sort.proofs.HalfSearchLaws.{search_start, search_right, search_left, between_least}
 use Rattle.reads_local.specs.Bases.{pair_word_of}
 use Rattle.reads_local.proofs.find_pair.Goals as goal

@@ -1,12 +1,8 @@
 -- `reads_local::find_pair` meets its contract: a search by halves over the set's words.
 -- Assumes nothing.
-use mathlib.Core.Path.{◌≡◌}
 use Prim.Native.Nat.{◌/◌, ◌-◌}
-use native.Mathlib.Omega.{arith}
-use borrow.Author.Rules.{rules}
 use lib.ListN.{length}
 use Rattle.sort.specs.HalfSearch.{Between}
-use Rattle.sort.proofs.HalfSearchLaws.{search_start, search_right, search_left, between_least}
 use Rattle.reads_local.specs.Bases.{pair_word_of}
 use Rattle.reads_local.proofs.find_pair.Given as goal
 

@@ -1,7 +1,6 @@
 -- `reads_local::local_position` meets its contract: the pair that is found is the bit's.
 -- Assumes nothing.
 use native.Mathlib.Omega.{arith}
-use borrow.Author.Rules.{rules}
 use Rattle.reads_try.proofs.SetPairLaws.{mask_bits_le}
 use Rattle.reads_local.proofs.LocalPositionLaws.{asked_small, found_in, found_base, found_local}
 use Rattle.reads_local.proofs.local_position.Goals as goal

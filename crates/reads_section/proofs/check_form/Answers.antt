@@ -1,12 +1,10 @@
 use mathlib.Core.Path.{◌≡◌, sym, ap, ◌∙◌}
-use Prim.Native.Nat.{◌*◌, ◌-◌, ◌/◌, ◌≤◌}
+use Prim.Native.Nat.{◌/◌}
 use native.Mathlib.Omega.{arith}
 use lib.ListN.{length}
-use Rattle.reads.specs.ReadSet.{pairs_of, broken}
 use Rattle.words.specs.Found.{item_of}
 use Rattle.words.specs.declared.found.Item.TheVariants as item
-use Rattle.reads_section.proofs.PairFormLaws.{brokenAt, bad_low, bad_word, bad_mask, good_pair, bad_half, good_end}
-use borrow.Author.Rules.{rules}
+use Rattle.reads_section.proofs.PairFormLaws.{bad_low, bad_word, bad_mask, good_pair, bad_half, good_end}
 use Rattle.reads_section.proofs.check_form.Goals as goal
 
 pub returns-then-w-low : goal.returns-then-w-low

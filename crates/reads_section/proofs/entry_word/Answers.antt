@@ -1,7 +1,6 @@
 -- `entry_word`: the two cases of the definition.
 -- Assumes nothing.
 use Rattle.reads_section.proofs.ReadoutLaws.{entry_none, entry_word_lem}
-use borrow.Author.Rules.{rules}
 use Rattle.reads_section.proofs.entry_word.Goals as goal
 
 pub returns-then-e-eq0 : goal.returns-then-e-eq0

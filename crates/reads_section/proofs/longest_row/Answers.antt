@@ -1,12 +1,6 @@
-use mathlib.Core.Path.{◌≡◌}
-use Prim.Native.Nat.{◌-◌, ◌≤◌, max}
 use native.Mathlib.Omega.{arith}
-use lib.ListN.{drop}
-use Rattle.reads.specs.Search.{longest}
-use Rattle.reads_try.specs.TableLanes.{lanes_at}
 use Rattle.reads_try.proofs.LaneTableLaws.{filled_row}
 use Rattle.reads_section.proofs.ReadoutLaws.{longest_step, longest_end}
-use borrow.Author.Rules.{rules}
 use Rattle.reads_section.proofs.longest_row.Goals as goal
 use Rattle.reads_section.proofs.longest_row.Goals.{then-best-held, else-best-held}
 

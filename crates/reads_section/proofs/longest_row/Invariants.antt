@@ -1,15 +1,10 @@
 -- `longest_row`: the longest so far and the longest of the lanes from j on are the longest of all.
 -- Assumes nothing.
 use mathlib.Core.Path.{◌≡◌}
-use mathlib.Core.Logic.{⊎_elim}
 use Prim.Native.Nat.{◌-◌, ◌≤◌, max}
-use native.Mathlib.Omega.{arith}
 use lib.ListN.{drop}
 use Rattle.reads.specs.Search.{longest}
 use Rattle.reads_try.specs.TableLanes.{lanes_at}
-use Rattle.reads_try.proofs.LaneTableLaws.{filled_row}
-use Rattle.reads_section.proofs.ReadoutLaws.{longest_step, longest_end}
-use borrow.Author.Rules.{rules}
 use Rattle.reads_section.proofs.longest_row.Given as goal
 
 abbrev pub invariant-loop-j : goal.invariant-loop-j

@@ -1,10 +1,8 @@
-use mathlib.Core.Path.{◌≡◌, refl, sym, ◌∙◌}
-use Prim.Native.Nat.{◌+◌, ◌*◌, ◌-◌, ◌≤◌, ◌<◌}
+use mathlib.Core.Path.{refl, sym, ◌∙◌}
+use Prim.Native.Nat.{◌≤◌, ◌<◌}
 use native.Mathlib.Nat.{add-zero}
 use native.Mathlib.Omega.{arith}
-use lib.ListN.{length, drop, length-set}
-use lib.Seq.{sets}
-use Rattle.reads.specs.ReadSection.{round_words}
+use lib.ListN.{length, length-set}
 use Rattle.reads_try.specs.TableLanes.{lanes_at}
 use Rattle.reads_try.proofs.LaneTableLaws.{filled_named}
 use Rattle.reads_section.proofs.ReadoutLaws.{read_word, read_mask, round_step, round_end}

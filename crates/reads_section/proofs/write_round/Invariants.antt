@@ -1,16 +1,11 @@
 -- `write_round`: the lanes from i on are still to be stored, from word 2i of the round on.
 -- Assumes nothing.
-use mathlib.Core.Path.{◌≡◌, refl, sym, ◌∙◌}
-use Prim.Native.Nat.{◌+◌, ◌*◌, ◌-◌, ◌≤◌, ◌<◌}
-use native.Mathlib.Nat.{add-zero}
-use native.Mathlib.Omega.{arith}
-use lib.ListN.{length, drop, length-set}
+use mathlib.Core.Path.{◌≡◌}
+use Prim.Native.Nat.{◌+◌, ◌*◌, ◌-◌, ◌≤◌}
+use lib.ListN.{length, drop}
 use lib.Seq.{sets}
 use Rattle.reads.specs.ReadSection.{round_words}
 use Rattle.reads_try.specs.TableLanes.{lanes_at}
-use Rattle.reads_try.proofs.LaneTableLaws.{filled_named}
-use Rattle.reads_section.proofs.ReadoutLaws.{read_word, read_mask, round_step, round_end}
-use borrow.Author.Rules.{rules}
 use Rattle.reads_section.proofs.write_round.Given as goal
 
 abbrev pub invariant-loop-i : goal.invariant-loop-i

@@ -1,11 +1,7 @@
-use mathlib.Core.Path.{◌≡◌, refl, sym, ◌∙◌}
-use Prim.Native.Nat.{◌*◌, ◌-◌, ◌≤◌}
+use mathlib.Core.Path.{refl, sym, ◌∙◌}
+use Prim.Native.Nat.{◌*◌}
 use native.Mathlib.Nat.{sub-zero}
 use native.Mathlib.Omega.{arith}
-use lib.ListN.{length}
-use lib.Seq.{sets}
-use Rattle.reads.specs.ReadSection.{rounds_from}
-use Rattle.reads_try.specs.TableLanes.{lanes_at}
 use Rattle.reads_section.proofs.ReadoutLaws.{rounds_step, rounds_end, at_step, at_next}
 use borrow.Author.Rules.{rules}
 use Rattle.reads_section.proofs.write_rounds.Goals as goal

@@ -1,15 +1,11 @@
 -- `write_rounds`: the rounds from r on are still to be stored, from word 2·lanes·r on.
 -- Assumes nothing.
-use mathlib.Core.Path.{◌≡◌, refl, sym, ◌∙◌}
+use mathlib.Core.Path.{◌≡◌}
 use Prim.Native.Nat.{◌*◌, ◌-◌, ◌≤◌}
-use native.Mathlib.Nat.{sub-zero}
-use native.Mathlib.Omega.{arith}
 use lib.ListN.{length}
 use lib.Seq.{sets}
 use Rattle.reads.specs.ReadSection.{rounds_from}
 use Rattle.reads_try.specs.TableLanes.{lanes_at}
-use Rattle.reads_section.proofs.ReadoutLaws.{rounds_step, rounds_end, at_step, at_next}
-use borrow.Author.Rules.{rules}
 use Rattle.reads_section.proofs.write_rounds.Given as goal
 
 abbrev pub invariant-loop-r : goal.invariant-loop-r

@@ -2,9 +2,8 @@ use mathlib.Core.Path.{◌≡◌, sym, ap, ◌∙◌}
 use Prim.Native.Nat.{◌+◌, ◌≤◌, ◌<◌}
 use native.Mathlib.Omega.{arith}
 use lib.ListN.{get_or}
-use borrow.Author.Rules.{rules}
 use Rattle.words.proofs.RoundLaws.{next_lt}
-use Rattle.reads_try.specs.Tries.{lane_found, first_free}
+use Rattle.reads_try.specs.Tries.{lane_found}
 use Rattle.reads_try.proofs.LaneLoadLaws.{free_here, free_on, free_none}
 use Rattle.reads_try.proofs.find_lane.Goals as goal
 

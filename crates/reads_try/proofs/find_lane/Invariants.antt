@@ -1,13 +1,8 @@
 -- `find_lane`: the search from here, over the lanes that are left, is the search.
 -- Assumes nothing.
-use mathlib.Core.Path.{◌≡◌, sym, ap, ◌∙◌}
-use Prim.Native.Nat.{◌+◌, ◌≤◌, ◌<◌}
-use native.Mathlib.Omega.{arith}
-use lib.ListN.{get_or}
-use borrow.Author.Rules.{rules}
-use Rattle.words.proofs.RoundLaws.{next_lt}
-use Rattle.reads_try.specs.Tries.{lane_found, first_free}
-use Rattle.reads_try.proofs.LaneLoadLaws.{free_here, free_on, free_none}
+use mathlib.Core.Path.{◌≡◌}
+use Prim.Native.Nat.{◌≤◌, ◌<◌}
+use Rattle.reads_try.specs.Tries.{first_free}
 use Rattle.reads_try.proofs.find_lane.Given as goal
 
 abbrev pub invariant-loop-left : goal.invariant-loop-left

@@ -1,9 +1,4 @@
-use mathlib.Core.Path.{◌≡◌, sym, ◌∙◌}
-use Prim.Native.Nat.{◌-◌}
-use lib.Seq.{slice}
-use borrow.Author.Rules.{rules}
-use Rattle.reads.specs.ReadSet.{pairs_of}
-use Rattle.reads_try.specs.Late.{any_full}
+use mathlib.Core.Path.{sym, ◌∙◌}
 use Rattle.reads_try.proofs.LateLaws.{look_here, look_on, look_end}
 use Rattle.reads_try.proofs.full_in.Goals as goal
 

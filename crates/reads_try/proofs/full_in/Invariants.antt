@@ -1,12 +1,10 @@
 -- `full_in`: a pair of 32 bits is among those that are left as it is among all.
 -- Assumes nothing.
-use mathlib.Core.Path.{◌≡◌, sym, ◌∙◌}
+use mathlib.Core.Path.{◌≡◌}
 use Prim.Native.Nat.{◌-◌}
 use lib.Seq.{slice}
-use borrow.Author.Rules.{rules}
 use Rattle.reads.specs.ReadSet.{pairs_of}
 use Rattle.reads_try.specs.Late.{any_full}
-use Rattle.reads_try.proofs.LateLaws.{look_here, look_on, look_end}
 use Rattle.reads_try.proofs.full_in.Given as goal
 
 abbrev pub invariant-loop-p : goal.invariant-loop-p

@@ -1,9 +1,8 @@
 use mathlib.Core.Path.{◌≡◌, sym, ◌∙◌}
 use mathlib.Core.Bool.{true, false}
-use Prim.Native.Nat.{◌+◌, ◌-◌, ◌≤◌}
+use Prim.Native.Nat.{◌+◌, ◌-◌}
 use native.Mathlib.Omega.{arith}
-use lib.ListN.{length, get_or, drop}
-use borrow.Author.Rules.{rules}
+use lib.ListN.{get_or, drop}
 use Rattle.reads_try.specs.Late.{late_full}
 use Rattle.reads_try.proofs.TryLaws.{piece_small}
 use Rattle.reads_try.proofs.LateLaws.{late_step, late_end}

@@ -1,14 +1,9 @@
 -- `late_full`: of the pairs that are left to pass over and the pieces that are left, the answer is the whole one.
 -- Assumes nothing.
-use mathlib.Core.Path.{◌≡◌, sym, ◌∙◌}
-use mathlib.Core.Bool.{true, false}
-use Prim.Native.Nat.{◌+◌, ◌-◌, ◌≤◌}
-use native.Mathlib.Omega.{arith}
-use lib.ListN.{length, get_or, drop}
-use borrow.Author.Rules.{rules}
+use mathlib.Core.Path.{◌≡◌}
+use Prim.Native.Nat.{◌-◌, ◌≤◌}
+use lib.ListN.{length, drop}
 use Rattle.reads_try.specs.Late.{late_full}
-use Rattle.reads_try.proofs.TryLaws.{piece_small}
-use Rattle.reads_try.proofs.LateLaws.{late_step, late_end}
 use Rattle.reads_try.proofs.late_full.Given as goal
 
 abbrev pub invariant-loop-t : goal.invariant-loop-t

@@ -4,7 +4,6 @@ use mathlib.Core.Path.{◌≡◌}
 use Prim.Native.Nat.{◌+◌, ◌*◌}
 use native.Mathlib.Omega.{arith}
 use lib.ListN.{get_or}
-use borrow.Author.Rules.{rules}
 use Rattle.words.specs.Bit.{pop}
 use Rattle.reads_try.proofs.PairPlacedLaws.{place_search, place_put, place_lt, place_full, place_lane}
 use Rattle.reads_try.proofs.place.Goals as goal

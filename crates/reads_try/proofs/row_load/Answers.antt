@@ -1,10 +1,8 @@
-use mathlib.Core.Path.{◌≡◌, ap}
-use Prim.Native.Nat.{◌+◌, ◌*◌, ◌-◌, ◌≤◌, ◌<◌}
+use mathlib.Core.Path.{ap}
+use Prim.Native.Nat.{◌<◌}
 use native.Mathlib.Omega.{arith}
-use lib.ListN.{length, get_or, drop}
-use borrow.Author.Rules.{rules}
+use lib.ListN.{length, get_or}
 use Rattle.reads.specs.ReadSet.{total}
-use Rattle.reads_try.specs.TableLanes.{lane_of}
 use Rattle.reads_try.proofs.SetPairLaws.{mask_bits_le}
 use Rattle.reads_try.proofs.LaneTableLaws.{row_end, row_stop, row_length-on, row_total_on}
 use Rattle.reads_try.proofs.row_load.Goals as goal

@@ -1,14 +1,10 @@
 -- `row_load`: what is summed, with what the rest of the row says, is what the row says.
 -- Assumes nothing.
-use mathlib.Core.Path.{◌≡◌, ap}
-use Prim.Native.Nat.{◌+◌, ◌*◌, ◌-◌, ◌≤◌, ◌<◌}
-use native.Mathlib.Omega.{arith}
-use lib.ListN.{length, get_or, drop}
-use borrow.Author.Rules.{rules}
+use mathlib.Core.Path.{◌≡◌}
+use Prim.Native.Nat.{◌+◌, ◌*◌, ◌-◌, ◌≤◌}
+use lib.ListN.{length, drop}
 use Rattle.reads.specs.ReadSet.{total}
 use Rattle.reads_try.specs.TableLanes.{lane_of}
-use Rattle.reads_try.proofs.SetPairLaws.{mask_bits_le}
-use Rattle.reads_try.proofs.LaneTableLaws.{row_end, row_stop, row_length-on, row_total_on}
 use Rattle.reads_try.proofs.row_load.Given as goal
 
 abbrev pub invariant-loop-pairs : goal.invariant-loop-pairs

@@ -1,19 +1,13 @@
 -- `try_size`: what is still to be placed, from the lanes as they stand, ends as the try does. In a piece: as it did at the piece's begin.
 -- Assumes nothing.
-use mathlib.Core.Path.{◌≡◌, refl, ap, ◌∙◌}
-use mathlib.Core.List.{List, ◌∷◌, ◌++◌}
-use Prim.Native.Nat.{ℕ, ◌+◌, ◌*◌, ◌-◌, ◌/◌, ◌%◌, ◌≤◌, ◌<◌}
-use native.Mathlib.Omega.{arith}
-use lib.ListN.{length, get_or, drop, length-drop, length-replicate}
-use lib.Seq.{slice}
-use borrow.Author.Rules.{rules}
-use Rattle.reads.specs.ReadSet.{Pair, pairs_of}
+use mathlib.Core.Path.{◌≡◌}
+use Prim.Native.Nat.{◌*◌, ◌-◌, ◌≤◌}
+use lib.ListN.{length, drop}
+use Rattle.reads.specs.ReadSet.{pairs_of}
 use Rattle.reads_try.specs.declared.Ending.TheVariants.{All}
 use Rattle.reads_try.specs.LaneTable.{run_of}
-use Rattle.reads_try.specs.TableLanes.{pair_at}
 use Rattle.reads_try.specs.Tries.{tried_of}
-use Rattle.reads_try.proofs.SetPairLaws.{span_step}
-use Rattle.reads_try.proofs.TryLaws.{Held, Piece, held_start, held_length, held_used, held_held, held_stop, held_placeable, run_step, run_next, run_ended, piece_step, piece_small}
+use Rattle.reads_try.proofs.TryLaws.{Held, Piece}
 use Rattle.reads_try.proofs.try_size.Given as goal
 
 abbrev pub invariant-pairs : goal.invariant-pairs

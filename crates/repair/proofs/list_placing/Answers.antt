@@ -2,7 +2,6 @@
 -- Assumes nothing.
 use native.Mathlib.Omega.{arith}
 use Rattle.repair_nodes.proofs.JudgeLaws.{judged_known}
-use borrow.Author.Rules.{rules}
 use Rattle.repair.proofs.list_placing.Goals as goal
 
 pub level_of-requires : goal.level_of-requires

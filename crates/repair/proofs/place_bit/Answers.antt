@@ -9,7 +9,6 @@ use Rattle.repair_nodes.specs.RepairAnswer.{repair_room_words}
 use Rattle.repair_settle.proofs.EndLaws.{refused_end}
 use Rattle.repair.proofs.RepairAnswerLaws.{room_short, place_32}
 use Rattle.repair.proofs.RepairWholeLaws.{zeros_length, zeros_own, room_left_lem, whole_end}
-use borrow.Author.Rules.{rules}
 use Rattle.repair.proofs.place_bit.Goals as goal
 
 pub place_in-answer-requires : goal.place_in-answer-requires

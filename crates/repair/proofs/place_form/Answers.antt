@@ -4,7 +4,6 @@ use mathlib.Core.Path.{sym}
 use native.Mathlib.Omega.{arith}
 use Rattle.repair.proofs.RepairAnswerLaws.{place_high}
 use Rattle.repair.proofs.RepairCodeLaws.{place_by}
-use borrow.Author.Rules.{rules}
 use Rattle.repair.proofs.place_form.Goals as goal
 
 pub returns-then-height-level : goal.returns-then-height-level

@@ -1,12 +1,10 @@
 -- `repair::place_in` meets its contract: 29, else a placing with the levels of the edition.
 -- Assumes nothing.
 use mathlib.Core.Path.{sym, ◌∙◌}
-use borrow.Author.Tests.{not-true, not-false}
 use lib.ListN.{length}
 use Rattle.words.proofs.EditionLaws.{known_number, levels_most}
 use Rattle.repair_settle.proofs.EndLaws.{refused_end}
 use Rattle.repair.proofs.RepairAnswerLaws.{place_29, place_known}
-use borrow.Author.Rules.{rules}
 use Rattle.repair.proofs.place_in.Goals as goal
 
 pub returns-then-not-is_edition : goal.returns-then-not-is_edition

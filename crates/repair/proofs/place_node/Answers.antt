@@ -8,7 +8,6 @@ use lib.Seq.{length-take-le}
 use Rattle.repair_nodes.specs.Placing.{placing}
 use Rattle.repair_settle.proofs.SpotLaws.{placing_sound}
 use Rattle.repair.proofs.RepairCodeLaws.{rooted_full, placing_few, list_size, list_spots, list_spotted}
-use borrow.Author.Rules.{rules}
 use Rattle.repair.proofs.place_node.Goals as goal
 
 pub list_placing-n-requires : goal.list_placing-n-requires
@@ -47,8 +46,7 @@ slice_bounds-place_spots-end c =
 
 pub place_spots-requires : goal.place_spots-requires
 place_spots-requires c =
-    let deep : c.args.at.level ≤ 13 = omega (arith, c.requires.1.levels, c.requires.1.level) in
-    (
+    let deep : c.args.at.level ≤ 13 = omega (arith, c.requires.1.levels, c.requires.1.level) in (
       c.requires.2,
       list_spotted (replicate 32768 0) c.list_placing-n.new.list (placing c.args.gates.now c.args.levels.now c.args.at.level c.args.at.width c.args.at.index c.args.node.0)
           c.list_placing-n.result c.list_placing-n.ensures (length-replicate {A = ℕ} 32768 0)

@@ -2,7 +2,6 @@
 -- Assumes nothing.
 use native.Mathlib.Omega.{arith}
 use Rattle.repair.proofs.RepairCodeLaws.{placed_place}
-use borrow.Author.Rules.{rules}
 use Rattle.repair.proofs.place_of.Goals as goal
 
 pub overflow_add-result : goal.overflow_add-result

@@ -12,12 +12,12 @@ use Rattle.repair.proofs.CountFormLaws.{entered_true, entered_false}
 use Rattle.repair.proofs.RepairAnswerLaws.{place_5, place_6, place_on}
 use Rattle.repair.proofs.RepairWholeLaws.{place_parts, form_pin, form_place, form_counts, form_right}
 use Rattle.words.proofs.FoundLaws.{item_some, item_none}
-use borrow.Author.Rules.{rules}
 use Rattle.repair.proofs.place_over.Goals as goal
 
 pub returns-then-node-gt1073741824 : goal.returns-then-node-gt1073741824
 returns-then-node-gt1073741824 c =
-    refused_end _ _ c.args.slots.now c.args.after.now 5 0 (place_5 c.args.height c.args.gates.now c.args.levels.now c.args.counts.now c.args.slots.now (length c.args.after.now) c.args.level c.args.slot c.args.node.0 (form_pin (place_right c.args.height c.args.level c.args.slot) (counts_right c.args.counts.now) c.args.node.0 (omega arith))) c.refused.ensures
+    refused_end _ _ c.args.slots.now c.args.after.now 5 0 (place_5 c.args.height c.args.gates.now c.args.levels.now c.args.counts.now c.args.slots.now (length c.args.after.now) c.args.level c.args.slot c.args.node.0
+    (form_pin (place_right c.args.height c.args.level c.args.slot) (counts_right c.args.counts.now) c.args.node.0 (omega arith))) c.refused.ensures
 
 pub place_at-requires : goal.place_at-requires
 place_at-requires c =
@@ -46,15 +46,18 @@ returns-in-Fine c =
     let e = entered_true c.args.counts.now c.args.map.now c.requires.0 c.requires.1 c.check_counts.new.map c.check_counts.auto.map (λ i. (c.type_inv.counts i).fits) w in
     let n : c.args.node.0 ≤ 2 ^ 30 = omega (arith, c.if-node-gt1073741824.false) in
     let b = item_none _ (sym c.check_list.ensures ∙ c.in-Fine.is) in
-    rw (place_on c.args.height c.args.gates.now c.args.levels.now c.args.counts.now c.args.slots.now (length c.args.after.now) c.args.level c.args.slot c.args.node.0 (form_right (place_right c.args.height c.args.level c.args.slot) (counts_right c.args.counts.now) c.args.node.0 p n e.0) b) c.place_at.ensures
+    rw (place_on c.args.height c.args.gates.now c.args.levels.now c.args.counts.now c.args.slots.now (length c.args.after.now) c.args.level c.args.slot c.args.node.0
+    (form_right (place_right c.args.height c.args.level c.args.slot) (counts_right c.args.counts.now) c.args.node.0 p n e.0) b) c.place_at.ensures
 
 pub returns-then-place_form : goal.returns-then-place_form
 returns-then-place_form c =
     let w = told_false _ _ _ c.check_counts.ensures c.if-check_counts.false in
     let e = entered_false c.args.counts.now c.args.map.now c.requires.0 c.requires.1 w in
-    refused_end _ _ c.args.slots.now c.args.after.now 5 0 (place_5 c.args.height c.args.gates.now c.args.levels.now c.args.counts.now c.args.slots.now (length c.args.after.now) c.args.level c.args.slot c.args.node.0 (form_counts (place_right c.args.height c.args.level c.args.slot) (counts_right c.args.counts.now) c.args.node.0 e)) c.refused-then-place_form.ensures
+    refused_end _ _ c.args.slots.now c.args.after.now 5 0 (place_5 c.args.height c.args.gates.now c.args.levels.now c.args.counts.now c.args.slots.now (length c.args.after.now) c.args.level c.args.slot c.args.node.0
+    (form_counts (place_right c.args.height c.args.level c.args.slot) (counts_right c.args.counts.now) c.args.node.0 e)) c.refused-then-place_form.ensures
 
 pub returns : goal.returns
 returns c =
     let p = sym c.place_form.ensures ∙ c.if-place_form.false in
-    refused_end _ _ c.args.slots.now c.args.after.now 5 0 (place_5 c.args.height c.args.gates.now c.args.levels.now c.args.counts.now c.args.slots.now (length c.args.after.now) c.args.level c.args.slot c.args.node.0 (form_place (place_right c.args.height c.args.level c.args.slot) (counts_right c.args.counts.now) c.args.node.0 p)) c.refused-2.ensures
+    refused_end _ _ c.args.slots.now c.args.after.now 5 0 (place_5 c.args.height c.args.gates.now c.args.levels.now c.args.counts.now c.args.slots.now (length c.args.after.now) c.args.level c.args.slot c.args.node.0
+    (form_place (place_right c.args.height c.args.level c.args.slot) (counts_right c.args.counts.now) c.args.node.0 p)) c.refused-2.ensures

@@ -9,7 +9,6 @@ use lib.Seq.{length-take-le}
 use Rattle.repair_nodes.specs.Clearing.{clearing}
 use Rattle.repair_settle.proofs.SpotLaws.{clearing_sound}
 use Rattle.repair.proofs.RepairCodeLaws.{rooted_full, clearing_few, list_size, list_spots, list_spotted, small_default, at_cleared}
-use borrow.Author.Rules.{rules}
 use Rattle.repair.proofs.purge_at.Goals as goal
 
 pub list_reached-n-requires : goal.list_reached-n-requires

@@ -9,7 +9,6 @@ use Rattle.repair_settle.proofs.EndLaws.{refused_end}
 use Rattle.repair.proofs.CountFormLaws.{entered_true, entered_false}
 use Rattle.repair.proofs.RepairAnswerLaws.{clear_5, clear_on}
 use Rattle.repair.proofs.RepairWholeLaws.{place_parts, both_place, both_counts, both_right}
-use borrow.Author.Rules.{rules}
 use Rattle.repair.proofs.purge_over.Goals as goal
 
 pub purge_at-requires : goal.purge_at-requires

@@ -3,7 +3,6 @@
 use native.Mathlib.Omega.{arith}
 use lib.ListN.{length}
 use Rattle.repair.proofs.RepairWholeLaws.{room_under, room_by}
-use borrow.Author.Rules.{rules}
 use Rattle.repair.proofs.room_enough.Goals as goal
 
 pub returns-then-room-lt65536 : goal.returns-then-room-lt65536

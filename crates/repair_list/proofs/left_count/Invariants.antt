@@ -1,14 +1,11 @@
 -- `repair_list::left_count` meets its contract. The loop's invariant: those counted, and those left from entry i on, are all.
 -- Assumes nothing.
-use mathlib.Core.Path.{◌≡◌, ap}
-use mathlib.Core.Logic.{⊎_elim}
-use Prim.Native.Nat.{◌+◌, ◌*◌, ◌-◌, ◌/◌, ◌≤◌}
-use native.Mathlib.Omega.{arith}
-use lib.ListN.{length, get_or}
+use mathlib.Core.Path.{◌≡◌}
+use Prim.Native.Nat.{◌+◌, ◌-◌, ◌/◌, ◌≤◌}
+use lib.ListN.{length}
 use Rattle.repair_nodes.specs.CountList.{nonzero}
-use Rattle.repair_list.specs.Relist.{count_in_map, entries_in}
-use Rattle.repair_list.proofs.RelistLaws.{left_from, left_size, left_one_size, left_none_size, left_end}
-use borrow.Author.Rules.{rules}
+use Rattle.repair_list.specs.Relist.{entries_in}
+use Rattle.repair_list.proofs.RelistLaws.{left_from}
 use Rattle.repair_list.proofs.left_count.Given as goal
 
 abbrev pub invariant-loop-i : goal.invariant-loop-i

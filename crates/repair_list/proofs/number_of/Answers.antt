@@ -4,7 +4,6 @@ use mathlib.Core.Path.{sym, ap}
 use Rattle.pinmap.specs.PinMap.{look}
 use Rattle.repair_tally.proofs.TallyStepLaws.{found_value, found_missing}
 use Rattle.repair_list.specs.Relist.{count_or_zero}
-use borrow.Author.Rules.{rules}
 use Rattle.repair_list.proofs.number_of.Goals as goal
 
 pub returns-in-Value : goal.returns-in-Value

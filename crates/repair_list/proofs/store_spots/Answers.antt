@@ -1,10 +1,6 @@
-use mathlib.Core.Path.{◌≡◌, refl, sym, ◌∙◌}
-use Prim.Native.Nat.{◌*◌, ◌-◌, ◌/◌, ◌≤◌}
+use mathlib.Core.Path.{refl, sym, ◌∙◌}
 use native.Mathlib.Omega.{arith}
-use lib.ListN.{length, drop}
-use Rattle.repair_nodes.specs.Stage.{spots_of, spots_stored}
 use Rattle.repair_list.proofs.RelistLaws.{store_on, store_end}
-use borrow.Author.Rules.{rules}
 use Rattle.repair_list.proofs.store_spots.Goals as goal
 
 pub loop-k-init : goal.loop-k-init

@@ -1,12 +1,9 @@
 -- `repair_list::store_spots` meets its contract. The loop's invariant: the spots from spot k on come to the whole.
 -- Assumes nothing.
-use mathlib.Core.Path.{◌≡◌, refl, sym, ◌∙◌}
+use mathlib.Core.Path.{◌≡◌}
 use Prim.Native.Nat.{◌*◌, ◌-◌, ◌/◌, ◌≤◌}
-use native.Mathlib.Omega.{arith}
 use lib.ListN.{length, drop}
 use Rattle.repair_nodes.specs.Stage.{spots_of, spots_stored}
-use Rattle.repair_list.proofs.RelistLaws.{store_on, store_end}
-use borrow.Author.Rules.{rules}
 use Rattle.repair_list.proofs.store_spots.Given as goal
 
 abbrev pub invariant-loop-k : goal.invariant-loop-k

@@ -1,7 +1,6 @@
 -- `repair_list::write_entry` meets its contract: two stores.
 -- Assumes nothing.
 use Rattle.repair_list.proofs.RelistLaws.{entry_words}
-use borrow.Author.Rules.{rules}
 use Rattle.repair_list.proofs.write_entry.Goals as goal
 
 pub returns : goal.returns

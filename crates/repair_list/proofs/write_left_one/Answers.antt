@@ -7,7 +7,6 @@ use lib.ListN.{length}
 use lib.Seq.{lt-length-set}
 use Rattle.repair_list.specs.Relist.{count_in_map}
 use Rattle.repair_list.proofs.RelistLaws.{left_one_size, entries_put_none, listed_one}
-use borrow.Author.Rules.{rules}
 use Rattle.repair_list.proofs.write_left_one.Goals as goal
 
 pub returns-then-count-eq0 : goal.returns-then-count-eq0

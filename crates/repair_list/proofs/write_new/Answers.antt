@@ -1,12 +1,10 @@
 use mathlib.Core.Path.{◌≡◌, refl, sym, ap, ◌∙◌}
-use Prim.Native.Nat.{ℕ, ◌+◌, ◌*◌, ◌-◌, ◌≤◌}
+use Prim.Native.Nat.{ℕ, ◌+◌, ◌*◌}
 use native.Mathlib.Omega.{arith}
-use lib.ListN.{length, drop}
 use lib.Seq.{sets}
 use Rattle.repair_nodes.specs.CountList.{count_words}
 use Rattle.repair_list.specs.Relist.{entries_of}
 use Rattle.repair_list.proofs.RelistLaws.{new_on, new_end}
-use borrow.Author.Rules.{rules}
 use Rattle.repair_list.proofs.write_new.Goals as goal
 
 pub loop-k-init : goal.loop-k-init

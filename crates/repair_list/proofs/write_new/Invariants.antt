@@ -1,14 +1,11 @@
 -- `repair_list::write_new` meets its contract. The loop's invariant: what is written from new node k on comes to the whole.
 -- Assumes nothing.
-use mathlib.Core.Path.{◌≡◌, refl, sym, ap, ◌∙◌}
-use Prim.Native.Nat.{ℕ, ◌+◌, ◌*◌, ◌-◌, ◌≤◌}
-use native.Mathlib.Omega.{arith}
+use mathlib.Core.Path.{◌≡◌}
+use Prim.Native.Nat.{◌+◌, ◌*◌, ◌-◌, ◌≤◌}
 use lib.ListN.{length, drop}
 use lib.Seq.{sets}
 use Rattle.repair_nodes.specs.CountList.{count_words}
 use Rattle.repair_list.specs.Relist.{entries_of}
-use Rattle.repair_list.proofs.RelistLaws.{new_on, new_end}
-use borrow.Author.Rules.{rules}
 use Rattle.repair_list.proofs.write_new.Given as goal
 
 abbrev pub invariant-loop-k : goal.invariant-loop-k

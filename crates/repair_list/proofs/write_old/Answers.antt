@@ -1,12 +1,6 @@
-use mathlib.Core.Path.{◌≡◌, refl, sym, ◌∙◌}
-use Prim.Native.Nat.{◌*◌, ◌-◌, ◌/◌, ◌≤◌}
+use mathlib.Core.Path.{refl, sym, ◌∙◌}
 use native.Mathlib.Omega.{arith}
-use lib.ListN.{length}
-use lib.Seq.{sets}
-use Rattle.repair_nodes.specs.CountList.{count_words}
-use Rattle.repair_list.specs.Relist.{entries_in}
-use Rattle.repair_list.proofs.RelistLaws.{entries_from, write_on, write_end}
-use borrow.Author.Rules.{rules}
+use Rattle.repair_list.proofs.RelistLaws.{write_on, write_end}
 use Rattle.repair_list.proofs.write_old.Goals as goal
 
 pub loop-i-init : goal.loop-i-init

@@ -1,14 +1,12 @@
 -- `repair_list::write_old` meets its contract. The loop's invariant: what is written from entry i on comes to the whole.
 -- Assumes nothing.
-use mathlib.Core.Path.{◌≡◌, refl, sym, ◌∙◌}
+use mathlib.Core.Path.{◌≡◌}
 use Prim.Native.Nat.{◌*◌, ◌-◌, ◌/◌, ◌≤◌}
-use native.Mathlib.Omega.{arith}
 use lib.ListN.{length}
 use lib.Seq.{sets}
 use Rattle.repair_nodes.specs.CountList.{count_words}
 use Rattle.repair_list.specs.Relist.{entries_in}
-use Rattle.repair_list.proofs.RelistLaws.{entries_from, write_on, write_end}
-use borrow.Author.Rules.{rules}
+use Rattle.repair_list.proofs.RelistLaws.{entries_from}
 use Rattle.repair_list.proofs.write_old.Given as goal
 
 abbrev pub invariant-loop-i : goal.invariant-loop-i

@@ -8,7 +8,6 @@ use Rattle.repair_nodes.specs.CountList.{counts_of, nodes_of}
 use Rattle.repair_tally.proofs.TallyStepLaws.{told_new, told_over}
 use Rattle.repair_settle.proofs.SpotLaws.{nodes_askable, new_askable}
 use Rattle.repair_settle.proofs.EndLaws.{refused_end, short_slots, up_new, place_short, place_end, place_over}
-use borrow.Author.Rules.{rules}
 use Rattle.repair_settle.proofs.place_spots.Goals as goal
 
 pub returns-then-slots-stage_slots : goal.returns-then-slots-stage_slots
@@ -23,7 +22,8 @@ overflow_add-old c =
 pub returns-then-after-old : goal.returns-then-after-old
 returns-then-after-old c =
     let k = told_new _ _ _ _ _ c.tally_up.ensures c.in-New.is in
-    refused_end _ _ c.args.slots.now c.args.after.now 14 0 (place_short c.args.height c.args.counts.now c.args.map.now c.requires.0 c.args.spots.now c.requires.1.few c.args.slots.now c.args.after.now c.tally_up.new.map c.tally_up.new.fresh c.in-New.n k.0 k.1 (omega arith)) c.refused-then-after-old.ensures
+    refused_end _ _ c.args.slots.now c.args.after.now 14 0 (place_short c.args.height c.args.counts.now c.args.map.now c.requires.0 c.args.spots.now c.requires.1.few c.args.slots.now c.args.after.now c.tally_up.new.map c.tally_up.new.fresh
+    c.in-New.n k.0 k.1 (omega arith)) c.refused-then-after-old.ensures
 
 pub write_old-requires : goal.write_old-requires
 write_old-requires c =

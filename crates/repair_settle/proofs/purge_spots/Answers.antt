@@ -5,7 +5,6 @@ use native.Mathlib.Omega.{arith}
 use Rattle.repair_tally.proofs.TallyStepLaws.{told_true, told_false}
 use Rattle.repair_settle.proofs.SpotLaws.{nodes_askable}
 use Rattle.repair_settle.proofs.EndLaws.{refused_end, purge_short, purge_slots, purge_list, purge_end}
-use borrow.Author.Rules.{rules}
 use Rattle.repair_settle.proofs.purge_spots.Goals as goal
 
 pub left_count-left-requires : goal.left_count-left-requires
@@ -20,7 +19,8 @@ returns-then-slots-stage_slots c =
 pub returns-then-after-left : goal.returns-then-after-left
 returns-then-after-left c =
     let k = told_true _ _ _ c.tally_down.ensures c.if-tally_down.true in
-    refused_end _ _ c.args.slots.now c.args.after.now 14 0 (purge_list c.args.height c.args.counts.now c.args.map.now c.requires.0 c.args.spots.now c.requires.1.few c.args.slots.now c.args.after.now c.tally_down.new.map k c.left_count-left.result c.left_count-left.ensures (omega arith)) c.refused-then-after-left.ensures
+    refused_end _ _ c.args.slots.now c.args.after.now 14 0 (purge_list c.args.height c.args.counts.now c.args.map.now c.requires.0 c.args.spots.now c.requires.1.few c.args.slots.now c.args.after.now c.tally_down.new.map k
+    c.left_count-left.result c.left_count-left.ensures (omega arith)) c.refused-then-after-left.ensures
 
 pub write_left-requires : goal.write_left-requires
 write_left-requires c =

@@ -2,7 +2,6 @@
 -- Assumes nothing.
 use mathlib.Core.Path.{refl}
 use Rattle.repair_subtree.proofs.SubtreeLaws.{added_one}
-use borrow.Author.Rules.{rules}
 use Rattle.repair_subtree.proofs.put_spot.Goals as goal
 
 pub returns : goal.returns

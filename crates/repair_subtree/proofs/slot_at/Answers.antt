@@ -2,7 +2,6 @@
 -- Assumes nothing.
 use native.Mathlib.Omega.{arith}
 use Rattle.repair_subtree.proofs.SubtreeLaws.{slot_past, slot_here}
-use borrow.Author.Rules.{rules}
 use Rattle.repair_subtree.proofs.slot_at.Goals as goal
 
 pub returns-then-slots-q : goal.returns-then-slots-q

@@ -1,11 +1,8 @@
 use mathlib.Core.Path.{◌≡◌, refl, sym, ◌∙◌}
-use Prim.Native.Nat.{◌*◌, ◌-◌, ◌/◌, ◌%◌, ◌≤◌}
+use Prim.Native.Nat.{◌%◌}
 use native.Mathlib.Omega.{arith}
-use lib.ListN.{length, drop}
-use Rattle.repair_nodes.specs.CountList.{counts_of}
-use Rattle.repair_tally.specs.Tally.{through, entering}
+use lib.ListN.{length}
 use Rattle.repair_tally.proofs.TallyStepLaws.{told_true, told_false, all_odd, all_even, check_on, check_stop, check_end}
-use borrow.Author.Rules.{rules}
 use Rattle.repair_tally.proofs.check_counts.Goals as goal
 
 pub returns-then-counts-ne0 : goal.returns-then-counts-ne0

@@ -1,13 +1,10 @@
 -- `repair_tally::check_counts` meets its contract. The loop's invariant: the way from entry i on ends as the whole way does.
 -- Assumes nothing.
-use mathlib.Core.Path.{◌≡◌, refl, sym, ◌∙◌}
-use Prim.Native.Nat.{◌*◌, ◌-◌, ◌/◌, ◌%◌, ◌≤◌}
-use native.Mathlib.Omega.{arith}
+use mathlib.Core.Path.{◌≡◌}
+use Prim.Native.Nat.{◌*◌, ◌-◌, ◌/◌, ◌≤◌}
 use lib.ListN.{length, drop}
 use Rattle.repair_nodes.specs.CountList.{counts_of}
 use Rattle.repair_tally.specs.Tally.{through, entering}
-use Rattle.repair_tally.proofs.TallyStepLaws.{told_true, told_false, all_odd, all_even, check_on, check_stop, check_end}
-use borrow.Author.Rules.{rules}
 use Rattle.repair_tally.proofs.check_counts.Given as goal
 
 abbrev pub invariant-loop-i : goal.invariant-loop-i

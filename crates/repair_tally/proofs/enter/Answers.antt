@@ -4,7 +4,6 @@ use mathlib.Core.Path.{sym, ap, ◌∙◌}
 use mathlib.Core.Option.{some}
 use native.Mathlib.Omega.{arith}
 use Rattle.repair_tally.proofs.TallyStepLaws.{found_value, found_missing, enter_no_pin, enter_zero, enter_twice, enter_new}
-use borrow.Author.Rules.{rules}
 use Rattle.repair_tally.proofs.enter.Goals as goal
 
 pub returns-then-node-gt1073741824 : goal.returns-then-node-gt1073741824

@@ -2,7 +2,6 @@
 -- Assumes nothing.
 use native.Mathlib.Omega.{arith}
 use Rattle.repair_tally.proofs.TallyStepLaws.{slots_most, slots_shifted}
-use borrow.Author.Rules.{rules}
 use Rattle.repair_tally.proofs.level_slots.Goals as goal
 
 pub returns : goal.returns

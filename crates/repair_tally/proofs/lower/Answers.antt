@@ -4,7 +4,6 @@ use mathlib.Core.Path.{sym, ap, ◌∙◌}
 use mathlib.Core.Option.{some}
 use native.Mathlib.Omega.{arith}
 use Rattle.repair_tally.proofs.TallyStepLaws.{found_value, found_missing, lower_missing, lower_zero, lower_there}
-use borrow.Author.Rules.{rules}
 use Rattle.repair_tally.proofs.lower.Goals as goal
 
 pub returns-then-v-gt0 : goal.returns-then-v-gt0

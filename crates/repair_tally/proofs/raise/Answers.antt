@@ -2,7 +2,6 @@
 -- Assumes nothing.
 use native.Mathlib.Omega.{arith}
 use Rattle.repair_tally.proofs.TallyStepLaws.{found_value, found_missing, raise_there, raise_over, raise_new}
-use borrow.Author.Rules.{rules}
 use Rattle.repair_tally.proofs.raise.Goals as goal
 
 pub returns-then-v-lt4294967295 : goal.returns-then-v-lt4294967295

@@ -1,10 +1,8 @@
-use mathlib.Core.Path.{◌≡◌, refl, sym, ◌∙◌}
-use Prim.Native.Nat.{◌*◌, ◌-◌, ◌/◌, ◌≤◌}
+use mathlib.Core.Path.{refl, sym, ◌∙◌}
+use Prim.Native.Nat.{◌*◌}
 use native.Mathlib.Omega.{arith}
-use lib.ListN.{length}
-use Rattle.repair_tally.specs.Tally.{through, lowering, nodes_in}
-use Rattle.repair_tally.proofs.TallyStepLaws.{nodes_from, told_true, told_false, way_on, way_stop, way_skip, way_end}
-use borrow.Author.Rules.{rules}
+use Rattle.repair_tally.specs.Tally.{lowering}
+use Rattle.repair_tally.proofs.TallyStepLaws.{told_true, told_false, way_on, way_stop, way_skip, way_end}
 use Rattle.repair_tally.proofs.tally_down.Goals as goal
 
 pub loop-k-init : goal.loop-k-init

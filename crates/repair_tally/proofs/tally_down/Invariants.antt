@@ -1,12 +1,10 @@
 -- `repair_tally::tally_down` meets its contract. The loop's invariant: the way from slot k on ends as the whole way does.
 -- Assumes nothing.
-use mathlib.Core.Path.{◌≡◌, refl, sym, ◌∙◌}
-use Prim.Native.Nat.{◌*◌, ◌-◌, ◌/◌, ◌≤◌}
-use native.Mathlib.Omega.{arith}
+use mathlib.Core.Path.{◌≡◌}
+use Prim.Native.Nat.{◌-◌, ◌/◌, ◌≤◌}
 use lib.ListN.{length}
 use Rattle.repair_tally.specs.Tally.{through, lowering, nodes_in}
-use Rattle.repair_tally.proofs.TallyStepLaws.{nodes_from, told_true, told_false, way_on, way_stop, way_skip, way_end}
-use borrow.Author.Rules.{rules}
+use Rattle.repair_tally.proofs.TallyStepLaws.{nodes_from}
 use Rattle.repair_tally.proofs.tally_down.Given as goal
 
 abbrev pub invariant-loop-k : goal.invariant-loop-k

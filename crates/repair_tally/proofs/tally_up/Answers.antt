@@ -1,11 +1,9 @@
-use mathlib.Core.Path.{◌≡◌, refl, sym, ◌∙◌}
-use mathlib.Core.List.{[]}
-use Prim.Native.Nat.{◌*◌, ◌-◌, ◌/◌, ◌≤◌}
+use mathlib.Core.Path.{refl, sym, ◌∙◌}
+use Prim.Native.Nat.{◌*◌}
 use native.Mathlib.Omega.{arith}
-use lib.ListN.{length, take}
-use Rattle.repair_tally.specs.Tally.{through, raised, raising, nodes_in}
-use Rattle.repair_tally.proofs.TallyStepLaws.{nodes_from, told_new, told_over, new_most, way_on, way_stop, way_skip, way_end}
-use borrow.Author.Rules.{rules}
+use lib.ListN.{take}
+use Rattle.repair_tally.specs.Tally.{raised, raising}
+use Rattle.repair_tally.proofs.TallyStepLaws.{told_new, told_over, new_most, way_on, way_stop, way_skip, way_end}
 use Rattle.repair_tally.proofs.tally_up.Goals as goal
 
 pub loop-k-init : goal.loop-k-init

@@ -1,13 +1,11 @@
 -- `repair_tally::tally_up` meets its contract. The loop's invariant: the way from slot k on ends as the whole way does; no more nodes are new than slots were seen.
 -- Assumes nothing.
-use mathlib.Core.Path.{◌≡◌, refl, sym, ◌∙◌}
+use mathlib.Core.Path.{◌≡◌}
 use mathlib.Core.List.{[]}
-use Prim.Native.Nat.{◌*◌, ◌-◌, ◌/◌, ◌≤◌}
-use native.Mathlib.Omega.{arith}
+use Prim.Native.Nat.{◌-◌, ◌/◌, ◌≤◌}
 use lib.ListN.{length, take}
 use Rattle.repair_tally.specs.Tally.{through, raised, raising, nodes_in}
-use Rattle.repair_tally.proofs.TallyStepLaws.{nodes_from, told_new, told_over, new_most, way_on, way_stop, way_skip, way_end}
-use borrow.Author.Rules.{rules}
+use Rattle.repair_tally.proofs.TallyStepLaws.{nodes_from}
 use Rattle.repair_tally.proofs.tally_up.Given as goal
 
 abbrev pub invariant-loop-k : goal.invariant-loop-k

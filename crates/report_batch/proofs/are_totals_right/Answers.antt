@@ -1,7 +1,6 @@
 -- `report_batch::are_totals_right` meets its contract: the words that are compared are the batch's, and no product is too long. Assumes nothing.
 use Prim.Native.Nat.{◌*◌, ◌≤◌}
 use native.Mathlib.Omega.{arith}
-use borrow.Author.Rules.{rules}
 use Rattle.report_batch.proofs.BatchFormLaws.{total_fits, totals_are}
 use Rattle.report_batch.proofs.are_totals_right.Goals as goal
 

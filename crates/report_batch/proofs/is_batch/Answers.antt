@@ -1,7 +1,5 @@
 -- `report_batch::is_batch` meets its contract: the four tests of the form, one after the other. Assumes nothing.
 use mathlib.Core.Path.{sym, ◌∙◌}
-use borrow.Author.Rules.{rules}
-use borrow.Author.Tests.{not-true, not-false}
 use Rattle.report_batch.proofs.BatchFormLaws.{form_many, form_uncounted, form_unnamed, form_rest, form_totals}
 use Rattle.report_batch.proofs.is_batch.Goals as goal
 

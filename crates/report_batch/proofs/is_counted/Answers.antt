@@ -1,7 +1,6 @@
 use Prim.Native.Nat.{◌-◌}
 use native.Mathlib.Omega.{arith}
-use borrow.Author.Rules.{rules}
-use Rattle.report_batch.proofs.BatchFormLaws.{parts_over, Left, left_start, left_over, left_next, left_end}
+use Rattle.report_batch.proofs.BatchFormLaws.{parts_over, left_start, left_over, left_next, left_end}
 use Rattle.report_batch.proofs.is_counted.Goals as goal
 
 pub returns-then-fed-parts : goal.returns-then-fed-parts

@@ -1,8 +1,6 @@
 -- `report_batch::is_counted` meets its contract: what is left to count, with what was counted, is what was fed. Assumes nothing.
 use Prim.Native.Nat.{◌-◌}
-use native.Mathlib.Omega.{arith}
-use borrow.Author.Rules.{rules}
-use Rattle.report_batch.proofs.BatchFormLaws.{parts_over, Left, left_start, left_over, left_next, left_end}
+use Rattle.report_batch.proofs.BatchFormLaws.{Left}
 use Rattle.report_batch.proofs.is_counted.Given as goal
 
 abbrev pub invariant-loop-k : goal.invariant-loop-k

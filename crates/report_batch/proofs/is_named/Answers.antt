@@ -1,5 +1,4 @@
 -- `report_batch::is_named` meets its contract, by its three tests. Assumes nothing.
-use borrow.Author.Rules.{rules}
 use Rattle.report_batch.proofs.BatchFormLaws.{named_none, named_full, named_small}
 use Rattle.report_batch.proofs.is_named.Goals as goal
 

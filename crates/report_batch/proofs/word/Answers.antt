@@ -1,5 +1,4 @@
 -- `report_batch::word` meets its contract: a word that is not there reads 0. Assumes nothing.
-use borrow.Author.Rules.{rules}
 use Rattle.report_batch.proofs.BatchFormLaws.{batch_word_none}
 use Rattle.report_batch.proofs.word.Goals as goal
 

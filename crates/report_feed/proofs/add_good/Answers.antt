@@ -1,7 +1,6 @@
 -- `report_feed::add_good` meets its contract: no word becomes too long, and the stores are one run. Assumes nothing.
 use native.Mathlib.Omega.{arith}
 use lib.ListN.{length-set}
-use borrow.Author.Rules.{rules}
 use Rattle.report_part.specs.PartOutcome.{gained_of}
 use Rattle.report_feed.proofs.FeedLaws.{feedable_short, good_is}
 use Rattle.report_feed.proofs.add_good.Goals as goal

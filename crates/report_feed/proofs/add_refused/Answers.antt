@@ -1,7 +1,6 @@
 -- `report_feed::add_refused` meets its contract: no word becomes too long, and three words are stored. Assumes nothing.
 use native.Mathlib.Omega.{arith}
 use lib.ListN.{length-set}
-use borrow.Author.Rules.{rules}
 use Rattle.report_feed.proofs.FeedLaws.{feedable_short, refused_is}
 use Rattle.report_feed.proofs.add_refused.Goals as goal
 

@@ -2,8 +2,6 @@
 use mathlib.Core.Path.{◌≡◌, sym, ◌∙◌}
 use mathlib.Core.Bool.{true}
 use native.Mathlib.Omega.{arith}
-use borrow.Author.Rules.{rules}
-use borrow.Author.Tests.{not-true, not-false}
 use Rattle.words.specs.Edition.{known}
 use Rattle.report.specs.Batch.{batch_form, same_edition}
 use Rattle.report_feed.proofs.CallLaws.{call_unknown, call_form, call_other, call_full, call_short, call_passes}

@@ -2,7 +2,6 @@
 -- Assumes nothing.
 use mathlib.Core.Path.{◌∙◌}
 use Rattle.report.specs.Report.{part_given}
-use borrow.Author.Rules.{rules}
 use Rattle.report_feed.proofs.CallLaws.{feed_short, feed_long}
 use Rattle.report_feed.proofs.feed.Goals as goal
 
@@ -14,5 +13,7 @@ returns-then-room-lt-ROOM_WORDS c =
 
 pub returns : goal.returns
 returns c =
-    let told = feed_long c.args.edition (part_given c.args.set.now c.args.lanes.now c.args.stages) c.args.batch.now c.args.room.now _ _ _ c.feed_in-answer.new.room c.if-room-lt-ROOM_WORDS.false (c.feed_in-answer.ensures.value, c.feed_in-answer.ensures.batch_after) c.clear.ensures c.feed_in-answer.auto.room in
+    let told =
+    feed_long c.args.edition (part_given c.args.set.now c.args.lanes.now c.args.stages) c.args.batch.now c.args.room.now _ _ _ c.feed_in-answer.new.room c.if-room-lt-ROOM_WORDS.false
+    (c.feed_in-answer.ensures.value, c.feed_in-answer.ensures.batch_after) c.clear.ensures c.feed_in-answer.auto.room in
     record { value = told.0; batch_after = told.1.0; room_after = told.1.1 }

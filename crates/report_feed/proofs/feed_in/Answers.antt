@@ -8,7 +8,6 @@ use lib.Seq.{length-take-le}
 use Rattle.words.proofs.EditionLaws.{known_most}
 use Rattle.report.specs.Report.{part_given}
 use Rattle.report.specs.Batch.{call_number}
-use borrow.Author.Rules.{rules}
 use Rattle.report_feed.proofs.CallLaws.{call_feedable, call_refused, call_good}
 use Rattle.report_feed.proofs.feed_in.Goals as goal
 

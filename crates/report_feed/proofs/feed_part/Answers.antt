@@ -8,7 +8,6 @@ use Rattle.words.specs.Answer.{good}
 use Rattle.words.proofs.EditionLaws.{known_least, known_most}
 use Rattle.reads.specs.SetAnswer.{Packed}
 use Rattle.report.specs.Report.{part_given, part_outcome}
-use borrow.Author.Rules.{rules}
 use Rattle.report_feed.proofs.FeedLaws.{is_refused_lem, is_good, number_low, refused_fed_lem, gainable, gain_feedable, good_fed_lem}
 use Rattle.report_feed.proofs.feed_part.Goals as goal
 

@@ -2,7 +2,6 @@
 use mathlib.Core.Path.{sym, ap, ◌∙◌}
 use Prim.Native.Nat.{ℕ}
 use lib.Dec.{eqb}
-use borrow.Author.Rules.{rules}
 use Rattle.report_feed.proofs.CallLaws.{first_part, later_part}
 use Rattle.report_feed.proofs.is_same_edition.Goals as goal
 

@@ -1,6 +1,5 @@
 -- `report_text::put_held` meets its contract: three lines, one after the other. Assumes nothing.
 use Rattle.report.specs.BatchText.{parts_name, bits_name, lanes_name}
-use borrow.Author.Rules.{rules}
 use Rattle.report_text.proofs.ReportLineLaws.{three_put}
 use Rattle.report_text.proofs.put_held.Goals as goal
 

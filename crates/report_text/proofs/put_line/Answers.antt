@@ -1,6 +1,5 @@
 -- `report_text::put_line` meets its contract: the word, then the number. Assumes nothing.
 use native.Mathlib.Omega.{arith}
-use borrow.Author.Rules.{rules}
 use Rattle.report_text.proofs.ReportLineLaws.{line_put}
 use Rattle.report_text.proofs.put_line.Goals as goal
 

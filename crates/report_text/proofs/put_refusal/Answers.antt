@@ -1,5 +1,4 @@
 -- `report_text::put_refusal` meets its contract: a line where the number occurred. Assumes nothing.
-use borrow.Author.Rules.{rules}
 use Rattle.report_text.proofs.ReportLineLaws.{refusal_none, refusal_some}
 use Rattle.report_text.proofs.put_refusal.Goals as goal
 

@@ -1,8 +1,6 @@
-use Prim.Native.Nat.{◌*◌, ◌-◌, ◌≤◌}
 use native.Mathlib.Omega.{arith}
-use Rattle.text.proofs.WritingLaws.{TextGoing, going_start, going_long, going_more, going_done}
-use Rattle.report.specs.BatchText.{refused_line, refused_lines}
-use borrow.Author.Rules.{rules}
+use Rattle.text.proofs.WritingLaws.{going_start, going_long, going_more, going_done}
+use Rattle.report.specs.BatchText.{refused_line}
 use Rattle.report_text.proofs.ReportLineLaws.{refusals_step, refusals_end}
 use Rattle.report_text.proofs.put_refusals.Goals as goal
 

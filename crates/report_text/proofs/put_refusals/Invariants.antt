@@ -1,10 +1,7 @@
 -- `report_text::put_refusals` meets its contract. The invariant: what is written, with the lines of the numbers from k on, is the whole. Assumes nothing.
 use Prim.Native.Nat.{◌*◌, ◌-◌, ◌≤◌}
-use native.Mathlib.Omega.{arith}
-use Rattle.text.proofs.WritingLaws.{TextGoing, going_start, going_long, going_more, going_done}
-use Rattle.report.specs.BatchText.{refused_line, refused_lines}
-use borrow.Author.Rules.{rules}
-use Rattle.report_text.proofs.ReportLineLaws.{refusals_step, refusals_end}
+use Rattle.text.proofs.WritingLaws.{TextGoing}
+use Rattle.report.specs.BatchText.{refused_lines}
 use Rattle.report_text.proofs.put_refusals.Given as goal
 
 abbrev pub invariant-loop-k : goal.invariant-loop-k

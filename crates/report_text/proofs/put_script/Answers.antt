@@ -1,6 +1,5 @@
 -- `report_text::put_script` meets its contract: three lines, one after the other. Assumes nothing.
 use Rattle.report.specs.BatchText.{rounds_name, empty_name, words_name}
-use borrow.Author.Rules.{rules}
 use Rattle.report_text.proofs.ReportLineLaws.{three_put}
 use Rattle.report_text.proofs.put_script.Goals as goal
 

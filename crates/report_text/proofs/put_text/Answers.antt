@@ -1,5 +1,4 @@
 -- `report_text::put_text` meets its contract: all lines, one after the other. Assumes nothing.
-use borrow.Author.Rules.{rules}
 use Rattle.report_text.proofs.ReportLineLaws.{report_put}
 use Rattle.report_text.proofs.put_text.Goals as goal
 

@@ -1,6 +1,5 @@
 -- `report_text::put_two` meets its contract: the word, then the two numbers. Assumes nothing.
 use native.Mathlib.Omega.{arith}
-use borrow.Author.Rules.{rules}
 use Rattle.report_text.proofs.ReportLineLaws.{two_put}
 use Rattle.report_text.proofs.put_two.Goals as goal
 

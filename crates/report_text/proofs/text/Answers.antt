@@ -1,8 +1,6 @@
 -- `report_text::text` meets its contract: 5, then 14, else the text. Assumes nothing.
 use mathlib.Core.Path.{◌≡◌, sym, ◌∙◌}
 use mathlib.Core.Bool.{true}
-use borrow.Author.Rules.{rules}
-use borrow.Author.Tests.{not-true, not-false}
 use Rattle.report.specs.Batch.{batch_form}
 use Rattle.report_text.proofs.ReportLineLaws.{not_batch, text_short, text_fits}
 use Rattle.report_text.proofs.text.Goals as goal

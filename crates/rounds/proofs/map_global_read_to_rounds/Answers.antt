@@ -1,7 +1,6 @@
 -- `map_global_read_to_rounds`: 32 before all others, and a room that is cleared whole.
 -- Assumes nothing.
 use Rattle.rounds.proofs.RoundsAnswerLaws.{short_post, long_post}
-use borrow.Author.Rules.{rules}
 use Rattle.rounds.proofs.map_global_read_to_rounds.Goals as goal
 
 pub returns-then-room-lt-ROOM_WORDS : goal.returns-then-room-lt-ROOM_WORDS

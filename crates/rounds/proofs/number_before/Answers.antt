@@ -1,7 +1,6 @@
 -- `number_before`: each way through is a case of the definition.
 -- Assumes nothing.
 use native.Mathlib.Omega.{arith}
-use borrow.Author.Rules.{rules}
 use Rattle.rounds.proofs.BeforeLaws.{before_none, before_small, before_bits, before_narrow, before_wide, before_fine}
 use Rattle.rounds.proofs.number_before.Goals as goal
 

@@ -1,7 +1,6 @@
 -- `passed_over`: each test is a part of the answer.
 -- Assumes nothing.
 use native.Mathlib.Omega.{arith}
-use borrow.Author.Tests.{not-true, not-false}
 use Rattle.rounds.proofs.PieceSizeLaws.{not_looked, look_last, look_late}
 use Rattle.rounds.proofs.passed_over.Goals as goal
 

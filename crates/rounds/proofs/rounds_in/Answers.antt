@@ -4,7 +4,6 @@ use mathlib.Core.Path.{◌≡◌, sym, ◌∙◌}
 use mathlib.Core.Bool.{true}
 use Prim.Native.Nat.{◌*◌, ◌≤◌}
 use native.Mathlib.Omega.{arith}
-use borrow.Author.Tests.{not-true, not-false}
 use lib.ListN.{length}
 use lib.Seq.{length-take-le}
 use Rattle.words.specs.Answer.{nowhere}
@@ -12,7 +11,6 @@ use Rattle.words.specs.Edition.{known}
 use Rattle.words.proofs.EditionLaws.{known_number, known_least, known_most}
 use Rattle.rounds.specs.RoundsAnswer.{edition_answer}
 use Rattle.rounds.proofs.RoundsAnswerLaws.{is_unknown, is_known, refused_post}
-use borrow.Author.Rules.{rules}
 use Rattle.rounds.proofs.rounds_in.Goals as goal
 
 pub returns-then-not-is_edition : goal.returns-then-not-is_edition

@@ -15,7 +15,6 @@ use Rattle.reads_try.specs.TableLanes.{lanes_at}
 use Rattle.reads_section.specs.Readout.{TableReadable}
 use Rattle.rounds.specs.Rounds.{SetSearchable}
 use Rattle.rounds.proofs.RoundsAnswerLaws.{is_many, is_bad, is_read, is_lost, is_short, is_placed, refused_post, placed_post, searchable_set, lost_is, won_is, won_table, won_small, size_fits}
-use borrow.Author.Rules.{rules}
 use Rattle.rounds.proofs.rounds_over.Goals as goal
 
 pub returns-then-set-gt-SET_WORDS : goal.returns-then-set-gt-SET_WORDS

@@ -6,7 +6,6 @@ use lib.Seq.{length-take-le}
 use Rattle.reads.specs.ReadSet.{pairs_of}
 use Rattle.rounds.proofs.PieceSizeLaws.{table_cleared, pairs_whole}
 use Rattle.rounds.proofs.BeforeLaws.{before_passed, lost_post, passed_post}
-use borrow.Author.Rules.{rules}
 use Rattle.rounds.proofs.search_sizes.Goals as goal
 
 pub number_before-number-requires : goal.number_before-number-requires

@@ -1,4 +1,4 @@
-use Rattle.std.proofs.Common.{◌≡◌, refl, ◌∙◌, arith}
+use Rattle.std.proofs.Common.{refl, ◌∙◌, arith}
 use Rattle.reads.specs.ReadSet.{pairs_of}
 use Rattle.rounds.proofs.PieceSizeLaws.{zeros_length, table_cleared, pairs_whole, search_few, search_still, search_start, left_end, left_empty, left_on, left_won}
 use Rattle.rounds.proofs.sizes_over.Goals as goal

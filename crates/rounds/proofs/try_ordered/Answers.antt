@@ -3,7 +3,6 @@
 use mathlib.Core.Path.{◌∙◌}
 use Prim.Native.Nat.{◌*◌}
 use Rattle.rounds.proofs.PieceSizeLaws.{zeros_length, table_cleared, ready, ordered_won, ordered_lost}
-use borrow.Author.Rules.{rules}
 use Rattle.rounds.proofs.try_ordered.Goals as goal
 
 pub try_size-requires : goal.try_size-requires

@@ -8,7 +8,6 @@ use Rattle.reads.specs.ReadSet.{pairs_of}
 use Rattle.reads_pieces.specs.Keys.{keys_of, piece_count}
 use Prim.Native.Nat.{◌/◌}
 use Rattle.rounds.proofs.PieceSizeLaws.{count_few, orderable, try_set, passed_lost, front_room}
-use borrow.Author.Rules.{rules}
 use Rattle.rounds.proofs.try_pieces.Goals as goal
 
 pub slice_bounds-order-end : goal.slice_bounds-order-end

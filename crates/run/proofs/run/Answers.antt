@@ -1,7 +1,6 @@
 -- `run::run` meets its contract: one law for each way out.
 -- Assumes nothing.
 use mathlib.Core.Path.{sym, ◌∙◌}
-use borrow.Author.Tests.{not-true, not-false}
 use lib.ListN.{length}
 use Rattle.words.proofs.EditionLaws.{known_number}
 use Rattle.words.proofs.FoundLaws.{item_some, item_none}

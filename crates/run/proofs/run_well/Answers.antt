@@ -23,4 +23,9 @@ pub returns : goal.returns
 returns c =
     let begun = c.begin_blocks.ensures c.args.n in
     let good = goods_begun _ c.args.words.now c.args.starts.now c.args.turns.now _ _ c.args.rooms.now c.requires _ c.begin_blocks.auto.room _ c.blocks_of-blocks.ensures begun in
-    let ran = c.take_turns.ensures.run c.args.starts.now good c.requires.named in record { left = run_left _ c.args.words.now c.args.starts.now c.args.turns.now _ _ c.args.rooms.now c.requires _ c.begin_blocks.auto.room _ c.blocks_of-blocks.ensures begun c.args.old.now c.args.new.now _ _ ran _ c.turns_left-left.ensures; state = run_new _ c.args.words.now c.args.starts.now c.args.turns.now _ _ c.args.rooms.now c.requires _ c.begin_blocks.auto.room _ c.blocks_of-blocks.ensures begun c.args.old.now c.args.new.now _ _ ran; room = again (length c.args.rooms.now) c.take_turns.new.room _ c.clear.ensures (c.take_turns.auto.room ∙ c.begin_blocks.auto.room) }
+    let ran = c.take_turns.ensures.run c.args.starts.now good c.requires.named in
+    record {
+      left = run_left _ c.args.words.now c.args.starts.now c.args.turns.now _ _ c.args.rooms.now c.requires _ c.begin_blocks.auto.room _ c.blocks_of-blocks.ensures begun c.args.old.now c.args.new.now _ _ ran _ c.turns_left-left.ensures;
+      state = run_new _ c.args.words.now c.args.starts.now c.args.turns.now _ _ c.args.rooms.now c.requires _ c.begin_blocks.auto.room _ c.blocks_of-blocks.ensures begun c.args.old.now c.args.new.now _ _ ran;
+      room = again (length c.args.rooms.now) c.take_turns.new.room _ c.clear.ensures (c.take_turns.auto.room ∙ c.begin_blocks.auto.room);
+    }

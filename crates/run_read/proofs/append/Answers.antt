@@ -1,7 +1,7 @@
 use native.Mathlib.Omega.{arith}
 use lib.Count.{count_trailing_zeros}
 use lib.Pow.{shr_le}
-use Rattle.run_read.proofs.AppendLaws.{Appending, appending_none, appending_more, appending_end}
+use Rattle.run_read.proofs.AppendLaws.{appending_none, appending_more, appending_end}
 use Rattle.run_read.proofs.append.Goals as goal
 
 pub loop-m-init : goal.loop-m-init

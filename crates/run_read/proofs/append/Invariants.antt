@@ -1,9 +1,6 @@
 -- `run_read::append` meets its contract. The invariant: the bits of the mask that are left append what is missing, and they have room.
 -- Assumes nothing.
-use native.Mathlib.Omega.{arith}
-use lib.Count.{count_trailing_zeros}
-use lib.Pow.{shr_le}
-use Rattle.run_read.proofs.AppendLaws.{Appending, appending_none, appending_more, appending_end}
+use Rattle.run_read.proofs.AppendLaws.{Appending}
 use Rattle.run_read.proofs.append.Given as goal
 
 abbrev pub invariant-loop-m : goal.invariant-loop-m

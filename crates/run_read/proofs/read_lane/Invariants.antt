@@ -1,15 +1,10 @@
 -- `run_read::read_lane` meets its contract. The invariant: the lane's word after r rounds.
 -- Assumes nothing.
-use mathlib.Core.Path.{◌≡◌, refl, sym, ap₂, subst, ◌∙◌}
-use Prim.Native.Nat.{ℕ, ◌+◌, ◌*◌, ◌-◌, ◌^◌, ◌≤◌, ◌<◌}
-use borrow.Author.Rules.{rules}
-use native.Mathlib.Omega.{arith}
-use Rattle.words.specs.Bit.{pop}
-use Rattle.reads.specs.ReadTurn.{appended, lane_word}
+use mathlib.Core.Path.{◌≡◌}
+use Prim.Native.Nat.{◌-◌, ◌≤◌}
+use Rattle.reads.specs.ReadTurn.{lane_word}
 use Rattle.run_machine.specs.Part.{rounds_at, read_word_at, read_mask_at}
 use Rattle.run_machine.specs.Turn.{state_word}
-use Rattle.run_read.specs.Window.{WordReadable}
-use Rattle.run_read.proofs.AppendLaws.{lane_room, lane_more}
 use Rattle.run_read.proofs.read_lane.Given as goal
 
 abbrev pub invariant-loop-r : goal.invariant-loop-r

@@ -1,12 +1,6 @@
-use mathlib.Core.Path.{◌≡◌}
-use Prim.Native.Nat.{◌-◌, ◌≤◌}
-use borrow.Author.Rules.{rules}
 use native.Mathlib.Omega.{arith}
-use Rattle.reads.specs.ReadTurn.{lane_word}
 use Rattle.words.proofs.SectionLaws.{list_of-is}
-use Rattle.run_machine.specs.Part.{rounds_at, read_word_at, read_mask_at}
-use Rattle.run_machine.specs.Turn.{state_word, read_row}
-use Rattle.run_stage.specs.StoreLoop.{Filled}
+use Rattle.run_machine.specs.Turn.{read_row}
 use Rattle.run_stage.proofs.StoreLoopLaws.{filled_none, filled_more}
 use Rattle.run_read.proofs.read_turn.Goals as goal
 

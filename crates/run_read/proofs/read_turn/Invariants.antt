@@ -2,14 +2,10 @@
 -- Assumes nothing.
 use mathlib.Core.Path.{◌≡◌}
 use Prim.Native.Nat.{◌-◌, ◌≤◌}
-use borrow.Author.Rules.{rules}
-use native.Mathlib.Omega.{arith}
 use Rattle.reads.specs.ReadTurn.{lane_word}
-use Rattle.words.proofs.SectionLaws.{list_of-is}
 use Rattle.run_machine.specs.Part.{rounds_at, read_word_at, read_mask_at}
-use Rattle.run_machine.specs.Turn.{state_word, read_row}
+use Rattle.run_machine.specs.Turn.{state_word}
 use Rattle.run_stage.specs.StoreLoop.{Filled}
-use Rattle.run_stage.proofs.StoreLoopLaws.{filled_none, filled_more}
 use Rattle.run_read.proofs.read_turn.Given as goal
 
 abbrev pub invariant-loop-i : goal.invariant-loop-i

@@ -1,7 +1,6 @@
 -- `run_read::window` meets its contract: the word is in both states, so a part of one word can be lent of either.
 -- Assumes nothing.
 use Prim.Native.Nat.{◌-◌, ◌^◌}
-use borrow.Author.Rules.{rules}
 use native.Mathlib.Omega.{arith}
 use Rattle.run_read.proofs.AppendLaws.{window_long, window_old, window_new}
 use Rattle.run_read.proofs.window.Goals as goal

@@ -1,6 +1,4 @@
 use mathlib.Core.Path.{◌≡◌, subst}
-use Prim.Native.Nat.{◌≤◌, ◌-◌}
-use borrow.Author.Rules.{rules}
 use native.Mathlib.Omega.{arith}
 use Rattle.run_stage.specs.Gather.{Gathered}
 use Rattle.run_stage.proofs.GatherLaws.{gathered_none, gathered_more}

@@ -1,11 +1,7 @@
 -- `run_stage::gather` meets its contract. The invariant: j words are gathered.
 -- Assumes nothing.
-use mathlib.Core.Path.{◌≡◌, subst}
 use Prim.Native.Nat.{◌≤◌, ◌-◌}
-use borrow.Author.Rules.{rules}
-use native.Mathlib.Omega.{arith}
 use Rattle.run_stage.specs.Gather.{Gathered}
-use Rattle.run_stage.proofs.GatherLaws.{gathered_none, gathered_more}
 use Rattle.run_stage.proofs.gather.Given as goal
 
 abbrev pub invariant-loop-j : goal.invariant-loop-j

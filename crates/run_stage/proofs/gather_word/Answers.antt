@@ -1,8 +1,6 @@
 use mathlib.Core.Path.{◌≡◌}
-use Prim.Native.Nat.{◌≤◌, ◌+◌, ◌-◌, ◌*◌}
-use borrow.Author.Rules.{rules}
+use Prim.Native.Nat.{◌+◌, ◌*◌}
 use native.Mathlib.Omega.{arith}
-use Rattle.run_stage.specs.Gather.{GatherBits}
 use Rattle.run_stage.proofs.GatherLaws.{bits_none, bits_more}
 use Rattle.run_stage.proofs.gather_word.Goals as goal
 

@@ -1,11 +1,7 @@
 -- `run_stage::gather_word` meets its contract. The invariant: 2h bits are gathered.
 -- Assumes nothing.
-use mathlib.Core.Path.{◌≡◌}
-use Prim.Native.Nat.{◌≤◌, ◌+◌, ◌-◌, ◌*◌}
-use borrow.Author.Rules.{rules}
-use native.Mathlib.Omega.{arith}
+use Prim.Native.Nat.{◌≤◌, ◌-◌}
 use Rattle.run_stage.specs.Gather.{GatherBits}
-use Rattle.run_stage.proofs.GatherLaws.{bits_none, bits_more}
 use Rattle.run_stage.proofs.gather_word.Given as goal
 
 abbrev pub invariant-loop-h : goal.invariant-loop-h

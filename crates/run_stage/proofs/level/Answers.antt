@@ -1,8 +1,6 @@
-use Prim.Native.Nat.{◌≤◌, ◌-◌, ◌*◌}
-use borrow.Author.Rules.{rules}
+use Prim.Native.Nat.{◌*◌}
 use native.Mathlib.Omega.{arith}
 use mathlib.Core.Path.{◌≡◌}
-use Rattle.run_stage.specs.Level.{LevelIn}
 use Rattle.run_stage.proofs.StoreLoopLaws.{filled_none}
 use Rattle.run_stage.proofs.LevelLaws.{level_more}
 use Rattle.run_stage.proofs.level.Goals as goal

@@ -1,12 +1,7 @@
 -- `run_stage::level` meets its contract. The invariant: words m .. w - 1 are done.
 -- Assumes nothing.
 use Prim.Native.Nat.{◌≤◌, ◌-◌, ◌*◌}
-use borrow.Author.Rules.{rules}
-use native.Mathlib.Omega.{arith}
-use mathlib.Core.Path.{◌≡◌}
 use Rattle.run_stage.specs.Level.{LevelIn}
-use Rattle.run_stage.proofs.StoreLoopLaws.{filled_none}
-use Rattle.run_stage.proofs.LevelLaws.{level_more}
 use Rattle.run_stage.proofs.level.Given as goal
 
 abbrev pub invariant-loop-w : goal.invariant-loop-w

@@ -1,7 +1,6 @@
-use borrow.Author.Rules.{rules}
 use native.Mathlib.Omega.{arith}
 use lib.ListN.{length-set}
-use Rattle.run_stage.proofs.LevelLaws.{LevelsGoing, going_none, going_more, levels_end}
+use Rattle.run_stage.proofs.LevelLaws.{going_none, going_more, levels_end}
 use Rattle.run_stage.proofs.levels.Goals as goal
 
 pub loop-m-init : goal.loop-m-init

@@ -1,9 +1,6 @@
 -- `run_stage::levels` meets its contract. The invariant: the levels of m words and more are right.
 -- Assumes nothing.
-use borrow.Author.Rules.{rules}
-use native.Mathlib.Omega.{arith}
-use lib.ListN.{length-set}
-use Rattle.run_stage.proofs.LevelLaws.{LevelsGoing, going_none, going_more, levels_end}
+use Rattle.run_stage.proofs.LevelLaws.{LevelsGoing}
 use Rattle.run_stage.proofs.levels.Given as goal
 
 abbrev pub invariant-loop-m : goal.invariant-loop-m

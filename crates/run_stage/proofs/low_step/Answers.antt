@@ -1,6 +1,5 @@
 -- `run_stage::low_step` meets its contract, by the law of one step.
 -- Assumes nothing.
-use borrow.Author.Rules.{rules}
 use Rattle.run_stage.specs.Level.{gate_word}
 use Rattle.run_stage.proofs.LowLaws.{step_law}
 use Rattle.run_stage.proofs.low_step.Goals as goal

@@ -1,6 +1,5 @@
 -- `run_stage::pair_of` meets its contract: entries 32j + 2h and 32j + 2h + 1 are the halves of that word.
 -- Assumes nothing.
-use borrow.Author.Rules.{rules}
 use native.Mathlib.Omega.{arith}
 use Rattle.run_stage.proofs.GatherLaws.{pair_low, pair_high, pair_in}
 use Rattle.run_stage.proofs.pair_of.Goals as goal

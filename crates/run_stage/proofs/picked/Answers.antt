@@ -1,6 +1,5 @@
 -- `run_stage::picked` meets its contract: two bits make a number below 4.
 -- Assumes nothing.
-use borrow.Author.Rules.{rules}
 use native.Mathlib.Omega.{arith}
 use Rattle.run_stage.proofs.GatherLaws.{at_small}
 use Rattle.run_stage.proofs.picked.Goals as goal

@@ -1,12 +1,9 @@
 use mathlib.Core.Path.{◌≡◌, refl}
-use Prim.Native.Nat.{◌-◌, ◌≤◌}
 use native.Mathlib.Nat.{zero-add}
 use native.Mathlib.Omega.{arith}
-use lib.ListN.{length, get_or, length-set}
-use lib.Seq.{sets}
+use lib.ListN.{length-set}
 use Rattle.words.specs.Section.{list_of}
 use Rattle.run_machine.proofs.SetsLaws.{stored_more}
-use borrow.Author.Rules.{rules}
 use Rattle.run_store.proofs.copy_front.Goals as goal
 
 pub loop-i-init : goal.loop-i-init

@@ -1,14 +1,10 @@
 -- `run_store::copy_front` meets its contract. The invariant: i words are copied.
 -- Assumes nothing.
-use mathlib.Core.Path.{◌≡◌, refl}
+use mathlib.Core.Path.{◌≡◌}
 use Prim.Native.Nat.{◌-◌, ◌≤◌}
-use native.Mathlib.Nat.{zero-add}
-use native.Mathlib.Omega.{arith}
-use lib.ListN.{length, get_or, length-set}
+use lib.ListN.{length, get_or}
 use lib.Seq.{sets}
 use Rattle.words.specs.Section.{list_of}
-use Rattle.run_machine.proofs.SetsLaws.{stored_more}
-use borrow.Author.Rules.{rules}
 use Rattle.run_store.proofs.copy_front.Given as goal
 
 abbrev pub invariant-loop-i : goal.invariant-loop-i

@@ -4,7 +4,6 @@ use mathlib.Core.Path.{ap}
 use Prim.Native.Nat.{ℕ, ◌-◌, min}
 use Rattle.words.specs.Bit.{bit}
 use Rattle.run_store.proofs.StoredWordLaws.{cleared_all}
-use borrow.Author.Rules.{rules}
 use Rattle.run_store.proofs.kept_word.Goals as goal
 
 pub returns-then-set0-eq4294967295 : goal.returns-then-set0-eq4294967295

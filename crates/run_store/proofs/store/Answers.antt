@@ -3,7 +3,6 @@
 use mathlib.Core.Path.{ap, ◌∙◌}
 use mathlib.Core.List.{List}
 use Prim.Native.Nat.{ℕ, ◌≤◌}
-use borrow.Author.Rules.{rules}
 use native.Mathlib.Omega.{arith}
 use lib.ListN.{get_or, replicate}
 use lib.Seq.{sets}
@@ -13,17 +12,16 @@ use Rattle.run_store.proofs.StoredWordLaws.{padded_length, stored_padded}
 use Rattle.run_store.proofs.store.Goals as goal
 
 pub store_words-requires : goal.store_words-requires
-store_words-requires c =
-    (
-      record {
-        part = c.requires.0;
-        captures = c.requires.1;
-        entries = c.requires.2;
-        room = omega (arith, padded_length _ (list_of (λ i. get_or c.args.caps.now i 0) c.normal.result) c.copy_front.ensures);
-        held = λ any. (c.requires.4 any).0;
-      },
-      λ any. (c.requires.4 any).1,
-    )
+store_words-requires c = (
+  record {
+    part = c.requires.0;
+    captures = c.requires.1;
+    entries = c.requires.2;
+    room = omega (arith, padded_length _ (list_of (λ i. get_or c.args.caps.now i 0) c.normal.result) c.copy_front.ensures);
+    held = λ any. (c.requires.4 any).0;
+  },
+  λ any. (c.requires.4 any).1,
+)
 
 pub returns : goal.returns
 returns c =

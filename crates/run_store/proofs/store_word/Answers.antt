@@ -5,7 +5,6 @@ use Prim.Native.Nat.{◌+◌, ◌^◌, ◌<◌}
 use Rattle.run_machine.specs.Part.{stages_at}
 use native.Mathlib.Omega.{arith}
 use Rattle.run_store.proofs.StoredWordLaws.{stored_code}
-use borrow.Author.Rules.{rules}
 use Rattle.run_store.proofs.store_word.Goals as goal
 
 pub overflow_add-k : goal.overflow_add-k

@@ -1,28 +1,24 @@
 use mathlib.Core.Path.{◌≡◌, refl}
-use Prim.Native.Nat.{◌+◌, ◌-◌, ◌≤◌, ◌<◌}
+use Prim.Native.Nat.{◌<◌}
 use native.Mathlib.Omega.{arith}
-use lib.ListN.{length, length-set}
-use lib.Seq.{sets}
+use lib.ListN.{length-set}
 use Rattle.words.specs.Section.{list_of}
-use Rattle.run_machine.specs.Part.{start_at, normal_at}
-use Rattle.run_machine.specs.Turn.{stored_word}
+use Rattle.run_machine.specs.Part.{normal_at}
 use Rattle.run_machine.proofs.SetsLaws.{stored_more}
-use borrow.Author.Rules.{rules}
 use Rattle.run_store.proofs.store_words.Goals as goal
 
 pub loop-l-init : goal.loop-l-init
 unfolding list_of
-loop-l-init c =
-    (
-      omega arith,
-      c.normal-l-end.ensures,
-      c.start-start.ensures,
-      refl,
-      refl,
-      λ some.
-          let any : 0 < normal_at c.args.words.now c.args.at = omega (arith, c.normal-l-end.ensures) in
-          (omega (arith, c.requires.0.held any, c.start-start.ensures, c.normal-l-end.ensures), omega (arith, c.requires.1 any, c.start-start.ensures, c.normal-l-end.ensures)),
-    )
+loop-l-init c = (
+  omega arith,
+  c.normal-l-end.ensures,
+  c.start-start.ensures,
+  refl,
+  refl,
+  λ some.
+      let any : 0 < normal_at c.args.words.now c.args.at = omega (arith, c.normal-l-end.ensures) in
+      (omega (arith, c.requires.0.held any, c.start-start.ensures, c.normal-l-end.ensures), omega (arith, c.requires.1 any, c.start-start.ensures, c.normal-l-end.ensures)),
+)
 
 pub store_word-requires : goal.store_word-requires
 store_word-requires c =
@@ -45,15 +41,14 @@ bounds-new-start c =
     omega (arith, inside.1)
 
 pub loop-l-preserved : goal.loop-l-preserved
-loop-l-preserved c =
-    (
-      omega arith,
-      c.loop-l.invariant.1,
-      c.loop-l.invariant.2,
-      simp length-set c.loop-l.invariant.3,
-      rw c.store_word.ensures (stored_more _ _ _ _ _ c.loop-l.invariant.4),
-      λ some. let inside = c.loop-l.invariant.5 some in (inside.0, simp length-set inside.1),
-    )
+loop-l-preserved c = (
+  omega arith,
+  c.loop-l.invariant.1,
+  c.loop-l.invariant.2,
+  simp length-set c.loop-l.invariant.3,
+  rw c.store_word.ensures (stored_more _ _ _ _ _ c.loop-l.invariant.4),
+  λ some. let inside = c.loop-l.invariant.5 some in (inside.0, simp length-set inside.1),
+)
 
 pub shape_of-new : goal.shape_of-new
 shape_of-new c = c.loop-l.invariant.3

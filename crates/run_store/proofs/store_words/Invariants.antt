@@ -1,15 +1,12 @@
 -- `run_store::store_words` meets its contract. The invariant: l words are stored.
 -- Assumes nothing.
-use mathlib.Core.Path.{◌≡◌, refl}
+use mathlib.Core.Path.{◌≡◌}
 use Prim.Native.Nat.{◌+◌, ◌-◌, ◌≤◌, ◌<◌}
-use native.Mathlib.Omega.{arith}
-use lib.ListN.{length, length-set}
+use lib.ListN.{length}
 use lib.Seq.{sets}
 use Rattle.words.specs.Section.{list_of}
 use Rattle.run_machine.specs.Part.{start_at, normal_at}
 use Rattle.run_machine.specs.Turn.{stored_word}
-use Rattle.run_machine.proofs.SetsLaws.{stored_more}
-use borrow.Author.Rules.{rules}
 use Rattle.run_store.proofs.store_words.Given as goal
 
 abbrev pub invariant-loop-l : goal.invariant-loop-l

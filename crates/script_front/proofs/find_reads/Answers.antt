@@ -6,7 +6,6 @@ use lib.ListN.{length}
 use lib.Seq.{length-take-le}
 use Rattle.plan_reads.proofs.CheckLaws.{set_front, set-size, set_in_form}
 use Rattle.script_front.proofs.FrontLaws.{some_stages, lists_there, reads_planned, table_solvable, found_length, found_room}
-use borrow.Author.Rules.{rules}
 use Rattle.script_front.proofs.find_reads.Goals as goal
 
 pub slice_bounds-part_set-end-2 : goal.slice_bounds-part_set-end-2
@@ -22,11 +21,10 @@ slice_bounds-search_set-end-2 c =
     set-size c.args.d.now c.args.p c.args.set.now _ _ c.part_set-n.ensures.value c.part_set-n.ensures.set_after c.requires.1.set_room
 
 pub search_set-requires : goal.search_set-requires
-search_set-requires c =
-    (
-      set_in_form c.args.d.now c.args.p c.args.set.now _ _ c.part_set-n.ensures.value c.part_set-n.ensures.set_after c.requires.1.set_room c.part_set-n.ensures.all_narrow,
-      table_solvable c.args.d.now c.args.p c.args.body c.requires.0 c.args.room.now c.requires.2 _ c.part_set-n.ensures.pins_after (length c.args.keys.now) (length c.args.scratch.now) _ _ _ c.requires.1 c.part_set-n.auto.keys c.part_set-n.auto.scratch,
-    )
+search_set-requires c = (
+  set_in_form c.args.d.now c.args.p c.args.set.now _ _ c.part_set-n.ensures.value c.part_set-n.ensures.set_after c.requires.1.set_room c.part_set-n.ensures.all_narrow,
+  table_solvable c.args.d.now c.args.p c.args.body c.requires.0 c.args.room.now c.requires.2 _ c.part_set-n.ensures.pins_after (length c.args.keys.now) (length c.args.scratch.now) _ _ _ c.requires.1 c.part_set-n.auto.keys c.part_set-n.auto.scratch,
+)
 
 pub shape_of-room : goal.shape_of-room
 shape_of-room c =
@@ -47,4 +45,9 @@ shape_of-set c =
 pub returns : goal.returns
 returns c =
     let front = set_front c.args.d.now c.args.p c.args.set.now _ _ c.part_set-n.ensures.value c.part_set-n.ensures.set_after c.requires.1.set_room in
-    record { value = c.part_set-n.ensures.value; found_room = found_room c.args.d.now c.args.p c.args.body c.requires.0 c.args.room.now c.requires.2 _ c.part_set-n.ensures.pins_after c.search_set.new.table c.search_set.auto.table _ front c.search_set.ensures.table_after; set_after = c.part_set-n.ensures.set_after; all_narrow = c.part_set-n.ensures.all_narrow }
+    record {
+      value = c.part_set-n.ensures.value;
+      found_room = found_room c.args.d.now c.args.p c.args.body c.requires.0 c.args.room.now c.requires.2 _ c.part_set-n.ensures.pins_after c.search_set.new.table c.search_set.auto.table _ front c.search_set.ensures.table_after;
+      set_after = c.part_set-n.ensures.set_after;
+      all_narrow = c.part_set-n.ensures.all_narrow;
+    }

@@ -1,11 +1,8 @@
-use mathlib.Core.Path.{◌≡◌, refl, sym, ◌∙◌}
-use Prim.Native.Nat.{◌-◌, ◌≤◌}
+use mathlib.Core.Path.{refl, sym, ◌∙◌}
 use native.Mathlib.Omega.{arith}
-use lib.ListN.{length, get_or, take, length-set}
-use Rattle.words.specs.Section.{list_of}
+use lib.ListN.{length, get_or, length-set}
 use Rattle.words.proofs.SectionLaws.{list_of-is}
 use Rattle.script.proofs.FilledSliceLaws.{fill_none, fill_more, fill_end}
-use borrow.Author.Rules.{rules}
 use Rattle.script_front.proofs.put_entries.Goals as goal
 
 pub loop-i-init : goal.loop-i-init

@@ -1,13 +1,9 @@
 -- After i turns the first i entries are those of the list.
 -- Assumes nothing.
-use mathlib.Core.Path.{◌≡◌, refl, sym, ◌∙◌}
+use mathlib.Core.Path.{◌≡◌}
 use Prim.Native.Nat.{◌-◌, ◌≤◌}
-use native.Mathlib.Omega.{arith}
-use lib.ListN.{length, get_or, take, length-set}
+use lib.ListN.{length, get_or, take}
 use Rattle.words.specs.Section.{list_of}
-use Rattle.words.proofs.SectionLaws.{list_of-is}
-use Rattle.script.proofs.FilledSliceLaws.{fill_none, fill_more, fill_end}
-use borrow.Author.Rules.{rules}
 use Rattle.script_front.proofs.put_entries.Given as goal
 
 abbrev pub invariant-loop-i : goal.invariant-loop-i

@@ -8,7 +8,6 @@ use lib.ListN.{drop}
 use lib.Seq.{length-take-le, length_front}
 use Rattle.plan_record.specs.Record.{slots_of}
 use Rattle.script_front.proofs.FrontLaws.{some_stages, part_accepted, entries_first, made_front, made_small, put_front}
-use borrow.Author.Rules.{rules}
 use Rattle.script_front.proofs.write_first.Goals as goal
 
 pub slice_bounds-first_entries-end-2 : goal.slice_bounds-first_entries-end-2

@@ -11,7 +11,6 @@ use Rattle.reads.specs.ReadSection.{read_section}
 use Rattle.plan_reads.proofs.CheckLaws.{set_front}
 use Rattle.script.proofs.PutMidLaws.{two_parts}
 use Rattle.script_front.proofs.FrontLaws.{ReadsFound, set_long, lanes_are, pins_won_there, rounds_few, round_words_lem, reads_room, pairs_numbered, front_length, first_length}
-use borrow.Author.Rules.{rules}
 use Rattle.script_front.proofs.write_front.Goals as goal
 
 -- ---- the needs
@@ -22,13 +21,13 @@ find_reads-n-requires c =
 pub overflow_mul-reads : goal.overflow_mul-reads
 overflow_mul-reads c =
     let reads_found : ReadsFound c.args.d.now c.args.p c.args.body c.find_reads-n.new.room c.find_reads-n.new.set c.find_reads-n.result = record {
-    part = c.requires.0;
-    narrow = c.find_reads-n.ensures.all_narrow;
-    found = c.find_reads-n.ensures.found_room;
-    wide = c.find_reads-n.auto.room ∙ c.requires.2.found;
-    count = c.find_reads-n.ensures.value.0;
-    few = c.find_reads-n.ensures.value.1;
-    front = set_front c.args.d.now c.args.p c.args.set.now _ _ c.find_reads-n.ensures.value c.find_reads-n.ensures.set_after c.requires.2.reads.set_room;
+      part = c.requires.0;
+      narrow = c.find_reads-n.ensures.all_narrow;
+      found = c.find_reads-n.ensures.found_room;
+      wide = c.find_reads-n.auto.room ∙ c.requires.2.found;
+      count = c.find_reads-n.ensures.value.0;
+      few = c.find_reads-n.ensures.value.1;
+      front = set_front c.args.d.now c.args.p c.args.set.now _ _ c.find_reads-n.ensures.value c.find_reads-n.ensures.set_after c.requires.2.reads.set_room;
     } in
     let words-few : c.args.body.lanes * c.args.rounds ≤ 8192 = round_words_lem (reads_found) _ c.requires.1 in
     omega (arith, words-few)
@@ -36,13 +35,13 @@ overflow_mul-reads c =
 pub overflow_mul-reads-2 : goal.overflow_mul-reads-2
 overflow_mul-reads-2 c =
     let reads_found : ReadsFound c.args.d.now c.args.p c.args.body c.find_reads-n.new.room c.find_reads-n.new.set c.find_reads-n.result = record {
-    part = c.requires.0;
-    narrow = c.find_reads-n.ensures.all_narrow;
-    found = c.find_reads-n.ensures.found_room;
-    wide = c.find_reads-n.auto.room ∙ c.requires.2.found;
-    count = c.find_reads-n.ensures.value.0;
-    few = c.find_reads-n.ensures.value.1;
-    front = set_front c.args.d.now c.args.p c.args.set.now _ _ c.find_reads-n.ensures.value c.find_reads-n.ensures.set_after c.requires.2.reads.set_room;
+      part = c.requires.0;
+      narrow = c.find_reads-n.ensures.all_narrow;
+      found = c.find_reads-n.ensures.found_room;
+      wide = c.find_reads-n.auto.room ∙ c.requires.2.found;
+      count = c.find_reads-n.ensures.value.0;
+      few = c.find_reads-n.ensures.value.1;
+      front = set_front c.args.d.now c.args.p c.args.set.now _ _ c.find_reads-n.ensures.value c.find_reads-n.ensures.set_after c.requires.2.reads.set_room;
     } in
     let words-few : c.args.body.lanes * c.args.rounds ≤ 8192 = round_words_lem (reads_found) _ c.requires.1 in
     omega (arith, words-few)
@@ -50,13 +49,13 @@ overflow_mul-reads-2 c =
 pub slice_bounds-write_reads-end-2 : goal.slice_bounds-write_reads-end-2
 slice_bounds-write_reads-end-2 c =
     let reads_found : ReadsFound c.args.d.now c.args.p c.args.body c.find_reads-n.new.room c.find_reads-n.new.set c.find_reads-n.result = record {
-    part = c.requires.0;
-    narrow = c.find_reads-n.ensures.all_narrow;
-    found = c.find_reads-n.ensures.found_room;
-    wide = c.find_reads-n.auto.room ∙ c.requires.2.found;
-    count = c.find_reads-n.ensures.value.0;
-    few = c.find_reads-n.ensures.value.1;
-    front = set_front c.args.d.now c.args.p c.args.set.now _ _ c.find_reads-n.ensures.value c.find_reads-n.ensures.set_after c.requires.2.reads.set_room;
+      part = c.requires.0;
+      narrow = c.find_reads-n.ensures.all_narrow;
+      found = c.find_reads-n.ensures.found_room;
+      wide = c.find_reads-n.auto.room ∙ c.requires.2.found;
+      count = c.find_reads-n.ensures.value.0;
+      few = c.find_reads-n.ensures.value.1;
+      front = set_front c.args.d.now c.args.p c.args.set.now _ _ c.find_reads-n.ensures.value c.find_reads-n.ensures.set_after c.requires.2.reads.set_room;
     } in
     set_long (reads_found)
 
@@ -67,13 +66,13 @@ slice_bounds-write_reads-end-5 c =
 pub write_reads-requires : goal.write_reads-requires
 write_reads-requires c =
     let reads_found : ReadsFound c.args.d.now c.args.p c.args.body c.find_reads-n.new.room c.find_reads-n.new.set c.find_reads-n.result = record {
-    part = c.requires.0;
-    narrow = c.find_reads-n.ensures.all_narrow;
-    found = c.find_reads-n.ensures.found_room;
-    wide = c.find_reads-n.auto.room ∙ c.requires.2.found;
-    count = c.find_reads-n.ensures.value.0;
-    few = c.find_reads-n.ensures.value.1;
-    front = set_front c.args.d.now c.args.p c.args.set.now _ _ c.find_reads-n.ensures.value c.find_reads-n.ensures.set_after c.requires.2.reads.set_room;
+      part = c.requires.0;
+      narrow = c.find_reads-n.ensures.all_narrow;
+      found = c.find_reads-n.ensures.found_room;
+      wide = c.find_reads-n.auto.room ∙ c.requires.2.found;
+      count = c.find_reads-n.ensures.value.0;
+      few = c.find_reads-n.ensures.value.1;
+      front = set_front c.args.d.now c.args.p c.args.set.now _ _ c.find_reads-n.ensures.value c.find_reads-n.ensures.set_after c.requires.2.reads.set_room;
     } in
     let pairs-in : 8192 ≤ length c.find_reads-n.new.keys = omega (arith, c.find_reads-n.auto.keys, c.requires.2.reads.keys-room) in
     reads_room (reads_found) c.args.rounds c.requires.1 c.find_reads-n.new.keys c.args.out.now (pairs-in) c.requires.2.sections
@@ -81,26 +80,26 @@ write_reads-requires c =
 pub slice_bounds-write_first-end-2 : goal.slice_bounds-write_first-end-2
 slice_bounds-write_first-end-2 c =
     let reads_found : ReadsFound c.args.d.now c.args.p c.args.body c.find_reads-n.new.room c.find_reads-n.new.set c.find_reads-n.result = record {
-    part = c.requires.0;
-    narrow = c.find_reads-n.ensures.all_narrow;
-    found = c.find_reads-n.ensures.found_room;
-    wide = c.find_reads-n.auto.room ∙ c.requires.2.found;
-    count = c.find_reads-n.ensures.value.0;
-    few = c.find_reads-n.ensures.value.1;
-    front = set_front c.args.d.now c.args.p c.args.set.now _ _ c.find_reads-n.ensures.value c.find_reads-n.ensures.set_after c.requires.2.reads.set_room;
+      part = c.requires.0;
+      narrow = c.find_reads-n.ensures.all_narrow;
+      found = c.find_reads-n.ensures.found_room;
+      wide = c.find_reads-n.auto.room ∙ c.requires.2.found;
+      count = c.find_reads-n.ensures.value.0;
+      few = c.find_reads-n.ensures.value.1;
+      front = set_front c.args.d.now c.args.p c.args.set.now _ _ c.find_reads-n.ensures.value c.find_reads-n.ensures.set_after c.requires.2.reads.set_room;
     } in
     sym (length-take-le 32768 c.find_reads-n.new.room (omega (arith, (reads_found).wide)))
 
 pub offset_bounds-out-reads : goal.offset_bounds-out-reads
 offset_bounds-out-reads c =
     let reads_found : ReadsFound c.args.d.now c.args.p c.args.body c.find_reads-n.new.room c.find_reads-n.new.set c.find_reads-n.result = record {
-    part = c.requires.0;
-    narrow = c.find_reads-n.ensures.all_narrow;
-    found = c.find_reads-n.ensures.found_room;
-    wide = c.find_reads-n.auto.room ∙ c.requires.2.found;
-    count = c.find_reads-n.ensures.value.0;
-    few = c.find_reads-n.ensures.value.1;
-    front = set_front c.args.d.now c.args.p c.args.set.now _ _ c.find_reads-n.ensures.value c.find_reads-n.ensures.set_after c.requires.2.reads.set_room;
+      part = c.requires.0;
+      narrow = c.find_reads-n.ensures.all_narrow;
+      found = c.find_reads-n.ensures.found_room;
+      wide = c.find_reads-n.auto.room ∙ c.requires.2.found;
+      count = c.find_reads-n.ensures.value.0;
+      few = c.find_reads-n.ensures.value.1;
+      front = set_front c.args.d.now c.args.p c.args.set.now _ _ c.find_reads-n.ensures.value c.find_reads-n.ensures.set_after c.requires.2.reads.set_room;
     } in
     let words-few : c.args.body.lanes * c.args.rounds ≤ 8192 = round_words_lem (reads_found) _ c.requires.1 in
     omega (arith, words-few)
@@ -116,17 +115,16 @@ slice_bounds-write_first-start c =
 pub write_first-requires : goal.write_first-requires
 write_first-requires c =
     let reads_found : ReadsFound c.args.d.now c.args.p c.args.body c.find_reads-n.new.room c.find_reads-n.new.set c.find_reads-n.result = record {
-    part = c.requires.0;
-    narrow = c.find_reads-n.ensures.all_narrow;
-    found = c.find_reads-n.ensures.found_room;
-    wide = c.find_reads-n.auto.room ∙ c.requires.2.found;
-    count = c.find_reads-n.ensures.value.0;
-    few = c.find_reads-n.ensures.value.1;
-    front = set_front c.args.d.now c.args.p c.args.set.now _ _ c.find_reads-n.ensures.value c.find_reads-n.ensures.set_after c.requires.2.reads.set_room;
+      part = c.requires.0;
+      narrow = c.find_reads-n.ensures.all_narrow;
+      found = c.find_reads-n.ensures.found_room;
+      wide = c.find_reads-n.auto.room ∙ c.requires.2.found;
+      count = c.find_reads-n.ensures.value.0;
+      few = c.find_reads-n.ensures.value.1;
+      front = set_front c.args.d.now c.args.p c.args.set.now _ _ c.find_reads-n.ensures.value c.find_reads-n.ensures.set_after c.requires.2.reads.set_room;
     } in
     let pairs-in : 8192 ≤ length c.find_reads-n.new.keys = omega (arith, c.find_reads-n.auto.keys, c.requires.2.reads.keys-room) in
-    let reads = reads_found in
-    (
+    let reads = reads_found in (
       c.requires.0,
       pins_won_there reads,
       pairs_numbered reads c.find_reads-n.new.keys _ (pairs-in) c.write_reads.ensures.bases_after,
@@ -156,14 +154,18 @@ shape_of-set c =
 pub returns : goal.returns
 returns c =
     let reads_found : ReadsFound c.args.d.now c.args.p c.args.body c.find_reads-n.new.room c.find_reads-n.new.set c.find_reads-n.result = record {
-    part = c.requires.0;
-    narrow = c.find_reads-n.ensures.all_narrow;
-    found = c.find_reads-n.ensures.found_room;
-    wide = c.find_reads-n.auto.room ∙ c.requires.2.found;
-    count = c.find_reads-n.ensures.value.0;
-    few = c.find_reads-n.ensures.value.1;
-    front = set_front c.args.d.now c.args.p c.args.set.now _ _ c.find_reads-n.ensures.value c.find_reads-n.ensures.set_after c.requires.2.reads.set_room;
+      part = c.requires.0;
+      narrow = c.find_reads-n.ensures.all_narrow;
+      found = c.find_reads-n.ensures.found_room;
+      wide = c.find_reads-n.auto.room ∙ c.requires.2.found;
+      count = c.find_reads-n.ensures.value.0;
+      few = c.find_reads-n.ensures.value.1;
+      front = set_front c.args.d.now c.args.p c.args.set.now _ _ c.find_reads-n.ensures.value c.find_reads-n.ensures.set_after c.requires.2.reads.set_room;
     } in
     let reads = reads_found in
     let words = 2 * (c.args.body.lanes * c.args.rounds) in
-    let size = c.write_reads.auto.out ∙ length-take-le words c.args.out.now (omega (arith, c.requires.2.sections)) in record { out_after = two_parts words c.args.out.now c.write_reads.new.out _ size ∙ ap₂ ◌++◌ (c.write_reads.ensures.out_after ∙ ap read_section (lanes_are reads)) c.write_first.ensures; rounds_bound = rounds_few reads c.args.rounds c.requires.1 }
+    let size = c.write_reads.auto.out ∙ length-take-le words c.args.out.now (omega (arith, c.requires.2.sections)) in
+    record {
+      out_after = two_parts words c.args.out.now c.write_reads.new.out _ size ∙ ap₂ ◌++◌ (c.write_reads.ensures.out_after ∙ ap read_section (lanes_are reads)) c.write_first.ensures;
+      rounds_bound = rounds_few reads c.args.rounds c.requires.1;
+    }

@@ -1,7 +1,6 @@
 -- The part of the result is as long as the rounds are.
 -- Assumes nothing.
 use Rattle.script_front.proofs.FrontLaws.{section_written}
-use borrow.Author.Rules.{rules}
 use Rattle.script_front.proofs.write_reads.Goals as goal
 
 pub returns : goal.returns

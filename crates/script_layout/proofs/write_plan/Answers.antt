@@ -6,7 +6,6 @@ use native.Mathlib.Omega.{arith}
 use borrow.Rule.Slice.PartMut.{same_len_mid}
 use lib.ListN.{length-set}
 use Rattle.script_layout.proofs.StageWriteLaws.{end_fits, last_start, last_in, last_words}
-use borrow.Author.Rules.{rules}
 use Rattle.script_layout.proofs.write_plan.Goals as goal
 
 pub write_stages-end-requires : goal.write_stages-end-requires
@@ -63,4 +62,8 @@ shape_of-set c =
 
 pub returns : goal.returns
 returns c =
-    record { room_unchanged = c.write_stages-end.ensures.room_unchanged; starts_after = last_start c.args.d.now c.args.room.now _ _ c.requires.0 c.write_stages-end.result c.write_stages-end.ensures.value _ _ c.blocks_of.ensures c.majors_of.ensures c.args.starts.now c.write_stages-end.new.starts c.write_stages-end.ensures.starts_after; words_after = last_words c.args.d.now c.args.room.now _ _ c.requires.0 c.write_stages-end.result c.write_stages-end.ensures.value _ c.lanes_of-zeros.ensures.0 c.args.words.now c.write_stages-end.new.words _ refl c.write_stages-end.ensures.words_after c.clear.ensures }
+    record {
+      room_unchanged = c.write_stages-end.ensures.room_unchanged;
+      starts_after = last_start c.args.d.now c.args.room.now _ _ c.requires.0 c.write_stages-end.result c.write_stages-end.ensures.value _ _ c.blocks_of.ensures c.majors_of.ensures c.args.starts.now c.write_stages-end.new.starts c.write_stages-end.ensures.starts_after;
+      words_after = last_words c.args.d.now c.args.room.now _ _ c.requires.0 c.write_stages-end.result c.write_stages-end.ensures.value _ c.lanes_of-zeros.ensures.0 c.args.words.now c.write_stages-end.new.words _ refl c.write_stages-end.ensures.words_after c.clear.ensures;
+    }

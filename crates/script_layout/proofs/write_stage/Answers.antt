@@ -1,19 +1,26 @@
 use mathlib.Core.Path.{◌≡◌, refl, ap, ◌∙◌}
-use Prim.Native.Nat.{ℕ, ◌-◌, ◌≤◌, ◌<◌}
+use Prim.Native.Nat.{ℕ, ◌<◌}
 use native.Mathlib.Omega.{arith}
-use lib.ListN.{length}
 use lib.Seq.{sets}
 use Rattle.plan_record.specs.Record.{plan_lanes, blocks_of}
-use Rattle.script_assembly.specs.Assembly.{block_start, stage_starts, stage_words}
-use Rattle.script_assembly.specs.WrittenSoFar.{first_rank}
+use Rattle.script_assembly.specs.Assembly.{stage_starts, stage_words}
 use Rattle.script_layout.proofs.ListStoreLaws.{stores_length, lists_long}
 use Rattle.script_layout.proofs.StageWriteLaws.{rank_first, at_first, words_first, starts_first, at_next, block_room, words_next, starts_next, stage_next}
-use borrow.Author.Rules.{rules}
 use Rattle.script_layout.proofs.write_stage.Goals as goal
 
 pub loop-b-init : goal.loop-b-init
-loop-b-init c =
-    (omega arith, refl, rank_first c.args.d.now c.args.room.now _ _ _ _ _ c.requires.0, at_first c.args.d.now c.args.room.now _ _ _ _ _ c.requires.0, starts_first c.args.d.now c.args.room.now _ _ _ _ _ c.requires.0 _, words_first c.args.d.now c.args.room.now _ _ _ _ _ c.requires.0 _, refl, refl, refl)
+loop-b-init c = (
+  omega arith,
+  refl,
+  rank_first c.args.d.now c.args.room.now _ _ _ _ _ c.requires.0,
+  at_first c.args.d.now c.args.room.now _ _ _ _ _ c.requires.0,
+  starts_first c.args.d.now c.args.room.now _ _ _ _ _ c.requires.0 _,
+  words_first
+      c.args.d.now c.args.room.now _ _ _ _ _ c.requires.0 _,
+  refl,
+  refl,
+  refl,
+)
 
 pub bounds-starts-first : goal.bounds-starts-first
 bounds-starts-first c =
@@ -29,8 +36,7 @@ write_block-next-requires c =
 
 pub loop-b-preserved : goal.loop-b-preserved
 loop-b-preserved c =
-    let more : c.loop-b.b < blocks_of c.args.d.now = omega (arith, c.blocks_of-blocks.ensures, c.loop-b-test.true) in
-    (
+    let more : c.loop-b.b < blocks_of c.args.d.now = omega (arith, c.blocks_of-blocks.ensures, c.loop-b-test.true) in (
       omega (arith, c.loop-b-test.true),
       c.write_block-next.ensures.room_unchanged ∙ c.loop-b.invariant.1,
       c.write_block-next.ensures.rank_value.0,
@@ -64,4 +70,10 @@ shape_of-set c =
 
 pub returns : goal.returns
 returns c =
-    let e : c.loop-b.b ≡ blocks_of c.args.d.now = omega (arith, c.blocks_of-blocks.ensures, c.loop-b-test.false) in record { next_of = stage_next c.args.d.now c.args.room.now _ _ _ _ _ c.requires.0 c.loop-b.b c.loop-b.next e c.loop-b.invariant.2 c.loop-b.invariant.3; room_unchanged = c.loop-b.invariant.1; starts_after = c.loop-b.invariant.4 ∙ ap (λ (n : ℕ). sets c.args.starts.now c.args.first (stage_starts (plan_lanes c.args.d.now) c.args.d.now c.args.s n)) e; words_after = c.loop-b.invariant.5 ∙ ap (λ (n : ℕ). sets c.args.words.now c.args.at.at (stage_words (plan_lanes c.args.d.now) c.args.d.now c.args.s n)) e }
+    let e : c.loop-b.b ≡ blocks_of c.args.d.now = omega (arith, c.blocks_of-blocks.ensures, c.loop-b-test.false) in
+    record {
+      next_of = stage_next c.args.d.now c.args.room.now _ _ _ _ _ c.requires.0 c.loop-b.b c.loop-b.next e c.loop-b.invariant.2 c.loop-b.invariant.3;
+      room_unchanged = c.loop-b.invariant.1;
+      starts_after = c.loop-b.invariant.4 ∙ ap (λ (n : ℕ). sets c.args.starts.now c.args.first (stage_starts (plan_lanes c.args.d.now) c.args.d.now c.args.s n)) e;
+      words_after = c.loop-b.invariant.5 ∙ ap (λ (n : ℕ). sets c.args.words.now c.args.at.at (stage_words (plan_lanes c.args.d.now) c.args.d.now c.args.s n)) e;
+    }

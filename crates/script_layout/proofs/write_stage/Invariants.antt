@@ -1,16 +1,12 @@
 -- The loop's invariant: the first b blocks are written, and their starts.
 -- Assumes nothing.
-use mathlib.Core.Path.{◌≡◌, refl, ap, ◌∙◌}
-use Prim.Native.Nat.{ℕ, ◌-◌, ◌≤◌, ◌<◌}
-use native.Mathlib.Omega.{arith}
+use mathlib.Core.Path.{◌≡◌}
+use Prim.Native.Nat.{◌-◌, ◌≤◌}
 use lib.ListN.{length}
 use lib.Seq.{sets}
-use Rattle.plan_record.specs.Record.{plan_lanes, blocks_of}
+use Rattle.plan_record.specs.Record.{plan_lanes}
 use Rattle.script_assembly.specs.Assembly.{block_start, stage_starts, stage_words}
 use Rattle.script_assembly.specs.WrittenSoFar.{first_rank}
-use Rattle.script_layout.proofs.ListStoreLaws.{stores_length, lists_long}
-use Rattle.script_layout.proofs.StageWriteLaws.{rank_first, at_first, words_first, starts_first, at_next, block_room, words_next, starts_next, stage_next}
-use borrow.Author.Rules.{rules}
 use Rattle.script_layout.proofs.write_stage.Given as goal
 
 abbrev pub invariant-loop-b : goal.invariant-loop-b

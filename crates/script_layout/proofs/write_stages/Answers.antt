@@ -1,14 +1,12 @@
 use mathlib.Core.Path.{◌≡◌, refl, ap, ◌∙◌}
-use Prim.Native.Nat.{ℕ, ◌-◌, ◌≤◌, ◌<◌}
+use Prim.Native.Nat.{ℕ, ◌<◌}
 use native.Mathlib.Omega.{arith}
 use lib.ListN.{length}
 use lib.Seq.{sets}
 use Rattle.plan_record.specs.Record.{plan_lanes, majors_of}
 use Rattle.script_assembly.specs.Assembly.{major_starts, major_words}
-use Rattle.script_layout.specs.Layout.{NextOf}
 use Rattle.script_layout.proofs.ListStoreLaws.{stores_length, lists_long}
 use Rattle.script_layout.proofs.StageWriteLaws.{none_next, no_words, no_starts, start_few, stage_room, stage_words_lem, stage_starts_stored}
-use borrow.Author.Rules.{rules}
 use Rattle.script_layout.proofs.write_stages.Goals as goal
 
 pub loop-s-init : goal.loop-s-init
@@ -22,8 +20,7 @@ overflow_mul-blocks c =
 
 pub write_stage-next-requires : goal.write_stage-next-requires
 write_stage-next-requires c =
-    let more : c.loop-s.s < majors_of c.args.d.now = omega (arith, c.majors_of-majors.ensures, c.loop-s-test.true) in
-    (
+    let more : c.loop-s.s < majors_of c.args.d.now = omega (arith, c.majors_of-majors.ensures, c.loop-s-test.true) in (
       stage_room c.args.d.now c.args.room.now _ _ c.requires.0 c.loop-s.s _ more c.blocks_of-blocks.ensures c.loop-s.next c.loop-s.invariant.2 c.loop-s.room c.loop-s.invariant.1 _ _
           (stores_length c.args.starts.now c.loop-s.starts 0 (major_starts (plan_lanes c.args.d.now) c.args.d.now c.loop-s.s) c.loop-s.invariant.3)
           (stores_length c.args.words.now c.loop-s.words 0 (major_words (plan_lanes c.args.d.now) c.args.d.now c.loop-s.s) c.loop-s.invariant.4),
@@ -32,8 +29,7 @@ write_stage-next-requires c =
 
 pub loop-s-preserved : goal.loop-s-preserved
 loop-s-preserved c =
-    let more : c.loop-s.s < majors_of c.args.d.now = omega (arith, c.majors_of-majors.ensures, c.loop-s-test.true) in
-    (
+    let more : c.loop-s.s < majors_of c.args.d.now = omega (arith, c.majors_of-majors.ensures, c.loop-s-test.true) in (
       omega (arith, c.loop-s-test.true),
       c.write_stage-next.ensures.room_unchanged ∙ c.loop-s.invariant.1,
       c.write_stage-next.ensures.next_of,
@@ -66,4 +62,10 @@ shape_of-set c =
 
 pub returns : goal.returns
 returns c =
-    let e : c.loop-s.s ≡ majors_of c.args.d.now = omega (arith, c.majors_of-majors.ensures, c.loop-s-test.false) in record { value = c.loop-s.invariant.2.at ∙ ap (λ (n : ℕ). length (major_words (plan_lanes c.args.d.now) c.args.d.now n)) e; room_unchanged = c.loop-s.invariant.1; starts_after = c.loop-s.invariant.3 ∙ ap (λ (n : ℕ). sets c.args.starts.now 0 (major_starts (plan_lanes c.args.d.now) c.args.d.now n)) e; words_after = c.loop-s.invariant.4 ∙ ap (λ (n : ℕ). sets c.args.words.now 0 (major_words (plan_lanes c.args.d.now) c.args.d.now n)) e }
+    let e : c.loop-s.s ≡ majors_of c.args.d.now = omega (arith, c.majors_of-majors.ensures, c.loop-s-test.false) in
+    record {
+      value = c.loop-s.invariant.2.at ∙ ap (λ (n : ℕ). length (major_words (plan_lanes c.args.d.now) c.args.d.now n)) e;
+      room_unchanged = c.loop-s.invariant.1;
+      starts_after = c.loop-s.invariant.3 ∙ ap (λ (n : ℕ). sets c.args.starts.now 0 (major_starts (plan_lanes c.args.d.now) c.args.d.now n)) e;
+      words_after = c.loop-s.invariant.4 ∙ ap (λ (n : ℕ). sets c.args.words.now 0 (major_words (plan_lanes c.args.d.now) c.args.d.now n)) e;
+    }

@@ -1,16 +1,12 @@
 -- The loop's invariant: the first s major stages are written, and their starts.
 -- Assumes nothing.
-use mathlib.Core.Path.{◌≡◌, refl, ap, ◌∙◌}
-use Prim.Native.Nat.{ℕ, ◌-◌, ◌≤◌, ◌<◌}
-use native.Mathlib.Omega.{arith}
+use mathlib.Core.Path.{◌≡◌}
+use Prim.Native.Nat.{◌-◌, ◌≤◌}
 use lib.ListN.{length}
 use lib.Seq.{sets}
-use Rattle.plan_record.specs.Record.{plan_lanes, majors_of}
+use Rattle.plan_record.specs.Record.{plan_lanes}
 use Rattle.script_assembly.specs.Assembly.{major_starts, major_words}
 use Rattle.script_layout.specs.Layout.{NextOf}
-use Rattle.script_layout.proofs.ListStoreLaws.{stores_length, lists_long}
-use Rattle.script_layout.proofs.StageWriteLaws.{none_next, no_words, no_starts, start_few, stage_room, stage_words_lem, stage_starts_stored}
-use borrow.Author.Rules.{rules}
 use Rattle.script_layout.proofs.write_stages.Given as goal
 
 abbrev pub invariant-loop-s : goal.invariant-loop-s

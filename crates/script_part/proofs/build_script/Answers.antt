@@ -8,7 +8,6 @@ use native.Mathlib.Omega.{arith}
 use lib.ListN.{length, drop}
 use lib.Seq.{length-take-le, length_front}
 use Rattle.script_part.proofs.BuildLaws.{lent_size, room_left_lem}
-use borrow.Author.Rules.{rules}
 use Rattle.script_part.proofs.build_script.Goals as goal
 
 -- ---- the needs

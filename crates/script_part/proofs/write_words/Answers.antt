@@ -10,7 +10,6 @@ use lib.Seq.{length-take-le, length_front}
 use Rattle.plan_record.specs.Record.{slots_of}
 use Rattle.script_front.proofs.FrontLaws.{part_accepted}
 use Rattle.script_part.proofs.BuildLaws.{front_inside, script_room}
-use borrow.Author.Rules.{rules}
 use Rattle.script_part.proofs.write_words.Goals as goal
 
 -- ---- the needs

@@ -2,7 +2,6 @@
 -- Assumes nothing.
 use native.Mathlib.Omega.{arith}
 use lib.ListN.{length-take}
-use borrow.Author.Rules.{rules}
 use Rattle.stored_plans.proofs.case_agrees.Goals as goal
 
 pub slice_bounds-agrees-end-2 : goal.slice_bounds-agrees-end-2

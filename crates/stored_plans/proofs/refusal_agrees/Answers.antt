@@ -1,7 +1,6 @@
 -- One comparison after the other.
 -- Assumes nothing.
 use Rattle.stored_lists.proofs.SameLaws.{never}
-use borrow.Author.Rules.{rules}
 use Rattle.stored_plans.proofs.refusal_agrees.Goals as goal
 
 pub returns-then-refusal-word_at : goal.returns-then-refusal-word_at

@@ -6,7 +6,6 @@ use Prim.Native.Nat.{ℕ, ◌+◌}
 use native.Mathlib.Omega.{arith}
 use lib.ListN.{length-take}
 use Rattle.stored_lists.proofs.SameLaws.{never, holds}
-use borrow.Author.Rules.{rules}
 use Rattle.stored_plans.proofs.script_agrees.Goals as goal
 
 pub returns-then-not-sizes_agree : goal.returns-then-not-sizes_agree

@@ -1,7 +1,6 @@
 -- One comparison after the other.
 -- Assumes nothing.
 use Rattle.stored_lists.proofs.SameLaws.{never}
-use borrow.Author.Rules.{rules}
 use Rattle.stored_plans.proofs.sizes_agree.Goals as goal
 
 pub returns-then-sizes-word_at : goal.returns-then-sizes-word_at

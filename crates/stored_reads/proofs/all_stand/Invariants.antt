@@ -2,7 +2,6 @@
 -- Assumes nothing.
 use Prim.Native.Nat.{◌-◌, ◌/◌, ◌≤◌}
 use lib.ListN.{length}
-use borrow.Author.Rules.{rules}
 use Rattle.stored_reads.proofs.all_stand.Given as goal
 
 abbrev pub invariant-loop-p : goal.invariant-loop-p

@@ -3,7 +3,6 @@
 use Prim.Native.Nat.{◌*◌}
 use native.Mathlib.Omega.{arith}
 use lib.ListN.{length-take, length-append, length-drop}
-use borrow.Author.Rules.{rules}
 use Rattle.stored_reads.proofs.case_words.Goals as goal
 
 pub slice_bounds-load-end-2 : goal.slice_bounds-load-end-2

@@ -1,6 +1,5 @@
 -- `text::put` meets its contract: a store inside the lent bytes, and none past them. Assumes nothing.
 use Rattle.text.proofs.WritingLaws.{put_byte, put_past}
-use borrow.Author.Rules.{rules}
 use Rattle.text.proofs.put.Goals as goal
 
 pub returns-then-out-at : goal.returns-then-out-at

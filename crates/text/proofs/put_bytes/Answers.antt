@@ -2,12 +2,11 @@ use mathlib.Core.List.{[], ◌∷◌}
 use native.Mathlib.Numerals.{add-one}
 use lib.Seq.{drop-cons}
 use lib.ListN.{drop_of_length-le}
-use lib.ListN.{length, drop}
-use Prim.Native.Nat.{◌-◌, ◌≤◌}
+use lib.ListN.{length}
+use Prim.Native.Nat.{◌≤◌}
 use mathlib.Core.Path.{◌∙◌}
-use Rattle.text.proofs.WritingLaws.{TextGoing, going_start, going_long, going_more, going_done}
+use Rattle.text.proofs.WritingLaws.{going_start, going_long, going_more, going_done}
 use native.Mathlib.Omega.{arith}
-use borrow.Author.Rules.{rules}
 use Rattle.text.proofs.put_bytes.Goals as goal
 
 pub loop-i-init : goal.loop-i-init

@@ -1,6 +1,5 @@
 -- `text::put_number` meets its contract: a number, then the byte after it. Assumes nothing.
 use Rattle.text.proofs.WritingLaws.{put_then}
-use borrow.Author.Rules.{rules}
 use Rattle.text.proofs.put_number.Goals as goal
 
 pub returns : goal.returns

@@ -4,7 +4,6 @@ use mathlib.Core.Path.{◌≡◌, sym, ap, ◌∙◌}
 use mathlib.Core.Bool.{true}
 use Prim.Native.Nat.{◌≤◌, ◌<◌}
 use native.Mathlib.Omega.{arith}
-use borrow.Author.Tests.{not-true, not-false}
 use lib.ListN.{length}
 use Rattle.words.specs.Edition.{known}
 use Rattle.plan_record.specs.Record.{edition_of}
@@ -13,7 +12,6 @@ use Rattle.words.specs.Answer.{Answer}
 use Rattle.values.specs.Values.{Bits, valued_of, bits_after}
 use Rattle.words.proofs.FoundLaws.{item_some, item_none}
 use Rattle.values.proofs.ValueAnswerLaws.{out_short, out_edition, out_form, out_gate, out_lent, bits_kept, room_short, room_zeros, room_again, room_asked}
-use borrow.Author.Rules.{rules}
 use Rattle.values.proofs.value.Goals as goal
 
 pub returns-then-room-room_words : goal.returns-then-room-room_words

@@ -9,7 +9,6 @@ use lib.Seq.{length-take-le}
 use Rattle.values.specs.declared.Valued.TheVariants.{Bit}
 use Rattle.values.specs.Values.{gate_values, valued_of}
 use Rattle.values.proofs.ValueAnswerLaws.{lent_short, lent_enough, bits_kept, bits_held, values_length}
-use borrow.Author.Rules.{rules}
 use Rattle.values.proofs.value_lent.Goals as goal
 
 pub returns-then-bits-words : goal.returns-then-bits-words

@@ -1,5 +1,4 @@
 -- `aiger_read::differences::difference_at` meets its contract: nothing there, one byte, or groups. Assumes nothing.
-use borrow.Author.Rules.{rules}
 use Rattle.aiger_read.proofs.GroupLaws.{difference_cut, difference_byte, difference_groups}
 use Rattle.aiger_read.proofs.differences.difference_at.Goals as goal
 

@@ -1,5 +1,4 @@
 -- `aiger_read::differences::gate_at` meets its contract: its first literal, then its second. Assumes nothing.
-use borrow.Author.Rules.{rules}
 use Rattle.aiger_read.proofs.GroupLaws.{gate_first_lem, gate_second_lem, gate_both}
 use Rattle.aiger_read.proofs.differences.gate_at.Goals as goal
 

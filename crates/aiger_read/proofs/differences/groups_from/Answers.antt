@@ -1,8 +1,7 @@
 use mathlib.Core.Path.{sym, ◌∙◌}
 use Prim.Native.Nat.{◌-◌, ◌<◌}
 use native.Mathlib.Omega.{arith}
-use borrow.Author.Rules.{rules}
-use Rattle.aiger_read.proofs.GroupLaws.{Groups, groups_start, product_fits, scale_fits, groups_cut, groups_nought, groups_value, groups_next, groups_end}
+use Rattle.aiger_read.proofs.GroupLaws.{groups_start, product_fits, scale_fits, groups_cut, groups_nought, groups_value, groups_next, groups_end}
 use Rattle.aiger_read.proofs.differences.groups_from.Goals as goal
 
 pub loop-left-init : goal.loop-left-init

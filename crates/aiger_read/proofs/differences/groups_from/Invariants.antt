@@ -1,9 +1,5 @@
 -- `aiger_read::differences::groups_from` meets its contract. The invariant: what is read so far, with the groups that are left at their scale, is the difference. Assumes nothing.
-use mathlib.Core.Path.{sym, ◌∙◌}
-use Prim.Native.Nat.{◌-◌, ◌<◌}
-use native.Mathlib.Omega.{arith}
-use borrow.Author.Rules.{rules}
-use Rattle.aiger_read.proofs.GroupLaws.{Groups, groups_start, product_fits, scale_fits, groups_cut, groups_nought, groups_value, groups_next, groups_end}
+use Rattle.aiger_read.proofs.GroupLaws.{Groups}
 use Rattle.aiger_read.proofs.differences.groups_from.Given as goal
 
 abbrev pub invariant-loop-left : goal.invariant-loop-left

@@ -1,6 +1,5 @@
 -- `aiger_read::differences::literal_at` meets its contract, by what the difference is and its two bounds. Assumes nothing.
 use mathlib.Core.Path.{sym, ◌∙◌}
-use borrow.Author.Rules.{rules}
 use Rattle.aiger.specs.Reading.{difference_at}
 use Rattle.aiger_read.proofs.GroupLaws.{literal_under, literal_over, literal_found, literal_wrong, literal_cut}
 use Rattle.aiger_read.proofs.differences.literal_at.Goals as goal

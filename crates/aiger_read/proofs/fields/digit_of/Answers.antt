@@ -1,5 +1,4 @@
 -- `aiger_read::fields::digit_of` meets its contract, by the three cases of a byte. Assumes nothing.
-use borrow.Author.Rules.{rules}
 use Rattle.aiger_read.proofs.FieldLaws.{digit_low, digit_high, digit_value}
 use Rattle.aiger_read.proofs.fields.digit_of.Goals as goal
 

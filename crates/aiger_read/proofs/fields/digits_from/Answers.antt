@@ -1,9 +1,5 @@
-use mathlib.Core.Path.{◌≡◌, sym, ◌∙◌}
-use Prim.Native.Nat.{◌-◌, ◌≤◌}
+use mathlib.Core.Path.{sym, ◌∙◌}
 use native.Mathlib.Omega.{arith}
-use borrow.Author.Rules.{rules}
-use lib.ListN.{length, drop}
-use Rattle.aiger.specs.Reading.{digits_from}
 use Rattle.aiger_read.proofs.FieldLaws.{digits_past, digits_stop, digits_go, field_good, digits_large}
 use Rattle.aiger_read.proofs.fields.digits_from.Goals as goal
 

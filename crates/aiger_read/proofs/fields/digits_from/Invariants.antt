@@ -1,11 +1,8 @@
 -- `aiger_read::fields::digits_from` meets its contract. The invariant: the number that x and the digits from i on make is the one asked for, and x is not too large yet. Assumes nothing.
-use mathlib.Core.Path.{◌≡◌, sym, ◌∙◌}
+use mathlib.Core.Path.{◌≡◌}
 use Prim.Native.Nat.{◌-◌, ◌≤◌}
-use native.Mathlib.Omega.{arith}
-use borrow.Author.Rules.{rules}
 use lib.ListN.{length, drop}
 use Rattle.aiger.specs.Reading.{digits_from}
-use Rattle.aiger_read.proofs.FieldLaws.{digits_past, digits_stop, digits_go, field_good, digits_large}
 use Rattle.aiger_read.proofs.fields.digits_from.Given as goal
 
 abbrev pub invariant-loop-i : goal.invariant-loop-i

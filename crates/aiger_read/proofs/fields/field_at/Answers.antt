@@ -1,6 +1,5 @@
 -- `aiger_read::fields::field_at` meets its contract: the byte behind the number is there, is the one asked for, or is not. Assumes nothing.
 use mathlib.Core.Path.{sym, ◌∙◌}
-use borrow.Author.Rules.{rules}
 use lib.ListN.{drop}
 use Rattle.aiger.specs.Reading.{number_in}
 use Rattle.aiger_read.proofs.FieldLaws.{value_parts, field_past, field_ends, field_other, field_wrong}

@@ -1,5 +1,4 @@
 -- `aiger_read::fields::number_at` meets its contract: nothing there, a nought, other digits, another byte. Assumes nothing.
-use borrow.Author.Rules.{rules}
 use Rattle.aiger_read.proofs.FieldLaws.{number_past, number_nought, number_first, number_other}
 use Rattle.aiger_read.proofs.fields.number_at.Goals as goal
 

@@ -1,7 +1,6 @@
 use native.Mathlib.Omega.{arith}
-use borrow.Author.Rules.{rules}
 use lib.ListN.{length-set}
-use Rattle.aiger_read.proofs.ReadPassLaws.{Filling, filling_start, filling_next, filling_bad, filling_end}
+use Rattle.aiger_read.proofs.ReadPassLaws.{filling_start, filling_next, filling_bad, filling_end}
 use Rattle.aiger_read.proofs.lists.fill.Goals as goal
 
 pub loop-left-init : goal.loop-left-init

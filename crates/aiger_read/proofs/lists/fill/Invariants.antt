@@ -1,8 +1,5 @@
 -- `aiger_read::lists::fill` meets its contract. The invariant: what is written, with the gates from here on, is the list. Assumes nothing.
-use native.Mathlib.Omega.{arith}
-use borrow.Author.Rules.{rules}
-use lib.ListN.{length-set}
-use Rattle.aiger_read.proofs.ReadPassLaws.{Filling, filling_start, filling_next, filling_bad, filling_end}
+use Rattle.aiger_read.proofs.ReadPassLaws.{Filling}
 use Rattle.aiger_read.proofs.lists.fill.Given as goal
 
 abbrev pub invariant-loop-left : goal.invariant-loop-left

@@ -1,9 +1,5 @@
-use mathlib.Core.Path.{sym, ◌∙◌, ◌≡◌}
-use Prim.Native.Nat.{◌+◌, ◌^◌, ◌≤◌}
+use mathlib.Core.Path.{sym, ◌∙◌}
 use native.Mathlib.Omega.{arith}
-use borrow.Author.Rules.{rules}
-use Rattle.aiger.specs.Reading.{gates_from}
-use Rattle.aiger_read.specs.ReadTold.{gates_judged}
 use Rattle.aiger_read.proofs.ReadPassLaws.{judged_next, judged_bad, judged_end}
 use Rattle.aiger_read.proofs.lists.judge.Goals as goal
 

@@ -1,11 +1,8 @@
 -- `aiger_read::lists::judge` meets its contract. The invariant: what the gates from here on are judged is what all are. Assumes nothing.
-use mathlib.Core.Path.{sym, ◌∙◌, ◌≡◌}
+use mathlib.Core.Path.{◌≡◌}
 use Prim.Native.Nat.{◌+◌, ◌^◌, ◌≤◌}
-use native.Mathlib.Omega.{arith}
-use borrow.Author.Rules.{rules}
 use Rattle.aiger.specs.Reading.{gates_from}
 use Rattle.aiger_read.specs.ReadTold.{gates_judged}
-use Rattle.aiger_read.proofs.ReadPassLaws.{judged_next, judged_bad, judged_end}
 use Rattle.aiger_read.proofs.lists.judge.Given as goal
 
 abbrev pub invariant-loop-left : goal.invariant-loop-left

@@ -1,6 +1,5 @@
 -- `aiger_read::start::header_of` meets its contract: the fields of a marked file. Assumes nothing.
 use mathlib.Core.Path.{sym, ◌∙◌}
-use borrow.Author.Rules.{rules}
 use Rattle.aiger_read.proofs.HeaderReadLaws.{header_yes, header_no}
 use Rattle.aiger_read.proofs.start.header_of.Goals as goal
 

@@ -1,5 +1,4 @@
 -- `aiger_read::start::is_marked` meets its contract, byte by byte. Assumes nothing.
-use borrow.Author.Rules.{rules}
 use Rattle.aiger_read.proofs.HeaderReadLaws.{mark_short, mark_a, mark_i, mark_g, mark_blank}
 use Rattle.aiger_read.proofs.start.is_marked.Goals as goal
 

@@ -1,8 +1,6 @@
-use mathlib.Core.Path.{◌≡◌, sym, ap, ◌∙◌}
+use mathlib.Core.Path.{sym, ap, ◌∙◌}
 use native.Mathlib.Omega.{arith}
-use borrow.Author.Rules.{rules}
 use Rattle.aiger_read.specs.ReadTold.{lines_of}
-use Rattle.aiger.specs.Reading.{lines_from}
 use Rattle.aiger_read.proofs.HeaderReadLaws.{line_next, line_wrong, lines_done}
 use Rattle.aiger_read.proofs.start.lines_from.Goals as goal
 

@@ -1,10 +1,6 @@
 -- `aiger_read::start::lines_from` meets its contract. The invariant: the lines that are left, from here on, are those asked for. Assumes nothing.
-use mathlib.Core.Path.{◌≡◌, sym, ap, ◌∙◌}
-use native.Mathlib.Omega.{arith}
-use borrow.Author.Rules.{rules}
-use Rattle.aiger_read.specs.ReadTold.{lines_of}
+use mathlib.Core.Path.{◌≡◌}
 use Rattle.aiger.specs.Reading.{lines_from}
-use Rattle.aiger_read.proofs.HeaderReadLaws.{line_next, line_wrong, lines_done}
 use Rattle.aiger_read.proofs.start.lines_from.Given as goal
 
 abbrev pub invariant-loop-left : goal.invariant-loop-left

@@ -1,7 +1,6 @@
 -- `aiger_read::start::start_of` meets its contract: a header, and the lines that it says. Assumes nothing.
 use mathlib.Core.Path.{sym, ◌∙◌}
 use native.Mathlib.Omega.{arith}
-use borrow.Author.Rules.{rules}
 use Rattle.aiger_read.proofs.HeaderReadLaws.{HeaderAt, start_wrong, start_header, lines_end, lines_none, start_found, start_cut}
 use Rattle.aiger_read.proofs.start.start_of.Goals as goal
 

@@ -1,6 +1,5 @@
 -- `aiger_write::bytes::gate_length` meets its contract: the bytes of its two differences. Assumes nothing.
 use native.Mathlib.Omega.{arith}
-use borrow.Author.Rules.{rules}
 use Rattle.aiger_write.proofs.ByteLaws.{gate_long}
 use Rattle.aiger_write.proofs.bytes.gate_length.Goals as goal
 

@@ -1,8 +1,7 @@
 use mathlib.Core.Path.{◌∙◌}
 use native.Mathlib.Omega.{arith}
-use borrow.Author.Rules.{rules}
 use Rattle.text.proofs.WritingLaws.{going_long}
-use Rattle.aiger_write.proofs.ByteLaws.{putting_start, putting_short, putting_more, putting_done, Putting}
+use Rattle.aiger_write.proofs.ByteLaws.{putting_start, putting_short, putting_more, putting_done}
 use Rattle.aiger_write.proofs.bytes.put_difference.Goals as goal
 
 pub loop-rest-init : goal.loop-rest-init

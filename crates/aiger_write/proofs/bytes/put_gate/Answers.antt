@@ -1,5 +1,4 @@
 -- `aiger_write::bytes::put_gate` meets its contract: its two differences, one after the other. Assumes nothing.
-use borrow.Author.Rules.{rules}
 use Rattle.aiger_write.proofs.ByteLaws.{gate_put}
 use Rattle.aiger_write.proofs.bytes.put_gate.Goals as goal
 

@@ -1,5 +1,4 @@
 -- `aiger_write::lists::inputs_of` meets its contract: no gate, pin 0, or another. Assumes nothing.
-use borrow.Author.Rules.{rules}
 use Rattle.aiger_write.proofs.WritePassLaws.{inputs_none}
 use Rattle.aiger_write.proofs.lists.inputs_of.Goals as goal
 

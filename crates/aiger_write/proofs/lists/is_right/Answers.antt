@@ -1,5 +1,4 @@
 -- `aiger_write::lists::is_right` meets its contract, test by test. Assumes nothing.
-use borrow.Author.Rules.{rules}
 use Rattle.aiger_write.proofs.WritePassLaws.{right_other, right_high, right_last}
 use Rattle.aiger_write.proofs.lists.is_right.Goals as goal
 

@@ -1,6 +1,5 @@
 -- `aiger_write::lists::judge` meets its contract: a gate that is cut, a last pin out of range, else gate by gate. Assumes nothing.
 use native.Mathlib.Omega.{arith}
-use borrow.Author.Rules.{rules}
 use Rattle.aiger_write.proofs.WritePassLaws.{judged_cut, judged_large}
 use Rattle.aiger_write.proofs.lists.judge.Goals as goal
 

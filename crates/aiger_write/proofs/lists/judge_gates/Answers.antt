@@ -1,8 +1,6 @@
 use mathlib.Core.Path.{sym, ◌∙◌}
-use Prim.Native.Nat.{◌-◌}
 use native.Mathlib.Omega.{arith}
-use borrow.Author.Rules.{rules}
-use Rattle.aiger_write.proofs.WritePassLaws.{right_gate, right_list, long_list, judging_start, judging_pin, judging_next, judging_bad, judging_done, Judging}
+use Rattle.aiger_write.proofs.WritePassLaws.{right_gate, right_list, long_list, judging_start, judging_pin, judging_next, judging_bad, judging_done}
 use Rattle.aiger_write.proofs.lists.judge_gates.Goals as goal
 
 pub header_length-bytes-requires : goal.header_length-bytes-requires

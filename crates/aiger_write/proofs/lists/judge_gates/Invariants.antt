@@ -1,9 +1,6 @@
 -- `aiger_write::lists::judge_gates` meets its contract. The invariant: the gates before g are right, and their bytes with those from g on make the text. Assumes nothing.
-use mathlib.Core.Path.{sym, ◌∙◌}
 use Prim.Native.Nat.{◌-◌}
-use native.Mathlib.Omega.{arith}
-use borrow.Author.Rules.{rules}
-use Rattle.aiger_write.proofs.WritePassLaws.{right_gate, right_list, long_list, judging_start, judging_pin, judging_next, judging_bad, judging_done, Judging}
+use Rattle.aiger_write.proofs.WritePassLaws.{Judging}
 use Rattle.aiger_write.proofs.lists.judge_gates.Given as goal
 
 abbrev pub invariant-loop-g : goal.invariant-loop-g

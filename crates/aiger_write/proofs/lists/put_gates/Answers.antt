@@ -1,9 +1,5 @@
-use Prim.Native.Nat.{◌-◌, ◌*◌, ◌≤◌}
 use native.Mathlib.Omega.{arith}
-use borrow.Author.Rules.{rules}
-use Rattle.text.proofs.WritingLaws.{going_long, TextGoing}
-use Rattle.gatelist.specs.ListWords.{whole_gates}
-use Rattle.aiger.specs.Writing.{gates_bytes}
+use Rattle.text.proofs.WritingLaws.{going_long}
 use Rattle.aiger_write.proofs.WritePassLaws.{list_fits, gate_of_lem, gates_start_lem, gates_more, gates_done}
 use Rattle.aiger_write.proofs.lists.put_gates.Goals as goal
 

@@ -1,11 +1,8 @@
 -- `aiger_write::lists::put_gates` meets its contract. The invariant: the gates that are put, with those from g on, are all. Assumes nothing.
 use Prim.Native.Nat.{◌-◌, ◌*◌, ◌≤◌}
-use native.Mathlib.Omega.{arith}
-use borrow.Author.Rules.{rules}
-use Rattle.text.proofs.WritingLaws.{going_long, TextGoing}
+use Rattle.text.proofs.WritingLaws.{TextGoing}
 use Rattle.gatelist.specs.ListWords.{whole_gates}
 use Rattle.aiger.specs.Writing.{gates_bytes}
-use Rattle.aiger_write.proofs.WritePassLaws.{list_fits, gate_of_lem, gates_start_lem, gates_more, gates_done}
 use Rattle.aiger_write.proofs.lists.put_gates.Given as goal
 
 abbrev pub invariant-loop-g : goal.invariant-loop-g

@@ -1,5 +1,4 @@
 -- `aiger_write::lists::put_header` meets its contract: its fields, one after the other. Assumes nothing.
-use borrow.Author.Rules.{rules}
 use Rattle.aiger_write.proofs.WritePassLaws.{put_head}
 use Rattle.aiger_write.proofs.lists.put_header.Goals as goal
 

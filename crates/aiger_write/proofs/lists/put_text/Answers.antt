@@ -1,5 +1,4 @@
 -- `aiger_write::lists::put_text` meets its contract: the header, then the gates. Assumes nothing.
-use borrow.Author.Rules.{rules}
 use Rattle.aiger_write.proofs.WritePassLaws.{text_put}
 use Rattle.aiger_write.proofs.lists.put_text.Goals as goal
 

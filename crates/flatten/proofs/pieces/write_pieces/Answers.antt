@@ -1,7 +1,7 @@
 use mathlib.Core.Path.{◌≡◌, refl, ap, ◌∙◌}
-use Prim.Native.Nat.{ℕ, ◌-◌, ◌≤◌, ◌<◌}
+use Prim.Native.Nat.{ℕ, ◌<◌}
 use native.Mathlib.Omega.{arith}
-use lib.ListN.{length, length-set}
+use lib.ListN.{length-set}
 use lib.Seq.{sets}
 use Rattle.words.specs.Section.{list_of}
 use Rattle.plan_record.specs.Record.{plan_lanes, parts_of}
@@ -10,7 +10,6 @@ use Rattle.script_layout.proofs.RowLaws.{parts_few, cell_in}
 use Rattle.flatten.specs.Flatten.{piece_sizes}
 use Rattle.flatten.proofs.ScriptSizeLaws.{majors_few}
 use Rattle.flatten.proofs.BuildAnswerLaws.{pieces_more}
-use borrow.Author.Rules.{rules}
 use Rattle.flatten.proofs.pieces.write_pieces.Goals as goal
 
 pub parts_of-parts-requires : goal.parts_of-parts-requires

@@ -1,18 +1,12 @@
 -- The loop's invariant: the piece sizes of the first p parts are written.
 -- Assumes nothing.
-use mathlib.Core.Path.{◌≡◌, refl, ap, ◌∙◌}
-use Prim.Native.Nat.{ℕ, ◌-◌, ◌≤◌, ◌<◌}
-use native.Mathlib.Omega.{arith}
-use lib.ListN.{length, length-set}
+use mathlib.Core.Path.{◌≡◌}
+use Prim.Native.Nat.{◌-◌, ◌≤◌}
+use lib.ListN.{length}
 use lib.Seq.{sets}
 use Rattle.words.specs.Section.{list_of}
-use Rattle.plan_record.specs.Record.{plan_lanes, parts_of}
+use Rattle.plan_record.specs.Record.{plan_lanes}
 use Rattle.plan_reads.specs.PartReads.{part_size}
-use Rattle.script_layout.proofs.RowLaws.{parts_few, cell_in}
-use Rattle.flatten.specs.Flatten.{piece_sizes}
-use Rattle.flatten.proofs.ScriptSizeLaws.{majors_few}
-use Rattle.flatten.proofs.BuildAnswerLaws.{pieces_more}
-use borrow.Author.Rules.{rules}
 use Rattle.flatten.proofs.pieces.write_pieces.Given as goal
 
 abbrev pub invariant-loop-p : goal.invariant-loop-p

@@ -1,12 +1,8 @@
 -- The loop's invariant: the empty blocks of the first s major stages.
 -- Assumes nothing.
-use mathlib.Core.Path.{◌≡◌, ap, ◌∙◌}
+use mathlib.Core.Path.{◌≡◌}
 use Prim.Native.Nat.{◌*◌, ◌-◌, ◌≤◌}
-use native.Mathlib.Omega.{arith}
 use Rattle.script_assembly.specs.WrittenSoFar.{empty_blocks}
-use Rattle.flatten.proofs.ScriptSizeLaws.{majors_few, empty_none, empty_more}
-use Rattle.plan_record.specs.Record.{majors_of}
-use borrow.Author.Rules.{rules}
 use Rattle.flatten.proofs.sizes.empty_blocks.Given as goal
 
 abbrev pub invariant-loop-s : goal.invariant-loop-s

@@ -1,12 +1,11 @@
 use mathlib.Core.Path.{◌≡◌, ap, ◌∙◌}
-use Prim.Native.Nat.{◌*◌, ◌-◌, ◌≤◌, ◌<◌}
+use Prim.Native.Nat.{◌<◌}
 use native.Mathlib.Omega.{arith}
 use Rattle.words.specs.Sum.{sum_to}
 use Rattle.script_assembly.specs.WrittenSoFar.{length_of}
 use Rattle.script_layout.proofs.RowLaws.{parts_few, cell_in}
 use Rattle.flatten.proofs.ScriptSizeLaws.{majors_few, parts_none, parts_next}
 use Rattle.plan_record.specs.Record.{plan_lanes, parts_of}
-use borrow.Author.Rules.{rules}
 use Rattle.flatten.proofs.sizes.parts_words.Goals as goal
 
 pub parts_of-parts-requires : goal.parts_of-parts-requires
@@ -37,8 +36,7 @@ overflow_add-sum c =
 
 pub loop-p-preserved : goal.loop-p-preserved
 loop-p-preserved c =
-    let inside : c.loop-p.p < parts_of c.args.d.now = omega (arith, c.parts_of-parts.ensures.0) in
-    (
+    let inside : c.loop-p.p < parts_of c.args.d.now = omega (arith, c.parts_of-parts.ensures.0) in (
       omega arith,
       parts_next _ _ c.requires _ c.loop-p.p c.loop-p.sum _ _ _ c.lanes_of-lanes.ensures.0 (inside) c.loop-p.invariant.1 c.cell_at-rounds.ensures c.stages_at.ensures c.part_words-sum.ensures.0,
       omega (arith, c.part_words-sum.ensures.1, c.loop-p.invariant.2),

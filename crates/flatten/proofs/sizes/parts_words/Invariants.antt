@@ -1,14 +1,10 @@
 -- The loop's invariant: the words of the first p parts, each below 2^45.
 -- Assumes nothing.
-use mathlib.Core.Path.{◌≡◌, ap, ◌∙◌}
-use Prim.Native.Nat.{◌*◌, ◌-◌, ◌≤◌, ◌<◌}
-use native.Mathlib.Omega.{arith}
+use mathlib.Core.Path.{◌≡◌}
+use Prim.Native.Nat.{◌*◌, ◌-◌, ◌≤◌}
 use Rattle.words.specs.Sum.{sum_to}
 use Rattle.script_assembly.specs.WrittenSoFar.{length_of}
-use Rattle.script_layout.proofs.RowLaws.{parts_few, cell_in}
-use Rattle.flatten.proofs.ScriptSizeLaws.{majors_few, parts_none, parts_next}
-use Rattle.plan_record.specs.Record.{plan_lanes, parts_of}
-use borrow.Author.Rules.{rules}
+use Rattle.plan_record.specs.Record.{plan_lanes}
 use Rattle.flatten.proofs.sizes.parts_words.Given as goal
 
 abbrev pub invariant-loop-p : goal.invariant-loop-p

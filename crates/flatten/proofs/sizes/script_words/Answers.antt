@@ -1,7 +1,6 @@
 -- The parts, the empty blocks and the zero words are the whole script.
 -- Assumes nothing.
 use Rattle.flatten.proofs.ScriptSizeLaws.{script_long}
-use borrow.Author.Rules.{rules}
 use Rattle.flatten.proofs.sizes.script_words.Goals as goal
 
 pub returns : goal.returns

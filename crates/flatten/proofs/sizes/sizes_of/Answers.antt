@@ -2,7 +2,6 @@
 -- Assumes nothing.
 use native.Mathlib.Omega.{arith}
 use Rattle.flatten.proofs.ScriptSizeLaws.{starts_few, tallied, sizes_are}
-use borrow.Author.Rules.{rules}
 use Rattle.flatten.proofs.sizes.sizes_of.Goals as goal
 
 pub overflow_mul-result : goal.overflow_mul-result

@@ -4,7 +4,6 @@ use mathlib.Core.Path.{◌≡◌, sym, ◌∙◌}
 use Prim.Native.Nat.{◌*◌}
 use native.Mathlib.Omega.{arith}
 use lib.ListN.{length, replicate}
-use borrow.Author.Rules.{rules}
 use Rattle.rounds.proofs.PieceSizeLaws.{zeros_length, table_cleared}
 use Rattle.handed.proofs.HandedAnswerLaws.{bad_post, fine_post, count_post}
 use Rattle.handed.proofs.fill.fill_lanes.Goals as goal

@@ -1,9 +1,8 @@
 use mathlib.Core.Path.{ap}
-use Prim.Native.Nat.{◌+◌, ◌-◌}
+use Prim.Native.Nat.{◌+◌}
 use native.Mathlib.Omega.{arith}
 use lib.ListN.{length}
 use Rattle.joins.proofs.JoinPassLaws.{Halfway, halfway_start, halfway_end, halfway_pair, halfway_next, halfway_on}
-use borrow.Author.Rules.{rules}
 use Rattle.joins.proofs.merging.count_words.Goals as goal
 
 pub loop-i-init : goal.loop-i-init

@@ -1,11 +1,8 @@
 -- `count_words`: what is behind and what is left of both sets are together the join's words.
 -- Assumes nothing.
-use mathlib.Core.Path.{ap}
 use Prim.Native.Nat.{◌+◌, ◌-◌}
-use native.Mathlib.Omega.{arith}
 use lib.ListN.{length}
-use Rattle.joins.proofs.JoinPassLaws.{Halfway, halfway_start, halfway_end, halfway_pair, halfway_next, halfway_on}
-use borrow.Author.Rules.{rules}
+use Rattle.joins.proofs.JoinPassLaws.{Halfway}
 use Rattle.joins.proofs.merging.count_words.Given as goal
 
 abbrev pub invariant-loop-i : goal.invariant-loop-i

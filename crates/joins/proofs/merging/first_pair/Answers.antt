@@ -2,7 +2,6 @@
 -- Assumes nothing.
 use native.Mathlib.Omega.{arith}
 use Rattle.joins.proofs.JoinPassLaws.{first_alone, second_alone}
-use borrow.Author.Rules.{rules}
 use Rattle.joins.proofs.merging.first_pair.Goals as goal
 
 pub returns-then-b-eq0 : goal.returns-then-b-eq0

@@ -2,7 +2,6 @@
 -- Assumes nothing.
 use native.Mathlib.Omega.{arith}
 use Rattle.joins.proofs.JoinPassLaws.{first_less, first_same, first_more}
-use borrow.Author.Rules.{rules}
 use Rattle.joins.proofs.merging.lower_pair.Goals as goal
 
 pub returns-then-w-v : goal.returns-then-w-v

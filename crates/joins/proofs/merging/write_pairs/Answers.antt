@@ -1,9 +1,8 @@
-use mathlib.Core.Path.{◌≡◌, refl, sym, ap, ◌∙◌}
-use Prim.Native.Nat.{◌+◌, ◌-◌, ◌≤◌}
+use mathlib.Core.Path.{refl, sym, ap, ◌∙◌}
+use Prim.Native.Nat.{◌+◌, ◌≤◌}
 use native.Mathlib.Omega.{arith}
-use lib.ListN.{length, drop, length-set}
+use lib.ListN.{length, length-set}
 use lib.Seq.{sets, lt-length-set}
-use Rattle.joins_sets.specs.Join.{join}
 use Rattle.joins.proofs.JoinPassLaws.{Halfway, halfway_start, halfway_end, halfway_pair, halfway_next, halfway_on, halfway_room, halfway_sets}
 use borrow.Author.Rules.{rules}
 use Rattle.joins.proofs.merging.write_pairs.Goals as goal
@@ -67,8 +66,7 @@ loop-i-smaller c =
 
 pub loop-i-preserved : goal.loop-i-preserved
 loop-i-preserved c =
-    let next_in : Halfway c.args.a.now c.args.b.now (c.loop-i.n + 2) (c.loop-i.i + c.first_pair-step.result.first) (c.loop-i.j + c.first_pair-step.result.second) = halfway_next c.loop-i.invariant.0 c.loop-i-test.true c.first_pair-step.result c.first_pair-step.ensures in
-    (
+    let next_in : Halfway c.args.a.now c.args.b.now (c.loop-i.n + 2) (c.loop-i.i + c.first_pair-step.result.first) (c.loop-i.j + c.first_pair-step.result.second) = halfway_next c.loop-i.invariant.0 c.loop-i-test.true c.first_pair-step.result c.first_pair-step.ensures in (
       next_in,
       simp length-set c.loop-i.invariant.1,
       halfway_sets c.loop-i.invariant.0 c.loop-i-test.true c.first_pair-step.result c.first_pair-step.ensures c.loop-i.out ∙ c.loop-i.invariant.2,

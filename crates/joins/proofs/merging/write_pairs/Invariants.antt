@@ -1,13 +1,11 @@
 -- `write_pairs`: what is left of the join, stored behind what is written, is the whole join stored.
 -- Assumes nothing.
-use mathlib.Core.Path.{◌≡◌, refl, sym, ap, ◌∙◌}
-use Prim.Native.Nat.{◌+◌, ◌-◌, ◌≤◌}
-use native.Mathlib.Omega.{arith}
-use lib.ListN.{length, drop, length-set}
-use lib.Seq.{sets, lt-length-set}
+use mathlib.Core.Path.{◌≡◌}
+use Prim.Native.Nat.{◌+◌, ◌-◌}
+use lib.ListN.{length, drop}
+use lib.Seq.{sets}
 use Rattle.joins_sets.specs.Join.{join}
-use Rattle.joins.proofs.JoinPassLaws.{Halfway, halfway_start, halfway_end, halfway_pair, halfway_next, halfway_on, halfway_room, halfway_sets}
-use borrow.Author.Rules.{rules}
+use Rattle.joins.proofs.JoinPassLaws.{Halfway}
 use Rattle.joins.proofs.merging.write_pairs.Given as goal
 
 abbrev pub invariant-loop-i : goal.invariant-loop-i

@@ -1,6 +1,5 @@
 -- `listing::answer::put_answer` meets its contract, case by case. Assumes nothing.
 use Rattle.listing.proofs.AnswerTextLaws.{put_is_rounds, put_is_refused, put_is_bad}
-use borrow.Author.Rules.{rules}
 use Rattle.listing.proofs.answer.put_answer.Goals as goal
 
 pub returns-in-Rounds : goal.returns-in-Rounds

@@ -1,6 +1,5 @@
 -- `listing::answer::put_bad` meets its contract: the words, then the byte. Assumes nothing.
 use Rattle.text.proofs.WritingLaws.{put_then}
-use borrow.Author.Rules.{rules}
 use Rattle.listing.proofs.answer.put_bad.Goals as goal
 
 pub returns : goal.returns

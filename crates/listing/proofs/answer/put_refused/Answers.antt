@@ -1,6 +1,5 @@
 -- `listing::answer::put_refused` meets its contract: the word, then the number. Assumes nothing.
 use Rattle.text.proofs.WritingLaws.{put_then}
-use borrow.Author.Rules.{rules}
 use Rattle.listing.proofs.answer.put_refused.Goals as goal
 
 pub returns : goal.returns

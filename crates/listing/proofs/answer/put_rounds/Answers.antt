@@ -1,6 +1,5 @@
 -- `listing::answer::put_rounds` meets its contract: the first line, then the lines of the lanes. Assumes nothing.
 use Rattle.listing.proofs.AnswerTextLaws.{put_rounds}
-use borrow.Author.Rules.{rules}
 use Rattle.listing.proofs.answer.put_rounds.Goals as goal
 
 pub returns : goal.returns

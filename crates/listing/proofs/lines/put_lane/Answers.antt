@@ -1,10 +1,7 @@
 use native.Mathlib.Nat.{sub-zero}
 use Rattle.listing.proofs.SectionLineLaws.{next_round, last_round}
-use Rattle.listing.specs.SectionLines.{lane_round_lines}
-use Prim.Native.Nat.{◌-◌, ◌*◌, ◌≤◌}
-use Rattle.text.proofs.WritingLaws.{TextGoing, going_start, going_long, going_more, going_done}
+use Rattle.text.proofs.WritingLaws.{going_start, going_long, going_more, going_done}
 use native.Mathlib.Omega.{arith}
-use borrow.Author.Rules.{rules}
 use Rattle.listing.proofs.lines.put_lane.Goals as goal
 
 pub loop-round-init : goal.loop-round-init

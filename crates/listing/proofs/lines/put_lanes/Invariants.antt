@@ -1,11 +1,7 @@
 -- `listing::lines::put_lanes` meets its contract. The invariant: what is written, with the lanes that are left, is the whole text. Assumes nothing.
-use native.Mathlib.Nat.{sub-zero}
-use Rattle.listing.proofs.SectionLineLaws.{next_lane, last_lane}
 use Rattle.listing.specs.SectionLines.{section_lines}
 use Prim.Native.Nat.{◌-◌, ◌*◌, ◌^◌, ◌≤◌}
-use Rattle.text.proofs.WritingLaws.{TextGoing, going_start, going_long, going_more, going_done}
-use native.Mathlib.Omega.{arith}
-use borrow.Author.Rules.{rules}
+use Rattle.text.proofs.WritingLaws.{TextGoing}
 use Rattle.listing.proofs.lines.put_lanes.Given as goal
 
 abbrev pub invariant-loop-lane : goal.invariant-loop-lane

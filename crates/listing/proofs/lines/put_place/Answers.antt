@@ -6,7 +6,6 @@ use mathlib.Core.Path.{sym, ◌∙◌}
 use Prim.Native.Nat.{◌+◌, ◌^◌, ◌<◌}
 use native.Mathlib.Omega.{arith}
 use Rattle.listing.specs.SectionLines.{pair_start}
-use borrow.Author.Rules.{rules}
 use Rattle.listing.proofs.lines.put_place.Goals as goal
 
 pub overflow_mul-place-2 : goal.overflow_mul-place-2

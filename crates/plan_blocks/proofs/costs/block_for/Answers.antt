@@ -3,7 +3,6 @@
 use mathlib.Core.Path.{sym, ◌∙◌}
 use native.Mathlib.Omega.{arith}
 use Rattle.plan_blocks.proofs.LeastCostLaws.{for_early, for_later}
-use borrow.Author.Rules.{rules}
 use Rattle.plan_blocks.proofs.costs.block_for.Goals as goal
 
 pub returns-then-i-n : goal.returns-then-i-n

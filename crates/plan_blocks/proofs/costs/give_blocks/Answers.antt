@@ -1,7 +1,6 @@
 -- `plan_blocks::costs::give_blocks` meets its contract.
 -- Assumes nothing.
 use mathlib.Core.Path.{◌∙◌}
-use borrow.Author.Rules.{rules}
 use Rattle.plan_blocks.proofs.costs.give_blocks.Goals as goal
 
 pub returns : goal.returns

@@ -1,11 +1,10 @@
 use mathlib.Core.Path.{◌≡◌, ap, ap₂, sym, ◌∙◌}
-use Prim.Native.Nat.{ℕ, ◌+◌, ◌-◌, ◌≤◌, ◌<◌}
+use Prim.Native.Nat.{ℕ, ◌+◌, ◌-◌}
 use native.Mathlib.Omega.{arith}
 use Rattle.plan_blocks.specs.Blocks.{least_to}
 use Rattle.plan_blocks.specs.TableFill.{costs_of, lesser}
 use Rattle.plan_blocks.proofs.LeastCostLaws.{least_is, least_start, least_next}
 use Rattle.plan_blocks.proofs.BlockCostLaws.{cost_at}
-use borrow.Author.Rules.{rules}
 use Rattle.plan_blocks.proofs.costs.least_block.Goals as goal
 
 pub loop-i-init : goal.loop-i-init

@@ -1,13 +1,9 @@
 -- `plan_blocks::costs::least_block` meets its contract. The loop's invariant: `best` is the first least of the first i costs.
 -- Assumes nothing.
-use mathlib.Core.Path.{◌≡◌, ap, ap₂, sym, ◌∙◌}
-use Prim.Native.Nat.{ℕ, ◌+◌, ◌-◌, ◌≤◌, ◌<◌}
-use native.Mathlib.Omega.{arith}
+use mathlib.Core.Path.{◌≡◌}
+use Prim.Native.Nat.{◌-◌, ◌≤◌, ◌<◌}
 use Rattle.plan_blocks.specs.Blocks.{least_to}
-use Rattle.plan_blocks.specs.TableFill.{costs_of, lesser}
-use Rattle.plan_blocks.proofs.LeastCostLaws.{least_is, least_start, least_next}
-use Rattle.plan_blocks.proofs.BlockCostLaws.{cost_at}
-use borrow.Author.Rules.{rules}
+use Rattle.plan_blocks.specs.TableFill.{costs_of}
 use Rattle.plan_blocks.proofs.costs.least_block.Given as goal
 
 abbrev pub invariant-loop-i : goal.invariant-loop-i

@@ -1,9 +1,6 @@
 use mathlib.Core.Path.{◌≡◌}
-use Prim.Native.Nat.{◌+◌, ◌-◌, ◌≤◌}
 use native.Mathlib.Omega.{arith}
-use Rattle.plan_record.specs.Record.{stages_of}
-use Rattle.plan_blocks.proofs.OnePartMoreLaws.{PartsPlaced, placed_none, placed_long, placed_counts, put_ready, placed_more}
-use borrow.Author.Rules.{rules}
+use Rattle.plan_blocks.proofs.OnePartMoreLaws.{placed_none, placed_long, placed_counts, put_ready, placed_more}
 use Rattle.plan_blocks.proofs.costs.place_parts.Goals as goal
 
 pub loop-i-init : goal.loop-i-init

@@ -1,11 +1,8 @@
 -- `plan_blocks::costs::place_parts` meets its contract. The loop's invariant: the first i parts are in their blocks.
 -- Assumes nothing.
-use mathlib.Core.Path.{◌≡◌}
 use Prim.Native.Nat.{◌+◌, ◌-◌, ◌≤◌}
-use native.Mathlib.Omega.{arith}
 use Rattle.plan_record.specs.Record.{stages_of}
-use Rattle.plan_blocks.proofs.OnePartMoreLaws.{PartsPlaced, placed_none, placed_long, placed_counts, put_ready, placed_more}
-use borrow.Author.Rules.{rules}
+use Rattle.plan_blocks.proofs.OnePartMoreLaws.{PartsPlaced}
 use Rattle.plan_blocks.proofs.costs.place_parts.Given as goal
 
 abbrev pub invariant-loop-i : goal.invariant-loop-i

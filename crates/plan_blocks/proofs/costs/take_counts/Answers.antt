@@ -1,11 +1,8 @@
-use mathlib.Core.Path.{◌≡◌, refl, sym, ◌∙◌}
-use Prim.Native.Nat.{◌-◌}
+use mathlib.Core.Path.{refl, sym, ◌∙◌}
 use native.Mathlib.Omega.{arith}
 use lib.ListN.{length, length-set}
-use Rattle.plan_blocks.specs.TableFill.{block_part_counts}
 use Rattle.plan_blocks.proofs.BlockCostLaws.{counts_length, count_at}
-use Rattle.plan_blocks.proofs.OnePartMoreLaws.{BlockTaken, taken_none, taken_more, taken_all}
-use borrow.Author.Rules.{rules}
+use Rattle.plan_blocks.proofs.OnePartMoreLaws.{taken_none, taken_more, taken_all}
 use Rattle.plan_blocks.proofs.costs.take_counts.Goals as goal
 
 pub loop-b-init : goal.loop-b-init

@@ -1,13 +1,10 @@
 -- `plan_blocks::costs::take_counts` meets its contract. The loop's invariant: the first b counts are the records'.
 -- Assumes nothing.
-use mathlib.Core.Path.{◌≡◌, refl, sym, ◌∙◌}
+use mathlib.Core.Path.{◌≡◌}
 use Prim.Native.Nat.{◌-◌}
-use native.Mathlib.Omega.{arith}
-use lib.ListN.{length, length-set}
+use lib.ListN.{length}
 use Rattle.plan_blocks.specs.TableFill.{block_part_counts}
-use Rattle.plan_blocks.proofs.BlockCostLaws.{counts_length, count_at}
-use Rattle.plan_blocks.proofs.OnePartMoreLaws.{BlockTaken, taken_none, taken_more, taken_all}
-use borrow.Author.Rules.{rules}
+use Rattle.plan_blocks.proofs.OnePartMoreLaws.{BlockTaken}
 use Rattle.plan_blocks.proofs.costs.take_counts.Given as goal
 
 abbrev pub invariant-loop-b : goal.invariant-loop-b

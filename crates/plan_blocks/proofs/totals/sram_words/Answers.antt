@@ -1,7 +1,6 @@
 -- A column of the part table, summed.
 -- Assumes nothing.
 use native.Mathlib.Omega.{arith}
-use borrow.Author.Rules.{rules}
 use Rattle.plan_blocks.proofs.TallyLaws.{majors_few, column_in, sram_sum}
 use Rattle.plan_blocks.proofs.totals.sram_words.Goals as goal
 

@@ -1,7 +1,6 @@
 -- The words of the input layout, and a column of the part table, summed.
 -- Assumes nothing.
 use native.Mathlib.Omega.{arith}
-use borrow.Author.Rules.{rules}
 use Rattle.plan_blocks.proofs.TallyLaws.{majors_few, column_in, state_sum}
 use Rattle.plan_blocks.proofs.totals.state_words.Goals as goal
 

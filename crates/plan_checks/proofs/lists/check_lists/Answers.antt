@@ -13,7 +13,6 @@ use Rattle.plan_refusals.specs.Refusals.{gate_place}
 use Rattle.plan_checks.proofs.VerdictLaws.{unless_told, at_told, held, went_past}
 use Rattle.plan_checks.proofs.RefusalPlaceLaws.{list_told, lowest_told, few_same, few7}
 use Rattle.plan_checks.proofs.RefusalGroupLaws.{list_edition, list_five, list_six, list_seven}
-use borrow.Author.Rules.{rules}
 use Rattle.plan_checks.proofs.lists.check_lists.Goals as goal
 
 pub returns-then-is_refused : goal.returns-then-is_refused

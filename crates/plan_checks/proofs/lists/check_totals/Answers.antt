@@ -2,7 +2,6 @@
 -- Assumes nothing.
 use Rattle.plan_refusals.specs.RefusalGroups.{total_refusal}
 use Rattle.plan_checks.proofs.VerdictLaws.{unless_told}
-use borrow.Author.Rules.{rules}
 use Rattle.plan_checks.proofs.lists.check_totals.Goals as goal
 
 pub returns : goal.returns

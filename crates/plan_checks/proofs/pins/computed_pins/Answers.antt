@@ -3,7 +3,6 @@
 use mathlib.Core.Path.{sym}
 use native.Mathlib.Omega.{arith}
 use Rattle.plan_checks.proofs.CheckedRoomLaws.{lent_size, lent_back}
-use borrow.Author.Rules.{rules}
 use Rattle.plan_checks.proofs.pins.computed_pins.Goals as goal
 
 pub slice_bounds-refusal11-end-2 : goal.slice_bounds-refusal11-end-2

@@ -5,7 +5,6 @@ use Rattle.plan_entries.specs.TableEntries.{refusal13}
 use Rattle.plan_checks.proofs.VerdictLaws.{at_told, went_past}
 use Rattle.plan_checks.proofs.RefusalPlaceLaws.{lowest_told, few_same, few12, few13}
 use Rattle.plan_checks.proofs.RefusalGroupLaws.{place_twelve, place_thirteen}
-use borrow.Author.Rules.{rules}
 use Rattle.plan_checks.proofs.places.check_places.Goals as goal
 
 pub of_lowest-planned-requires : goal.of_lowest-planned-requires
@@ -14,7 +13,10 @@ of_lowest-planned-requires c =
 
 pub returns-then-is_refused : goal.returns-then-is_refused
 returns-then-is_refused c =
-    record { value = place_twelve c.args.plan.now _ _ (at_told 12 _ (refusal12 c.args.plan.now) _ (lowest_told (refusal12 c.args.plan.now) _ c.refusal12.ensures.value) c.of_lowest-planned.ensures) c.is_refused.ensures c.if-is_refused.true; room_unchanged = c.refusal12.ensures.room_unchanged }
+    record {
+      value = place_twelve c.args.plan.now _ _ (at_told 12 _ (refusal12 c.args.plan.now) _ (lowest_told (refusal12 c.args.plan.now) _ c.refusal12.ensures.value) c.of_lowest-planned.ensures) c.is_refused.ensures c.if-is_refused.true;
+      room_unchanged = c.refusal12.ensures.room_unchanged;
+    }
 
 pub of_lowest-requires : goal.of_lowest-requires
 of_lowest-requires c =

@@ -3,7 +3,6 @@
 use mathlib.Core.Path.{ap, ◌∙◌}
 use Rattle.plan_checks.specs.Verdicts.{verdict_of}
 use Rattle.plan_checks.proofs.RefusalPlaceLaws.{reads_told, reads_few}
-use borrow.Author.Rules.{rules}
 use Rattle.plan_checks.proofs.reading.check_reading.Goals as goal
 
 pub of_reads-requires : goal.of_reads-requires

@@ -1,6 +1,5 @@
 -- `plan_checks::tell::of_gates` meets its contract.
 -- Assumes nothing.
-use borrow.Author.Rules.{rules}
 use Rattle.plan_checks.proofs.tell.of_gates.Goals as goal
 
 pub returns-in-At : goal.returns-in-At

@@ -2,7 +2,6 @@
 -- Assumes nothing.
 use mathlib.Core.Path.{ap}
 use Rattle.plan_checks.specs.Verdicts.{lowest_place}
-use borrow.Author.Rules.{rules}
 use Rattle.plan_checks.proofs.tell.of_lowest.Goals as goal
 
 pub refuse-requires : goal.refuse-requires

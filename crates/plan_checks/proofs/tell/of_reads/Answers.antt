@@ -2,7 +2,6 @@
 -- Assumes nothing.
 use mathlib.Core.Path.{ap}
 use Rattle.plan_checks.specs.Verdicts.{checked_place}
-use borrow.Author.Rules.{rules}
 use Rattle.plan_checks.proofs.tell.of_reads.Goals as goal
 
 pub refuse_at-requires : goal.refuse_at-requires

@@ -1,6 +1,5 @@
 -- `plan_checks::tell::of_test` meets its contract.
 -- Assumes nothing.
-use borrow.Author.Rules.{rules}
 use Rattle.plan_checks.proofs.tell.of_test.Goals as goal
 
 pub returns : goal.returns

@@ -1,10 +1,9 @@
 use mathlib.Core.Path.{◌≡◌, refl, ◌∙◌}
-use Prim.Native.Nat.{◌-◌, ◌≤◌, ◌<◌}
+use Prim.Native.Nat.{◌<◌}
 use native.Mathlib.Omega.{arith}
 use lib.ListN.{length}
 use Rattle.plan_record.specs.Record.{endpoints_of}
-use Rattle.plan_counts.proofs.CollectLaws.{Collected, collect_start, collect_room, collect_more, collect_all}
-use borrow.Author.Rules.{rules}
+use Rattle.plan_counts.proofs.CollectLaws.{collect_start, collect_room, collect_more, collect_all}
 use Rattle.plan_counts.proofs.activations.collect.Goals as goal
 
 pub loop-i-init : goal.loop-i-init
@@ -17,8 +16,7 @@ put_key-n-requires c =
 
 pub loop-i-preserved : goal.loop-i-preserved
 loop-i-preserved c =
-    let room : c.loop-i.i < length c.args.keys.now = omega (arith, c.loop-i-test.true, c.requires.0.body.laid.endpoints, c.requires.1) in
-    (
+    let room : c.loop-i.i < length c.args.keys.now = omega (arith, c.loop-i-test.true, c.requires.0.body.laid.endpoints, c.requires.1) in (
       omega arith,
       c.put_key-n.auto.keys ∙ c.loop-i.invariant.1,
       collect_more _ _ _ _ _ _ c.loop-i.invariant.2 (room) _ _ c.put_key-n.ensures.keys_after c.put_key-n.ensures.value,

@@ -1,12 +1,9 @@
 -- The activations of the endpoints passed stand at the front of the keys.
 -- Assumes nothing.
-use mathlib.Core.Path.{◌≡◌, refl, ◌∙◌}
-use Prim.Native.Nat.{◌-◌, ◌≤◌, ◌<◌}
-use native.Mathlib.Omega.{arith}
+use mathlib.Core.Path.{◌≡◌}
+use Prim.Native.Nat.{◌-◌, ◌≤◌}
 use lib.ListN.{length}
-use Rattle.plan_record.specs.Record.{endpoints_of}
-use Rattle.plan_counts.proofs.CollectLaws.{Collected, collect_start, collect_room, collect_more, collect_all}
-use borrow.Author.Rules.{rules}
+use Rattle.plan_counts.proofs.CollectLaws.{Collected}
 use Rattle.plan_counts.proofs.activations.collect.Given as goal
 
 abbrev pub invariant-loop-i : goal.invariant-loop-i

@@ -6,7 +6,6 @@ use native.Mathlib.Omega.{arith}
 use lib.ListN.{length}
 use Rattle.plan_counts.specs.Counts.{duplicates_in}
 use Rattle.plan_counts.proofs.ActivationLaws.{extras_sorted}
-use borrow.Author.Rules.{rules}
 use Rattle.plan_counts.proofs.activations.duplicate_words.Goals as goal
 
 pub overflow_add-result : goal.overflow_add-result

@@ -5,7 +5,6 @@ use native.Mathlib.Omega.{arith}
 use lib.ListN.{length, take}
 use Rattle.plan_counts.specs.Counts.{duplicates_in}
 use Rattle.plan_counts.proofs.CollectLaws.{front_is, front_length}
-use borrow.Author.Rules.{rules}
 use Rattle.plan_counts.proofs.activations.duplicates_of.Goals as goal
 
 pub slice_bounds-duplicate_words-end-2 : goal.slice_bounds-duplicate_words-end-2

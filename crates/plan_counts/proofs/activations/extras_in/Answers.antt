@@ -1,10 +1,5 @@
-use mathlib.Core.Path.{◌≡◌}
-use Prim.Native.Nat.{◌+◌, ◌-◌, ◌≤◌}
 use native.Mathlib.Omega.{arith}
-use lib.ListN.{length, drop}
-use Rattle.plan_counts.specs.Neighbours.{extras}
 use Rattle.plan_counts.proofs.ActivationLaws.{extras_more, extras_end}
-use borrow.Author.Rules.{rules}
 use Rattle.plan_counts.proofs.activations.extras_in.Goals as goal
 
 pub loop-i-preserved : goal.loop-i-preserved

@@ -2,11 +2,8 @@
 -- Assumes nothing.
 use mathlib.Core.Path.{◌≡◌}
 use Prim.Native.Nat.{◌+◌, ◌-◌, ◌≤◌}
-use native.Mathlib.Omega.{arith}
 use lib.ListN.{length, drop}
 use Rattle.plan_counts.specs.Neighbours.{extras}
-use Rattle.plan_counts.proofs.ActivationLaws.{extras_more, extras_end}
-use borrow.Author.Rules.{rules}
 use Rattle.plan_counts.proofs.activations.extras_in.Given as goal
 
 abbrev pub invariant-loop-i : goal.invariant-loop-i

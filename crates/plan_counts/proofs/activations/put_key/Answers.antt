@@ -7,7 +7,6 @@ use native.Mathlib.Omega.{arith}
 use Rattle.plan_counts.specs.Counts.{activation}
 use Rattle.plan_counts.proofs.CollectLaws.{put_key, put_nothing}
 use Rattle.plan_counts.proofs.ActivationLaws.{output_key, staged_key, register_key, no_key}
-use borrow.Author.Rules.{rules}
 use Rattle.plan_counts.proofs.activations.put_key.Goals as goal
 
 pub inverted-requires : goal.inverted-requires

@@ -1,7 +1,6 @@
 -- Where all listed pins are right no slot is bad.
 -- Assumes nothing.
 use mathlib.Core.Path.{sym, ◌∙◌}
-use borrow.Author.Rules.{rules}
 use Rattle.plan_positions.proofs.PlannedLaws.{list_held, list_fine}
 use Rattle.plan_positions.proofs.planned.bad_pin.Goals as goal
 

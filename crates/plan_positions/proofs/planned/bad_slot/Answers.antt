@@ -1,13 +1,6 @@
-use mathlib.Core.Path.{◌≡◌, sym, ◌∙◌}
-use Prim.Native.Nat.{◌-◌, ◌≤◌}
+use mathlib.Core.Path.{sym, ◌∙◌}
 use native.Mathlib.Omega.{arith}
-use borrow.Author.Tests.{not-true, not-false}
-use borrow.Author.Rules.{rules}
-use Rattle.plan_record.specs.Record.{slots_of}
-use Rattle.words.specs.Tests.{first_from}
 use Rattle.words.proofs.FoundLaws.{look_start, look_fault, look_next, look_end}
-use Rattle.plan_positions.specs.Positions.{twelve_right}
-use Rattle.plan_positions.specs.Places.{bad_slot}
 use Rattle.plan_positions.proofs.planned.bad_slot.Goals as goal
 
 pub loop-j-init : goal.loop-j-init

@@ -3,7 +3,6 @@
 use mathlib.Core.Path.{ap, ◌∙◌}
 use mathlib.Core.List.{List}
 use Prim.Native.Nat.{ℕ}
-use borrow.Author.Rules.{rules}
 use Rattle.pinmap.specs.PinMap.{after_renewals}
 use Rattle.plan_winners.specs.Winners.{winner_puts}
 use Rattle.plan_positions.proofs.planned.fill_planned.Goals as goal

@@ -2,7 +2,6 @@
 -- Assumes nothing.
 use mathlib.Core.Path.{refl, sym, ap}
 use native.Mathlib.Omega.{arith}
-use borrow.Author.Rules.{rules}
 use lib.ListN.{length}
 use lib.Seq.{length-take-le}
 use Rattle.plan_record.proofs.PlanFormLaws.{formed}
@@ -28,12 +27,11 @@ slice_bounds-bad_pin-end-2 c =
     list_size c.args.d.now c.args.p c.args.keys.now _ _ c.requires.1 c.list_planned-m.ensures.value c.list_planned-m.ensures.list_after
 
 pub bad_pin-found-requires : goal.bad_pin-found-requires
-bad_pin-found-requires c =
-    (
-      part_slots c.args.d.now c.args.p c.args.body c.args.room.now c.args.state c.requires.0 _ _ c.list_planned-m.ensures.table_after refl _ c.parts_earlier.ensures,
-      list_front c.args.d.now c.args.p c.args.keys.now _ _ c.requires.1 c.list_planned-m.ensures.value c.list_planned-m.ensures.list_after,
-      list_small c.args.d.now c.args.p c.args.keys.now _ _ c.requires.1 c.list_planned-m.ensures.value c.list_planned-m.ensures.list_after c.list_planned-m.ensures.all_pins,
-    )
+bad_pin-found-requires c = (
+  part_slots c.args.d.now c.args.p c.args.body c.args.room.now c.args.state c.requires.0 _ _ c.list_planned-m.ensures.table_after refl _ c.parts_earlier.ensures,
+  list_front c.args.d.now c.args.p c.args.keys.now _ _ c.requires.1 c.list_planned-m.ensures.value c.list_planned-m.ensures.list_after,
+  list_small c.args.d.now c.args.p c.args.keys.now _ _ c.requires.1 c.list_planned-m.ensures.value c.list_planned-m.ensures.list_after c.list_planned-m.ensures.all_pins,
+)
 
 pub slice_bounds-clear-end-2 : goal.slice_bounds-clear-end-2
 slice_bounds-clear-end-2 c =

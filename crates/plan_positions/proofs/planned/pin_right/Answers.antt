@@ -1,7 +1,6 @@
 -- The table has the pin's entry; that it lacks it cannot be.
 -- Assumes nothing.
 use mathlib.Core.Path.{sym}
-use borrow.Author.Rules.{rules}
 use lib.Seq.{length-take-le}
 use Rattle.plan_positions.proofs.PlannedLaws.{pin_value_lem, pin_missing}
 use Rattle.plan_positions.proofs.planned.pin_right.Goals as goal

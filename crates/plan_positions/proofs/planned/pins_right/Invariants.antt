@@ -1,14 +1,10 @@
 -- The loop's invariant: the first i pins are right.
 -- Assumes nothing.
-use mathlib.Core.Path.{◌≡◌, refl, sym, ◌∙◌}
+use mathlib.Core.Path.{◌≡◌}
 use mathlib.Core.Bool.{true}
 use Prim.Native.Nat.{◌-◌, ◌≤◌}
-use native.Mathlib.Omega.{arith}
-use borrow.Author.Tests.{not-true, not-false}
-use borrow.Author.Rules.{rules}
 use lib.ListN.{length}
 use Rattle.words.specs.Tests.{all_below}
-use Rattle.words.proofs.TestLaws.{all_on, all_less, all_fault}
 use Rattle.plan_positions.specs.Places.{listed_pin_right}
 use Rattle.plan_positions.proofs.planned.pins_right.Given as goal
 

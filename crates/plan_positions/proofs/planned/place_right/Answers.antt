@@ -1,6 +1,5 @@
 -- No entry; an unstaged position is asked for its word in the state, a staged one for a normal word.
 -- Assumes nothing.
-use borrow.Author.Rules.{rules}
 use Rattle.plan_positions.proofs.PlannedLaws.{place_none, unstaged_right, staged_right}
 use Rattle.plan_positions.proofs.planned.place_right.Goals as goal
 

@@ -1,13 +1,10 @@
-use mathlib.Core.Path.{◌≡◌, refl, ap, ◌∙◌}
-use Prim.Native.Nat.{◌-◌, ◌≤◌, ◌<◌}
+use mathlib.Core.Path.{refl, ap, ◌∙◌}
+use Prim.Native.Nat.{◌<◌}
 use native.Mathlib.Omega.{arith}
-use borrow.Author.Rules.{rules}
 use lib.ListN.{length}
 use Rattle.plan_record.proofs.PlanFormLaws.{formed, body_ready}
-use Rattle.plan_record.specs.Record.{parts_of, body_at}
-use Rattle.words.specs.Tests.{lowest_from}
+use Rattle.plan_record.specs.Record.{parts_of}
 use Rattle.words.proofs.FoundLaws.{pass_start, pass_fault, pass_next, pass_end}
-use Rattle.plan_positions.specs.Places.{bad_slot}
 use Rattle.plan_positions.specs.Positions as positions
 use Rattle.plan_positions.proofs.PlannedLaws.{tallied, part_ready}
 use Rattle.plan_positions.proofs.planned.refusal12.Goals as goal
@@ -32,8 +29,7 @@ body_at-body-requires c =
 
 pub judge_part-requires : goal.judge_part-requires
 judge_part-requires c =
-    let among : c.loop-p.p < parts_of c.args.d.now = omega (arith, c.loop-p-test.true, c.parts_of-parts.ensures.0) in
-    (
+    let among : c.loop-p.p < parts_of c.args.d.now = omega (arith, c.loop-p-test.true, c.parts_of-parts.ensures.0) in (
       part_ready c.args.d.now c.args.room.now c.loop-p.room c.loop-p.p c.body_at-body.result _ c.requires.0 c.loop-p.invariant.2 c.body_at-body.ensures
           (among) c.state_words-state.ensures,
       omega (arith, c.loop-p.invariant.4, c.requires.1),
@@ -54,8 +50,7 @@ returns-in-At c =
 
 pub loop-p-preserved : goal.loop-p-preserved
 loop-p-preserved c =
-    let among : c.loop-p.p < parts_of c.args.d.now = omega (arith, c.loop-p-test.true, c.parts_of-parts.ensures.0) in
-    (
+    let among : c.loop-p.p < parts_of c.args.d.now = omega (arith, c.loop-p-test.true, c.parts_of-parts.ensures.0) in (
       omega arith,
       c.body_at-body.ensures.end,
       c.judge_part.ensures.room_unchanged ∙ c.loop-p.invariant.2,

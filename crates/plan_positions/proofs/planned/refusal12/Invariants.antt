@@ -1,17 +1,12 @@
 -- The lowest place from this part on is that of the plan; each part leaves the room as it was.
 -- Assumes nothing.
-use mathlib.Core.Path.{◌≡◌, refl, ap, ◌∙◌}
-use Prim.Native.Nat.{◌-◌, ◌≤◌, ◌<◌}
-use native.Mathlib.Omega.{arith}
-use borrow.Author.Rules.{rules}
+use mathlib.Core.Path.{◌≡◌}
+use Prim.Native.Nat.{◌-◌, ◌≤◌}
 use lib.ListN.{length}
-use Rattle.plan_record.proofs.PlanFormLaws.{formed, body_ready}
 use Rattle.plan_record.specs.Record.{parts_of, body_at}
 use Rattle.words.specs.Tests.{lowest_from}
-use Rattle.words.proofs.FoundLaws.{pass_start, pass_fault, pass_next, pass_end}
 use Rattle.plan_positions.specs.Places.{bad_slot}
 use Rattle.plan_positions.specs.Positions as positions
-use Rattle.plan_positions.proofs.PlannedLaws.{tallied, part_ready}
 use Rattle.plan_positions.proofs.planned.refusal12.Given as goal
 
 abbrev pub invariant-loop-p : goal.invariant-loop-p

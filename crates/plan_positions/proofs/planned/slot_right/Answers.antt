@@ -2,7 +2,6 @@
 -- Assumes nothing.
 use mathlib.Core.Path.{sym, ◌∙◌}
 use native.Mathlib.Omega.{arith}
-use borrow.Author.Rules.{rules}
 use Rattle.plan_positions.proofs.PlannedLaws.{slot_empty, slot_there, slot_by}
 use Rattle.plan_positions.proofs.planned.slot_right.Goals as goal
 

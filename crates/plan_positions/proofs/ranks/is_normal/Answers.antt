@@ -1,7 +1,6 @@
 -- No part starts at w or before it; or the last one that does is the only one that can hold w.
 -- Assumes nothing.
 use native.Mathlib.Omega.{arith}
-use borrow.Author.Rules.{rules}
 use Rattle.plan_positions.proofs.StateOrderLaws.{row_in, normal_none, normal_start, normal_last}
 use Rattle.plan_positions.proofs.ranks.is_normal.Goals as goal
 

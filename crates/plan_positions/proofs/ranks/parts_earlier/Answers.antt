@@ -1,7 +1,6 @@
 use mathlib.Core.Path.{◌≡◌, ap, ◌∙◌}
-use Prim.Native.Nat.{ℕ, ◌*◌, ◌-◌, ◌^◌, ◌≤◌}
+use Prim.Native.Nat.{ℕ}
 use native.Mathlib.Omega.{arith}
-use borrow.Author.Rules.{rules}
 use Rattle.plan_record.specs.Record.{majors_of, parts_before}
 use Rattle.plan_record.proofs.RecordLaws.{parts_more}
 use Rattle.plan_positions.specs.Positions.{major_to}
@@ -13,13 +12,12 @@ loop-s-init c =
     (omega arith, (earlier_none c.args.d.now c.args.p).0, (earlier_none c.args.d.now c.args.p).1, omega arith)
 
 pub loop-s-preserved : goal.loop-s-preserved
-loop-s-preserved c =
-    (
-      omega arith,
-      c.later_first-first.ensures ∙ earlier_more c.args.d.now c.args.p c.loop-s.s c.loop-s.first c.loop-s.next c.loop-s.invariant.1 c.loop-s.invariant.2,
-      omega (arith, c.loop-s.invariant.2, c.count_at.ensures, parts_more c.args.d.now c.loop-s.s),
-      omega (arith, c.loop-s.invariant.3),
-    )
+loop-s-preserved c = (
+  omega arith,
+  c.later_first-first.ensures ∙ earlier_more c.args.d.now c.args.p c.loop-s.s c.loop-s.first c.loop-s.next c.loop-s.invariant.1 c.loop-s.invariant.2,
+  omega (arith, c.loop-s.invariant.2, c.count_at.ensures, parts_more c.args.d.now c.loop-s.s),
+  omega (arith, c.loop-s.invariant.3),
+)
 
 pub returns : goal.returns
 returns c =

@@ -1,13 +1,9 @@
 -- After s major stages: the first part of the last of them that begins at p or before it, and the first part of the next one.
 -- Assumes nothing.
-use mathlib.Core.Path.{◌≡◌, ap, ◌∙◌}
-use Prim.Native.Nat.{ℕ, ◌*◌, ◌-◌, ◌^◌, ◌≤◌}
-use native.Mathlib.Omega.{arith}
-use borrow.Author.Rules.{rules}
-use Rattle.plan_record.specs.Record.{majors_of, parts_before}
-use Rattle.plan_record.proofs.RecordLaws.{parts_more}
+use mathlib.Core.Path.{◌≡◌}
+use Prim.Native.Nat.{◌*◌, ◌-◌, ◌^◌, ◌≤◌}
+use Rattle.plan_record.specs.Record.{parts_before}
 use Rattle.plan_positions.specs.Positions.{major_to}
-use Rattle.plan_positions.proofs.MajorLaws.{earlier_none, earlier_more}
 use Rattle.plan_positions.proofs.ranks.parts_earlier.Given as goal
 
 abbrev pub invariant-loop-s : goal.invariant-loop-s

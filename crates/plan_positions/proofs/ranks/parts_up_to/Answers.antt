@@ -1,9 +1,7 @@
 use mathlib.Core.Path.{◌≡◌}
-use Prim.Native.Nat.{◌+◌, ◌-◌}
+use Prim.Native.Nat.{◌+◌}
 use native.Mathlib.Omega.{arith}
-use borrow.Author.Rules.{rules}
 use Rattle.sort.proofs.HalfSearchLaws.{search_start, search_right, search_left, between_least}
-use Rattle.sort.specs.HalfSearch.{Between}
 use Rattle.plan_positions.specs.Places.{ranked_start}
 use Rattle.plan_positions.proofs.StateOrderLaws.{row_in, starts_rise}
 use Rattle.plan_positions.proofs.ranks.parts_up_to.Goals as goal

@@ -1,9 +1,6 @@
 use mathlib.Core.Path.{refl}
-use Prim.Native.Nat.{◌-◌}
 use native.Mathlib.Omega.{arith}
-use borrow.Author.Rules.{rules}
-use lib.ListN.{length}
-use Rattle.plan_reads.proofs.ListedBitLaws.{Asking, asking_start, asking_length, asking_pin, asking_more, asking_all}
+use Rattle.plan_reads.proofs.ListedBitLaws.{asking_start, asking_length, asking_pin, asking_more, asking_all}
 use Rattle.plan_reads.proofs.asked.ask_bits.Goals as goal
 
 pub loop-i-init : goal.loop-i-init

@@ -1,11 +1,8 @@
 -- `plan_reads::asked::ask_bits` meets its contract. The loop's invariant: the first i pins have given way to their bits.
 -- Assumes nothing.
-use mathlib.Core.Path.{refl}
 use Prim.Native.Nat.{◌-◌}
-use native.Mathlib.Omega.{arith}
-use borrow.Author.Rules.{rules}
 use lib.ListN.{length}
-use Rattle.plan_reads.proofs.ListedBitLaws.{Asking, asking_start, asking_length, asking_pin, asking_more, asking_all}
+use Rattle.plan_reads.proofs.ListedBitLaws.{Asking}
 use Rattle.plan_reads.proofs.asked.ask_bits.Given as goal
 
 abbrev pub invariant-loop-i : goal.invariant-loop-i

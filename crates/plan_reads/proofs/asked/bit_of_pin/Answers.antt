@@ -1,6 +1,5 @@
 -- `plan_reads::asked::bit_of_pin` meets its contract: the winner gives the planned position.
 -- Assumes nothing.
-use borrow.Author.Rules.{rules}
 use Rattle.plan_reads.proofs.AskedLaws.{won_entry, won_bit}
 use Rattle.plan_reads.proofs.asked.bit_of_pin.Goals as goal
 

@@ -1,6 +1,5 @@
 -- `plan_reads::asked::entry_of` meets its contract: what a look into the table tells.
 -- Assumes nothing.
-use borrow.Author.Rules.{rules}
 use Rattle.pinmap.specs.PinMap.{look}
 use Rattle.plan_reads.proofs.AskedLaws.{value_or_zero, missing_zero}
 use Rattle.plan_reads.proofs.asked.entry_of.Goals as goal

@@ -1,7 +1,6 @@
 -- `plan_reads::asked::list_bits` meets its contract: the list of the pins in front of the keys, then their bits in its place.
 -- Assumes nothing.
 use native.Mathlib.Omega.{arith}
-use borrow.Author.Rules.{rules}
 use Rattle.plan_positions.proofs.PlannedLaws.{list_size}
 use Rattle.plan_reads.proofs.SearchedLaws.{pins_are}
 use Rattle.plan_reads.proofs.ListedBitLaws.{list_won, bits_count, bits_back, bits_narrow}
@@ -21,4 +20,9 @@ ask_bits-requires c =
 
 pub returns : goal.returns
 returns c =
-    record { value = (bits_count c.args.d.now c.args.p c.args.keys.now _ _ c.requires.4 c.list_planned-n.ensures.value c.list_planned-n.ensures.list_after, c.list_planned-n.ensures.value.1); pins_after = c.list_planned-n.ensures.table_after; keys_after = bits_back c.args.d.now c.args.p c.args.keys.now _ _ c.requires.4 c.list_planned-n.ensures.value c.list_planned-n.ensures.list_after _ c.ask_bits.ensures.keys_after; all_narrow = bits_narrow c.args.d.now c.args.p c.args.keys.now _ _ c.requires.4 c.list_planned-n.ensures.value c.list_planned-n.ensures.list_after c.ask_bits.ensures.all_narrow }
+    record {
+      value = (bits_count c.args.d.now c.args.p c.args.keys.now _ _ c.requires.4 c.list_planned-n.ensures.value c.list_planned-n.ensures.list_after, c.list_planned-n.ensures.value.1);
+      pins_after = c.list_planned-n.ensures.table_after;
+      keys_after = bits_back c.args.d.now c.args.p c.args.keys.now _ _ c.requires.4 c.list_planned-n.ensures.value c.list_planned-n.ensures.list_after _ c.ask_bits.ensures.keys_after;
+      all_narrow = bits_narrow c.args.d.now c.args.p c.args.keys.now _ _ c.requires.4 c.list_planned-n.ensures.value c.list_planned-n.ensures.list_after c.ask_bits.ensures.all_narrow;
+    }

@@ -1,7 +1,6 @@
 -- `plan_reads::asked::part_set` meets its contract: the front of the keys is the bits of the listed pins.
 -- Assumes nothing.
 use mathlib.Core.Path.{refl}
-use borrow.Author.Rules.{rules}
 use Rattle.plan_reads.proofs.ListedBitLaws.{asked_size, asked_settable, asked_count, asked_set}
 use Rattle.plan_reads.proofs.asked.part_set.Goals as goal
 
@@ -16,4 +15,9 @@ read_set-requires c =
 pub returns : goal.returns
 returns c =
     let told = asked_set c.args.d.now c.args.p c.args.keys.now c.args.scratch.now c.args.set.now _ _ c.requires.4 c.list_bits-n.ensures.value c.list_bits-n.ensures.keys_after c.list_bits-n.ensures.all_narrow c.requires.3 _ _ _ refl c.read_set.ensures.value c.read_set.ensures.set_after in
-    record { value = asked_count c.args.d.now c.args.p c.args.keys.now c.args.scratch.now c.args.set.now _ _ c.requires.4 c.list_bits-n.ensures.value c.list_bits-n.ensures.keys_after c.list_bits-n.ensures.all_narrow c.requires.3 _ _ _ refl c.read_set.ensures.value c.read_set.ensures.set_after; pins_after = c.list_bits-n.ensures.pins_after; set_after = told.0; all_narrow = told.1 }
+    record {
+      value = asked_count c.args.d.now c.args.p c.args.keys.now c.args.scratch.now c.args.set.now _ _ c.requires.4 c.list_bits-n.ensures.value c.list_bits-n.ensures.keys_after c.list_bits-n.ensures.all_narrow c.requires.3 _ _ _ refl c.read_set.ensures.value c.read_set.ensures.set_after;
+      pins_after = c.list_bits-n.ensures.pins_after;
+      set_after = told.0;
+      all_narrow = told.1;
+    }

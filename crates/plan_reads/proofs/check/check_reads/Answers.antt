@@ -1,15 +1,12 @@
-use mathlib.Core.Path.{◌≡◌, refl, sym, ◌∙◌}
-use Prim.Native.Nat.{◌-◌, ◌<◌}
+use mathlib.Core.Path.{refl, sym, ◌∙◌}
+use Prim.Native.Nat.{◌<◌}
 use native.Mathlib.Omega.{arith}
-use borrow.Author.Rules.{rules}
-use lib.ListN.{length}
 use Rattle.plan_record.specs.Record.{parts_of}
 use Rattle.plan_record.proofs.PlanFormLaws.{formed, body_ready}
 use Rattle.plan_winners.proofs.WinnerLaws.{listed}
-use Rattle.plan_reads.specs.PartReadAnswers.{read_rows}
 use Rattle.plan_reads.proofs.ReadRowLaws.{read_none}
 use Rattle.plan_reads.proofs.FirstEntryLaws.{all_planned}
-use Rattle.plan_reads.proofs.CheckLaws.{Passing, passing_start, passing_place, passing_fault, passing_on, none_early, passed_told, rows_long, rows_clear, row_inside, rows_more, rows_fault, rows_all}
+use Rattle.plan_reads.proofs.CheckLaws.{passing_start, passing_place, passing_fault, passing_on, none_early, passed_told, rows_long, rows_clear, row_inside, rows_more, rows_fault, rows_all}
 use Rattle.plan_reads.proofs.check.check_reads.Goals as goal
 
 pub parts_of-parts-requires : goal.parts_of-parts-requires
@@ -54,7 +51,11 @@ shape_of-set-then-is_nothing c =
 
 pub returns-then-is_nothing : goal.returns-then-is_nothing
 returns-then-is_nothing c =
-    let there = passing_place c.args.d.now _ c.loop-p.at c.loop-p.found c.loop-p.p c.parts_of-parts.ensures.0 c.loop-p-test.true c.loop-p.invariant.0 _ c.check_part-reads.ensures.value _ c.is_nothing.ensures c.if-is_nothing.true in record { value = passing_fault c.args.d.now _ c.loop-p.at c.loop-p.found c.loop-p.p c.parts_of-parts.ensures.0 c.loop-p-test.true c.loop-p.invariant.0 _ c.check_part-reads.ensures.value _ c.is_nothing.ensures c.if-is_nothing.true; room_after = rows_fault c.args.d.now c.args.room.now _ c.loop-p.p (c.check_part-reads.ensures.room_unchanged ∙ c.loop-p.invariant.1) there }
+    let there = passing_place c.args.d.now _ c.loop-p.at c.loop-p.found c.loop-p.p c.parts_of-parts.ensures.0 c.loop-p-test.true c.loop-p.invariant.0 _ c.check_part-reads.ensures.value _ c.is_nothing.ensures c.if-is_nothing.true in
+    record {
+      value = passing_fault c.args.d.now _ c.loop-p.at c.loop-p.found c.loop-p.p c.parts_of-parts.ensures.0 c.loop-p-test.true c.loop-p.invariant.0 _ c.check_part-reads.ensures.value _ c.is_nothing.ensures c.if-is_nothing.true;
+      room_after = rows_fault c.args.d.now c.args.room.now _ c.loop-p.p (c.check_part-reads.ensures.room_unchanged ∙ c.loop-p.invariant.1) there;
+    }
 
 pub put_reads-requires : goal.put_reads-requires
 put_reads-requires c =
@@ -68,16 +69,15 @@ loop-p-smaller c =
     omega (arith, c.loop-p-test.true)
 
 pub loop-p-preserved : goal.loop-p-preserved
-loop-p-preserved c =
-    (
-      passing_on c.args.d.now _ c.loop-p.at c.loop-p.found c.loop-p.p c.parts_of-parts.ensures.0 c.loop-p-test.true c.loop-p.invariant.0 _ c.check_part-reads.ensures.value _
-          c.is_nothing.ensures c.if-is_nothing.false _ _ c.firsts_after-found.ensures
-          c.body_at-body.ensures.end,
-      c.put_reads.ensures ∙ rows_more c.args.d.now c.args.room.now _ c.loop-p.p (c.check_part-reads.ensures.room_unchanged ∙ c.loop-p.invariant.1) _ c.check_part-reads.ensures.value,
-      c.check_part-reads.auto.keys ∙ c.loop-p.invariant.2,
-      c.check_part-reads.auto.scratch ∙ c.loop-p.invariant.3,
-      c.check_part-reads.auto.set ∙ c.loop-p.invariant.4,
-    )
+loop-p-preserved c = (
+  passing_on c.args.d.now _ c.loop-p.at c.loop-p.found c.loop-p.p c.parts_of-parts.ensures.0 c.loop-p-test.true c.loop-p.invariant.0 _ c.check_part-reads.ensures.value _
+      c.is_nothing.ensures c.if-is_nothing.false _ _ c.firsts_after-found.ensures
+      c.body_at-body.ensures.end,
+  c.put_reads.ensures ∙ rows_more c.args.d.now c.args.room.now _ c.loop-p.p (c.check_part-reads.ensures.room_unchanged ∙ c.loop-p.invariant.1) _ c.check_part-reads.ensures.value,
+  c.check_part-reads.auto.keys ∙ c.loop-p.invariant.2,
+  c.check_part-reads.auto.scratch ∙ c.loop-p.invariant.3,
+  c.check_part-reads.auto.set ∙ c.loop-p.invariant.4,
+)
 
 pub shape_of-room : goal.shape_of-room
 shape_of-room c =
@@ -94,4 +94,7 @@ shape_of-set c = c.loop-p.invariant.4
 
 pub returns : goal.returns
 returns c =
-    record { value = c.tell_firsts.ensures ∙ passed_told c.args.d.now _ c.loop-p.at c.loop-p.found c.loop-p.p c.parts_of-parts.ensures.0 (omega arith) c.loop-p.invariant.0; room_after = rows_all c.args.d.now c.args.room.now _ c.loop-p.p c.loop-p.invariant.1 (omega (arith, c.parts_of-parts.ensures.0, c.loop-p.invariant.0.so_far)) (none_early c.args.d.now _ c.loop-p.at c.loop-p.found c.loop-p.p c.parts_of-parts.ensures.0 (omega arith) c.loop-p.invariant.0) }
+    record {
+      value = c.tell_firsts.ensures ∙ passed_told c.args.d.now _ c.loop-p.at c.loop-p.found c.loop-p.p c.parts_of-parts.ensures.0 (omega arith) c.loop-p.invariant.0;
+      room_after = rows_all c.args.d.now c.args.room.now _ c.loop-p.p c.loop-p.invariant.1 (omega (arith, c.parts_of-parts.ensures.0, c.loop-p.invariant.0.so_far)) (none_early c.args.d.now _ c.loop-p.at c.loop-p.found c.loop-p.p c.parts_of-parts.ensures.0 (omega arith) c.loop-p.invariant.0);
+    }

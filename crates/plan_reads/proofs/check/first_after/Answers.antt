@@ -1,6 +1,5 @@
 -- `plan_reads::check::first_after` meets its contract: one law for each way through.
 -- Assumes nothing.
-use borrow.Author.Rules.{rules}
 use Rattle.plan_reads.proofs.CheckLaws.{first_placed, first_other, first_here}
 use Rattle.plan_reads.proofs.check.first_after.Goals as goal
 

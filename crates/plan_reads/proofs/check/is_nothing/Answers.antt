@@ -1,6 +1,5 @@
 -- `plan_reads::check::is_nothing` meets its contract: by the number of the refusal.
 -- Assumes nothing.
-use borrow.Author.Rules.{rules}
 use Rattle.plan_reads.proofs.CheckLaws.{nothing_is}
 use Rattle.plan_reads.proofs.check.is_nothing.Goals as goal
 

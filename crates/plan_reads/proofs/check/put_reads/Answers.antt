@@ -2,7 +2,6 @@
 -- Assumes nothing.
 use mathlib.Core.Path.{◌∙◌}
 use native.Mathlib.Omega.{arith}
-use borrow.Author.Rules.{rules}
 use Rattle.plan_reads.proofs.check.put_reads.Goals as goal
 
 pub put_cell-requires : goal.put_cell-requires

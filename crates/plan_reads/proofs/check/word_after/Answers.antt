@@ -1,6 +1,5 @@
 -- `plan_reads::check::word_after` meets its contract: one law for each way through.
 -- Assumes nothing.
-use borrow.Author.Rules.{rules}
 use Rattle.plan_reads.proofs.CheckLaws.{word_placed, word_other, word_later, word_here}
 use Rattle.plan_reads.proofs.check.word_after.Goals as goal
 

@@ -1,8 +1,7 @@
-use mathlib.Core.Path.{◌∙◌, ◌≡◌}
-use Prim.Native.Nat.{ℕ, ◌-◌, ◌≤◌, ◌<◌}
+use mathlib.Core.Path.{◌∙◌}
+use Prim.Native.Nat.{◌≤◌, ◌<◌}
 use native.Mathlib.Omega.{arith}
-use borrow.Author.Rules.{rules}
-use lib.ListN.{length-set, length, get_or}
+use lib.ListN.{length-set, length}
 use Rattle.words.proofs.SectionLaws.{list_of-is}
 use Rattle.plan_record.specs.Record.{plan_lanes, slots_of}
 use Rattle.plan_reads.proofs.FirstEntryLaws.{entries_on}

@@ -1,13 +1,9 @@
 -- `plan_reads::entries::first_entries` meets its contract. The loop's invariant: the first i entries are right, and below the slots.
 -- Assumes nothing.
-use mathlib.Core.Path.{◌∙◌, ◌≡◌}
+use mathlib.Core.Path.{◌≡◌}
 use Prim.Native.Nat.{ℕ, ◌-◌, ◌≤◌, ◌<◌}
-use native.Mathlib.Omega.{arith}
-use borrow.Author.Rules.{rules}
-use lib.ListN.{length-set, length, get_or}
-use Rattle.words.proofs.SectionLaws.{list_of-is}
+use lib.ListN.{length, get_or}
 use Rattle.plan_record.specs.Record.{plan_lanes, slots_of}
-use Rattle.plan_reads.proofs.FirstEntryLaws.{entries_on}
 use Rattle.plan_reads.specs.Entries.{first_entry}
 use Rattle.plan_reads.proofs.entries.first_entries.Given as goal
 

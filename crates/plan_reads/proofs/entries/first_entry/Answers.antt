@@ -2,7 +2,6 @@
 -- Assumes nothing.
 use mathlib.Core.Path.{sym, ◌∙◌}
 use native.Mathlib.Omega.{arith}
-use borrow.Author.Rules.{rules}
 use Prim.Native.Nat.{◌<◌}
 use Rattle.plan_record.specs.Record.{slots_of}
 use Rattle.plan_reads.proofs.FirstEntryLaws.{entry_empty, entry_local}

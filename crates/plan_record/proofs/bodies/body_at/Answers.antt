@@ -2,7 +2,6 @@
 -- Assumes nothing.
 use Prim.Native.Nat.{◌/◌, ◌≤◌}
 use native.Mathlib.Omega.{arith}
-use borrow.Author.Rules.{rules}
 use lib.ListN.{length}
 use Rattle.plan_record.proofs.BodyLaws.{body_sizes, body_made}
 use Rattle.plan_record.proofs.bodies.body_at.Goals as goal

@@ -1,6 +1,5 @@
 -- One law of EndpointLaws for each kind.
 -- Assumes nothing.
-use borrow.Author.Rules.{rules}
 use Rattle.plan_record.proofs.EndpointLaws.{at_output, at_staged, at_register, at_sram}
 use Rattle.plan_record.proofs.bodies.endpoint_at.Goals as goal
 

@@ -1,7 +1,6 @@
 -- The bodies follow the part heads.
 -- Assumes nothing.
 use native.Mathlib.Omega.{arith}
-use borrow.Author.Rules.{rules}
 use Rattle.plan_record.proofs.RecordLaws.{body_first}
 use Rattle.plan_record.proofs.bodies.first_body.Goals as goal
 

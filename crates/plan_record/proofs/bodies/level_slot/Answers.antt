@@ -3,7 +3,6 @@
 use mathlib.Core.Path.{◌≡◌, ap, ◌∙◌}
 use Prim.Native.Nat.{◌+◌, ◌*◌}
 use native.Mathlib.Omega.{arith}
-use borrow.Author.Rules.{rules}
 use Rattle.plan_record.specs.Record.{plan_lanes, slot_at}
 use Rattle.plan_record.proofs.bodies.level_slot.Goals as goal
 

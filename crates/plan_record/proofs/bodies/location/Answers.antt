@@ -2,7 +2,6 @@
 -- Assumes nothing.
 use mathlib.Core.Path.{ap, ◌∙◌}
 use Prim.Native.Nat.{ℕ, ◌+◌}
-use borrow.Author.Rules.{rules}
 use Rattle.plan_record.specs.Record.{word_at}
 use Rattle.plan_record.proofs.bodies.location.Goals as goal
 

@@ -1,7 +1,6 @@
 -- The parts before the last major stage's end.
 -- Assumes nothing.
 use mathlib.Core.Path.{ap, ◌∙◌}
-use borrow.Author.Rules.{rules}
 use Rattle.plan_record.specs.Record.{parts_before}
 use Rattle.plan_record.proofs.bodies.parts_of.Goals as goal
 

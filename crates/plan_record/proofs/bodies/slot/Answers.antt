@@ -3,7 +3,6 @@
 use mathlib.Core.Path.{ap, ap₂, ◌∙◌}
 use Prim.Native.Nat.{ℕ, ◌+◌, ◌-◌, ◌*◌}
 use native.Mathlib.Omega.{arith}
-use borrow.Author.Rules.{rules}
 use Rattle.plan_record.specs.Record.{slot_words, word_at}
 use Rattle.plan_record.proofs.RecordLaws.{slot_inside}
 use Rattle.plan_record.proofs.bodies.slot.Goals as goal

@@ -3,7 +3,6 @@
 use mathlib.Core.Path.{ap, ◌∙◌}
 use Prim.Native.Nat.{ℕ, ◌+◌}
 use Rattle.plan_record.specs.Record.{word_at}
-use borrow.Author.Rules.{rules}
 use Rattle.plan_record.proofs.numbers.layout_pin.Goals as goal
 
 pub returns : goal.returns

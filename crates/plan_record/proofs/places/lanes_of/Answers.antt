@@ -1,7 +1,6 @@
 -- The one number, or the other.
 -- Assumes nothing.
 use native.Mathlib.Omega.{arith}
-use borrow.Author.Rules.{rules}
 use Rattle.plan_record.proofs.RecordLaws.{lanes_small, lanes_other}
 use Rattle.plan_record.proofs.places.lanes_of.Goals as goal
 

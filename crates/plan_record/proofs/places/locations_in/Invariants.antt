@@ -1,12 +1,8 @@
 -- The sum so far is that of the stages passed.
 -- Assumes nothing.
-use mathlib.Core.Path.{◌≡◌, refl, sym, ap, ap₂, ◌∙◌}
-use Prim.Native.Nat.{ℕ, ◌+◌, ◌-◌, ◌*◌, ◌≤◌}
-use native.Mathlib.Omega.{arith}
-use borrow.Author.Rules.{rules}
-use Rattle.words.specs.Sum.{sum_to}
+use mathlib.Core.Path.{◌≡◌}
+use Prim.Native.Nat.{◌-◌, ◌*◌, ◌≤◌}
 use Rattle.plan_record.specs.Record.{locations_in}
-use Rattle.plan_record.proofs.RecordLaws.{locations_more}
 use Rattle.plan_record.proofs.places.locations_in.Given as goal
 
 abbrev pub invariant-loop-s : goal.invariant-loop-s

@@ -1,12 +1,8 @@
 -- The sum so far is that of the stages passed.
 -- Assumes nothing.
-use mathlib.Core.Path.{◌≡◌, refl, sym, ap, ap₂, ◌∙◌}
-use Prim.Native.Nat.{◌+◌, ◌-◌, ◌*◌, ◌≤◌}
-use native.Mathlib.Omega.{arith}
-use borrow.Author.Rules.{rules}
-use Rattle.words.specs.Sum.{sum_to}
+use mathlib.Core.Path.{◌≡◌}
+use Prim.Native.Nat.{◌-◌, ◌*◌, ◌≤◌}
 use Rattle.plan_record.specs.Record.{parts_before}
-use Rattle.plan_record.proofs.RecordLaws.{parts_more}
 use Rattle.plan_record.proofs.places.parts_before.Given as goal
 
 abbrev pub invariant-loop-i : goal.invariant-loop-i

@@ -3,7 +3,6 @@
 use mathlib.Core.Path.{◌≡◌, ap, ◌∙◌}
 use Prim.Native.Nat.{ℕ, ◌+◌, ◌*◌, min}
 use native.Mathlib.Omega.{arith}
-use borrow.Author.Rules.{rules}
 use Rattle.plan_record.specs.Record.{majors_of, parts_before}
 use Rattle.plan_record.specs.Form.{plan_room_words}
 use Rattle.plan_record.proofs.places.room_words.Goals as goal

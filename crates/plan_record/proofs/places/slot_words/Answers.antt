@@ -1,7 +1,6 @@
 -- The product of two bounded numbers.
 -- Assumes nothing.
 use native.Mathlib.Omega.{arith}
-use borrow.Author.Rules.{rules}
 use Rattle.plan_record.specs.Record.{slot_words}
 use Rattle.plan_record.proofs.RecordLaws.{stages_few}
 use Rattle.plan_record.proofs.places.slot_words.Goals as goal

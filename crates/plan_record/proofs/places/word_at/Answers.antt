@@ -2,7 +2,6 @@
 -- Assumes nothing.
 use mathlib.Core.Path.{sym}
 use native.Mathlib.Omega.{arith}
-use borrow.Author.Rules.{rules}
 use Rattle.plan_record.proofs.RecordLaws.{word_missing}
 use Rattle.plan_record.proofs.places.word_at.Goals as goal
 

@@ -1,11 +1,8 @@
-use mathlib.Core.Path.{◌≡◌, sym, ap, ◌∙◌}
-use Prim.Native.Nat.{◌+◌, ◌*◌, ◌-◌, ◌≤◌}
+use mathlib.Core.Path.{sym, ap, ◌∙◌}
 use native.Mathlib.Omega.{arith}
-use borrow.Author.Rules.{rules}
 use Rattle.plan_record.proofs.RecordLaws.{lanes_range}
-use Rattle.plan_record.specs.Record.{plan_lanes, slots_of}
-use Rattle.words.specs.Tests.{first_from}
-use Rattle.plan_slots.specs.Slots.{eleven_right, over_items}
+use Rattle.plan_record.specs.Record.{plan_lanes}
+use Rattle.plan_slots.specs.Slots.{eleven_right}
 use Rattle.words.specs.Found.{item_of}
 use Rattle.plan_slot_tests.proofs.ItemLaws.{item_is, zero_right, stage_next, stage_eight, stage_fault, stage_end}
 use Rattle.plan_slot_tests.proofs.SlotTestLaws.{eleven_zero}

@@ -1,17 +1,10 @@
 -- `plan_slot_tests::computed::eleven_items` meets its contract. The loop's invariant: the answer from position q on is the stage's answer.
 -- Assumes nothing.
-use mathlib.Core.Path.{◌≡◌, sym, ap, ◌∙◌}
+use mathlib.Core.Path.{◌≡◌}
 use Prim.Native.Nat.{◌+◌, ◌*◌, ◌-◌, ◌≤◌}
-use native.Mathlib.Omega.{arith}
-use borrow.Author.Rules.{rules}
-use Rattle.plan_record.proofs.RecordLaws.{lanes_range}
 use Rattle.plan_record.specs.Record.{plan_lanes, slots_of}
 use Rattle.words.specs.Tests.{first_from}
 use Rattle.plan_slots.specs.Slots.{eleven_right, over_items}
-use Rattle.words.specs.Found.{item_of}
-use Rattle.plan_slot_tests.proofs.ItemLaws.{item_is, zero_right, stage_next, stage_eight, stage_fault, stage_end}
-use Rattle.plan_slot_tests.proofs.SlotTestLaws.{eleven_zero}
-use Rattle.plan_slot_tests.proofs.EmptyRunLaws.{eleven_eight}
 use Rattle.plan_slot_tests.proofs.computed.eleven_items.Given as goal
 
 abbrev pub invariant-loop-q : goal.invariant-loop-q

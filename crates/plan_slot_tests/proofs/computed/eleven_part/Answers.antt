@@ -1,6 +1,5 @@
 -- `plan_slot_tests::computed::eleven_part` meets its contract. The table holds the pins that the part reads while the positions are asked for.
 -- Assumes nothing.
-use borrow.Author.Rules.{rules}
 use Rattle.plan_slots.specs.Puts.{read_puts}
 use Rattle.plan_slots.proofs.PutLaws.{filled_with}
 use Rattle.plan_slot_tests.proofs.computed.eleven_part.Goals as goal

@@ -1,15 +1,11 @@
 -- `plan_slot_tests::computed::eleven_parts` meets its contract. The loop's invariant: the lowest place from part p on is the plan's.
 -- Assumes nothing.
-use mathlib.Core.Path.{◌≡◌, refl, ◌∙◌, ap}
+use mathlib.Core.Path.{◌≡◌}
 use Prim.Native.Nat.{◌-◌, ◌≤◌}
-use native.Mathlib.Omega.{arith}
-use borrow.Author.Rules.{rules}
 use lib.ListN.{length}
 use Rattle.plan_record.specs.Record.{body_at}
-use Rattle.words.specs.Tests.{lowest_from, lowest}
+use Rattle.words.specs.Tests.{lowest_from}
 use Rattle.plan_slots.specs.Slots.{eleven_right, bad_item, refusal11}
-use Rattle.words.proofs.FoundLaws.{pass_start, pass_fault, pass_next, pass_end}
-use Rattle.plan_slot_tests.proofs.ItemLaws.{form_majors, form_ready, form_stages}
 use Rattle.plan_slot_tests.proofs.computed.eleven_parts.Given as goal
 
 abbrev pub invariant-loop-p : goal.invariant-loop-p

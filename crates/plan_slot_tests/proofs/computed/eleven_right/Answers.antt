@@ -2,7 +2,6 @@
 -- Assumes nothing.
 use Prim.Native.Nat.{◌+◌, ◌*◌, ◌<◌}
 use native.Mathlib.Omega.{arith}
-use borrow.Author.Rules.{rules}
 use Rattle.plan_slot_tests.proofs.SlotTestLaws.{eleven_empty, eleven_carried, eleven_read, eleven_unread}
 use Rattle.plan_slot_tests.proofs.computed.eleven_right.Goals as goal
 

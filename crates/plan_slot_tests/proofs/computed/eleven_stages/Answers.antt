@@ -1,10 +1,7 @@
-use mathlib.Core.Path.{◌≡◌, ap, sym, ◌∙◌}
-use Prim.Native.Nat.{◌*◌, ◌-◌, ◌≤◌}
+use mathlib.Core.Path.{ap, sym, ◌∙◌}
 use native.Mathlib.Omega.{arith}
-use borrow.Author.Rules.{rules}
-use Rattle.plan_record.specs.Record.{plan_lanes, slots_of}
-use Rattle.words.specs.Tests.{first_from}
-use Rattle.plan_slots.specs.Slots.{eleven_right, bad_item, over_items}
+use Rattle.plan_record.specs.Record.{plan_lanes}
+use Rattle.plan_slots.specs.Slots.{eleven_right, over_items}
 use Rattle.words.specs.Found.{item_of}
 use Rattle.words.proofs.FoundLaws.{item_some, item_none}
 use Rattle.plan_slot_tests.proofs.ItemLaws.{stages_all, stages_next, stages_fault, stages_end}

@@ -1,15 +1,10 @@
 -- `plan_slot_tests::computed::eleven_stages` meets its contract. The loop's invariant: the answer from stage s on is the part's.
 -- Assumes nothing.
-use mathlib.Core.Path.{◌≡◌, ap, sym, ◌∙◌}
+use mathlib.Core.Path.{◌≡◌}
 use Prim.Native.Nat.{◌*◌, ◌-◌, ◌≤◌}
-use native.Mathlib.Omega.{arith}
-use borrow.Author.Rules.{rules}
 use Rattle.plan_record.specs.Record.{plan_lanes, slots_of}
 use Rattle.words.specs.Tests.{first_from}
 use Rattle.plan_slots.specs.Slots.{eleven_right, bad_item, over_items}
-use Rattle.words.specs.Found.{item_of}
-use Rattle.words.proofs.FoundLaws.{item_some, item_none}
-use Rattle.plan_slot_tests.proofs.ItemLaws.{stages_all, stages_next, stages_fault, stages_end}
 use Rattle.plan_slot_tests.proofs.computed.eleven_stages.Given as goal
 
 abbrev pub invariant-loop-s : goal.invariant-loop-s

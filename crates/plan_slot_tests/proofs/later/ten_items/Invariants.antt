@@ -1,16 +1,10 @@
 -- `plan_slot_tests::later::ten_items` meets its contract. The loop's invariant: the answer from slot j on is the stage's answer.
 -- Assumes nothing.
-use mathlib.Core.Path.{◌≡◌, sym, ap, ◌∙◌}
+use mathlib.Core.Path.{◌≡◌}
 use Prim.Native.Nat.{◌+◌, ◌*◌, ◌-◌, ◌≤◌}
-use native.Mathlib.Omega.{arith}
-use borrow.Author.Rules.{rules}
 use Rattle.plan_record.specs.Record.{plan_lanes, slots_of}
 use Rattle.words.specs.Tests.{first_from}
 use Rattle.plan_slots.specs.Slots.{ten_right, over_items}
-use Rattle.words.specs.Found.{item_of}
-use Rattle.plan_slot_tests.proofs.ItemLaws.{item_is, stage_start, stage_next, stage_eight, stage_fault, stage_end}
-use Rattle.plan_slot_tests.specs.EmptyRuns.{eighth_empty}
-use Rattle.plan_slot_tests.proofs.EmptyRunLaws.{ten_eight}
 use Rattle.plan_slot_tests.proofs.later.ten_items.Given as goal
 
 abbrev pub invariant-loop-j : goal.invariant-loop-j

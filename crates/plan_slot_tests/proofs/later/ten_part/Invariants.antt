@@ -1,17 +1,11 @@
 -- `plan_slot_tests::later::ten_part` meets its contract. The loop's invariant: the answer from stage s + 1 on is the part's.
 -- Assumes nothing.
-use mathlib.Core.Path.{◌≡◌, refl, ap, ◌∙◌, sym}
+use mathlib.Core.Path.{◌≡◌}
 use Prim.Native.Nat.{◌+◌, ◌*◌, ◌-◌, ◌<◌}
-use native.Mathlib.Omega.{arith}
-use borrow.Author.Rules.{rules}
 use lib.ListN.{length}
 use Rattle.plan_record.specs.Record.{plan_lanes, slots_of}
 use Rattle.words.specs.Tests.{first_from}
 use Rattle.plan_slots.specs.Slots.{ten_right, bad_item, over_items}
-use Rattle.words.specs.Found.{item_of}
-use Rattle.words.proofs.FoundLaws.{item_some, item_none}
-use Rattle.plan_slot_tests.proofs.ItemLaws.{stages_first, stages_next, stages_fault, stages_end}
-use Rattle.plan_slots.proofs.SlotLaws.{ten_first}
 use Rattle.plan_slot_tests.proofs.later.ten_part.Given as goal
 
 abbrev pub invariant-loop-s : goal.invariant-loop-s

@@ -1,10 +1,6 @@
-use mathlib.Core.Path.{◌≡◌, refl, ◌∙◌, ap}
-use Prim.Native.Nat.{◌-◌, ◌≤◌}
+use mathlib.Core.Path.{refl, ◌∙◌, ap}
 use native.Mathlib.Omega.{arith}
-use borrow.Author.Rules.{rules}
-use lib.ListN.{length}
-use Rattle.plan_record.specs.Record.{body_at}
-use Rattle.words.specs.Tests.{lowest_from, lowest}
+use Rattle.words.specs.Tests.{lowest}
 use Rattle.plan_slots.specs.Slots.{ten_right, bad_item, refusal10}
 use Rattle.words.proofs.FoundLaws.{pass_start, pass_fault, pass_next, pass_end}
 use Rattle.plan_slot_tests.proofs.ItemLaws.{form_majors, form_ready, form_stages}

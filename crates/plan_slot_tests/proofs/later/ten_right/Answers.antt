@@ -1,6 +1,5 @@
 -- `plan_slot_tests::later::ten_right` meets its contract. One law of SlotTestLaws for each way out.
 -- Assumes nothing.
-use borrow.Author.Rules.{rules}
 use Rattle.plan_slot_tests.proofs.SlotTestLaws.{ten_empty, ten_there, ten_absent}
 use Rattle.plan_slot_tests.proofs.later.ten_right.Goals as goal
 

@@ -1,6 +1,5 @@
 -- `plan_slot_tests::later::ten_stage` meets its contract. The table holds the positions of the stage before while the slots are asked for.
 -- Assumes nothing.
-use borrow.Author.Rules.{rules}
 use Rattle.plan_slots.specs.Puts.{position_puts}
 use Rattle.plan_slots.proofs.PutLaws.{filled_with}
 use Rattle.plan_slot_tests.proofs.later.ten_stage.Goals as goal

@@ -1,9 +1,5 @@
 use mathlib.Core.Path.{◌≡◌, refl, ap, ◌∙◌}
-use Prim.Native.Nat.{◌-◌, ◌≤◌}
 use native.Mathlib.Omega.{arith}
-use borrow.Author.Rules.{rules}
-use lib.Dec.{eqb}
-use Rattle.words.specs.Pins.{empty}
 use Rattle.words.specs.Tests.{all_below}
 use Rattle.plan_slot_tests.specs.EmptyRuns.{empty_from}
 use Rattle.plan_slot_tests.proofs.EmptyRunLaws.{common_more}

@@ -1,14 +1,11 @@
 -- `plan_slot_tests::runs::eight_empty` meets its contract. The loop's invariant: the first k slots are empty just where they have all bits in common.
 -- Assumes nothing.
-use mathlib.Core.Path.{◌≡◌, refl, ap, ◌∙◌}
+use mathlib.Core.Path.{◌≡◌}
 use Prim.Native.Nat.{◌-◌, ◌≤◌}
-use native.Mathlib.Omega.{arith}
-use borrow.Author.Rules.{rules}
 use lib.Dec.{eqb}
 use Rattle.words.specs.Pins.{empty}
 use Rattle.words.specs.Tests.{all_below}
 use Rattle.plan_slot_tests.specs.EmptyRuns.{empty_from}
-use Rattle.plan_slot_tests.proofs.EmptyRunLaws.{common_more}
 use Rattle.plan_slot_tests.proofs.runs.eight_empty.Given as goal
 
 abbrev pub invariant-loop-k : goal.invariant-loop-k

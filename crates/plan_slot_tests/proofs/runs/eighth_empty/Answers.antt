@@ -1,7 +1,6 @@
 -- `plan_slot_tests::runs::eighth_empty` meets its contract. Both ways out.
 -- Assumes nothing.
 use mathlib.Core.Path.{◌∙◌}
-use borrow.Author.Rules.{rules}
 use Rattle.plan_slot_tests.proofs.EmptyRunLaws.{eighth_here, eighth_not}
 use Rattle.plan_slot_tests.proofs.runs.eighth_empty.Goals as goal
 

@@ -3,7 +3,6 @@
 use Prim.Native.Nat.{◌*◌, ◌≤◌}
 use native.Mathlib.Nat.{mul-le-mul}
 use native.Mathlib.Omega.{arith}
-use borrow.Author.Rules.{rules}
 use Rattle.plan_slot_tests.proofs.runs.item_at.Goals as goal
 
 pub overflow_mul-result-2 : goal.overflow_mul-result-2

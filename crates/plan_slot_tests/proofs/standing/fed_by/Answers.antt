@@ -1,6 +1,5 @@
 -- `plan_slot_tests::standing::fed_by` meets its contract. One law of SlotTestLaws for each way out.
 -- Assumes nothing.
-use borrow.Author.Rules.{rules}
 use Rattle.plan_slot_tests.proofs.SlotTestLaws.{fed_missing, fed_first, fed_not}
 use Rattle.plan_slot_tests.proofs.standing.fed_by.Goals as goal
 

@@ -4,7 +4,6 @@ use mathlib.Core.Path.{◌≡◌, sym, ap, ◌∙◌}
 use mathlib.Core.Bool.{Bool, ◌&&◌}
 use Prim.Native.Nat.{◌+◌, ◌*◌}
 use native.Mathlib.Omega.{arith}
-use borrow.Author.Rules.{rules}
 use Rattle.plan_record.specs.Record.{slots_of}
 use Rattle.plan_slot_tests.specs.EmptyRuns.{eighth_empty}
 use Rattle.plan_slot_tests.proofs.standing.nine_empty.Goals as goal

@@ -1,7 +1,6 @@
 -- `plan_slot_tests::standing::nine_items` meets its contract. Item 0 is a slot of level 0 alone, and the others are asked for after it.
 -- Assumes nothing.
 use mathlib.Core.Path.{sym, ap, ◌∙◌}
-use borrow.Author.Rules.{rules}
 use Rattle.plan_record.specs.Record.{plan_lanes}
 use Rattle.plan_record.proofs.RecordLaws.{lanes_range}
 use Rattle.plan_slots.specs.Slots.{pin_right, nine_right}

@@ -1,15 +1,10 @@
 -- `plan_slot_tests::standing::nine_later` meets its contract. The loop's invariant: the answer from item x on is the answer from item 1 on.
 -- Assumes nothing.
-use mathlib.Core.Path.{◌≡◌, refl, sym, ap, ◌∙◌}
+use mathlib.Core.Path.{◌≡◌}
 use Prim.Native.Nat.{◌+◌, ◌*◌, ◌-◌, ◌≤◌}
-use native.Mathlib.Omega.{arith}
-use borrow.Author.Rules.{rules}
 use Rattle.plan_record.specs.Record.{plan_lanes, slots_of}
 use Rattle.words.specs.Tests.{first_from}
 use Rattle.plan_slots.specs.Slots.{nine_right, over_items}
-use Rattle.words.specs.Found.{item_of}
-use Rattle.plan_slot_tests.proofs.ItemLaws.{item_is, stage_next, stage_eight, stage_fault, stage_end}
-use Rattle.plan_slot_tests.proofs.EmptyRunLaws.{nine_eight}
 use Rattle.plan_slot_tests.proofs.standing.nine_later.Given as goal
 
 abbrev pub invariant-loop-x : goal.invariant-loop-x

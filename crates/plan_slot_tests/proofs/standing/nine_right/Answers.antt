@@ -1,7 +1,6 @@
 -- `plan_slot_tests::standing::nine_right` meets its contract. One law of SlotTestLaws for each way out.
 -- Assumes nothing.
 use mathlib.Core.Path.{ap, ◌∙◌}
-use borrow.Author.Rules.{rules}
 use Rattle.plan_slots.specs.Slots.{pin_right}
 use Rattle.plan_slot_tests.proofs.SlotTestLaws.{nine_level, nine_position}
 use Rattle.plan_slot_tests.proofs.standing.nine_right.Goals as goal

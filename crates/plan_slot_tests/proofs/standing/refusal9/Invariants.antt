@@ -1,14 +1,10 @@
 -- `plan_slot_tests::standing::refusal9` meets its contract. The loop's invariant: the lowest place from part p on is the plan's.
 -- Assumes nothing.
-use mathlib.Core.Path.{◌≡◌, ap, ◌∙◌}
+use mathlib.Core.Path.{◌≡◌}
 use Prim.Native.Nat.{◌-◌, ◌≤◌}
-use native.Mathlib.Omega.{arith}
-use borrow.Author.Rules.{rules}
 use Rattle.plan_record.specs.Record.{body_at}
-use Rattle.words.specs.Tests.{lowest_from, lowest}
+use Rattle.words.specs.Tests.{lowest_from}
 use Rattle.plan_slots.specs.Slots.{nine_right, bad_item, refusal9}
-use Rattle.words.proofs.FoundLaws.{pass_start, pass_fault, pass_next, pass_end}
-use Rattle.plan_slot_tests.proofs.ItemLaws.{form_majors, form_ready}
 use Rattle.plan_slot_tests.proofs.standing.refusal9.Given as goal
 
 abbrev pub invariant-loop-p : goal.invariant-loop-p

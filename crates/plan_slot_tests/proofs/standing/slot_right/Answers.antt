@@ -2,7 +2,6 @@
 -- Assumes nothing.
 use Prim.Native.Nat.{◌+◌, ◌*◌, ◌<◌}
 use native.Mathlib.Omega.{arith}
-use borrow.Author.Rules.{rules}
 use Rattle.plan_slot_tests.proofs.SlotTestLaws.{slot_empty, slot_far, slot_carried, slot_fed}
 use Rattle.plan_slot_tests.proofs.standing.slot_right.Goals as goal
 

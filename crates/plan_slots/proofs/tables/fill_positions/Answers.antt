@@ -1,10 +1,9 @@
-use mathlib.Core.Path.{◌≡◌, refl, ◌∙◌}
-use Prim.Native.Nat.{◌+◌, ◌-◌, ◌≤◌}
+use mathlib.Core.Path.{refl, ◌∙◌}
+use Prim.Native.Nat.{◌+◌, ◌-◌}
 use native.Mathlib.Omega.{arith}
-use borrow.Author.Rules.{rules}
 use lib.ListN.{length}
 use Rattle.plan_record.specs.Record.{slots_of, slot_at}
-use Rattle.plan_slots.specs.Puts.{held_below, position_puts, filled}
+use Rattle.plan_slots.specs.Puts.{position_puts}
 use Rattle.plan_slots.proofs.PutLaws.{fill_start, fill_more, fill_end}
 use Rattle.plan_slots.proofs.tables.fill_positions.Goals as goal
 

@@ -1,13 +1,10 @@
 -- `plan_slots::tables::fill_positions` meets its contract. The loop's invariant: the table holds the entries of the first i positions.
 -- Assumes nothing.
-use mathlib.Core.Path.{◌≡◌, refl, ◌∙◌}
+use mathlib.Core.Path.{◌≡◌}
 use Prim.Native.Nat.{◌+◌, ◌-◌, ◌≤◌}
-use native.Mathlib.Omega.{arith}
-use borrow.Author.Rules.{rules}
 use lib.ListN.{length}
-use Rattle.plan_record.specs.Record.{slots_of, slot_at}
-use Rattle.plan_slots.specs.Puts.{held_below, position_puts, filled}
-use Rattle.plan_slots.proofs.PutLaws.{fill_start, fill_more, fill_end}
+use Rattle.plan_record.specs.Record.{slot_at}
+use Rattle.plan_slots.specs.Puts.{held_below, filled}
 use Rattle.plan_slots.proofs.tables.fill_positions.Given as goal
 
 abbrev pub invariant-loop-i : goal.invariant-loop-i

@@ -1,11 +1,10 @@
 use mathlib.Core.Path.{◌≡◌, refl, ap, ◌∙◌}
-use Prim.Native.Nat.{ℕ, ◌+◌, ◌*◌, ◌-◌, ◌≤◌}
+use Prim.Native.Nat.{ℕ, ◌+◌, ◌*◌}
 use native.Mathlib.Omega.{arith}
-use borrow.Author.Rules.{rules}
 use lib.ListN.{length}
 use Rattle.pinmap.specs.PinMap.{after_puts}
 use Rattle.plan_record.specs.Record.{slots_of, slot_at, level_at}
-use Rattle.plan_slots.specs.Puts.{held_at, held_below, read_puts, filled}
+use Rattle.plan_slots.specs.Puts.{held_at, read_puts}
 use Rattle.plan_slots.proofs.PutLaws.{fill_start, fill_more, fill_end}
 use Rattle.plan_slots.proofs.tables.fill_reads.Goals as goal
 

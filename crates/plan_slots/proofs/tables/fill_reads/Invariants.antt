@@ -1,14 +1,10 @@
 -- `plan_slots::tables::fill_reads` meets its contract. The loop's invariant: the table holds the entries of the first j slots of level 0.
 -- Assumes nothing.
-use mathlib.Core.Path.{◌≡◌, refl, ap, ◌∙◌}
-use Prim.Native.Nat.{ℕ, ◌+◌, ◌*◌, ◌-◌, ◌≤◌}
-use native.Mathlib.Omega.{arith}
-use borrow.Author.Rules.{rules}
+use mathlib.Core.Path.{◌≡◌}
+use Prim.Native.Nat.{◌-◌, ◌≤◌}
 use lib.ListN.{length}
-use Rattle.pinmap.specs.PinMap.{after_puts}
-use Rattle.plan_record.specs.Record.{slots_of, slot_at, level_at}
-use Rattle.plan_slots.specs.Puts.{held_at, held_below, read_puts, filled}
-use Rattle.plan_slots.proofs.PutLaws.{fill_start, fill_more, fill_end}
+use Rattle.plan_record.specs.Record.{level_at}
+use Rattle.plan_slots.specs.Puts.{held_below, filled}
 use Rattle.plan_slots.proofs.tables.fill_reads.Given as goal
 
 abbrev pub invariant-loop-j : goal.invariant-loop-j

@@ -1,9 +1,8 @@
-use Prim.Native.Nat.{◌-◌, ◌<◌}
+use Prim.Native.Nat.{◌<◌}
 use native.Mathlib.Omega.{arith}
 use lib.ListN.{length}
 use Rattle.plan_record.specs.Record.{slots_of}
-use Rattle.plan_slots.proofs.ListedLaws.{Listing, listing_start, listing_length, listing_filled, listing_more, listing_all}
-use borrow.Author.Rules.{rules}
+use Rattle.plan_slots.proofs.ListedLaws.{listing_start, listing_length, listing_filled, listing_more, listing_all}
 use Rattle.plan_slots.proofs.tables.list_reads.Goals as goal
 
 pub loop-j-init : goal.loop-j-init
@@ -11,14 +10,13 @@ loop-j-init c =
     listing_start c.args.d.now c.args.p _ c.args.list.now (length c.args.table.now) c.clear.ensures
 
 pub list_slot-n-requires : goal.list_slot-n-requires
-list_slot-n-requires c =
-    (
-      c.requires.0,
-      c.requires.1,
-      c.loop-j-test.true,
-      omega (arith, listing_length c.args.d.now c.args.p _ c.args.list.now c.loop-j.table c.loop-j.list c.loop-j.n c.loop-j.j c.loop-j.invariant, c.loop-j.invariant.few, c.loop-j-test.true, c.requires.3),
-      listing_filled c.args.d.now c.args.p _ c.args.list.now c.loop-j.table c.loop-j.list c.loop-j.n c.loop-j.j c.loop-j.invariant (length c.args.table.now) c.clear.ensures c.requires.2,
-    )
+list_slot-n-requires c = (
+  c.requires.0,
+  c.requires.1,
+  c.loop-j-test.true,
+  omega (arith, listing_length c.args.d.now c.args.p _ c.args.list.now c.loop-j.table c.loop-j.list c.loop-j.n c.loop-j.j c.loop-j.invariant, c.loop-j.invariant.few, c.loop-j-test.true, c.requires.3),
+  listing_filled c.args.d.now c.args.p _ c.args.list.now c.loop-j.table c.loop-j.list c.loop-j.n c.loop-j.j c.loop-j.invariant (length c.args.table.now) c.clear.ensures c.requires.2,
+)
 
 pub loop-j-preserved : goal.loop-j-preserved
 loop-j-preserved c =

@@ -1,11 +1,7 @@
 -- `plan_slots::tables::list_reads` meets its contract. The loop's invariant: the pins of the first j slots are put and listed.
 -- Assumes nothing.
-use Prim.Native.Nat.{◌-◌, ◌<◌}
-use native.Mathlib.Omega.{arith}
-use lib.ListN.{length}
-use Rattle.plan_record.specs.Record.{slots_of}
-use Rattle.plan_slots.proofs.ListedLaws.{Listing, listing_start, listing_length, listing_filled, listing_more, listing_all}
-use borrow.Author.Rules.{rules}
+use Prim.Native.Nat.{◌-◌}
+use Rattle.plan_slots.proofs.ListedLaws.{Listing}
 use Rattle.plan_slots.proofs.tables.list_reads.Given as goal
 
 abbrev pub invariant-loop-j : goal.invariant-loop-j

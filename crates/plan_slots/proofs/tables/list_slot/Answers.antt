@@ -2,7 +2,6 @@
 -- Assumes nothing.
 use mathlib.Core.Path.{refl}
 use native.Mathlib.Omega.{arith}
-use borrow.Author.Rules.{rules}
 use Rattle.plan_slots.proofs.ListedLaws.{slot_empty, slot_again, slot_new}
 use Rattle.plan_slots.proofs.tables.list_slot.Goals as goal
 

@@ -2,7 +2,6 @@
 -- Assumes nothing.
 use mathlib.Core.Path.{sym, ap, ◌∙◌}
 use Prim.Native.Nat.{ℕ}
-use borrow.Author.Rules.{rules}
 use Rattle.pinmap.specs.PinMap.{put_in}
 use Rattle.plan_slots.proofs.PutLaws.{held_none, held_one}
 use Rattle.plan_slots.proofs.tables.put_slot.Goals as goal

@@ -1,6 +1,5 @@
 -- `plan_slots::tables::top_power` meets its contract. The zeros above the highest bit say its place.
 -- Assumes nothing.
-use borrow.Author.Rules.{rules}
 use Rattle.plan_slots.proofs.TopLaws.{power_is, power_shifted}
 use Rattle.plan_slots.proofs.tables.top_power.Goals as goal
 

@@ -3,7 +3,6 @@
 use mathlib.Core.Path.{◌∙◌}
 use native.Mathlib.Omega.{arith}
 use Rattle.plan_blocks.proofs.MajorStageLaws.{stage_parts, stage_placeable, state_total, state_summable, sram_total, sram_summable, rows_are}
-use borrow.Author.Rules.{rules}
 use Rattle.plan_table.proofs.stages.allot_stage.Goals as goal
 
 pub place_stage-requires : goal.place_stage-requires
@@ -24,8 +23,11 @@ overflow_add-result c =
 
 pub returns : goal.returns
 returns c =
-    record { firsts_of = record {
+    record {
+      firsts_of = record {
         parts = stage_parts _ _ _ _ _ _ c.requires;
         state = c.give_starts-state.ensures.value ∙ state_total _ _ _ _ _ _ c.requires _ c.place_stage.ensures;
         sram = c.give_starts-sram.ensures.value ∙ sram_total _ _ _ _ _ _ c.requires _ c.place_stage.ensures _ c.give_starts-state.ensures.room_after;
-      }; room_after = rows_are _ _ _ _ _ _ c.requires _ c.place_stage.ensures _ c.give_starts-state.ensures.room_after _ c.give_starts-sram.ensures.room_after }
+      };
+      room_after = rows_are _ _ _ _ _ _ c.requires _ c.place_stage.ensures _ c.give_starts-state.ensures.room_after _ c.give_starts-sram.ensures.room_after;
+    }

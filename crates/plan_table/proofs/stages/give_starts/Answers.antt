@@ -1,7 +1,6 @@
 -- `plan_blocks::stages::give_starts` meets its contract: it lends the first of 1024 zeros.
 -- Assumes nothing.
 use Rattle.plan_blocks.proofs.MajorStageLaws.{zeros_long, front_summable}
-use borrow.Author.Rules.{rules}
 use Rattle.plan_table.proofs.stages.give_starts.Goals as goal
 
 pub slice_bounds-starts_in-end : goal.slice_bounds-starts_in-end

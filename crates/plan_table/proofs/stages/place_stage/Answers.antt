@@ -4,7 +4,6 @@ use mathlib.Core.Path.{ap, sym, subst, ◌∙◌}
 use Prim.Native.Nat.{ℕ}
 use Rattle.plan_blocks.specs.TableFill.{ranked_rows, StagePlaceable}
 use Rattle.plan_blocks.proofs.MajorStageLaws.{zeros_long}
-use borrow.Author.Rules.{rules}
 use Rattle.plan_table.proofs.stages.place_stage.Goals as goal
 
 pub slice_bounds-rank_stage-end : goal.slice_bounds-rank_stage-end

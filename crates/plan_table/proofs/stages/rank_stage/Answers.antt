@@ -2,7 +2,6 @@
 -- Assumes nothing.
 use mathlib.Core.Path.{◌∙◌}
 use Rattle.plan_blocks.proofs.MajorStageLaws.{ranks_fit, ranks_ready, ranks_are}
-use borrow.Author.Rules.{rules}
 use Rattle.plan_table.proofs.stages.rank_stage.Goals as goal
 
 pub make_starts-requires : goal.make_starts-requires

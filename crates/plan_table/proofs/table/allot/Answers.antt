@@ -4,7 +4,6 @@ use mathlib.Core.Path.{refl, sym, ◌∙◌}
 use mathlib.Core.Bool.{false}
 use Rattle.words.proofs.TestLaws.{not_both}
 use Rattle.plan_table.proofs.AllPartsLaws.{tallied, room_tabled, room_counted, room_full}
-use borrow.Author.Rules.{rules}
 use Rattle.plan_table.proofs.table.allot.Goals as goal
 
 pub totals_fit-requires : goal.totals_fit-requires

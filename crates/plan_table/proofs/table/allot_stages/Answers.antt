@@ -1,13 +1,12 @@
 use mathlib.Core.Path.{◌≡◌, ap, sym, ◌∙◌}
-use Prim.Native.Nat.{ℕ, ◌-◌, ◌≤◌, ◌<◌}
+use Prim.Native.Nat.{ℕ, ◌<◌}
 use native.Mathlib.Omega.{arith}
 use lib.ListN.{length}
 use mathlib.Core.List.{List}
 use Rattle.plan_record.specs.Record.{majors_of}
-use Rattle.plan_blocks.specs.TableFill.{FirstsOf, stage_rows, allot_rows}
+use Rattle.plan_blocks.specs.TableFill.{stage_rows, allot_rows}
 use Rattle.plan_table.proofs.PartTableLaws.{allot_long}
 use Rattle.plan_table.proofs.AllPartsLaws.{majors_few, layout_few, firsts_none, stage_ready, allot_none, allot_more}
-use borrow.Author.Rules.{rules}
 use Rattle.plan_table.proofs.table.allot_stages.Goals as goal
 
 pub overflow_add-at : goal.overflow_add-at

@@ -1,15 +1,8 @@
 -- `plan_blocks::table::allot_stages` meets its contract. The loop's invariant: the first s major stages have their rows.
 -- Assumes nothing.
-use mathlib.Core.Path.{◌≡◌, ap, sym, ◌∙◌}
-use Prim.Native.Nat.{ℕ, ◌-◌, ◌≤◌, ◌<◌}
-use native.Mathlib.Omega.{arith}
-use lib.ListN.{length}
-use mathlib.Core.List.{List}
-use Rattle.plan_record.specs.Record.{majors_of}
-use Rattle.plan_blocks.specs.TableFill.{FirstsOf, stage_rows, allot_rows}
-use Rattle.plan_table.proofs.PartTableLaws.{allot_long}
-use Rattle.plan_table.proofs.AllPartsLaws.{majors_few, layout_few, firsts_none, stage_ready, allot_none, allot_more}
-use borrow.Author.Rules.{rules}
+use mathlib.Core.Path.{◌≡◌}
+use Prim.Native.Nat.{◌-◌, ◌≤◌}
+use Rattle.plan_blocks.specs.TableFill.{FirstsOf, allot_rows}
 use Rattle.plan_table.proofs.table.allot_stages.Given as goal
 
 abbrev pub invariant-loop-s : goal.invariant-loop-s

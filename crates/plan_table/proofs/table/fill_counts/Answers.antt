@@ -1,14 +1,13 @@
 use mathlib.Core.Path.{◌≡◌, refl, ap, sym, ◌∙◌}
-use Prim.Native.Nat.{ℕ, ◌-◌, ◌≤◌, ◌<◌}
+use Prim.Native.Nat.{ℕ, ◌<◌}
 use native.Mathlib.Omega.{arith}
 use lib.ListN.{length}
-use Rattle.plan_record.specs.Record.{parts_of, body_at}
+use Rattle.plan_record.specs.Record.{parts_of}
 use Rattle.plan_record.proofs.PlanFormLaws.{formed, body_ready}
 use mathlib.Core.List.{List}
 use Rattle.plan_blocks.specs.TableFill.{count_row, count_rows, counted_room}
 use Rattle.plan_table.proofs.PartTableLaws.{count_long}
 use Rattle.plan_table.proofs.AllPartsLaws.{majors_few, row_ready, count_rows_none, count_more}
-use borrow.Author.Rules.{rules}
 use Rattle.plan_table.proofs.table.fill_counts.Goals as goal
 
 pub parts_of-parts-requires : goal.parts_of-parts-requires
@@ -34,14 +33,13 @@ fill_row-requires c =
     )
 
 pub loop-p-preserved : goal.loop-p-preserved
-loop-p-preserved c =
-    (
-      omega arith,
-      c.body_at-body.ensures.end,
-      c.fill_row.ensures ∙ ap (λ (r : List ℕ). count_row c.args.d.now r c.loop-p.p) c.loop-p.invariant.2 ∙ sym (count_more c.args.d.now c.args.room.now c.loop-p.p),
-      c.fill_row.auto.keys ∙ c.loop-p.invariant.3,
-      c.fill_row.auto.scratch ∙ c.loop-p.invariant.4,
-    )
+loop-p-preserved c = (
+  omega arith,
+  c.body_at-body.ensures.end,
+  c.fill_row.ensures ∙ ap (λ (r : List ℕ). count_row c.args.d.now r c.loop-p.p) c.loop-p.invariant.2 ∙ sym (count_more c.args.d.now c.args.room.now c.loop-p.p),
+  c.fill_row.auto.keys ∙ c.loop-p.invariant.3,
+  c.fill_row.auto.scratch ∙ c.loop-p.invariant.4,
+)
 
 pub shape_of-room : goal.shape_of-room
 shape_of-room c = ap length c.loop-p.invariant.2 ∙ count_long _ _ _

@@ -1,7 +1,6 @@
 -- `plan_blocks::table::fill_row` meets its contract.
 -- Assumes nothing.
 use Rattle.plan_table.proofs.AllPartsLaws.{locations_few, row_filled}
-use borrow.Author.Rules.{rules}
 use Rattle.plan_table.proofs.table.fill_row.Goals as goal
 
 pub put_body-requires : goal.put_body-requires

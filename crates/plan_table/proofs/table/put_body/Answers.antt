@@ -4,7 +4,6 @@ use Prim.Native.Nat.{◌/◌, ◌%◌, ◌^◌}
 use Rattle.plan_rows.specs.Columns as col
 use Rattle.plan_rows.specs.Rows.{cell}
 use Rattle.plan_table.proofs.AllPartsLaws.{three_cells}
-use borrow.Author.Rules.{rules}
 use Rattle.plan_table.proofs.table.put_body.Goals as goal
 
 pub returns : goal.returns

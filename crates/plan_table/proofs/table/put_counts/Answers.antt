@@ -3,7 +3,6 @@
 use Rattle.plan_rows.specs.Columns as col
 use Rattle.plan_rows.specs.Rows.{cell}
 use Rattle.plan_table.proofs.AllPartsLaws.{three_cells}
-use borrow.Author.Rules.{rules}
 use Rattle.plan_table.proofs.table.put_counts.Goals as goal
 
 pub returns : goal.returns

@@ -5,7 +5,6 @@ use Prim.Native.Nat.{ℕ}
 use native.Mathlib.Omega.{arith}
 use lib.Dec.{leb}
 use Rattle.plan_table.proofs.AllPartsLaws.{state_over, state_within}
-use borrow.Author.Rules.{rules}
 use Rattle.plan_table.proofs.table.totals_fit.Goals as goal
 
 pub returns-then-state_words-gt134217728 : goal.returns-then-state_words-gt134217728

@@ -4,7 +4,6 @@ use mathlib.Core.Path.{refl}
 use Prim.Native.Nat.{◌+◌, ◌*◌, ◌<◌}
 use native.Mathlib.Omega.{arith}
 use Rattle.repair_subtree.proofs.SubtreeLaws.{below_b, below_small}
-use borrow.Author.Rules.{rules}
 use Rattle.repair_subtree.proofs.Place.second.Goals as goal
 
 pub overflow_mul-result : goal.overflow_mul-result

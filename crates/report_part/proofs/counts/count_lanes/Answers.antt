@@ -1,14 +1,8 @@
-use mathlib.Core.Path.{◌≡◌}
 use mathlib.Core.Logic.{⊎_elim}
-use Prim.Native.Nat.{◌+◌, ◌-◌, ◌≤◌, max}
 use native.Mathlib.Omega.{arith}
-use lib.ListN.{drop}
-use Rattle.reads.specs.Search.{longest}
 use Rattle.reads_try.specs.TableLanes.{lane_of, row_at, lanes_at}
 use Rattle.reads_try.proofs.LaneTableLaws.{filled_row}
 use Rattle.reads_section.proofs.ReadoutLaws.{longest_step, longest_end}
-use Rattle.report.specs.Report.{lanes_in_use, contents}
-use borrow.Author.Rules.{rules}
 use Rattle.report_part.proofs.GainLaws.{bits_step, bits_end, used_step, used_end, bits_few, lanes_few, rounds_few, use_some, use_none, counted_is}
 use Rattle.report_part.proofs.counts.count_lanes.Goals as goal
 

@@ -1,5 +1,4 @@
 -- `report_part::counts::words_of` meets its contract, edition by edition. Assumes nothing.
-use borrow.Author.Rules.{rules}
 use Rattle.report_part.proofs.GainLaws.{part_words_small, words_full}
 use Rattle.report_part.proofs.counts.words_of.Goals as goal
 

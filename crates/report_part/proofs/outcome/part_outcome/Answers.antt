@@ -2,7 +2,6 @@
 -- Assumes nothing.
 use mathlib.Core.Path.{◌∙◌}
 use Rattle.words.specs.Answer.{nowhere}
-use borrow.Author.Rules.{rules}
 use Rattle.report_part.proofs.OutcomeLaws.{became_refused, became_same, part_none, part_many, part_own, part_handed}
 use Rattle.report_part.proofs.outcome.part_outcome.Goals as goal
 

@@ -10,7 +10,6 @@ use Rattle.reads.specs.ReadSet.{pairs_of, broken}
 use Rattle.reads.proofs.SetAnswerLaws.{placed_lanes}
 use Rattle.rounds.specs.Rounds.{SetSearchable}
 use Rattle.rounds.proofs.RoundsAnswerLaws.{is_read, searchable_set, lost_is, won_is, won_table}
-use borrow.Author.Rules.{rules}
 use Rattle.report_part.proofs.OutcomeLaws.{became_refused, became_placed, own_many, own_bad}
 use Rattle.report_part.proofs.outcome.search_in.Goals as goal
 

@@ -5,7 +5,6 @@ use native.Mathlib.Omega.{arith}
 use Rattle.run_turns.specs.Phases.{phase_is}
 use Rattle.run_turns.proofs.BlockTurnLaws.{read_going, stage_going, store_going}
 use Rattle.run.proofs.LeftLaws.{left_done, left_read, left_stage, left_store, ahead, stage_inside}
-use borrow.Author.Rules.{rules}
 use Rattle.run.proofs.left.block_left.Goals as goal
 
 pub stages-requires : goal.stages-requires

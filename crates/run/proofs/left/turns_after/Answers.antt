@@ -1,8 +1,6 @@
 use mathlib.Core.Path.{sym, ◌∙◌}
-use Prim.Native.Nat.{◌-◌}
 use native.Mathlib.Omega.{arith}
-use lib.ListN.{length}
-use Rattle.run.proofs.LeftLaws.{Walking, walk_start, walk_inside, walk_after, walk_next, walk_bound, walk_end}
+use Rattle.run.proofs.LeftLaws.{walk_start, walk_inside, walk_after, walk_next, walk_bound, walk_end}
 use Rattle.run.proofs.left.turns_after.Goals as goal
 
 pub loop-o-init : goal.loop-o-init

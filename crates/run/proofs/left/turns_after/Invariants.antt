@@ -1,10 +1,8 @@
 -- `run::left::turns_after` meets its contract. The invariant: the turns counted and those after the part at o are all.
 -- Assumes nothing.
-use mathlib.Core.Path.{sym, ◌∙◌}
 use Prim.Native.Nat.{◌-◌}
-use native.Mathlib.Omega.{arith}
 use lib.ListN.{length}
-use Rattle.run.proofs.LeftLaws.{Walking, walk_start, walk_inside, walk_after, walk_next, walk_bound, walk_end}
+use Rattle.run.proofs.LeftLaws.{Walking}
 use Rattle.run.proofs.left.turns_after.Given as goal
 
 abbrev pub invariant-loop-o : goal.invariant-loop-o

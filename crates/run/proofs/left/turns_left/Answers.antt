@@ -1,5 +1,5 @@
-use mathlib.Core.Path.{◌≡◌, ap, ◌∙◌}
-use Prim.Native.Nat.{ℕ, ◌+◌, ◌-◌, ◌≤◌}
+use mathlib.Core.Path.{ap, ◌∙◌}
+use Prim.Native.Nat.{ℕ}
 use native.Mathlib.Nat.{zero-add, sub-zero}
 use native.Mathlib.Omega.{arith}
 use Rattle.run_machine.specs.Run.{all_left}
@@ -7,7 +7,6 @@ use Rattle.run.specs.States.{blocks_in}
 use Rattle.run.proofs.StateLaws.{lent_room}
 use Rattle.run.proofs.TakingLaws.{room_good}
 use Rattle.run.proofs.LeftLaws.{left_next, left_all, all_bound}
-use borrow.Author.Rules.{rules}
 use Rattle.run.proofs.left.turns_left.Goals as goal
 
 pub loop-b-init : goal.loop-b-init

@@ -1,15 +1,9 @@
 -- `run::left::turns_left` meets its contract. The invariant: the turns counted and those of the blocks from b on are all.
 -- Assumes nothing.
-use mathlib.Core.Path.{◌≡◌, ap, ◌∙◌}
-use Prim.Native.Nat.{ℕ, ◌+◌, ◌-◌, ◌≤◌}
-use native.Mathlib.Nat.{zero-add, sub-zero}
-use native.Mathlib.Omega.{arith}
+use mathlib.Core.Path.{◌≡◌}
+use Prim.Native.Nat.{◌+◌, ◌-◌, ◌≤◌}
 use Rattle.run_machine.specs.Run.{all_left}
 use Rattle.run.specs.States.{blocks_in}
-use Rattle.run.proofs.StateLaws.{lent_room}
-use Rattle.run.proofs.TakingLaws.{room_good}
-use Rattle.run.proofs.LeftLaws.{left_next, left_all, all_bound}
-use borrow.Author.Rules.{rules}
 use Rattle.run.proofs.left.turns_left.Given as goal
 
 abbrev pub invariant-loop-b : goal.invariant-loop-b

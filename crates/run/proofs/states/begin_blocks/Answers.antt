@@ -1,9 +1,7 @@
 use mathlib.Core.Path.{◌≡◌, refl, ap, ◌∙◌}
-use Prim.Native.Nat.{◌-◌, ◌≤◌}
 use native.Mathlib.Omega.{arith}
 use lib.ListN.{length}
-use Rattle.run.proofs.StateLaws.{Begun, begun_next, begun_all, lent_room, room_long}
-use borrow.Author.Rules.{rules}
+use Rattle.run.proofs.StateLaws.{begun_next, begun_all, lent_room, room_long}
 use Rattle.run.proofs.states.begin_blocks.Goals as goal
 
 pub loop-b-init : goal.loop-b-init

@@ -1,11 +1,9 @@
 -- `run::states::begin_blocks` meets its contract. The invariant: the first b blocks stand at their first turn.
 -- Assumes nothing.
-use mathlib.Core.Path.{◌≡◌, refl, ap, ◌∙◌}
+use mathlib.Core.Path.{◌≡◌}
 use Prim.Native.Nat.{◌-◌, ◌≤◌}
-use native.Mathlib.Omega.{arith}
 use lib.ListN.{length}
-use Rattle.run.proofs.StateLaws.{Begun, begun_next, begun_all, lent_room, room_long}
-use borrow.Author.Rules.{rules}
+use Rattle.run.proofs.StateLaws.{Begun}
 use Rattle.run.proofs.states.begin_blocks.Given as goal
 
 abbrev pub invariant-loop-b : goal.invariant-loop-b

@@ -14,4 +14,7 @@ store_state-requires c =
 
 pub returns : goal.returns
 returns c =
-    record { block = turn_kept _ c.args.words.now _ _ c.args.room.now c.requires _ _ _ c.load_state.ensures.0 c.load_state.ensures.1 c.load_state.ensures.2 c.args.old.now c.args.new.now _ _ _ _ c.turn-state.ensures.block _ (search rules) c.store_state.ensures; state = turn_wrote _ c.args.words.now _ _ c.args.room.now c.requires _ _ _ c.load_state.ensures.0 c.load_state.ensures.1 c.load_state.ensures.2 c.args.old.now c.args.new.now _ _ _ _ c.turn-state.ensures.block _ c.turn-state.ensures.state }
+    record {
+      block = turn_kept _ c.args.words.now _ _ c.args.room.now c.requires _ _ _ c.load_state.ensures.0 c.load_state.ensures.1 c.load_state.ensures.2 c.args.old.now c.args.new.now _ _ _ _ c.turn-state.ensures.block _ (search rules) c.store_state.ensures;
+      state = turn_wrote _ c.args.words.now _ _ c.args.room.now c.requires _ _ _ c.load_state.ensures.0 c.load_state.ensures.1 c.load_state.ensures.2 c.args.old.now c.args.new.now _ _ _ _ c.turn-state.ensures.block _ c.turn-state.ensures.state;
+    }

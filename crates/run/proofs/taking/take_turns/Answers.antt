@@ -1,8 +1,7 @@
-use Prim.Native.Nat.{◌-◌, ◌≤◌}
 use native.Mathlib.Omega.{arith}
-use lib.ListN.{length, get_or}
+use lib.ListN.{get_or}
 use Rattle.run.proofs.StateLaws.{lent_room}
-use Rattle.run.proofs.TakingLaws.{TurnsTaken, taken_none, turn_good_lem, turn_fits, taken_next, taken_all}
+use Rattle.run.proofs.TakingLaws.{taken_none, turn_good_lem, turn_fits, taken_next, taken_all}
 use borrow.Author.Rules.{rules}
 use Rattle.run.proofs.taking.take_turns.Goals as goal
 

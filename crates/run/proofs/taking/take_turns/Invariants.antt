@@ -1,11 +1,8 @@
 -- `run::taking::take_turns` meets its contract. The invariant: the run as the rooms hold it, with the turns from i on, ends as the whole run does.
 -- Assumes nothing.
 use Prim.Native.Nat.{◌-◌, ◌≤◌}
-use native.Mathlib.Omega.{arith}
-use lib.ListN.{length, get_or}
-use Rattle.run.proofs.StateLaws.{lent_room}
-use Rattle.run.proofs.TakingLaws.{TurnsTaken, taken_none, turn_good_lem, turn_fits, taken_next, taken_all}
-use borrow.Author.Rules.{rules}
+use lib.ListN.{length}
+use Rattle.run.proofs.TakingLaws.{TurnsTaken}
 use Rattle.run.proofs.taking.take_turns.Given as goal
 
 abbrev pub invariant-loop-i : goal.invariant-loop-i

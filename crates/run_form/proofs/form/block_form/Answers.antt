@@ -2,7 +2,6 @@
 -- Assumes nothing.
 use mathlib.Core.Path.{sym, ◌∙◌}
 use Rattle.run_form.proofs.BlockFormLaws.{block_none, block_outside, block_empty, block_parts_lem}
-use borrow.Author.Rules.{rules}
 use Rattle.run_form.proofs.form.block_form.Goals as goal
 
 pub returns-then-e-at : goal.returns-then-e-at

@@ -1,10 +1,8 @@
 -- `run_form::form::body_form` meets its contract: one law for each way through.
 -- Assumes nothing.
 use mathlib.Core.Path.{sym, ◌∙◌}
-use borrow.Author.Tests.{not-true, not-false}
 use Rattle.run_machine.proofs.PartWellLaws.{stores_in}
 use Rattle.run_form.proofs.BlockFormLaws.{body_stores, body_locations, body_lanes, body_reads, body_entries}
-use borrow.Author.Rules.{rules}
 use Rattle.run_form.proofs.form.body_form.Goals as goal
 
 pub returns-then-not-stores_form : goal.returns-then-not-stores_form

@@ -1,14 +1,11 @@
 use mathlib.Core.Path.{◌≡◌, refl, sym, ◌∙◌}
 use mathlib.Core.Bool.{true, false}
-use Prim.Native.Nat.{◌+◌, ◌-◌, ◌≤◌}
+use Prim.Native.Nat.{◌+◌}
 use native.Mathlib.Omega.{arith}
 use borrow.Author.Tests.{eq-eqb, ne_eqb}
-use lib.Dec.{eqb}
-use lib.ListN.{get_or}
 use Rattle.words.specs.Tests.{all_below}
 use Rattle.words.proofs.TestLaws.{all_on, all_fault}
 use Rattle.run_form.proofs.BlockFormLaws.{empty_other, empty_as}
-use borrow.Author.Rules.{rules}
 use Rattle.run_form.proofs.form.empty_form.Goals as goal
 
 pub returns-then-e-at : goal.returns-then-e-at

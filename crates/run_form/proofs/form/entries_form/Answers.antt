@@ -1,14 +1,10 @@
 use mathlib.Core.Path.{◌≡◌, refl, sym, ◌∙◌}
-use mathlib.Core.Bool.{true}
-use Prim.Native.Nat.{◌*◌, ◌+◌, ◌-◌, ◌≤◌, ◌<◌}
+use Prim.Native.Nat.{◌+◌, ◌<◌}
 use native.Mathlib.Omega.{arith}
 use Rattle.words.specs.Tests.{all_below}
 use Rattle.words.proofs.TestLaws.{all_on, all_fault}
-use borrow.Author.Tests.{not-true, not-false}
-use lib.Dec.{ltb}
-use Rattle.run_machine.specs.Part.{stages_at, entry_at}
+use Rattle.run_machine.specs.Part.{stages_at}
 use Rattle.run_machine.specs.Run.{entries_form}
-use borrow.Author.Rules.{rules}
 use Rattle.run_form.proofs.form.entries_form.Goals as goal
 
 pub overflow_add-sections : goal.overflow_add-sections

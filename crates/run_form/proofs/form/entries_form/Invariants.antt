@@ -1,16 +1,11 @@
 -- `run_form::form::entries_form` meets its contract. The invariant: the sections passed are in form.
 -- Assumes nothing.
-use mathlib.Core.Path.{◌≡◌, refl, sym, ◌∙◌}
+use mathlib.Core.Path.{◌≡◌}
 use mathlib.Core.Bool.{true}
-use Prim.Native.Nat.{◌*◌, ◌+◌, ◌-◌, ◌≤◌, ◌<◌}
-use native.Mathlib.Omega.{arith}
+use Prim.Native.Nat.{◌*◌, ◌+◌, ◌-◌, ◌≤◌}
 use Rattle.words.specs.Tests.{all_below}
-use Rattle.words.proofs.TestLaws.{all_on, all_fault}
-use borrow.Author.Tests.{not-true, not-false}
 use lib.Dec.{ltb}
 use Rattle.run_machine.specs.Part.{stages_at, entry_at}
-use Rattle.run_machine.specs.Run.{entries_form}
-use borrow.Author.Rules.{rules}
 use Rattle.run_form.proofs.form.entries_form.Given as goal
 
 abbrev pub invariant-loop-k : goal.invariant-loop-k

@@ -3,7 +3,6 @@
 use Prim.Native.Nat.{◌+◌, ◌≤◌}
 use native.Mathlib.Omega.{arith}
 use Rattle.run_form.proofs.BlockFormLaws.{head_short, head_none, head_many, head_long, head_last}
-use borrow.Author.Rules.{rules}
 use Rattle.run_form.proofs.form.head_form.Goals as goal
 
 pub returns-then-e-at : goal.returns-then-e-at

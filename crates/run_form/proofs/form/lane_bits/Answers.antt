@@ -1,13 +1,12 @@
 use mathlib.Core.Path.{◌≡◌, refl}
-use Prim.Native.Nat.{◌+◌, ◌*◌, ◌-◌, ◌≤◌}
+use Prim.Native.Nat.{◌+◌}
 use native.Mathlib.Omega.{arith}
 use Rattle.words.specs.Sum.{sum_to}
 use Rattle.words.specs.Bit.{pop}
 use Rattle.words.proofs.SumLaws.{sum_more}
-use Rattle.run_machine.specs.Part.{rounds_at, read_mask_at}
+use Rattle.run_machine.specs.Part.{rounds_at}
 use mathlib.Core.Path.{ap, ap₂, ◌∙◌}
 use Rattle.run_form.proofs.TestCodeLaws.{mask_count_small}
-use borrow.Author.Rules.{rules}
 use Rattle.run_form.proofs.form.lane_bits.Goals as goal
 
 pub loop-r-init : goal.loop-r-init

@@ -1,15 +1,10 @@
 -- `run_form::form::lane_bits` meets its contract. The invariant: the bits of the rounds passed, at most 32 each.
 -- Assumes nothing.
-use mathlib.Core.Path.{◌≡◌, refl}
-use Prim.Native.Nat.{◌+◌, ◌*◌, ◌-◌, ◌≤◌}
-use native.Mathlib.Omega.{arith}
+use mathlib.Core.Path.{◌≡◌}
+use Prim.Native.Nat.{◌*◌, ◌-◌, ◌≤◌}
 use Rattle.words.specs.Sum.{sum_to}
 use Rattle.words.specs.Bit.{pop}
-use Rattle.words.proofs.SumLaws.{sum_more}
 use Rattle.run_machine.specs.Part.{rounds_at, read_mask_at}
-use mathlib.Core.Path.{ap, ap₂, ◌∙◌}
-use Rattle.run_form.proofs.TestCodeLaws.{mask_count_small}
-use borrow.Author.Rules.{rules}
 use Rattle.run_form.proofs.form.lane_bits.Given as goal
 
 abbrev pub invariant-loop-r : goal.invariant-loop-r

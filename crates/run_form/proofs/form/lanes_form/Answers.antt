@@ -1,16 +1,9 @@
 use mathlib.Core.Path.{◌≡◌, refl, sym}
-use mathlib.Core.Bool.{true}
-use Prim.Native.Nat.{◌-◌, ◌≤◌}
 use native.Mathlib.Omega.{arith}
 use Rattle.words.specs.Tests.{all_below}
 use Rattle.words.proofs.TestLaws.{all_on, all_fault}
 use borrow.Author.Tests.{le-leb, lt-leb}
-use lib.Dec.{leb}
-use Rattle.words.specs.Sum.{sum_to}
-use Rattle.words.specs.Bit.{pop}
-use Rattle.run_machine.specs.Part.{rounds_at, read_mask_at}
 use Rattle.run_machine.specs.Run.{lanes_form}
-use borrow.Author.Rules.{rules}
 use Rattle.run_form.proofs.form.lanes_form.Goals as goal
 
 pub loop-i-init : goal.loop-i-init

@@ -1,18 +1,13 @@
 -- `run_form::form::lanes_form` meets its contract. The invariant: the lanes passed have at most 32 bits.
 -- Assumes nothing.
-use mathlib.Core.Path.{◌≡◌, refl, sym}
+use mathlib.Core.Path.{◌≡◌}
 use mathlib.Core.Bool.{true}
 use Prim.Native.Nat.{◌-◌, ◌≤◌}
-use native.Mathlib.Omega.{arith}
 use Rattle.words.specs.Tests.{all_below}
-use Rattle.words.proofs.TestLaws.{all_on, all_fault}
-use borrow.Author.Tests.{le-leb, lt-leb}
 use lib.Dec.{leb}
 use Rattle.words.specs.Sum.{sum_to}
 use Rattle.words.specs.Bit.{pop}
 use Rattle.run_machine.specs.Part.{rounds_at, read_mask_at}
-use Rattle.run_machine.specs.Run.{lanes_form}
-use borrow.Author.Rules.{rules}
 use Rattle.run_form.proofs.form.lanes_form.Given as goal
 
 abbrev pub invariant-loop-i : goal.invariant-loop-i

@@ -1,7 +1,6 @@
 -- `run_form::form::location_form` meets its contract: by the two tests.
 -- Assumes nothing.
 use Rattle.run_form.proofs.TestCodeLaws.{location_good, location_bad}
-use borrow.Author.Rules.{rules}
 use Rattle.run_form.proofs.form.location_form.Goals as goal
 
 pub returns-then-place-stages : goal.returns-then-place-stages

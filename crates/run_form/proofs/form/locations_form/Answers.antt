@@ -1,15 +1,11 @@
 use mathlib.Core.Path.{◌≡◌}
-use mathlib.Core.Bool.{true, ◌&&◌}
-use Prim.Native.Nat.{◌-◌, ◌/◌, ◌%◌, ◌≤◌, ◌<◌}
+use Prim.Native.Nat.{◌<◌}
 use native.Mathlib.Omega.{arith}
-use lib.Dec.{ltb}
 use Rattle.words.specs.Tests.{all_below}
 use Rattle.words.proofs.TestLaws.{all_on, all_fault}
-use Rattle.run_machine.specs.Part.{stages_at, normal_at, location_in}
+use Rattle.run_machine.specs.Part.{normal_at}
 use Rattle.run_machine.specs.Run.{locations_form}
 use mathlib.Core.Path.{refl, sym, ◌∙◌}
-use borrow.Author.Tests.{not-true, not-false}
-use borrow.Author.Rules.{rules}
 use Rattle.run_form.proofs.form.locations_form.Goals as goal
 
 pub loop-l-init : goal.loop-l-init

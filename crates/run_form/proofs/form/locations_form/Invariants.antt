@@ -2,16 +2,10 @@
 -- Assumes nothing.
 use mathlib.Core.Path.{◌≡◌}
 use mathlib.Core.Bool.{true, ◌&&◌}
-use Prim.Native.Nat.{◌-◌, ◌/◌, ◌%◌, ◌≤◌, ◌<◌}
-use native.Mathlib.Omega.{arith}
+use Prim.Native.Nat.{◌-◌, ◌/◌, ◌%◌, ◌≤◌}
 use lib.Dec.{ltb}
 use Rattle.words.specs.Tests.{all_below}
-use Rattle.words.proofs.TestLaws.{all_on, all_fault}
 use Rattle.run_machine.specs.Part.{stages_at, normal_at, location_in}
-use Rattle.run_machine.specs.Run.{locations_form}
-use mathlib.Core.Path.{refl, sym, ◌∙◌}
-use borrow.Author.Tests.{not-true, not-false}
-use borrow.Author.Rules.{rules}
 use Rattle.run_form.proofs.form.locations_form.Given as goal
 
 abbrev pub invariant-loop-l : goal.invariant-loop-l

@@ -2,7 +2,6 @@
 -- Assumes nothing.
 use borrow.Author.Tests.{eq-eqb}
 use Rattle.run_form.proofs.TestCodeLaws.{or_then, read_inside, read_outside}
-use borrow.Author.Rules.{rules}
 use Rattle.run_form.proofs.form.pair_form.Goals as goal
 
 pub returns-then-words-pair-eq0 : goal.returns-then-words-pair-eq0

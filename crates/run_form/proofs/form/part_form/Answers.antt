@@ -2,10 +2,8 @@
 -- Assumes nothing.
 use mathlib.Core.Path.{sym, ◌∙◌}
 use native.Mathlib.Omega.{arith}
-use borrow.Author.Tests.{not-true, not-false}
 use Rattle.run_machine.specs.Part.{end_at}
 use Rattle.run_form.proofs.BlockFormLaws.{head_ends, part_bad, part_rest}
-use borrow.Author.Rules.{rules}
 use Rattle.run_form.proofs.form.part_form.Goals as goal
 
 pub returns-then-not-head_form : goal.returns-then-not-head_form

@@ -1,9 +1,7 @@
 use mathlib.Core.Path.{sym, ◌∙◌}
-use Prim.Native.Nat.{◌-◌}
 use native.Mathlib.Omega.{arith}
 use Rattle.run_machine.specs.Part.{end_at}
-use Rattle.run_form.proofs.BlockFormLaws.{PartsGoing, parts_start, parts_stop, part_fits, parts_last, parts_more}
-use borrow.Author.Rules.{rules}
+use Rattle.run_form.proofs.BlockFormLaws.{parts_start, parts_stop, part_fits, parts_last, parts_more}
 use Rattle.run_form.proofs.form.parts_form.Goals as goal
 
 pub loop-o-init : goal.loop-o-init

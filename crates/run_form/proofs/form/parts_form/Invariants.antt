@@ -1,11 +1,7 @@
 -- `run_form::form::parts_form` meets its contract. The invariant: the parts from word o on are in form exactly when all are.
 -- Assumes nothing.
-use mathlib.Core.Path.{sym, ◌∙◌}
 use Prim.Native.Nat.{◌-◌}
-use native.Mathlib.Omega.{arith}
-use Rattle.run_machine.specs.Part.{end_at}
-use Rattle.run_form.proofs.BlockFormLaws.{PartsGoing, parts_start, parts_stop, part_fits, parts_last, parts_more}
-use borrow.Author.Rules.{rules}
+use Rattle.run_form.proofs.BlockFormLaws.{PartsGoing}
 use Rattle.run_form.proofs.form.parts_form.Given as goal
 
 abbrev pub invariant-loop-o : goal.invariant-loop-o

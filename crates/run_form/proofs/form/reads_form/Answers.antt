@@ -1,14 +1,10 @@
 use mathlib.Core.Path.{◌≡◌, refl, sym, ◌∙◌}
-use mathlib.Core.Bool.{true}
-use Prim.Native.Nat.{◌-◌, ◌≤◌, ◌<◌}
+use Prim.Native.Nat.{◌<◌}
 use native.Mathlib.Omega.{arith}
 use Rattle.words.specs.Tests.{all_below}
 use Rattle.words.proofs.TestLaws.{all_on, all_fault}
-use borrow.Author.Tests.{not-true, not-false}
-use Rattle.run_machine.specs.Part.{rounds_at, read_word_at, read_mask_at}
+use Rattle.run_machine.specs.Part.{rounds_at}
 use Rattle.run_machine.specs.Run.{reads_form}
-use Rattle.run_form.specs.PartForm.{read_form}
-use borrow.Author.Rules.{rules}
 use Rattle.run_form.proofs.form.reads_form.Goals as goal
 
 pub loop-r-init : goal.loop-r-init

@@ -1,16 +1,11 @@
 -- `run_form::form::reads_form` meets its contract. The invariant: the rounds passed are in form.
 -- Assumes nothing.
-use mathlib.Core.Path.{◌≡◌, refl, sym, ◌∙◌}
+use mathlib.Core.Path.{◌≡◌}
 use mathlib.Core.Bool.{true}
-use Prim.Native.Nat.{◌-◌, ◌≤◌, ◌<◌}
-use native.Mathlib.Omega.{arith}
+use Prim.Native.Nat.{◌-◌, ◌≤◌}
 use Rattle.words.specs.Tests.{all_below}
-use Rattle.words.proofs.TestLaws.{all_on, all_fault}
-use borrow.Author.Tests.{not-true, not-false}
 use Rattle.run_machine.specs.Part.{rounds_at, read_word_at, read_mask_at}
-use Rattle.run_machine.specs.Run.{reads_form}
 use Rattle.run_form.specs.PartForm.{read_form}
-use borrow.Author.Rules.{rules}
 use Rattle.run_form.proofs.form.reads_form.Given as goal
 
 abbrev pub invariant-loop-r : goal.invariant-loop-r

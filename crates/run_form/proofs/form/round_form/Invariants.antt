@@ -2,15 +2,10 @@
 -- Assumes nothing.
 use mathlib.Core.Path.{◌≡◌}
 use mathlib.Core.Bool.{true}
-use Prim.Native.Nat.{ℕ, ◌-◌, ◌≤◌}
-use native.Mathlib.Omega.{arith}
+use Prim.Native.Nat.{◌-◌, ◌≤◌}
 use Rattle.words.specs.Tests.{all_below}
-use Rattle.words.proofs.TestLaws.{all_on, all_fault}
 use Rattle.run_machine.specs.Part.{read_word_at, read_mask_at}
 use Rattle.run_form.specs.PartForm.{read_form}
-use mathlib.Core.Path.{refl, sym, ap₂, ◌∙◌}
-use borrow.Author.Tests.{not-true, not-false}
-use borrow.Author.Rules.{rules}
 use Rattle.run_form.proofs.form.round_form.Given as goal
 
 abbrev pub invariant-loop-i : goal.invariant-loop-i

@@ -1,7 +1,6 @@
 -- `run_form::form::section_form` meets its contract: the words of its permutation hold its entries, in the numbers of either edition.
 -- Assumes nothing.
 use native.Mathlib.Omega.{arith}
-use borrow.Author.Rules.{rules}
 use Rattle.run_form.proofs.SectionEntryLaws.{section_words_lem}
 use Rattle.run_form.proofs.form.section_form.Goals as goal
 

@@ -4,7 +4,6 @@ use native.Mathlib.Omega.{arith}
 use mathlib.Core.Path.{refl, ◌∙◌}
 use Rattle.run_form.proofs.TestCodeLaws.{stores_as, stores_short, stores_many, stores_none, stores_old, stores_new}
 use Prim.Native.Nat.{◌+◌}
-use borrow.Author.Rules.{rules}
 use Rattle.run_form.proofs.form.stores_form.Goals as goal
 
 pub overflow_add-other : goal.overflow_add-other

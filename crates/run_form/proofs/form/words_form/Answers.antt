@@ -1,13 +1,7 @@
 use mathlib.Core.Path.{◌≡◌, refl, sym, ◌∙◌}
-use mathlib.Core.Bool.{true}
-use Prim.Native.Nat.{◌+◌, ◌-◌, ◌≤◌}
 use native.Mathlib.Omega.{arith}
-use borrow.Author.Rules.{rules}
-use borrow.Author.Tests.{not-true, not-false}
-use lib.ListN.{get_or}
 use Rattle.words.specs.Tests.{all_below}
 use Rattle.words.proofs.TestLaws.{all_on, all_fault}
-use Rattle.run_form.specs.PartForm.{halves_form}
 use Rattle.run_form.proofs.form.words_form.Goals as goal
 
 pub loop-w-init : goal.loop-w-init

@@ -1,14 +1,10 @@
 -- `run_form::form::words_form` meets its contract. The invariant: the words passed have two positions each.
 -- Assumes nothing.
-use mathlib.Core.Path.{◌≡◌, refl, sym, ◌∙◌}
+use mathlib.Core.Path.{◌≡◌}
 use mathlib.Core.Bool.{true}
 use Prim.Native.Nat.{◌+◌, ◌-◌, ◌≤◌}
-use native.Mathlib.Omega.{arith}
-use borrow.Author.Rules.{rules}
-use borrow.Author.Tests.{not-true, not-false}
 use lib.ListN.{get_or}
 use Rattle.words.specs.Tests.{all_below}
-use Rattle.words.proofs.TestLaws.{all_on, all_fault}
 use Rattle.run_form.specs.PartForm.{halves_form}
 use Rattle.run_form.proofs.form.words_form.Given as goal
 

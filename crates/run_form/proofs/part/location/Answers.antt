@@ -1,6 +1,5 @@
 -- `run_form::part::location` meets its contract: a mask of 16 bits is the low half, a shift by 16 the high one.
 -- Assumes nothing.
-use borrow.Author.Rules.{rules}
 use native.Mathlib.Omega.{arith}
 use Rattle.run_machine.specs.Part.{location_in}
 use Rattle.run_form.proofs.HalfLaws.{half_low, half_high}

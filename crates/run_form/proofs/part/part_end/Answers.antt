@@ -5,7 +5,6 @@ use Prim.Native.Nat.{ℕ, ◌+◌, ◌*◌, ◌≤◌}
 use native.Mathlib.Nat.{mul-le-mul_left}
 use native.Mathlib.Omega.{arith}
 use Rattle.run_machine.specs.Part.{end_at}
-use borrow.Author.Rules.{rules}
 use Rattle.run_form.proofs.part.part_end.Goals as goal
 
 product-most : (n x : ℕ) → n ≤ 256 → n * x ≤ 256 * x

@@ -1,13 +1,9 @@
-use mathlib.Core.Path.{◌≡◌, refl, sym, ◌∙◌}
-use Prim.Native.Nat.{◌-◌, ◌≤◌}
+use mathlib.Core.Path.{refl, sym, ◌∙◌}
+use Prim.Native.Nat.{◌-◌}
 use native.Mathlib.Omega.{arith}
-use borrow.Author.Tests.{not-true, not-false}
 use lib.ListN.{length}
-use Rattle.words.specs.Tests.{first_from}
 use Rattle.words.proofs.FoundLaws.{look_fault, look_next, look_end}
-use Rattle.run_machine.specs.Run.{bad_block}
 use Rattle.run_form.proofs.RefuseLaws.{block_good, few_starts, first_block}
-use borrow.Author.Rules.{rules}
 use Rattle.run_form.proofs.refuse.bad_block.Goals as goal
 
 pub returns-then-starts-lt2 : goal.returns-then-starts-lt2

@@ -1,15 +1,11 @@
 -- `run_form::refuse::bad_block` meets its contract. The invariant: the lowest block from i on is the lowest of all.
 -- Assumes nothing.
-use mathlib.Core.Path.{◌≡◌, refl, sym, ◌∙◌}
+use mathlib.Core.Path.{◌≡◌}
 use Prim.Native.Nat.{◌-◌, ◌≤◌}
-use native.Mathlib.Omega.{arith}
-use borrow.Author.Tests.{not-true, not-false}
 use lib.ListN.{length}
 use Rattle.words.specs.Tests.{first_from}
-use Rattle.words.proofs.FoundLaws.{look_fault, look_next, look_end}
 use Rattle.run_machine.specs.Run.{bad_block}
-use Rattle.run_form.proofs.RefuseLaws.{block_good, few_starts, first_block}
-use borrow.Author.Rules.{rules}
+use Rattle.run_form.proofs.RefuseLaws.{block_good}
 use Rattle.run_form.proofs.refuse.bad_block.Given as goal
 
 abbrev pub invariant-loop-i : goal.invariant-loop-i

@@ -2,14 +2,10 @@
 -- Assumes nothing.
 use mathlib.Core.Path.{◌≡◌}
 use Prim.Native.Nat.{◌-◌, ◌≤◌}
-use native.Mathlib.Omega.{arith}
-use borrow.Author.Tests.{lt-ltb, le-ltb}
-use lib.ListN.{length, get_or}
+use lib.ListN.{length}
 use Rattle.words.specs.Tests.{first_from}
-use Rattle.words.proofs.FoundLaws.{look_fault, look_next, look_end}
 use Rattle.run_machine.specs.Run.{bad_turn}
-use Rattle.run_form.proofs.RefuseLaws.{turn_good, first_turn}
-use borrow.Author.Rules.{rules}
+use Rattle.run_form.proofs.RefuseLaws.{turn_good}
 use Rattle.run_form.proofs.refuse.bad_turn.Given as goal
 
 abbrev pub invariant-loop-i : goal.invariant-loop-i

@@ -1,13 +1,11 @@
 use mathlib.Core.Path.{◌≡◌, refl, ap, ◌∙◌}
-use Prim.Native.Nat.{◌-◌, ◌≤◌}
 use borrow.Author.Rules.{rules}
 use native.Mathlib.Omega.{arith}
-use lib.ListN.{length, drop, length-set}
+use lib.ListN.{length-set}
 use lib.Seq.{sets}
 use Rattle.words.specs.Section.{list_of}
 use Rattle.run_machine.specs.Part.{normal_at}
-use Rattle.run_machine.specs.Room.{block_room, captured_from}
-use Rattle.run_turns.specs.Capture.{captured_word}
+use Rattle.run_machine.specs.Room.{captured_from}
 use Rattle.run_turns.proofs.CaptureLaws.{capture_more, capture_end}
 use Rattle.run_turns.proofs.capture.capture.Goals as goal
 

@@ -1,16 +1,13 @@
 -- `run_turns::capture::capture` meets its contract. The invariant: l words are captured.
 -- Assumes nothing.
-use mathlib.Core.Path.{◌≡◌, refl, ap, ◌∙◌}
+use mathlib.Core.Path.{◌≡◌}
 use Prim.Native.Nat.{◌-◌, ◌≤◌}
-use borrow.Author.Rules.{rules}
-use native.Mathlib.Omega.{arith}
-use lib.ListN.{length, drop, length-set}
+use lib.ListN.{length, drop}
 use lib.Seq.{sets}
 use Rattle.words.specs.Section.{list_of}
 use Rattle.run_machine.specs.Part.{normal_at}
 use Rattle.run_machine.specs.Room.{block_room, captured_from}
 use Rattle.run_turns.specs.Capture.{captured_word}
-use Rattle.run_turns.proofs.CaptureLaws.{capture_more, capture_end}
 use Rattle.run_turns.proofs.capture.capture.Given as goal
 
 abbrev pub invariant-loop-l : goal.invariant-loop-l

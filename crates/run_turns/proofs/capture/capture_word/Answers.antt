@@ -1,6 +1,5 @@
 -- `run_turns::capture::capture_word` meets its contract: by the test on the location's stage.
 -- Assumes nothing.
-use borrow.Author.Rules.{rules}
 use Rattle.run_turns.proofs.CaptureLaws.{word_here, word_kept}
 use Rattle.run_turns.proofs.capture.capture_word.Goals as goal
 

@@ -2,7 +2,6 @@
 -- Assumes nothing.
 use mathlib.Core.Path.{sym}
 use native.Mathlib.Omega.{arith}
-use borrow.Author.Rules.{rules}
 use lib.Seq.{length-take-le}
 use Rattle.run_turns.proofs.BlockTurnLaws.{stage_room_is}
 use Rattle.run_turns.proofs.room.stage_room.Goals as goal

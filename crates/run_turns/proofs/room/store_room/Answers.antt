@@ -2,7 +2,6 @@
 -- Assumes nothing.
 use Prim.Native.Nat.{◌≤◌}
 use native.Mathlib.Omega.{arith}
-use borrow.Author.Rules.{rules}
 use Rattle.run_machine.specs.Part.{normal_at}
 use Rattle.run_turns.proofs.BlockTurnLaws.{store_room_is}
 use Rattle.run_turns.proofs.room.store_room.Goals as goal

@@ -4,7 +4,6 @@ use mathlib.Core.Path.{ap}
 use Prim.Native.Nat.{ℕ, ◌/◌, ◌%◌, ◌^◌}
 use lib.ListN.{set}
 use Rattle.run_machine.specs.Room.{part_low, part_high, phase_word, stage_word, block_state_words}
-use borrow.Author.Rules.{rules}
 use Rattle.run_turns.proofs.room.store_state.Goals as goal
 
 pub returns : goal.returns

@@ -5,7 +5,6 @@ use Prim.Native.Nat.{ℕ, ◌+◌, ◌*◌, ◌<◌}
 use native.Mathlib.Omega.{arith}
 use Rattle.plan_record.specs.Record.{locations_of}
 use Rattle.script.proofs.HeadLaws.{half_within, half_past}
-use borrow.Author.Rules.{rules}
 use Rattle.script.proofs.head.location_half.Goals as goal
 
 pub overflow_add-result : goal.overflow_add-result

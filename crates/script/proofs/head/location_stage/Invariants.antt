@@ -1,13 +1,10 @@
 -- The sums so far: where the stages passed end, and how many of them end at or before the location.
 -- Assumes nothing.
-use mathlib.Core.Path.{◌≡◌, refl, sym, ap, ap₂, ◌∙◌}
-use Prim.Native.Nat.{ℕ, ◌+◌, ◌-◌, ◌*◌, ◌≤◌}
-use native.Mathlib.Omega.{arith}
-use borrow.Author.Rules.{rules}
+use mathlib.Core.Path.{◌≡◌}
+use Prim.Native.Nat.{◌-◌, ◌*◌, ◌≤◌}
 use Rattle.words.specs.Sum.{sum_to}
-use Rattle.words.proofs.SumLaws.{sum_more}
 use Rattle.plan_record.specs.Record.{stage_locations}
-use Rattle.script.proofs.HeadLaws.{ended_by, ended_more, stage_is}
+use Rattle.script.proofs.HeadLaws.{ended_by}
 use Rattle.script.proofs.head.location_stage.Given as goal
 
 abbrev pub invariant-loop-s : goal.invariant-loop-s

@@ -3,7 +3,6 @@
 use mathlib.Core.Path.{ap₂, ◌∙◌}
 use Prim.Native.Nat.{ℕ, ◌+◌, ◌*◌, ◌^◌}
 use Rattle.words.proofs.SectionLaws.{halves_join}
-use borrow.Author.Rules.{rules}
 use Rattle.script.proofs.head.location_word.Goals as goal
 
 pub returns : goal.returns

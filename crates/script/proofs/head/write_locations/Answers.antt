@@ -1,8 +1,7 @@
 use mathlib.Core.Path.{◌≡◌}
-use Prim.Native.Nat.{◌-◌, ◌/◌, ◌≤◌}
+use Prim.Native.Nat.{◌/◌}
 use native.Mathlib.Omega.{arith}
-use lib.ListN.{length, take, length-set}
-use Rattle.words.specs.Section.{list_of}
+use lib.ListN.{length, length-set}
 use Rattle.plan_record.specs.Record.{plan_lanes}
 use Rattle.script.specs.Script.{location_words}
 use Rattle.script.proofs.FilledSliceLaws.{fill_none, fill_more, fill_end}

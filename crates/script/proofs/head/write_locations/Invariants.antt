@@ -1,15 +1,10 @@
 -- After j turns the first j words are the locations'.
 -- Assumes nothing.
 use mathlib.Core.Path.{◌≡◌}
-use Prim.Native.Nat.{◌-◌, ◌/◌, ◌≤◌}
-use native.Mathlib.Omega.{arith}
-use lib.ListN.{length, take, length-set}
+use Prim.Native.Nat.{◌-◌, ◌≤◌}
+use lib.ListN.{length, take}
 use Rattle.words.specs.Section.{list_of}
-use Rattle.plan_record.specs.Record.{plan_lanes}
-use Rattle.script.specs.Script.{location_words}
-use Rattle.script.proofs.FilledSliceLaws.{fill_none, fill_more, fill_end}
 use Rattle.script.proofs.HeadLaws.{location_word}
-use borrow.Author.Rules.{rules}
 use Rattle.script.proofs.head.write_locations.Given as goal
 
 abbrev pub invariant-loop-j : goal.invariant-loop-j

@@ -4,7 +4,6 @@ use native.Mathlib.Omega.{arith}
 use lib.ListN.{length, length-set}
 use Rattle.script.specs.Writers.{number_words}
 use Rattle.script.proofs.HeadLaws.{numbers_stored}
-use borrow.Author.Rules.{rules}
 use Rattle.script.proofs.head.write_numbers.Goals as goal
 
 pub bounds-out-1 : goal.bounds-out-1

@@ -1,13 +1,10 @@
 -- After w turns the first w words of each list are the lanes'.
 -- Assumes nothing.
-use mathlib.Core.Path.{◌≡◌, ◌∙◌}
+use mathlib.Core.Path.{◌≡◌}
 use Prim.Native.Nat.{◌-◌, ◌≤◌}
-use native.Mathlib.Omega.{arith}
-use lib.ListN.{length, take, length-set}
+use lib.ListN.{length, take}
 use Rattle.words.specs.Section.{list_of}
 use Rattle.script.specs.Script.{xora_bit, xorb_bit, orb_bit, mask_word}
-use Rattle.script.proofs.FilledSliceLaws.{fill_none, fill_more, fill_end}
-use borrow.Author.Rules.{rules}
 use Rattle.script.proofs.masks.fill_masks.Given as goal
 
 abbrev pub invariant-loop-w : goal.invariant-loop-w

@@ -1,12 +1,9 @@
 -- After k turns the words have the bits of the lane's first k positions.
 -- Assumes nothing.
-use mathlib.Core.Path.{◌≡◌, refl, ap, ◌∙◌}
+use mathlib.Core.Path.{◌≡◌}
 use Prim.Native.Nat.{◌+◌, ◌*◌, ◌-◌, ◌≤◌}
-use native.Mathlib.Omega.{arith}
 use Rattle.words.specs.Bit.{word_of}
 use Rattle.script.specs.Script.{xora_bit, xorb_bit, orb_bit}
-use Rattle.script.proofs.MaskLaws.{xora_lt, xorb_lt, orb_lt, word_more}
-use borrow.Author.Rules.{rules}
 use Rattle.script.proofs.masks.lane_masks.Given as goal
 
 abbrev pub invariant-loop-k : goal.invariant-loop-k

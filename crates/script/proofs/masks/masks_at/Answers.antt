@@ -3,7 +3,6 @@
 use Rattle.script.proofs.MaskLaws.{bits_first, bits_empty, bits_carried, bits_gate, bits_missing}
 use Prim.Native.Nat.{◌+◌, ◌*◌, ◌<◌}
 use native.Mathlib.Omega.{arith}
-use borrow.Author.Rules.{rules}
 use Rattle.script.proofs.masks.masks_at.Goals as goal
 
 pub returns-then-q-eq0 : goal.returns-then-q-eq0

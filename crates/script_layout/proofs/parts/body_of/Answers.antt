@@ -2,7 +2,6 @@
 -- Assumes nothing.
 use native.Mathlib.Omega.{arith}
 use Rattle.script_layout.proofs.RowLaws.{cell_in, body_there}
-use borrow.Author.Rules.{rules}
 use Rattle.script_layout.proofs.parts.body_of.Goals as goal
 
 pub cell_at-low-requires : goal.cell_at-low-requires

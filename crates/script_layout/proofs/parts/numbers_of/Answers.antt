@@ -3,7 +3,6 @@
 use mathlib.Core.Path.{refl}
 use native.Mathlib.Omega.{arith}
 use Rattle.script_layout.proofs.RowLaws.{cell_in, row_numbers}
-use borrow.Author.Rules.{rules}
 use Rattle.script_layout.proofs.parts.numbers_of.Goals as goal
 
 pub cell_at-requires : goal.cell_at-requires

@@ -3,7 +3,6 @@
 use mathlib.Core.Path.{refl}
 use native.Mathlib.Omega.{arith}
 use Rattle.script_layout.proofs.RowLaws.{next_in, next_is, lent_long, buildable, room_same, part_written}
-use borrow.Author.Rules.{rules}
 use Rattle.script_layout.proofs.parts.write_part.Goals as goal
 
 pub part_words-requires : goal.part_words-requires
@@ -22,14 +21,13 @@ slice_bounds-build_script-end c =
     next_in c.args.d.now c.args.room.now c.requires.0.sound c.args.p c.requires.0.part c.numbers_of-x.result c.numbers_of-x.ensures.numbers_of c.args.at _ _ _ c.args.words.now c.body_of-body.ensures.lanes c.part_words.ensures.0 refl c.requires.0.fits
 
 pub build_script-requires : goal.build_script-requires
-build_script-requires c =
-    (
-      buildable c.args.d.now c.args.room.now c.requires.0.sound c.args.p c.requires.0.part c.body_of-body.result c.body_of-body.ensures,
-      c.numbers_of-x.ensures.numbers_of,
-      omega (arith, c.requires.0.sound.ready.wide),
-      lent_long c.args.d.now c.args.room.now c.requires.0.sound c.args.p c.requires.0.part c.numbers_of-x.result c.numbers_of-x.ensures.numbers_of c.args.at _ _ _ c.args.words.now c.body_of-body.ensures.lanes c.part_words.ensures.0 refl c.requires.0.fits,
-      c.requires.1,
-    )
+build_script-requires c = (
+  buildable c.args.d.now c.args.room.now c.requires.0.sound c.args.p c.requires.0.part c.body_of-body.result c.body_of-body.ensures,
+  c.numbers_of-x.ensures.numbers_of,
+  omega (arith, c.requires.0.sound.ready.wide),
+  lent_long c.args.d.now c.args.room.now c.requires.0.sound c.args.p c.requires.0.part c.numbers_of-x.result c.numbers_of-x.ensures.numbers_of c.args.at _ _ _ c.args.words.now c.body_of-body.ensures.lanes c.part_words.ensures.0 refl c.requires.0.fits,
+  c.requires.1,
+)
 
 pub shape_of-room : goal.shape_of-room
 shape_of-room c =
@@ -49,5 +47,9 @@ shape_of-set c =
 
 pub returns : goal.returns
 returns c =
-    record { value = next_is c.args.d.now c.args.room.now c.requires.0.sound c.args.p c.requires.0.part c.numbers_of-x.result c.numbers_of-x.ensures.numbers_of c.args.at _ _ _ c.args.words.now c.body_of-body.ensures.lanes c.part_words.ensures.0 refl c.requires.0.fits; room_unchanged = room_same c.args.d.now c.args.room.now c.requires.0.sound _ c.build_script.ensures.room_after; words_after = part_written c.args.d.now c.args.room.now c.requires.0.sound c.args.p c.requires.0.part c.numbers_of-x.result c.numbers_of-x.ensures.numbers_of c.args.at _ _ _ c.args.words.now c.body_of-body.ensures.lanes c.part_words.ensures.0 refl c.requires.0.fits
-            c.args.last c.numbers_of-x.ensures.last_value _ c.build_script.auto.out c.build_script.ensures.out_after }
+    record {
+      value = next_is c.args.d.now c.args.room.now c.requires.0.sound c.args.p c.requires.0.part c.numbers_of-x.result c.numbers_of-x.ensures.numbers_of c.args.at _ _ _ c.args.words.now c.body_of-body.ensures.lanes c.part_words.ensures.0 refl c.requires.0.fits;
+      room_unchanged = room_same c.args.d.now c.args.room.now c.requires.0.sound _ c.build_script.ensures.room_after;
+      words_after = part_written c.args.d.now c.args.room.now c.requires.0.sound c.args.p c.requires.0.part c.numbers_of-x.result c.numbers_of-x.ensures.numbers_of c.args.at _ _ _ c.args.words.now c.body_of-body.ensures.lanes c.part_words.ensures.0 refl c.requires.0.fits
+          c.args.last c.numbers_of-x.ensures.last_value _ c.build_script.auto.out c.build_script.ensures.out_after;
+    }

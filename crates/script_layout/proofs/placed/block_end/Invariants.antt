@@ -1,15 +1,7 @@
 -- The loop's invariant: the ranks so far are the block's. The first rank of another block ends them, or the end of the major stage.
 -- Assumes nothing.
-use mathlib.Core.Path.{◌≡◌, sym, ap, ◌∙◌}
-use Prim.Native.Nat.{ℕ, ◌+◌, ◌-◌, ◌≤◌, ◌<◌}
-use native.Mathlib.Omega.{arith}
-use Rattle.plan_record.specs.Record.{parts_of}
-use Rattle.plan_rows.specs.Columns as col
-use Rattle.plan_rows.specs.Rows.{cell_at}
-use Rattle.script_assembly.specs.WrittenSoFar.{first_rank, ranked_at}
-use Rattle.script_layout.proofs.RowLaws.{plan_formed, cell_in}
-use Rattle.script_layout.proofs.PlacedLaws.{end_in, parts_are, to_in, rank_in, block_on, block_off}
-use borrow.Author.Rules.{rules}
+use Prim.Native.Nat.{◌+◌, ◌-◌, ◌≤◌}
+use Rattle.script_assembly.specs.WrittenSoFar.{first_rank}
 use Rattle.script_layout.proofs.placed.block_end.Given as goal
 
 abbrev pub invariant-loop-k : goal.invariant-loop-k

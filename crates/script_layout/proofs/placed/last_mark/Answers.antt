@@ -2,7 +2,6 @@
 -- Assumes nothing.
 use mathlib.Core.Path.{sym}
 use Rattle.script_assembly.proofs.WriterStepLaws.{mark_last, mark_more}
-use borrow.Author.Rules.{rules}
 use Rattle.script_layout.proofs.placed.last_mark.Goals as goal
 
 pub returns-then-k-to : goal.returns-then-k-to

@@ -5,7 +5,6 @@ use Prim.Native.Nat.{◌+◌, ◌≤◌}
 use native.Mathlib.Omega.{arith}
 use Rattle.script_assembly.specs.WrittenSoFar.{first_rank}
 use Rattle.script_layout.proofs.PlacedLaws.{empty_next, empty_in_lem, empty_room, empty_stored}
-use borrow.Author.Rules.{rules}
 use Rattle.script_layout.proofs.placed.write_block.Goals as goal
 
 pub write_parts-next-requires : goal.write_parts-next-requires
@@ -54,4 +53,8 @@ write_empty-requires c =
 pub returns : goal.returns
 returns c =
     let none : first_rank c.args.d.now c.args.s (c.args.b + 1) ≤ c.args.from = omega (arith, c.block_end-to.ensures, c.if-from-to.false) in
-    record { rank_value = (c.block_end-to.ensures, empty_next c.args.d.now c.args.room.now _ _ _ c.requires.0.place none c.args.at _ c.lanes_of.ensures.0 c.args.words.now c.requires.0.fits); room_unchanged = refl; words_after = empty_stored c.args.d.now c.args.room.now _ _ _ c.requires.0.place none c.args.at _ c.lanes_of.ensures.0 c.args.words.now c.requires.0.fits _ c.write_empty.auto.out c.write_empty.ensures }
+    record {
+      rank_value = (c.block_end-to.ensures, empty_next c.args.d.now c.args.room.now _ _ _ c.requires.0.place none c.args.at _ c.lanes_of.ensures.0 c.args.words.now c.requires.0.fits);
+      room_unchanged = refl;
+      words_after = empty_stored c.args.d.now c.args.room.now _ _ _ c.requires.0.place none c.args.at _ c.lanes_of.ensures.0 c.args.words.now c.requires.0.fits _ c.write_empty.auto.out c.write_empty.ensures;
+    }

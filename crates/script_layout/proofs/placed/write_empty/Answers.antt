@@ -1,7 +1,6 @@
 -- Zeros, and then word 1.
 -- Assumes nothing.
 use Rattle.script_layout.proofs.PlacedLaws.{empty_made}
-use borrow.Author.Rules.{rules}
 use Rattle.script_layout.proofs.placed.write_empty.Goals as goal
 
 pub returns : goal.returns

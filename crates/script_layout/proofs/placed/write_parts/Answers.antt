@@ -1,4 +1,4 @@
-use mathlib.Core.Path.{◌≡◌, refl, ap, ◌∙◌}
+use mathlib.Core.Path.{refl, ap, ◌∙◌}
 use mathlib.Core.List.{List}
 use Prim.Native.Nat.{ℕ, ◌+◌, ◌-◌, ◌≤◌, ◌<◌}
 use native.Mathlib.Omega.{arith}
@@ -9,7 +9,6 @@ use Rattle.script_assembly.specs.WrittenSoFar.{last_mark, parts_words, parts_in,
 use Rattle.script_layout.proofs.RowLaws.{cell_in}
 use Rattle.script_layout.proofs.ListStoreLaws.{stores_length, lists_long}
 use Rattle.script_layout.proofs.PlacedLaws.{end_in, to_in, turn_room, turn_next, turn_stored, none_stored, none_long, all_words}
-use borrow.Author.Rules.{rules}
 use Rattle.script_layout.proofs.placed.write_parts.Goals as goal
 
 pub loop-k-init : goal.loop-k-init
@@ -38,7 +37,8 @@ loop-k-preserved c =
       omega (arith, c.loop-k-test.true),
       c.write_part-next.ensures.room_unchanged ∙ c.loop-k.invariant.2,
       turn_next c.args.d.now c.args.room.now _ _ _ c.requires.0.place c.loop-k.k c.loop-k.invariant.0 k c.args.at c.loop-k.next c.loop-k.invariant.3 c.loop-k.room c.loop-k.invariant.2 _ c.cell_at-p.ensures c.args.words.now c.loop-k.words c.loop-k.invariant.4 _ c.write_part-next.ensures.value,
-      turn_stored c.args.d.now c.args.room.now _ _ _ c.requires.0.place c.loop-k.k c.loop-k.invariant.0 k c.args.at c.loop-k.next c.loop-k.invariant.3 c.loop-k.room c.loop-k.invariant.2 _ c.cell_at-p.ensures c.args.words.now c.loop-k.words c.loop-k.invariant.4 _ _ mark c.write_part-next.ensures.words_after,
+      turn_stored c.args.d.now c.args.room.now _ _ _ c.requires.0.place c.loop-k.k c.loop-k.invariant.0 k c.args.at c.loop-k.next c.loop-k.invariant.3 c.loop-k.room c.loop-k.invariant.2 _ c.cell_at-p.ensures c.args.words.now c.loop-k.words
+          c.loop-k.invariant.4 _ _ mark c.write_part-next.ensures.words_after,
       c.write_part-next.auto.keys ∙ c.loop-k.invariant.5,
       c.write_part-next.auto.scratch ∙ c.loop-k.invariant.6,
       c.write_part-next.auto.set ∙ c.loop-k.invariant.7,

@@ -1,17 +1,11 @@
 -- The loop's invariant: the words of the parts before rank k stand from word `at` on.
 -- Assumes nothing.
-use mathlib.Core.Path.{◌≡◌, refl, ap, ◌∙◌}
-use mathlib.Core.List.{List}
-use Prim.Native.Nat.{ℕ, ◌+◌, ◌-◌, ◌≤◌, ◌<◌}
-use native.Mathlib.Omega.{arith}
+use mathlib.Core.Path.{◌≡◌}
+use Prim.Native.Nat.{◌+◌, ◌-◌, ◌≤◌}
 use lib.ListN.{length}
 use lib.Seq.{sets}
-use Rattle.plan_record.specs.Record.{plan_lanes, parts_of}
-use Rattle.script_assembly.specs.WrittenSoFar.{last_mark, parts_words, parts_in, first_rank}
-use Rattle.script_layout.proofs.RowLaws.{cell_in}
-use Rattle.script_layout.proofs.ListStoreLaws.{stores_length, lists_long}
-use Rattle.script_layout.proofs.PlacedLaws.{end_in, to_in, turn_room, turn_next, turn_stored, none_stored, none_long, all_words}
-use borrow.Author.Rules.{rules}
+use Rattle.plan_record.specs.Record.{plan_lanes}
+use Rattle.script_assembly.specs.WrittenSoFar.{parts_words, parts_in}
 use Rattle.script_layout.proofs.placed.write_parts.Given as goal
 
 abbrev pub invariant-loop-k : goal.invariant-loop-k

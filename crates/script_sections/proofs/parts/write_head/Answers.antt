@@ -11,7 +11,6 @@ use Rattle.script.specs.Writers.{number_words}
 use Rattle.script.proofs.HeadLaws.{numbers_wide}
 use Rattle.script.proofs.PartLengthLaws.{lanes_even}
 use Rattle.script.proofs.PutMidLaws.{two_parts}
-use borrow.Author.Rules.{rules}
 use Rattle.script_sections.proofs.parts.write_head.Goals as goal
 
 pub slice_bounds-write_numbers-end : goal.slice_bounds-write_numbers-end

@@ -2,13 +2,11 @@ use mathlib.Core.Path.{◌≡◌, refl, ap, ◌∙◌}
 use Prim.Native.Nat.{ℕ, ◌+◌, ◌*◌, ◌-◌, ◌≤◌}
 use native.Mathlib.Omega.{arith}
 use borrow.Rule.Slice.PartMut.{mid_len}
-use lib.ListN.{length, take, replicate}
-use Rattle.plan_record.specs.Record.{plan_lanes, slots_of, stages_of}
-use Rattle.script.specs.Script.{stage_sections}
+use lib.ListN.{length, replicate}
+use Rattle.plan_record.specs.Record.{plan_lanes, stages_of}
 use Rattle.script.proofs.PartLengthLaws.{stage_length}
 use Rattle.script.proofs.PutMidLaws.{put_mid_length}
 use Rattle.script_sections.proofs.ScriptLaws.{section_in, stages_first, stages_more, stages_end}
-use borrow.Author.Rules.{rules}
 use Rattle.script_sections.proofs.parts.write_stages.Goals as goal
 
 pub loop-s-init : goal.loop-s-init
@@ -46,4 +44,8 @@ loop-s-preserved c =
 
 pub returns : goal.returns
 returns c =
-    let long = c.loop-s.invariant.2 ∙ (c.requires.1.room ∙ ap (λ (i : ℕ). 20 * (plan_lanes c.args.d.now * i)) c.requires.0.body.stages) in record { table_after = c.clear.ensures ∙ ap (λ (x : ℕ). replicate x 0) c.loop-s.invariant.1; out_after = stages_end (plan_lanes c.args.d.now) c.args.d.now c.args.p c.loop-s.out (c.loop-s.s + 1) (stages_of c.args.d.now c.args.p) long (omega (arith, c.requires.0.body.stages)) c.loop-s.invariant.4 }
+    let long = c.loop-s.invariant.2 ∙ (c.requires.1.room ∙ ap (λ (i : ℕ). 20 * (plan_lanes c.args.d.now * i)) c.requires.0.body.stages) in
+    record {
+      table_after = c.clear.ensures ∙ ap (λ (x : ℕ). replicate x 0) c.loop-s.invariant.1;
+      out_after = stages_end (plan_lanes c.args.d.now) c.args.d.now c.args.p c.loop-s.out (c.loop-s.s + 1) (stages_of c.args.d.now c.args.p) long (omega (arith, c.requires.0.body.stages)) c.loop-s.invariant.4;
+    }

@@ -1,16 +1,10 @@
 -- After s turns the sections of stages 0 to s are there.
 -- Assumes nothing.
-use mathlib.Core.Path.{◌≡◌, refl, ap, ◌∙◌}
-use Prim.Native.Nat.{ℕ, ◌+◌, ◌*◌, ◌-◌, ◌≤◌}
-use native.Mathlib.Omega.{arith}
-use borrow.Rule.Slice.PartMut.{mid_len}
-use lib.ListN.{length, take, replicate}
-use Rattle.plan_record.specs.Record.{plan_lanes, slots_of, stages_of}
+use mathlib.Core.Path.{◌≡◌}
+use Prim.Native.Nat.{◌+◌, ◌*◌, ◌-◌, ◌≤◌}
+use lib.ListN.{length, take}
+use Rattle.plan_record.specs.Record.{plan_lanes, slots_of}
 use Rattle.script.specs.Script.{stage_sections}
-use Rattle.script.proofs.PartLengthLaws.{stage_length}
-use Rattle.script.proofs.PutMidLaws.{put_mid_length}
-use Rattle.script_sections.proofs.ScriptLaws.{section_in, stages_first, stages_more, stages_end}
-use borrow.Author.Rules.{rules}
 use Rattle.script_sections.proofs.parts.write_stages.Given as goal
 
 abbrev pub invariant-loop-s : goal.invariant-loop-s

@@ -9,7 +9,6 @@ use lib.Seq.{length-take-le}
 use Rattle.plan_record.specs.Record.{plan_lanes}
 use Rattle.script.proofs.PartLengthLaws.{sram_length}
 use Rattle.script.proofs.PutMidLaws.{two_parts}
-use borrow.Author.Rules.{rules}
 use Rattle.script_sections.proofs.parts.write_tables.Goals as goal
 
 pub slice_bounds-write_sram-end : goal.slice_bounds-write_sram-end

@@ -9,7 +9,6 @@ use Rattle.words.proofs.SectionLaws.{length_list_of}
 use Rattle.plan_record.specs.Record.{plan_lanes, table_at}
 use Rattle.script.specs.Script.{enable_section}
 use Rattle.script.proofs.SectionsLaws.{section_are, entries_small}
-use borrow.Author.Rules.{rules}
 use Rattle.script_sections.proofs.sections.put_enables.Goals as goal
 
 pub read_table-requires : goal.read_table-requires

@@ -1,8 +1,6 @@
-use mathlib.Core.Path.{◌≡◌}
-use Prim.Native.Nat.{◌+◌, ◌-◌, ◌≤◌}
+use Prim.Native.Nat.{◌+◌}
 use native.Mathlib.Omega.{arith}
-use lib.ListN.{length, take, length-set}
-use Rattle.words.specs.Section.{list_of}
+use lib.ListN.{length-set}
 use Rattle.plan_record.specs.Record.{table_at}
 use Rattle.script.proofs.FilledSliceLaws.{fill_none, fill_more, fill_end}
 use borrow.Author.Rules.{rules}

@@ -2,12 +2,9 @@
 -- Assumes nothing.
 use mathlib.Core.Path.{◌≡◌}
 use Prim.Native.Nat.{◌+◌, ◌-◌, ◌≤◌}
-use native.Mathlib.Omega.{arith}
-use lib.ListN.{length, take, length-set}
+use lib.ListN.{length, take}
 use Rattle.words.specs.Section.{list_of}
 use Rattle.plan_record.specs.Record.{table_at}
-use Rattle.script.proofs.FilledSliceLaws.{fill_none, fill_more, fill_end}
-use borrow.Author.Rules.{rules}
 use Rattle.script_sections.proofs.sections.read_table.Given as goal
 
 abbrev pub invariant-loop-i : goal.invariant-loop-i

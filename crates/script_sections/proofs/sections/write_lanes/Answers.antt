@@ -1,9 +1,5 @@
-use mathlib.Core.Path.{◌≡◌}
-use Prim.Native.Nat.{◌*◌, ◌-◌, ◌≤◌}
 use native.Mathlib.Omega.{arith}
-use lib.ListN.{length, take, length-set}
-use Rattle.script.specs.Script.{lane_list}
-use Rattle.script.specs.Writers.{words_in}
+use lib.ListN.{length-set}
 use Rattle.script.proofs.SectionsLaws.{lanes_none, lanes_more, lanes_end}
 use borrow.Author.Rules.{rules}
 use Rattle.script_sections.proofs.sections.write_lanes.Goals as goal

@@ -2,12 +2,9 @@
 -- Assumes nothing.
 use mathlib.Core.Path.{◌≡◌}
 use Prim.Native.Nat.{◌*◌, ◌-◌, ◌≤◌}
-use native.Mathlib.Omega.{arith}
-use lib.ListN.{length, take, length-set}
+use lib.ListN.{length, take}
 use Rattle.script.specs.Script.{lane_list}
 use Rattle.script.specs.Writers.{words_in}
-use Rattle.script.proofs.SectionsLaws.{lanes_none, lanes_more, lanes_end}
-use borrow.Author.Rules.{rules}
 use Rattle.script_sections.proofs.sections.write_lanes.Given as goal
 
 abbrev pub invariant-loop-w : goal.invariant-loop-w

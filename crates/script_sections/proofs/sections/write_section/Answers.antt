@@ -10,7 +10,6 @@ use Rattle.words.proofs.SectionLaws.{section_length}
 use Rattle.script.specs.Script.{lane_list}
 use Rattle.script.specs.Writers.{words_in}
 use Rattle.script.proofs.PutMidLaws.{two_parts}
-use borrow.Author.Rules.{rules}
 use Rattle.script_sections.proofs.sections.write_section.Goals as goal
 
 pub slice_bounds-pack-end-2 : goal.slice_bounds-pack-end-2

@@ -2,7 +2,6 @@
 -- Assumes nothing.
 use mathlib.Core.Path.{refl, sym}
 use Rattle.script_sections.proofs.ScriptLaws.{lent_long}
-use borrow.Author.Rules.{rules}
 use Rattle.script_sections.proofs.sections.write_sram.Goals as goal
 
 pub slice_bounds-put_sram-end : goal.slice_bounds-put_sram-end

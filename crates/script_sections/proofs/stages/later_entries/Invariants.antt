@@ -1,14 +1,11 @@
 -- After i turns the first i entries are the stage's.
 -- Assumes nothing.
-use mathlib.Core.Path.{◌≡◌, ◌∙◌}
+use mathlib.Core.Path.{◌≡◌}
 use Prim.Native.Nat.{◌+◌, ◌-◌, ◌≤◌}
-use native.Mathlib.Omega.{arith}
-use lib.ListN.{length, take, length-set}
+use lib.ListN.{length, take}
 use Rattle.words.specs.Section.{list_of}
 use Rattle.plan_record.specs.Record.{plan_lanes}
 use Rattle.script.specs.Script.{stage_entry}
-use Rattle.script.proofs.FilledSliceLaws.{fill_none, fill_more, fill_end}
-use borrow.Author.Rules.{rules}
 use Rattle.script_sections.proofs.stages.later_entries.Given as goal
 
 abbrev pub invariant-loop-i : goal.invariant-loop-i

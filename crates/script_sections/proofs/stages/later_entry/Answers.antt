@@ -1,7 +1,6 @@
 -- One law for each way out.
 -- Assumes nothing.
 use Rattle.script.proofs.LaterEntryLaws.{entry_empty, entry_found, entry_missing}
-use borrow.Author.Rules.{rules}
 use Rattle.script_sections.proofs.stages.later_entry.Goals as goal
 
 pub returns-then-pin : goal.returns-then-pin

@@ -8,7 +8,6 @@ use Rattle.words.proofs.SectionLaws.{length_list_of}
 use Rattle.plan_record.specs.Record.{plan_lanes, slots_of}
 use Rattle.script.specs.Script.{stage_entry, xora_bit, xorb_bit, orb_bit, mask_word, stage_section}
 use Rattle.script.proofs.SectionsLaws.{section_at_lem, entries_small}
-use borrow.Author.Rules.{rules}
 use Rattle.script_sections.proofs.stages.put_stage.Goals as goal
 
 pub write_section-requires : goal.write_section-requires

@@ -2,7 +2,6 @@
 -- Assumes nothing.
 use Rattle.plan_slots.proofs.PutLaws.{filled_with}
 use Rattle.script.proofs.LaterEntryLaws.{entry_small}
-use borrow.Author.Rules.{rules}
 use Rattle.script_sections.proofs.stages.write_later.Goals as goal
 
 pub later_entries-requires : goal.later_entries-requires

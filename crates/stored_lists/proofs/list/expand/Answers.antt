@@ -1,8 +1,6 @@
-use mathlib.Core.Path.{◌≡◌, refl}
-use Prim.Native.Nat.{◌-◌, ◌≤◌}
+use mathlib.Core.Path.{refl}
 use native.Mathlib.Omega.{arith}
-use lib.ListN.{length}
-use Rattle.stored_lists.proofs.StoredListLaws.{Put, put_none, put_more, put_all}
+use Rattle.stored_lists.proofs.StoredListLaws.{put_none, put_more, put_all}
 use borrow.Author.Rules.{rules}
 use Rattle.stored_lists.proofs.list.expand.Goals as goal
 
@@ -14,15 +12,14 @@ pub returns-then-words-filled : goal.returns-then-words-filled
 returns-then-words-filled c = λ h. absurd (omega (arith, h))
 
 pub loop-i-preserved : goal.loop-i-preserved
-loop-i-preserved c =
-    (
-      search rules,
-      search rules,
-      search rules,
-      put_more c.args.file.now c.args.at c.word_at-runs.result c.loop-i.i
-          c.loop-i.filled c.word_at-count.result c.word_at.result c.loop-i.words c.fill.new.words (search rules)
-          c.loop-i.invariant.3 c.word_at-count.ensures c.word_at.ensures c.fill.ensures,
-    )
+loop-i-preserved c = (
+  search rules,
+  search rules,
+  search rules,
+  put_more c.args.file.now c.args.at c.word_at-runs.result c.loop-i.i
+      c.loop-i.filled c.word_at-count.result c.word_at.result c.loop-i.words c.fill.new.words (search rules)
+      c.loop-i.invariant.3 c.word_at-count.ensures c.word_at.ensures c.fill.ensures,
+)
 
 pub returns : goal.returns
 returns c =

@@ -1,11 +1,9 @@
 -- The runs before i are put.
 -- Assumes nothing.
-use mathlib.Core.Path.{◌≡◌, refl}
+use mathlib.Core.Path.{◌≡◌}
 use Prim.Native.Nat.{◌-◌, ◌≤◌}
-use native.Mathlib.Omega.{arith}
 use lib.ListN.{length}
-use Rattle.stored_lists.proofs.StoredListLaws.{Put, put_none, put_more, put_all}
-use borrow.Author.Rules.{rules}
+use Rattle.stored_lists.proofs.StoredListLaws.{Put}
 use Rattle.stored_lists.proofs.list.expand.Given as goal
 
 abbrev pub invariant-loop-i : goal.invariant-loop-i

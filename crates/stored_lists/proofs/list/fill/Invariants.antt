@@ -1,12 +1,9 @@
 -- What is put before k.
 -- Assumes nothing.
-use mathlib.Core.Path.{◌≡◌, refl, sym, ap, ◌∙◌}
+use mathlib.Core.Path.{◌≡◌}
 use mathlib.Core.List.{◌++◌}
-use Prim.Native.Nat.{ℕ, ◌+◌, ◌-◌, ◌≤◌}
-use native.Mathlib.Omega.{arith}
+use Prim.Native.Nat.{◌+◌, ◌-◌, ◌≤◌}
 use lib.ListN.{length, take, replicate}
-use Rattle.stored_lists.proofs.StoredListLaws.{fill_none, run_fill_more}
-use borrow.Author.Rules.{rules}
 use Rattle.stored_lists.proofs.list.fill.Given as goal
 
 abbrev pub invariant-loop-k : goal.invariant-loop-k

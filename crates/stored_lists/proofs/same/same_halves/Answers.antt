@@ -1,9 +1,8 @@
 use mathlib.Core.Path.{sym, ◌∙◌}
 use mathlib.Core.List.{List}
-use Prim.Native.Nat.{ℕ, ◌-◌, ◌≤◌}
+use Prim.Native.Nat.{ℕ}
 use native.Mathlib.Omega.{arith}
-use lib.ListN.{length}
-use Rattle.stored_lists.proofs.SameLaws.{Half, odd, not_half, other_half, half_none, half_more, half_all}
+use Rattle.stored_lists.proofs.SameLaws.{odd, not_half, other_half, half_none, half_more, half_all}
 use borrow.Author.Rules.{rules}
 use Rattle.stored_lists.proofs.same.same_halves.Goals as goal
 

@@ -1,12 +1,8 @@
 -- The words are halves of the numbers below i.
 -- Assumes nothing.
-use mathlib.Core.Path.{sym, ◌∙◌}
-use mathlib.Core.List.{List}
-use Prim.Native.Nat.{ℕ, ◌-◌, ◌≤◌}
-use native.Mathlib.Omega.{arith}
+use Prim.Native.Nat.{◌-◌, ◌≤◌}
 use lib.ListN.{length}
-use Rattle.stored_lists.proofs.SameLaws.{Half, odd, not_half, other_half, half_none, half_more, half_all}
-use borrow.Author.Rules.{rules}
+use Rattle.stored_lists.proofs.SameLaws.{Half}
 use Rattle.stored_lists.proofs.same.same_halves.Given as goal
 
 abbrev pub invariant-loop-i : goal.invariant-loop-i

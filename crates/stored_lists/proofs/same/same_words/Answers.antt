@@ -1,9 +1,8 @@
 use mathlib.Core.List.{List}
-use Prim.Native.Nat.{ℕ, ◌-◌, ◌≤◌}
+use Prim.Native.Nat.{ℕ}
 use native.Mathlib.Omega.{arith}
-use lib.ListN.{length}
 use borrow.Author.Rules.{rules}
-use Rattle.stored_lists.proofs.SameLaws.{Alike, other_length, other_at, alike_none, alike_more, alike_all}
+use Rattle.stored_lists.proofs.SameLaws.{other_length, other_at, alike_none, alike_more, alike_all}
 use Rattle.stored_lists.proofs.same.same_words.Goals as goal
 
 pub returns-then-a-b : goal.returns-then-a-b

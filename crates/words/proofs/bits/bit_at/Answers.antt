@@ -1,6 +1,5 @@
 -- `words::bits::bit_at` meets its contract: a mask of 1 is the rest by 2.
 -- Assumes nothing.
-use borrow.Author.Rules.{rules}
 use lib.Bits.{and_mask}
 use Rattle.words.specs.Bit.{bit, bit_at}
 use Rattle.words.proofs.bits.bit_at.Goals as goal

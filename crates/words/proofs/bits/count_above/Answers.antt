@@ -1,7 +1,6 @@
 -- `words::bits::count_above` meets its contract: two shifts are one.
 -- Assumes nothing.
 use mathlib.Core.Path.{ap, ◌∙◌}
-use borrow.Author.Rules.{rules}
 use lib.Pow.{shr-shr}
 use Rattle.words.specs.Bit.{pop}
 use Rattle.words.proofs.bits.count_above.Goals as goal

@@ -1,7 +1,6 @@
 -- `words::bits::set_bit` meets its contract: the shifted 1 does not leave the word.
 -- Assumes nothing.
 use Prim.Native.Nat.{◌%◌, ◌^◌}
-use borrow.Author.Rules.{rules}
 use native.Mathlib.Nat.{one-mul}
 use native.Mathlib.Omega.{arith}
 use lib.Pow.{shl_exact}

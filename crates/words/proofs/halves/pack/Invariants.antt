@@ -1,10 +1,8 @@
 -- `words::halves::pack` meets its contract. The loop's invariant: the entries of the first t lanes are in place; at the end the entries fix the words.
 -- Assumes nothing.
 use Prim.Native.Nat.{◌*◌, ◌-◌, ◌≤◌}
-use borrow.Author.Rules.{rules}
-use native.Mathlib.Omega.{arith}
 use lib.ListN.{get_or}
-use Rattle.words.proofs.SectionLaws.{HalvesFilled, lane_more, section_is}
+use Rattle.words.proofs.SectionLaws.{HalvesFilled}
 use Rattle.words.proofs.halves.pack.Given as goal
 
 abbrev pub invariant-loop-t : goal.invariant-loop-t

@@ -1,6 +1,5 @@
 -- `words::halves::pair_at` meets its contract: the two halves do not overlap, so `|` is their sum.
 -- Assumes nothing.
-use borrow.Author.Rules.{rules}
 use Rattle.words.proofs.SectionLaws.{halves_join}
 use Rattle.words.proofs.halves.pair_at.Goals as goal
 

@@ -1,6 +1,5 @@
 -- `words::halves::put_four` meets its contract: its four stores are one run.
 -- Assumes nothing.
-use borrow.Author.Rules.{rules}
 use native.Mathlib.Omega.{arith}
 use lib.ListN.{get_or, length-set}
 use Rattle.words.proofs.SectionLaws.{four_sets}

@@ -1,7 +1,6 @@
 -- `words::round::next_of` meets its contract: the two cases of the definition.
 -- Assumes nothing.
 use mathlib.Core.Path.{sym}
-use borrow.Author.Rules.{rules}
 use Rattle.words.proofs.RoundLaws.{next_wrap, next_step}
 use Rattle.words.proofs.round.next_of.Goals as goal
 

@@ -1,7 +1,6 @@
 -- `run_turns::block::BlockState::begins` meets its contract: by the test on the stages.
 -- Assumes nothing.
 use mathlib.Core.Path.{refl}
-use borrow.Author.Rules.{rules}
 use Rattle.run_turns.proofs.BlockTurnLaws.{begins_empty, begins_part}
 use Rattle.run_turns.proofs.block.BlockState.begins.Goals as goal
 
