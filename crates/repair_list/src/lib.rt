@@ -1,5 +1,6 @@
 // The count list after a placing or a clearing, out of a map; the slots after either. Document 02, 7/13.
 #![tactic(auto)]
+
 ghost use Rattle.std.specs.Prelude.{◌≡◌, [], ◌∷◌, ◌+◌, ◌*◌, ◌-◌, ◌^◌, ◌≤◌, ◌<◌, length, set};
 ghost use Rattle.std.proofs.lemmas.List.Edits.{sets};
 ghost use Rattle.repair_nodes.specs.Stage.{spots_of, spots_stored, emptied};
