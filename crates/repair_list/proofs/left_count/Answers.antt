@@ -1,11 +1,13 @@
 use mathlib.Core.Path.{◌≡◌, ap}
-use mathlib.Core.Logic.{⊎_elim}
-use Prim.Native.Nat.{◌*◌}
+use Prim.Native.Nat.{◌+◌, ◌*◌, ◌-◌, ◌/◌, ◌≤◌}
 use native.Mathlib.Omega.{arith}
 use lib.ListN.{length, get_or}
-use Rattle.repair_list.specs.Relist.{count_in_map}
+use Rattle.repair_nodes.specs.CountList.{nonzero}
+use Rattle.repair_list.specs.Relist.{count_in_map, entries_in}
 use Rattle.repair_list.proofs.RelistLaws.{left_from, left_size, left_one_size, left_none_size, left_end}
+use borrow.Author.Rules.{rules}
 use Rattle.repair_list.proofs.left_count.Goals as goal
+use Rattle.repair_list.proofs.left_count.Goals.{then-number_of-ne0, else-number_of-ne0}
 
 pub loop-i-init : goal.loop-i-init
 loop-i-init c =
@@ -20,11 +22,13 @@ loop-i-preserved c =
     let x = get_or c.args.counts.now (2 * c.loop-i.i) 0 in
     let z = left_size c.args.map.now c.args.counts.now c.loop-i.i (omega arith) in
     let v : c.number_of.result ≡ count_in_map c.args.map.now x = c.number_of.ensures in
-    ⊎_elim
-    (λ w. (omega arith, omega arith, omega (arith, c.loop-i.invariant.2, left_one_size c.args.map.now x (λ (e : count_in_map c.args.map.now x ≡ 0). omega arith))))
-    (λ w. let e : count_in_map c.args.map.now x ≡ 0 = omega arith in
-    (omega arith, omega arith, omega (arith, c.loop-i.invariant.2, left_none_size c.args.map.now x e)))
-    c.if-number_of-ne0.branch
+    elim c.if-number_of-ne0.branch [
+      | then-number_of-ne0 w ↦
+          (omega arith, omega arith, omega (arith, c.loop-i.invariant.2, left_one_size c.args.map.now x (λ (e : count_in_map c.args.map.now x ≡ 0). omega arith)))
+      | else-number_of-ne0 w ↦
+          let e : count_in_map c.args.map.now x ≡ 0 = omega arith in
+          (omega arith, omega arith, omega (arith, c.loop-i.invariant.2, left_none_size c.args.map.now x e))
+    ]
 
 pub returns : goal.returns
 returns c =
