@@ -5,7 +5,7 @@ use Rattle.stored_lists.specs.Stored.{list_at}
 use Prim.Native.Nat.{ℕ, ◌+◌}
 use native.Mathlib.Omega.{arith}
 use lib.ListN.{length-take}
-use Rattle.stored_lists.proofs.SameLaws.{never, holds}
+use Rattle.stored_lists.proofs.SameLaws.{never}
 use Rattle.stored_plans.proofs.script_agrees.Goals as goal
 
 pub returns-then-not-sizes_agree : goal.returns-then-not-sizes_agree
@@ -29,4 +29,4 @@ slice_bounds-words_agree-end c = simp length-take (omega arith)
 pub returns : goal.returns
 returns c =
     let behind = ap (λ (n : ℕ). list_at c.args.file.now (c.args.at + 4 + n)) c.list_words.ensures.0 in
-    λ e. (c.sizes_agree.ensures (holds _ c.if-not-sizes_agree.false), (c.starts_agree.ensures (holds _ c.if-not-starts_agree.false), c.words_agree.ensures e ∙ behind))
+    λ e. (c.sizes_agree.ensures c.if-not-sizes_agree.false, (c.starts_agree.ensures c.if-not-starts_agree.false, c.words_agree.ensures e ∙ behind))
