@@ -1,11 +1,9 @@
 use mathlib.Core.Path.{◌≡◌, ap}
-use Prim.Native.Nat.{◌+◌, ◌*◌, ◌-◌, ◌/◌, ◌≤◌}
+use Prim.Native.Nat.{◌*◌}
 use native.Mathlib.Omega.{arith}
 use lib.ListN.{length, get_or}
-use Rattle.repair_nodes.specs.CountList.{nonzero}
-use Rattle.repair_list.specs.Relist.{count_in_map, entries_in}
+use Rattle.repair_list.specs.Relist.{count_in_map}
 use Rattle.repair_list.proofs.RelistLaws.{left_from, left_size, left_one_size, left_none_size, left_end}
-use borrow.Author.Rules.{rules}
 use Rattle.repair_list.proofs.left_count.Goals as goal
 use Rattle.repair_list.proofs.left_count.Goals.{then-number_of-ne0, else-number_of-ne0}
 
