@@ -119,7 +119,7 @@ class Function:
         self.asked = [(self.index(a[0]), a[1]) for a in names["asked_at"]]
         self.loops = names["loops"]
         self.helpers = {}
-        self.takes = {}
+        self.wanted = []
 
     def index(self, old):
         for i, p in enumerate(self.places):
@@ -226,6 +226,7 @@ class Function:
         let = re.compile(r"let (" + W + r") = (" + W + FIELD.replace("(?:", "(?:", 1) + r"*) in\s*")
         call = re.compile(r"let (" + W + r") = (" + W + r") ([^\n]*?) in\b")
         group = re.compile(r"\((" + W + r") ([^()]*)\)(" + FIELD + r"+)")
+        let_group = re.compile(r"let (" + W + r") = \((" + W + r") ([^()]*)\)(" + FIELD + r"+) in\s*")
         token = re.compile(W + FIELD + r"*")
         while pos < len(text):
             m = let.match(text, pos)
@@ -237,31 +238,47 @@ class Function:
                     scope[m.group(1)] = (base, bp, place, rest)
                     pos = m.end()
                     continue
-            m = call.match(text, pos)
-            if m and m.group(2) in self.helpers and self.helpers[m.group(2)] is not None and (pos == 0 or not re.match(r"[\w.'-]", text[pos - 1])):
-                r = self.helpers[m.group(2)]
-                out += f"let {m.group(1)} = {m.group(2)} {self.turn(m.group(3), scope)} in"
-                scope[m.group(1)] = (m.group(1), r, r, [])
+            m = let_group.match(text, pos)
+            if m and self.helpers.get(m.group(2)) is not None and (pos == 0 or not re.match(r"[\w.'-]", text[pos - 1])):
+                base, bp = self.base_of(m.group(3), scope)
+                place, fields = self.walk(self.helpers[m.group(2)], m.group(4)[1:].split("."))
+                scope[m.group(1)] = (base, bp, place, fields)
                 pos = m.end()
+                continue
+            m = call.match(text, pos)
+            if m and self.helpers.get(m.group(2)) is not None and (pos == 0 or not re.match(r"[\w.'-]", text[pos - 1])):
+                base, bp = self.base_of(m.group(3), scope)
+                scope[m.group(1)] = (base, bp, self.helpers[m.group(2)], [])
+                pos = re.compile(r"\s*").match(text, m.end()).end()
                 continue
             m = group.match(text, pos)
             if m and self.helpers.get(m.group(1)) is not None:
-                r = self.helpers[m.group(1)]
-                base = f"({m.group(1)} {self.turn(m.group(2), scope)})"
-                place, fields = self.walk(r, m.group(3)[1:].split("."))
-                out += self.render(base, r, place, fields)
+                base, bp = self.base_of(m.group(2), scope)
+                place, fields = self.walk(self.helpers[m.group(1)], m.group(3)[1:].split("."))
+                out += self.render(base, bp, place, fields)
                 pos = m.end()
                 continue
             m = token.match(text, pos)
             if m:
                 parts = m.group(0).split(".")
+                if parts[0] in self.inline and self.helpers.get(parts[0]) is None and len(parts) == 1:
+                    rest = re.compile(r"\s+").match(text, m.end())
+                    if not rest:
+                        raise Left("a helper alone: " + parts[0])
+                    at = rest.end()
+                    end = closes(text, at) + 1 if text[at] == "(" else token.match(text, at).end()
+                    base, bp = self.base_of(text[at:end], scope)
+                    if base != "c":
+                        raise Left("a helper of another place")
+                    if parts[0] not in self.wanted:
+                        self.wanted.append(parts[0])
+                    out += parts[0]
+                    pos = end
+                    continue
                 if parts[0] in scope:
                     base, bp, place, fields = scope[parts[0]]
                     fields = fields + parts[1:]
                     place, fields = self.walk(place, fields) if fields and fields[0] == "before" else (place, fields)
-                    taker = re.search(r"(?<![\w.'-])(" + W + r")\s+\(?$", out)
-                    if not fields and taker and self.takes.get(taker.group(1)) is not None:
-                        place = self.takes[taker.group(1)]
                     out += self.render(base, bp, place, fields)
                 elif parts[0] == "tie" and len(parts) > 1:
                     new, drop = self.tie(parts[1])
@@ -278,6 +295,42 @@ class Function:
             out += text[pos]
             pos += 1
         return out
+
+    def base_of(self, text, scope):
+        """Of a term for a place: where its fields are looked up."""
+        for word in re.findall(W + FIELD + "*", text):
+            head = word.split(".")[0]
+            if head in scope:
+                return scope[head][0], scope[head][1]
+        raise Left("not a place: " + text)
+
+    def lets(self, place):
+        """The helpers that an answer at a place cites, each bound before it is cited; and what they unfold."""
+        text, unf, done = "", [], []
+        bound = {}
+
+        def bind(name):
+            if name in bound:
+                return
+            bound[name] = None
+            at, c, kind, args, body, u, comment = self.inline[name]
+            outer, self.wanted = self.wanted, []
+            scope = {args[0]: ("c", place, at, [])}
+            kind = self.turn(kind, {c: ("c", place, at, [])} if c else {})
+            body = self.turn(body, scope).strip()
+            inside, self.wanted = self.wanted, outer
+            for n in inside:
+                bind(n)
+            if len(args) > 1:
+                body = "λ " + " ".join(args[1:]) + ". " + body
+            body = "\n".join(l if not l.strip() else "    " + l.lstrip() if i else l for i, l in enumerate(body.split("\n")))
+            kind = " ".join(kind.split())
+            done.append(f"\n    let {name} : {kind} = {body} in")
+            unf.extend(x for x in u if x not in unf)
+
+        for n in list(self.wanted):
+            bind(n)
+        return "".join(done), unf
 
     def tie(self, name):
         if name.startswith("Need-"):
@@ -321,15 +374,33 @@ class Function:
         if len(loops) != 2 * len(self.loops):
             raise Left("loops")
         # helper declarations that take or give a place
+        self.inline = {}
         for name, body in decls:
-            sig = body[: body.find("\n" + name)] if "\n" + name in body else body
-            m = re.search(r"tie\.(" + W + r")[^→)]*$", re.sub(r"\nunfolding.*", "", sig.split("\n" + name)[0]).strip())
             self.helpers[name] = None
-            first = re.match(r"\S+ : \(" + W + r" : tie\.(" + W + r")", sig)
-            if first and not first.group(1).startswith("Need"):
-                self.takes[name] = self.index(first.group(1))
-            if m and not m.group(1).startswith(("Need-", "invariant", "decreases")) and "→" in sig:
-                self.helpers[name] = self.index(m.group(1))
+            if name.startswith("#"):
+                if "tie." in body:
+                    raise Left("a section over a place")
+                continue
+            comment, sig, unf, clauses = self.parts(name, body)
+            if not re.search(r"\btie\.(?!Need-|invariant|decreases)", sig):
+                continue
+            m = re.match(r"(?:(?:abbrev|unfoldable|pub)\s+)*\S+ : \((" + W + r") : tie\.(" + W + r")([^()]*)\)\s*(.*)$", sig, re.S)
+            m = m or re.match(r"(?:(?:abbrev|unfoldable|pub)\s+)*\S+ : ()tie\.(" + W + r")((?:\s+(?:invariant|decreases)-\S+)*)\s*(→.*)$", sig, re.S)
+            if not m or len(clauses) != 1:
+                raise Left("a helper of another form: " + name)
+            place = self.index(m.group(2))
+            rest = m.group(4).strip()
+            rest = rest[1:].strip() if rest.startswith("→") else rest
+            given, term = self.clause(name, clauses[0])
+            if not given:
+                m2 = re.match(r"λ (" + W + r")\. ?(.*)$", inner(term), re.S)
+                if not m2:
+                    raise Left("a helper with no argument: " + name)
+                given, term = [m2.group(1)], m2.group(2)
+            result = re.match(r"tie\.(" + W + r")", rest)
+            if result and len(given) == 1 and not result.group(1).startswith(("Need", "invariant")):
+                self.helpers[name] = self.index(result.group(1))
+            self.inline[name] = (place, m.group(1) or given[0], rest, given, term, unf, comment)
         used = set()
         answers = []
         for i, arg in enumerate(args):
@@ -358,7 +429,7 @@ class Function:
                     raise Left("order of loops")
                 used.add(name)
                 invariants.append((kind, self.invariant(name, tables[name], new_kind + new_loop, live, self.n["changed"][k])))
-        others = [(n, b) for n, b in decls if n not in used]
+        others = [(n, b) for n, b in decls if n not in used and n not in self.inline]
         # what an invariant cites goes with it
         texts = "\n".join(t for _, t in invariants)
         low = []
@@ -460,13 +531,22 @@ class Function:
         args = [a for a in args if a != "κs"]
         c = args[0]
         scope = {c: ("c", place, place, [])}
+        self.wanted = []
         body = self.split(self.turn(body, scope), old)
-        out.append(f"{new} c{''.join(' ' + a for a in args[1:])} ={body}")
+        lets, more = self.lets(place)
+        out += [u for u in more if u not in out]
+        if lets and not body.startswith("\n"):
+            body = "\n   " + body
+        out.append(f"{new} c{''.join(' ' + a for a in args[1:])} ={lets}{body}")
         return "\n".join(out)
 
     def lambda_answer(self, body, new, place, old):
+        self.wanted = []
         body = self.split(self.turn(" " + body, {"c": ("c", place, place, [])}), old)
-        return f"pub {new} : goal.{new}\n{new} c ={body}"
+        lets, more = self.lets(place)
+        if lets and not body.startswith("\n"):
+            body = "\n   " + body
+        return "\n".join([f"pub {new} : goal.{new}"] + more + [f"{new} c ={lets}{body}"])
 
     def split(self, body, old):
         """An answer of several clauses is a record of them."""

@@ -24,7 +24,7 @@ slice_bounds-lanes_over-end-2 c =
 pub lanes_over-answer-requires : goal.lanes_over-answer-requires
 lanes_over-answer-requires c =
     let h : 8192 ≤ length c.args.room.now = omega (arith, c.if-room-lt16384.false) in
-    record { c.args.room.now = length-take-le 8192 c.args.room.now h; some_lanes = search rules; few-lanes = search rules; marks = search rules }
+    record { room = length-take-le 8192 c.args.room.now h; some_lanes = search rules; few-lanes = search rules; marks = search rules }
 
 pub returns : goal.returns
 returns c =

@@ -57,25 +57,25 @@ pub longest_row-rounds-requires : goal.longest_row-rounds-requires
 longest_row-rounds-requires c =
     let form_in : broken (pairs_of c.args.set.now) ≡ none = item_none _ (sym c.check_form.ensures ∙ c.in_default.is) in
     let small-in : (x : ℕ) → get_or c.args.set.now x 0 < 2 ^ 32 = λ x. (c.type_inv.set x).fits in
-    let fine-in : let a = (called (formed (filled c))).args in fault a.n (pairs_of a.set.now) (lanes_in (pairs_of a.set.now) a.lanes.now) ≡ none = told_none _ (item_none _ (sym c.fill_lanes.ensures.value ∙ c.in_default-fill_lanes.is)) in
+    let fine-in : let a = c.args in fault a.n (pairs_of a.set.now) (lanes_in (pairs_of a.set.now) a.lanes.now) ≡ none = told_none _ (item_none _ (sym c.fill_lanes.ensures.value ∙ c.in_default-fill_lanes.is)) in
     let table-in : let a =
-    (called (formed (filled c))).args in TableReadable a.set.now c.fill_lanes.new.table a.n × (lanes_at a.set.now c.fill_lanes.new.table a.n ≡ lanes_in (pairs_of a.set.now) a.lanes.now) = fine_table c.args.n c.args.set.now c.args.lanes.now (form_in) (small-in) (fine-in) _
-    c.requires.few-lanes (c.fill_lanes.kept.1.1.0 ∙ c.requires.room) c.fill_lanes.ensures.table_after in
+    c.args in TableReadable a.set.now c.fill_lanes.new.table a.n × (lanes_at a.set.now c.fill_lanes.new.table a.n ≡ lanes_in (pairs_of a.set.now) a.lanes.now) = fine_table c.args.n c.args.set.now c.args.lanes.now (form_in) (small-in) (fine-in) _
+    c.requires.few-lanes (c.fill_lanes.auto.table ∙ c.requires.room) c.fill_lanes.ensures.table_after in
     (table-in).0
 
 pub overflow_mul-n : goal.overflow_mul-n
-overflow_mul-n c = omega (arith, (called (formed (filled c.before.before))).requires.few-lanes)
+overflow_mul-n c = omega (arith, c.requires.few-lanes)
 
 pub overflow_mul-n-2 : goal.overflow_mul-n-2
 overflow_mul-n-2 c =
     let few-in : length c.args.set.now ≤ 16384 = c.if-set-gt-SET_WORDS.false in
     let form_in : broken (pairs_of c.args.set.now) ≡ none = item_none _ (sym c.check_form.ensures ∙ c.in_default.is) in
     let small-in : (x : ℕ) → get_or c.args.set.now x 0 < 2 ^ 32 = λ x. (c.type_inv.set x).fits in
-    let fine-in : let a = (called (formed (filled c.before))).args in fault a.n (pairs_of a.set.now) (lanes_in (pairs_of a.set.now) a.lanes.now) ≡ none = told_none _ (item_none _ (sym c.fill_lanes.ensures.value ∙ c.in_default-fill_lanes.is)) in
+    let fine-in : let a = c.args in fault a.n (pairs_of a.set.now) (lanes_in (pairs_of a.set.now) a.lanes.now) ≡ none = told_none _ (item_none _ (sym c.fill_lanes.ensures.value ∙ c.in_default-fill_lanes.is)) in
     let table-in : let a =
-    (called (formed (filled c.before))).args in TableReadable a.set.now c.fill_lanes.new.table a.n × (lanes_at a.set.now c.fill_lanes.new.table a.n ≡ lanes_in (pairs_of a.set.now) a.lanes.now) = fine_table c.args.n c.args.set.now c.args.lanes.now (form_in) (small-in) (fine-in) _
-    c.requires.few-lanes (c.fill_lanes.kept.1.1.0 ∙ c.requires.room) c.fill_lanes.ensures.table_after in
-    let rounds-in : let a = (called (formed (filled c.before.before))).args in c.longest_row-rounds.result ≡ longest (lanes_in (pairs_of a.set.now) a.lanes.now) = c.longest_row-rounds.ensures ∙ ap longest (table-in).1 in
+    c.args in TableReadable a.set.now c.fill_lanes.new.table a.n × (lanes_at a.set.now c.fill_lanes.new.table a.n ≡ lanes_in (pairs_of a.set.now) a.lanes.now) = fine_table c.args.n c.args.set.now c.args.lanes.now (form_in) (small-in) (fine-in) _
+    c.requires.few-lanes (c.fill_lanes.auto.table ∙ c.requires.room) c.fill_lanes.ensures.table_after in
+    let rounds-in : let a = c.args in c.longest_row-rounds.result ≡ longest (lanes_in (pairs_of a.set.now) a.lanes.now) = c.longest_row-rounds.ensures ∙ ap longest (table-in).1 in
     let most-in : c.longest_row-rounds.result ≤ 32 = let some_pairs = nonempty c.args.n c.args.set.now c.args.lanes.now 0 (few-in) (form_in) c.if-set-eq0.false in
     omega (arith, rounds-in, fine_rounds c.args.n c.args.set.now c.args.lanes.now (form_in) (small-in) (fine-in) some_pairs) in
     omega (arith, size_fits c.args.n _ c.requires.few-lanes (most-in))
@@ -84,13 +84,13 @@ pub returns-then-out-n : goal.returns-then-out-n
 returns-then-out-n c =
     let few-in : length c.args.set.now ≤ 16384 = c.if-set-gt-SET_WORDS.false in
     let form_in : broken (pairs_of c.args.set.now) ≡ none = item_none _ (sym c.check_form.ensures ∙ c.in_default.is) in
-    let fine-in : let a = (called (formed (filled c.before.before.before))).args in fault a.n (pairs_of a.set.now) (lanes_in (pairs_of a.set.now) a.lanes.now) ≡ none = told_none _ (item_none _ (sym c.fill_lanes.ensures.value ∙ c.in_default-fill_lanes.is)) in
+    let fine-in : let a = c.args in fault a.n (pairs_of a.set.now) (lanes_in (pairs_of a.set.now) a.lanes.now) ≡ none = told_none _ (item_none _ (sym c.fill_lanes.ensures.value ∙ c.in_default-fill_lanes.is)) in
     let small-in : (x : ℕ) → get_or c.args.set.now x 0 < 2 ^ 32 = λ x. (c.type_inv.set x).fits in
     let table-in : let a =
-    (called (formed (filled c.before.before.before))).args in TableReadable a.set.now c.fill_lanes.new.table a.n × (lanes_at a.set.now c.fill_lanes.new.table a.n ≡ lanes_in (pairs_of a.set.now) a.lanes.now) = fine_table c.args.n c.args.set.now c.args.lanes.now (form_in) (small-in) (fine-in) _
-    c.requires.few-lanes (c.fill_lanes.kept.1.1.0 ∙ c.requires.room) c.fill_lanes.ensures.table_after in
-    let rounds-in : let a = (called (formed (filled c.before.before.before.before))).args in c.longest_row-rounds.result ≡ longest (lanes_in (pairs_of a.set.now) a.lanes.now) = c.longest_row-rounds.ensures ∙ ap longest (table-in).1 in
-    let short = is_short c.args.n c.args.set.now c.args.lanes.now _ (few-in) (form_in) c.if-set-eq0.left (fine-in) (rw (rounds-in) at c.if-out-n.true) in
+    c.args in TableReadable a.set.now c.fill_lanes.new.table a.n × (lanes_at a.set.now c.fill_lanes.new.table a.n ≡ lanes_in (pairs_of a.set.now) a.lanes.now) = fine_table c.args.n c.args.set.now c.args.lanes.now (form_in) (small-in) (fine-in) _
+    c.requires.few-lanes (c.fill_lanes.auto.table ∙ c.requires.room) c.fill_lanes.ensures.table_after in
+    let rounds-in : let a = c.args in c.longest_row-rounds.result ≡ longest (lanes_in (pairs_of a.set.now) a.lanes.now) = c.longest_row-rounds.ensures ∙ ap longest (table-in).1 in
+    let short = is_short c.args.n c.args.set.now c.args.lanes.now _ (few-in) (form_in) c.if-set-eq0.false (fine-in) (rw (rounds-in) at c.if-out-n.true) in
     let told = refused_post _ _ _ _ short c.refused-then-out-n.ensures in
     record { value = told.0; out_after = told.1 }
 
@@ -98,12 +98,12 @@ pub write_rounds-requires : goal.write_rounds-requires
 write_rounds-requires c =
     let form_in : broken (pairs_of c.args.set.now) ≡ none = item_none _ (sym c.check_form.ensures ∙ c.in_default.is) in
     let small-in : (x : ℕ) → get_or c.args.set.now x 0 < 2 ^ 32 = λ x. (c.type_inv.set x).fits in
-    let fine-in : let a = (called (formed (filled c.before.before.before))).args in fault a.n (pairs_of a.set.now) (lanes_in (pairs_of a.set.now) a.lanes.now) ≡ none = told_none _ (item_none _ (sym c.fill_lanes.ensures.value ∙ c.in_default-fill_lanes.is)) in
+    let fine-in : let a = c.args in fault a.n (pairs_of a.set.now) (lanes_in (pairs_of a.set.now) a.lanes.now) ≡ none = told_none _ (item_none _ (sym c.fill_lanes.ensures.value ∙ c.in_default-fill_lanes.is)) in
     let table-in : let a =
-    (called (formed (filled c.before.before.before))).args in TableReadable a.set.now c.fill_lanes.new.table a.n × (lanes_at a.set.now c.fill_lanes.new.table a.n ≡ lanes_in (pairs_of a.set.now) a.lanes.now) = fine_table c.args.n c.args.set.now c.args.lanes.now (form_in) (small-in) (fine-in) _
-    c.requires.few-lanes (c.fill_lanes.kept.1.1.0 ∙ c.requires.room) c.fill_lanes.ensures.table_after in
+    c.args in TableReadable a.set.now c.fill_lanes.new.table a.n × (lanes_at a.set.now c.fill_lanes.new.table a.n ≡ lanes_in (pairs_of a.set.now) a.lanes.now) = fine_table c.args.n c.args.set.now c.args.lanes.now (form_in) (small-in) (fine-in) _
+    c.requires.few-lanes (c.fill_lanes.auto.table ∙ c.requires.room) c.fill_lanes.ensures.table_after in
     let few-in : length c.args.set.now ≤ 16384 = c.if-set-gt-SET_WORDS.false in
-    let rounds-in : let a = (called (formed (filled c.before.before.before.before))).args in c.longest_row-rounds.result ≡ longest (lanes_in (pairs_of a.set.now) a.lanes.now) = c.longest_row-rounds.ensures ∙ ap longest (table-in).1 in
+    let rounds-in : let a = c.args in c.longest_row-rounds.result ≡ longest (lanes_in (pairs_of a.set.now) a.lanes.now) = c.longest_row-rounds.ensures ∙ ap longest (table-in).1 in
     let most-in : c.longest_row-rounds.result ≤ 32 = let some_pairs = nonempty c.args.n c.args.set.now c.args.lanes.now 0 (few-in) (form_in) c.if-set-eq0.false in
     omega (arith, rounds-in, fine_rounds c.args.n c.args.set.now c.args.lanes.now (form_in) (small-in) (fine-in) some_pairs) in
     record { table = (table-in).0; rounds = most-in; fits = c.if-out-n.false }
@@ -113,11 +113,11 @@ overflow_cast-result c =
     let few-in : length c.args.set.now ≤ 16384 = c.if-set-gt-SET_WORDS.false in
     let form_in : broken (pairs_of c.args.set.now) ≡ none = item_none _ (sym c.check_form.ensures ∙ c.in_default.is) in
     let small-in : (x : ℕ) → get_or c.args.set.now x 0 < 2 ^ 32 = λ x. (c.type_inv.set x).fits in
-    let fine-in : let a = (called (formed (filled c.before.before.before.before.before.before))).args in fault a.n (pairs_of a.set.now) (lanes_in (pairs_of a.set.now) a.lanes.now) ≡ none = told_none _ (item_none _ (sym c.fill_lanes.ensures.value ∙ c.in_default-fill_lanes.is)) in
+    let fine-in : let a = c.args in fault a.n (pairs_of a.set.now) (lanes_in (pairs_of a.set.now) a.lanes.now) ≡ none = told_none _ (item_none _ (sym c.fill_lanes.ensures.value ∙ c.in_default-fill_lanes.is)) in
     let table-in : let a =
-    (called (formed (filled c.before.before.before.before.before.before))).args in TableReadable a.set.now c.fill_lanes.new.table a.n × (lanes_at a.set.now c.fill_lanes.new.table a.n ≡ lanes_in (pairs_of a.set.now) a.lanes.now) = fine_table c.args.n c.args.set.now c.args.lanes.now (form_in) (small-in) (fine-in) _
-    c.requires.few-lanes (c.fill_lanes.kept.1.1.0 ∙ c.requires.room) c.fill_lanes.ensures.table_after in
-    let rounds-in : let a = (called (formed (filled c.before.before.before.before.before.before.before))).args in c.longest_row-rounds.result ≡ longest (lanes_in (pairs_of a.set.now) a.lanes.now) = c.longest_row-rounds.ensures ∙ ap longest (table-in).1 in
+    c.args in TableReadable a.set.now c.fill_lanes.new.table a.n × (lanes_at a.set.now c.fill_lanes.new.table a.n ≡ lanes_in (pairs_of a.set.now) a.lanes.now) = fine_table c.args.n c.args.set.now c.args.lanes.now (form_in) (small-in) (fine-in) _
+    c.requires.few-lanes (c.fill_lanes.auto.table ∙ c.requires.room) c.fill_lanes.ensures.table_after in
+    let rounds-in : let a = c.args in c.longest_row-rounds.result ≡ longest (lanes_in (pairs_of a.set.now) a.lanes.now) = c.longest_row-rounds.ensures ∙ ap longest (table-in).1 in
     let most-in : c.longest_row-rounds.result ≤ 32 = let some_pairs = nonempty c.args.n c.args.set.now c.args.lanes.now 0 (few-in) (form_in) c.if-set-eq0.false in
     omega (arith, rounds-in, fine_rounds c.args.n c.args.set.now c.args.lanes.now (form_in) (small-in) (fine-in) some_pairs) in
     omega (arith, most-in)
@@ -126,13 +126,13 @@ pub returns : goal.returns
 returns c =
     let few-in : length c.args.set.now ≤ 16384 = c.if-set-gt-SET_WORDS.false in
     let form_in : broken (pairs_of c.args.set.now) ≡ none = item_none _ (sym c.check_form.ensures ∙ c.in_default.is) in
-    let fine-in : let a = (called (formed (filled c.before.before.before.before.before.before))).args in fault a.n (pairs_of a.set.now) (lanes_in (pairs_of a.set.now) a.lanes.now) ≡ none = told_none _ (item_none _ (sym c.fill_lanes.ensures.value ∙ c.in_default-fill_lanes.is)) in
+    let fine-in : let a = c.args in fault a.n (pairs_of a.set.now) (lanes_in (pairs_of a.set.now) a.lanes.now) ≡ none = told_none _ (item_none _ (sym c.fill_lanes.ensures.value ∙ c.in_default-fill_lanes.is)) in
     let small-in : (x : ℕ) → get_or c.args.set.now x 0 < 2 ^ 32 = λ x. (c.type_inv.set x).fits in
     let table-in : let a =
-    (called (formed (filled c.before.before.before.before.before.before))).args in TableReadable a.set.now c.fill_lanes.new.table a.n × (lanes_at a.set.now c.fill_lanes.new.table a.n ≡ lanes_in (pairs_of a.set.now) a.lanes.now) = fine_table c.args.n c.args.set.now c.args.lanes.now (form_in) (small-in) (fine-in) _
-    c.requires.few-lanes (c.fill_lanes.kept.1.1.0 ∙ c.requires.room) c.fill_lanes.ensures.table_after in
-    let rounds-in : let a = (called (formed (filled c.before.before.before.before.before.before.before))).args in c.longest_row-rounds.result ≡ longest (lanes_in (pairs_of a.set.now) a.lanes.now) = c.longest_row-rounds.ensures ∙ ap longest (table-in).1 in
-    let fits = is_placed c.args.n c.args.set.now c.args.lanes.now _ (few-in) (form_in) c.if-set-eq0.left (fine-in) (rw (rounds-in) at c.if-out-n.false) in
+    c.args in TableReadable a.set.now c.fill_lanes.new.table a.n × (lanes_at a.set.now c.fill_lanes.new.table a.n ≡ lanes_in (pairs_of a.set.now) a.lanes.now) = fine_table c.args.n c.args.set.now c.args.lanes.now (form_in) (small-in) (fine-in) _
+    c.requires.few-lanes (c.fill_lanes.auto.table ∙ c.requires.room) c.fill_lanes.ensures.table_after in
+    let rounds-in : let a = c.args in c.longest_row-rounds.result ≡ longest (lanes_in (pairs_of a.set.now) a.lanes.now) = c.longest_row-rounds.ensures ∙ ap longest (table-in).1 in
+    let fits = is_placed c.args.n c.args.set.now c.args.lanes.now _ (few-in) (form_in) c.if-set-eq0.false (fine-in) (rw (rounds-in) at c.if-out-n.false) in
     let told = placed_post _ (record { size = 0; lanes = lanes_in (pairs_of c.args.set.now) c.args.lanes.now }) _ _ _ c.args.out.now _ fits (table-in).1 c.longest_row-rounds.ensures refl
     c.write_rounds.ensures in
     record { value = told.0; out_after = told.1 }

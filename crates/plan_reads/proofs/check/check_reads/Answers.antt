@@ -96,5 +96,6 @@ pub returns : goal.returns
 returns c =
     record {
       value = c.tell_firsts.ensures ∙ passed_told c.args.d.now _ c.loop-p.at c.loop-p.found c.loop-p.p c.parts_of-parts.ensures.0 (omega arith) c.loop-p.invariant.0;
-      room_after = rows_all c.args.d.now c.args.room.now _ c.loop-p.p c.loop-p.invariant.1 (omega (arith, c.parts_of-parts.ensures.0, c.loop-p.invariant.0.so_far)) (none_early c.args.d.now _ c.loop-p.at c.loop-p.found c.loop-p.p c.parts_of-parts.ensures.0 (omega arith) c.loop-p.invariant.0);
+      room_after =
+          rows_all c.args.d.now c.args.room.now _ c.loop-p.p c.loop-p.invariant.1 (omega (arith, c.parts_of-parts.ensures.0, c.loop-p.invariant.0.so_far)) (none_early c.args.d.now _ c.loop-p.at c.loop-p.found c.loop-p.p c.parts_of-parts.ensures.0 (omega arith) c.loop-p.invariant.0);
     }
