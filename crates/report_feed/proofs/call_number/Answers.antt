@@ -28,22 +28,22 @@ pub returns-then-word-ge-MOST_PARTS : goal.returns-then-word-ge-MOST_PARTS
 returns-then-word-ge-MOST_PARTS c =
     let named : known c.args.edition ≡ true = sym c.is_edition.ensures ∙ c.if-not-is_edition.false in
     let formed : batch_form c.args.batch.now ≡ true = sym c.is_batch.ensures ∙ c.if-not-is_batch.false in
-    let alike : let a = (called (known_in c.before.before)).args in same_edition a.edition a.batch.now ≡ true = sym c.is_same_edition.ensures ∙ c.if-not-is_same_edition.false in
-    let a = (called (known_in c.before.before)).args in
+    let alike : let a = c.args in same_edition a.edition a.batch.now ≡ true = sym c.is_same_edition.ensures ∙ c.if-not-is_same_edition.false in
+    let a = c.args in
     call_full a.edition a.batch.now (named) (formed) (alike) (omega (arith, c.word.ensures, c.if-word-ge-MOST_PARTS.true))
 
 pub returns-then-batch-lt-BATCH_WORDS : goal.returns-then-batch-lt-BATCH_WORDS
 returns-then-batch-lt-BATCH_WORDS c =
     let named : known c.args.edition ≡ true = sym c.is_edition.ensures ∙ c.if-not-is_edition.false in
     let formed : batch_form c.args.batch.now ≡ true = sym c.is_batch.ensures ∙ c.if-not-is_batch.false in
-    let alike : let a = (called (known_in c.before.before.before)).args in same_edition a.edition a.batch.now ≡ true = sym c.is_same_edition.ensures ∙ c.if-not-is_same_edition.false in
-    let a = (called (known_in c.before.before.before)).args in
+    let alike : let a = c.args in same_edition a.edition a.batch.now ≡ true = sym c.is_same_edition.ensures ∙ c.if-not-is_same_edition.false in
+    let a = c.args in
     call_short a.edition a.batch.now (named) (formed) (alike) (omega (arith, c.word.ensures, c.if-word-ge-MOST_PARTS.false)) c.if-batch-lt-BATCH_WORDS.true
 
 pub returns : goal.returns
 returns c =
     let named : known c.args.edition ≡ true = sym c.is_edition.ensures ∙ c.if-not-is_edition.false in
     let formed : batch_form c.args.batch.now ≡ true = sym c.is_batch.ensures ∙ c.if-not-is_batch.false in
-    let alike : let a = (called (known_in c.before.before.before)).args in same_edition a.edition a.batch.now ≡ true = sym c.is_same_edition.ensures ∙ c.if-not-is_same_edition.false in
-    let a = (called (known_in c.before.before.before)).args in
+    let alike : let a = c.args in same_edition a.edition a.batch.now ≡ true = sym c.is_same_edition.ensures ∙ c.if-not-is_same_edition.false in
+    let a = c.args in
     call_passes a.edition a.batch.now (named) (formed) (alike) (omega (arith, c.word.ensures, c.if-word-ge-MOST_PARTS.false)) c.if-batch-lt-BATCH_WORDS.false

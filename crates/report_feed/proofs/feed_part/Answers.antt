@@ -21,14 +21,14 @@ add_refused-requires c =
 
 pub gain_of-gain-requires : goal.gain_of-gain-requires
 gain_of-gain-requires c =
-    let good-in : let a = (called (judged c)).args in (x : Packed) × (part_outcome a.n (part_given a.set.now a.lanes.now a.stages) ≡ good x) = is_good _ (sym c.part_outcome.ensures.value ∙ c.in-Placed.is) in
+    let good-in : let a = c.args in (x : Packed) × (part_outcome a.n (part_given a.set.now a.lanes.now a.stages) ≡ good x) = is_good _ (sym c.part_outcome.ensures.value ∙ c.in-Placed.is) in
     let small-in : (i : ℕ) → get_or c.args.set.now i 0 < 2 ^ 32 = λ i. (c.type_inv.set i).fits in
     let x = good-in in
     gainable c.args.n c.requires.0.edition c.args.set.now c.args.lanes.now c.args.stages (small-in) x.0 x.1 _ (c.part_outcome.ensures.lanes_lie x.0 x.1)
 
 pub add_good-requires : goal.add_good-requires
 add_good-requires c =
-    let good-in : let a = (called (judged c.before.before)).args in (x : Packed) × (part_outcome a.n (part_given a.set.now a.lanes.now a.stages) ≡ good x) = is_good _ (sym c.part_outcome.ensures.value ∙ c.in-Placed.is) in
+    let good-in : let a = c.args in (x : Packed) × (part_outcome a.n (part_given a.set.now a.lanes.now a.stages) ≡ good x) = is_good _ (sym c.part_outcome.ensures.value ∙ c.in-Placed.is) in
     let small-in : (i : ℕ) → get_or c.args.set.now i 0 < 2 ^ 32 = λ i. (c.type_inv.set i).fits in
     let x = good-in in
     gain_feedable c.args.n c.requires.0.edition c.args.set.now c.args.lanes.now c.args.stages (small-in) x.0 x.1 _ (c.part_outcome.ensures.lanes_lie x.0 x.1) _ _ c.requires.0 c.gain_of-gain.ensures
@@ -41,7 +41,7 @@ returns-in-Refused c =
 
 pub returns-in-Placed : goal.returns-in-Placed
 returns-in-Placed c =
-    let good-in : let a = (called (judged c.before.before.before.before.before)).args in (x : Packed) × (part_outcome a.n (part_given a.set.now a.lanes.now a.stages) ≡ good x) = is_good _ (sym c.part_outcome.ensures.value ∙ c.in-Placed.is) in
+    let good-in : let a = c.args in (x : Packed) × (part_outcome a.n (part_given a.set.now a.lanes.now a.stages) ≡ good x) = is_good _ (sym c.part_outcome.ensures.value ∙ c.in-Placed.is) in
     let small-in : (i : ℕ) → get_or c.args.set.now i 0 < 2 ^ 32 = λ i. (c.type_inv.set i).fits in
     let x = good-in in
     let told = good_fed_lem c.args.n c.requires.0.edition c.args.set.now c.args.lanes.now c.args.stages (small-in) x.0 x.1 _ (c.part_outcome.ensures.lanes_lie x.0 x.1) _ _ _ c.gain_of-gain.ensures

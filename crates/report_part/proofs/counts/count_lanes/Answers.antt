@@ -1,9 +1,9 @@
-use mathlib.Core.Logic.{⊎_elim}
 use native.Mathlib.Omega.{arith}
 use Rattle.reads_try.specs.TableLanes.{lane_of, row_at, lanes_at}
 use Rattle.reads_try.proofs.LaneTableLaws.{filled_row}
 use Rattle.reads_section.proofs.ReadoutLaws.{longest_step, longest_end}
 use Rattle.report_part.proofs.GainLaws.{bits_step, bits_end, used_step, used_end, bits_few, lanes_few, rounds_few, use_some, use_none, counted_is}
+use Rattle.report_part.proofs.counts.count_lanes.Goals.{then-held-gt0, else-held-gt0, then-rounds-held, else-rounds-held}
 use Rattle.report_part.proofs.counts.count_lanes.Goals as goal
 
 pub lane_load-held-requires : goal.lane_load-held-requires
@@ -25,8 +25,14 @@ loop-j-preserved c =
     let longer = longest_step c.requires c.loop-j.j c.loop-j-test.true in (
       omega arith,
       omega (arith, c.loop-j.invariant.1, bits_step c.requires c.loop-j.j c.loop-j-test.true, c.lane_load-held.ensures.0),
-      ⊎_elim (λ w. omega (arith, c.loop-j.invariant.2, used, use_some lane _ c.lane_load-held.ensures.1 w.0.taken, w.1)) (λ w. omega (arith, c.loop-j.invariant.2, used, use_none lane _ c.lane_load-held.ensures.1 w.0.left, w.1)) c.if-held-gt0.branch,
-      ⊎_elim (λ w. omega (arith, c.loop-j.invariant.3, longer, c.lane_load-held.ensures.1, w.0.taken, w.1)) (λ w. omega (arith, c.loop-j.invariant.3, longer, c.lane_load-held.ensures.1, w.0.left, w.1)) c.if-rounds-held.branch,
+      elim c.if-held-gt0.branch [
+        | then-held-gt0 w ↦ omega (arith, c.loop-j.invariant.2, used, use_some lane _ c.lane_load-held.ensures.1 w.if-held-gt0.true, w.lanes-is)
+        | else-held-gt0 w ↦ omega (arith, c.loop-j.invariant.2, used, use_none lane _ c.lane_load-held.ensures.1 w.if-held-gt0.false, w.lanes-is)
+      ],
+      elim c.if-rounds-held.branch [
+        | then-rounds-held w ↦ omega (arith, c.loop-j.invariant.3, longer, c.lane_load-held.ensures.1, w.if-rounds-held.true, w.rounds-is)
+        | else-rounds-held w ↦ omega (arith, c.loop-j.invariant.3, longer, c.lane_load-held.ensures.1, w.if-rounds-held.false, w.rounds-is)
+      ],
     )
 
 pub overflow_cast-result : goal.overflow_cast-result

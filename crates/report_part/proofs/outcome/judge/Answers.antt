@@ -50,7 +50,7 @@ returns-in-At-fill_lanes c =
     let form_in : broken (pairs_of c.args.set.now) ≡ none = item_none _ (sym c.check_form.ensures ∙ c.in_default.is) in
     let a = c.args in
     let wrong = item_some _ _ (sym c.fill_lanes.ensures.value ∙ c.in-At-fill_lanes.is) in
-    let b = became_refused a.n a.set.now _ (at_item 27 _) _ (handed_fault a.n a.set.now (few-in) a.lanes.now (form_in) c.if-set-eq0.left _ wrong) in
+    let b = became_refused a.n a.set.now _ (at_item 27 _) _ (handed_fault a.n a.set.now (few-in) a.lanes.now (form_in) c.if-set-eq0.false _ wrong) in
     record { value = c.refused-in-At-fill_lanes.ensures ∙ b.0; lanes_lie = b.1 }
 
 pub returns : goal.returns
@@ -61,5 +61,5 @@ returns c =
     let fine = told_none _ (item_none _ (sym c.fill_lanes.ensures.value ∙ c.in_default-fill_lanes.is)) in
     let lie = fine_table c.args.n c.args.set.now c.args.lanes.now (form_in) (small-in) fine _ c.requires.2 (c.fill_lanes.auto.table ∙ c.requires.0) c.fill_lanes.ensures.table_after in
     let told = became_placed c.args.n c.args.set.now _ (record { size = 0; lanes = lanes_in (pairs_of c.args.set.now) c.args.lanes.now }) _
-    (handed_fine c.args.n c.args.set.now (few-in) c.args.lanes.now (form_in) c.if-set-eq0.left fine) lie in
+    (handed_fine c.args.n c.args.set.now (few-in) c.args.lanes.now (form_in) c.if-set-eq0.false fine) lie in
     record { value = told.0; lanes_lie = told.1 }
