@@ -78,7 +78,7 @@ handed_passed n ps ws x e = go (leb (length ps) 8192) refl (broken ps) refl
         let p = handed_placed n ps ws x (rw (t, f, handed_set) at e) in
         record { few = leb-true _ _ t; form = f; nonempty = p.0; faultless = p.1; is = p.2 }
 
--- What lanes handed in and placed are is a packing of the set: `placed-packing` for this origin.
+-- What lanes handed in and placed are is a packing of the set: `placed_packing` for this origin.
 pub handed_placed_packing : (n : ℕ) (ps : List Pair) (ws : List ℕ) (x : Packed) → broken ps ≡ none → handed_packed n ps ws ≡ good x → Packing n ps x.lanes
 handed_placed_packing n ps ws x form e =
     let p = handed_placed n ps ws x e in
