@@ -3,29 +3,38 @@
 // positions 0 to 8191 and the end; 8193 positions; 257 words of 17 bits; M5; positions out of order, twice, staged, and the last there is.
 #![tactic(auto)]
 
-ghost use Rattle.std.specs.Prelude.{◌≡◌, IfOk, IfSome, take};
+ghost use Rattle.std.specs.Prelude.{◌≤◌, length, IfOk};
 
 use listing::{RECORD_BYTES, TEXT_BYTES};
-use std::alloc::Global;
 use std::fs::File;
 use std::io::Read;
 use std::rt::Files;
 use std::{env, io};
 
-// The first bytes that a reader has left, RECORD_BYTES of them, as in `lanes`.
-fn input_of<R: Read>(alloc: Global, from: R) -> io::Result<Vec<u8>>
-where
-    R: Drop,
-    ensures { IfOk result (λ input. IfSome (R.remaining from) (λ s. input.items ≡ take RECORD_BYTES s)) }
-{
-    let mut input = Vec::new(alloc);
-    from.take(RECORD_BYTES as u64).read_to_end(&mut input)?;
-    Ok(input)
+// Places for the records that matter and for any text, as in `lanes`.
+fn input_place() -> [u8; RECORD_BYTES] {
+    [0u8; RECORD_BYTES]
 }
 
-// Place for any text, as in `lanes`.
 fn text_place() -> [u8; TEXT_BYTES] {
     [0u8; TEXT_BYTES]
+}
+
+// Fills `to` from its front with what a reader has left, as in `lanes`.
+fn read_full<R: Read>(mut from: R, to: &mut [u8]) -> io::Result<usize>
+where
+    R: Drop,
+    ensures { IfOk result (λ n. n ≤ length to.new) }
+{
+    let mut n = 0;
+    while n < to.len() {
+        let came = from.read(&mut to[n..])?;
+        if came == 0 {
+            break;
+        }
+        n += came;
+    }
+    Ok(n)
 }
 
 // A file that cannot be opened is named on standard error, and the next one follows.
@@ -34,9 +43,10 @@ fn show(rt: &(impl Files + Print + Eprint + AllocGlobal), path: &str) -> io::Res
         Ok(file) => file,
         Err(error) => return eprintln!(rt; "{path}: {error}"),
     };
-    let input = input_of(rt.alloc(), file)?;
+    let mut input = input_place();
+    let n = read_full(file, &mut input)?;
     let mut out = text_place();
-    let size = listing::text_of(&input, &mut out);
+    let size = listing::text_of(&input[..n], &mut out);
     rt.write_all(&out[..size])
 }
 

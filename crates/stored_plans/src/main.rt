@@ -2,21 +2,17 @@
 // comes on standard input; host/README.md says its form, and `make_answers plans` of host/ makes it.
 #![tactic(auto)]
 
-ghost use Rattle.std.specs.Prelude.{◌≡◌, true, ◌+◌, ◌<◌, ◌^◌, take, IfOk, IfSome};
+ghost use Rattle.std.specs.Prelude.{◌≡◌, true, ◌+◌, ◌≤◌, ◌<◌, ◌^◌, length, take, IfOk};
 ghost use Rattle.stored_lists.specs.Stored.{list_at, Halves, RefusalAt, SizesAt, ListsAt};
 
 use flatten::sizes::Sizes;
 use flatten::{Flattened, build_flattened_script_v1};
 use plan_record::places::word_at;
-use std::alloc::Global;
 use std::io;
 use std::io::Read;
 use stored_lists::list::{expand, list_words, put_words};
 use stored_lists::same::{same_halves, same_words};
 use words::refusals::Refusal;
-
-// The bytes of the file that are looked at.
-const FILE_BYTES: usize = 262144;
 
 // Whether a refusal is the one at word `at`: number, part, item.
 fn refusal_agrees(file: &[u8], at: usize, refusal: Refusal) -> bool
@@ -229,18 +225,28 @@ fn tell(
     println!(rt; "{cases} plans, {agree} agree")
 }
 
-// The first bytes that a reader has left, FILE_BYTES of them: what is behind them is not read.
-fn file_of<R: Read>(alloc: Global, from: R) -> io::Result<Vec<u8>>
+// Fills `to` from its front with what a reader has left: how many bytes came.
+fn read_full<R: Read>(mut from: R, to: &mut [u8]) -> io::Result<usize>
 where
     R: Drop,
-    ensures { IfOk result (λ file. IfSome (R.remaining from) (λ s. file.items ≡ take FILE_BYTES s)) }
+    ensures { IfOk result (λ n. n ≤ length to.new) }
 {
-    let mut file = Vec::new(alloc);
-    from.take(FILE_BYTES as u64).read_to_end(&mut file)?;
-    Ok(file)
+    let mut n = 0;
+    while n < to.len() {
+        let came = from.read(&mut to[n..])?;
+        if came == 0 {
+            break;
+        }
+        n += came;
+    }
+    Ok(n)
 }
 
-// Places for a list, a plan, the working room and a script. A function's result is an array that the prover does not compute.
+// Places for the file, a list, a plan, the working room and a script. A function's result is an array that the prover does not compute.
+fn file_place() -> [u8; 262144] {
+    [0u8; 262144]
+}
+
 fn list_place() -> [u32; 120000] {
     [0u32; 120000]
 }
@@ -258,15 +264,16 @@ fn words_place() -> [u32; 65536] {
 }
 
 fn main(rt: HostRuntime) -> io::Result<()> {
-    let file = file_of(rt.alloc(), rt.reader())?;
+    let mut file = file_place();
     let mut list = list_place();
     let mut plan = plan_place();
     let mut room = room_place();
     let mut starts = [0u64; 64];
     let mut words = words_place();
+    let length = read_full(rt.reader(), &mut file)?;
     tell(
         &rt,
-        &file,
+        &file[..length],
         &mut list,
         &mut plan,
         &mut room,

@@ -2,17 +2,13 @@
 // refusal. The file comes on standard input; host/README.md says its form, and `make_answers` of host/ makes it.
 #![tactic(auto)]
 
-ghost use Rattle.std.specs.Prelude.{◌≡◌, ◌^◌, ◌≤◌, ◌<◌, length, IfOk, IfSome, take};
+ghost use Rattle.std.specs.Prelude.{◌^◌, ◌≤◌, ◌<◌, length, IfOk};
 
 use plan_record::places::word_at;
 use rounds::Rounds;
-use std::alloc::Global;
 use std::io;
 use std::io::Read;
 use words::edition::Edition;
-
-// The bytes of the file that are looked at.
-const FILE_BYTES: usize = 524288;
 
 // Fills `words` with those of the file from word `at` on.
 fn load(file: &[u8], at: usize, words: &mut [u32])
@@ -132,18 +128,30 @@ fn tell(rt: &impl Print, file: &[u8]) -> io::Result<()> {
     println!(rt; "cases {cases}\nagree {agree}")
 }
 
-// The first bytes that a reader has left, FILE_BYTES of them: what is behind them is not read.
-fn file_of<R: Read>(alloc: Global, from: R) -> io::Result<Vec<u8>>
+// Place for the file. A function's result is an array that the prover does not compute.
+fn place() -> [u8; 524288] {
+    [0u8; 524288]
+}
+
+// Fills `to` from its front with what a reader has left: how many bytes came.
+fn read_full<R: Read>(mut from: R, to: &mut [u8]) -> io::Result<usize>
 where
     R: Drop,
-    ensures { IfOk result (λ file. IfSome (R.remaining from) (λ s. file.items ≡ take FILE_BYTES s)) }
+    ensures { IfOk result (λ n. n ≤ length to.new) }
 {
-    let mut file = Vec::new(alloc);
-    from.take(FILE_BYTES as u64).read_to_end(&mut file)?;
-    Ok(file)
+    let mut n = 0;
+    while n < to.len() {
+        let came = from.read(&mut to[n..])?;
+        if came == 0 {
+            break;
+        }
+        n += came;
+    }
+    Ok(n)
 }
 
 fn main(rt: HostRuntime) -> io::Result<()> {
-    let file = file_of(rt.alloc(), rt.reader())?;
-    tell(&rt, &file)
+    let mut file = place();
+    let length = read_full(rt.reader(), &mut file)?;
+    tell(&rt, &file[..length])
 }
