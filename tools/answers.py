@@ -68,23 +68,31 @@ def declarations(text):
     return head, [(n, "\n".join(ls)) for n, ls in out]
 
 
-def atoms(text):
-    """The arguments of an application: words and what stands in parentheses."""
+def cut(text, ends):
+    """The pieces of a text between the characters that end one, but for those inside brackets."""
     out, depth, at = [], 0, ""
     for ch in text:
         if ch in "({[":
             depth += 1
         if ch in ")}]":
             depth -= 1
-        if ch.isspace() and not depth:
-            if at:
-                out.append(at)
+        if ends(ch) and not depth:
+            out.append(at)
             at = ""
         else:
             at += ch
-    if at:
-        out.append(at)
-    return out
+    return out + [at]
+
+
+def atoms(text):
+    """The arguments of an application: words and what stands in brackets."""
+    return [piece for piece in cut(text, str.isspace) if piece]
+
+
+def commas(text):
+    """The parts of a tuple."""
+    parts = [piece.strip() for piece in cut(text, ",".__eq__)]
+    return parts if parts[-1] else parts[:-1]
 
 
 def inner(text):
@@ -672,23 +680,6 @@ class Function:
 
         body = re.sub(r"(?<![\w.'′)-])(" + W + r")(" + FIELD + r"*)", one, body)
         return "\n".join(comment + [f"abbrev pub {new} : goal.{new}"] + unf + [f"{new} l ={body}"])
-
-
-def commas(text):
-    out, depth, at = [], 0, ""
-    for ch in text:
-        if ch in "({[":
-            depth += 1
-        if ch in ")}]":
-            depth -= 1
-        if ch == "," and not depth:
-            out.append(at.strip())
-            at = ""
-        else:
-            at += ch
-    if at.strip():
-        out.append(at.strip())
-    return out
 
 
 def main():
