@@ -2,74 +2,69 @@
 -- Assumes nothing.
 use mathlib.Core.Path.{◌≡◌, refl, sym, ap, ◌∙◌}
 use mathlib.Core.Bool.{Bool, true, false, ◌&&◌, and-false}
-use mathlib.Core.List.{List}
+use mathlib.Core.List.{List, [], ◌∷◌}
 use mathlib.Core.Option.{Option, none, some, bind, bind-eq-some_iff}
 use Prim.Native.Nat.{ℕ, zero, suc, ◌+◌, ◌*◌, ◌-◌, ◌/◌, ◌^◌, ◌<◌, ◌≤◌}
 use native.Mathlib.Numerals.{sub-one}
 use native.Mathlib.Omega.{arith}
-use borrow.Author.Tests.{leb-true, leb-false, le-leb, lt-leb, eq-eqb, ne_eqb}
+use borrow.Author.Tests.{leb-true, leb-false, le-leb, lt-leb, eq-eqb, ne_eqb, eqb-true, eqb-false}
 use lib.Dec.{leb, eqb, lit<}
-use lib.ListN.{length, get_or, get_or-eq_default}
+use lib.ListN.{length}
 use Rattle.words.proofs.TestLaws.{some_not_none}
+use Rattle.std.specs.Prelude.{Some, None}
+use Rattle.std.specs.List.{starts_with}
+use Rattle.std.specs.declared.option.Option as code
 use Rattle.aiger.specs.Reading.{Number, field_at, Start, is_marked, fields_of, header_of, end_of, line_at, lines_from, gates_start}
 use Rattle.aiger.proofs.NumberLaws.{field_ends_in}
 use Rattle.aiger.proofs.HeaderLaws.{start_good, FieldsRead, fields_parts, header_parts, header_marked, header_other, header_fits, before_parts}
-use Rattle.aiger_read.specs.ReadTold.{field_of, header_is, start_told, header_told, lines_of}
-use Rattle.aiger_read.specs.declared.fields.Field.TheVariants.{Number as Value, Wrong}
+use Rattle.aiger_read.specs.ReadTold.{field_of, header_is, start_told, header_told}
+use Rattle.aiger_read.specs.declared.fields.Number.{Number as NumberRead}
 use Rattle.aiger_read.specs.declared.start.Header.{Header as HeaderRead}
 use Rattle.aiger_read.specs.declared.start.Start.{Start as StartRead}
-use Rattle.aiger_read.specs.declared.start.Start.TheVariants.{At as StartAt, Wrong as NoStart}
-use Rattle.aiger_read.specs.declared.start.Lines.TheVariants.{End, Wrong as NoLines}
-use Rattle.aiger_read.proofs.FieldLaws.{field_good, value_parts}
+use Rattle.aiger_read.proofs.FieldLaws.{value_at, field_good, value_parts, read}
 
 -- ---- the mark
 
-module _ (bs : List ℕ) where
-  pub mark_a : (get_or bs 0 0 ≡ 97 → ⊥) → false ≡ is_marked bs
-  unfolding is_marked
-  mark_a h = rw (ne_eqb (get_or bs 0 0) 97 h)
+swapped : (a b : ℕ) → eqb a b ≡ eqb b a
+swapped a b = go (eqb b a) refl
+  where
+    go : (t : Bool) → eqb b a ≡ t → eqb a b ≡ t
+    go true e = eq-eqb a b (sym (eqb-true _ _ e))
+    go false e = ne_eqb a b (λ q. eqb-false _ _ e (sym q))
 
-  module _ (a : get_or bs 0 0 ≡ 97) where
-    pub mark_i : (get_or bs 1 0 ≡ 105 → ⊥) → false ≡ is_marked bs
-    unfolding is_marked
-    mark_i h = rw (eq-eqb (get_or bs 0 0) 97 a, ne_eqb (get_or bs 1 0) 105 h)
+all_four : (p q r s : Bool) → (p && (q && (r && (s && true)))) ≡ (((p && q) && r) && s)
+all_four false q r s = refl
+all_four true false r s = refl
+all_four true true false s = refl
+all_four true true true false = refl
+all_four true true true true = refl
 
-    module _ (i : get_or bs 1 0 ≡ 105) where
-      pub mark_g : (get_or bs 2 0 ≡ 103 → ⊥) → false ≡ is_marked bs
-      unfolding is_marked
-      mark_g h = rw (eq-eqb (get_or bs 0 0) 97 a, eq-eqb (get_or bs 1 0) 105 i, ne_eqb (get_or bs 2 0) 103 h)
-
-      pub mark_blank : get_or bs 2 0 ≡ 103 → eqb (get_or bs 3 0) 32 ≡ is_marked bs
-      unfolding is_marked
-      mark_blank g = rw (eq-eqb (get_or bs 0 0) 97 a, eq-eqb (get_or bs 1 0) 105 i, eq-eqb (get_or bs 2 0) 103 g)
-
-pub mark_short : (bs : List ℕ) → length bs < 4 → false ≡ is_marked bs
+pub marked_by : (bs : List ℕ) → starts_with eqb bs (97 ∷ 105 ∷ 103 ∷ 32 ∷ []) ≡ is_marked bs
 unfolding is_marked
-mark_short bs h =
-    let past : length bs ≤ 3 = omega arith in
-    let byte : get_or bs 3 0 ≡ 0 = get_or-eq_default bs 0 past in
-    let other : eqb (get_or bs 3 0) 32 ≡ false = ap (λ (b : ℕ). eqb b 32) byte in
-    let rest : Bool = eqb (get_or bs 0 0) 97 && eqb (get_or bs 1 0) 105 && eqb (get_or bs 2 0) 103 in
-    sym (ap (λ (t : Bool). rest && t) other ∙ and-false rest)
+marked_by [] = refl
+marked_by (a ∷ []) = simp and-false
+marked_by (a ∷ b ∷ []) = simp and-false
+marked_by (a ∷ b ∷ c ∷ []) = simp and-false
+marked_by (a ∷ b ∷ c ∷ d ∷ bs) = rw (swapped 97 a, swapped 105 b, swapped 103 c, swapped 32 d) (all_four (eqb a 97) (eqb b 105) (eqb c 103) (eqb d 32))
 
 -- ---- a header that no field gives
 
 -- a number that was told wrong is none, or too large
-field_refuted : (most : ℕ) (o : Option Number) (n : Number) → field_of most o ≡ Wrong → o ≡ some n → n.value ≤ most → ⊥
+field_refuted : (most : ℕ) (o : Option Number) (n : Number) → field_of most o ≡ None → o ≡ some n → n.value ≤ most → ⊥
 field_refuted most o n e h small =
-    let f : Value n.value n.next ≡ Wrong = field_good most n _ _ refl small ∙ ap (field_of most) (sym h) ∙ e in
+    let f : value_at n.value n.next ≡ None = field_good most n _ _ refl small ∙ ap (field_of most) (sym h) ∙ e in
     let z : ◌≡◌ {A = ℕ} 0 1 = cc in
     omega arith
 
 same_number : (o : Option Number) (x y : Number) → o ≡ some x → o ≡ some y → x ≡ y
 same_number o x y p q = cc
 
-no_header : (long : ℕ) (o : Option Start) → ((s : Start) → o ≡ some s → 2 * s.header.outputs ≤ long → ⊥) → NoStart ≡ header_told long o
+no_header : (long : ℕ) (o : Option Start) → ((s : Start) → o ≡ some s → 2 * s.header.outputs ≤ long → ⊥) → None ≡ header_told long o
 unfolding header_told
 no_header long none h = refl
 no_header long (some s) h = go (leb (2 * s.header.outputs) long) refl
   where
-    go : (t : Bool) → leb (2 * s.header.outputs) long ≡ t → NoStart ≡ header_told long (some s)
+    go : (t : Bool) → leb (2 * s.header.outputs) long ≡ t → None ≡ header_told long (some s)
     go true e = absurd (h s refl (leb-true _ _ e))
     go false e = rw (e, header_told)
 
@@ -78,14 +73,14 @@ unfolding header_told
 header_lines long s h = rw (le-leb (2 * s.header.outputs) long h, header_told)
 
 module _ (bs : List ℕ) (long : ℕ) where
-  pub wrong_m : field_of (2 ^ 30) (field_at bs 32 4) ≡ Wrong → NoStart ≡ header_told long (fields_of bs)
+  pub wrong_m : field_of (2 ^ 30) (field_at bs 32 4) ≡ None → None ≡ header_told long (fields_of bs)
   wrong_m e = no_header long (fields_of bs) (λ s h k. let P = fields_parts bs s h in field_refuted _ _ P.m e P.m-is P.whole.fits)
 
   module _ (m : Number) (M : field_at bs 32 4 ≡ some m) where
     known-m : (s : Start) (P : FieldsRead bs s) → P.m ≡ m
     known-m s P = same_number _ _ _ P.m-is M
 
-    pub wrong_i : field_of m.value (field_at bs 32 m.next) ≡ Wrong → NoStart ≡ header_told long (fields_of bs)
+    pub wrong_i : field_of m.value (field_at bs 32 m.next) ≡ None → None ≡ header_told long (fields_of bs)
     wrong_i e = no_header long (fields_of bs) refuted
       where
         refuted : (s : Start) → fields_of bs ≡ some s → 2 * s.header.outputs ≤ long → ⊥
@@ -99,7 +94,7 @@ module _ (bs : List ℕ) (long : ℕ) where
       known-i : (s : Start) (P : FieldsRead bs s) → P.i ≡ i
       known-i s P = same_number _ _ _ P.i-is (ap (λ (n : Number). field_at bs 32 n.next) (known-m s P) ∙ I)
 
-      pub wrong_l : field_of m.value (field_at bs 32 i.next) ≡ Wrong → NoStart ≡ header_told long (fields_of bs)
+      pub wrong_l : field_of m.value (field_at bs 32 i.next) ≡ None → None ≡ header_told long (fields_of bs)
       wrong_l e = no_header long (fields_of bs) refuted
         where
           refuted : (s : Start) → fields_of bs ≡ some s → 2 * s.header.outputs ≤ long → ⊥
@@ -112,7 +107,7 @@ module _ (bs : List ℕ) (long : ℕ) where
         known-l : (s : Start) (P : FieldsRead bs s) → P.l ≡ l
         known-l s P = same_number _ _ _ P.l-is (ap (λ (n : Number). field_at bs 32 n.next) (known-i s P) ∙ L)
 
-        pub wrong_o : field_of (long / 2) (field_at bs 32 l.next) ≡ Wrong → NoStart ≡ header_told long (fields_of bs)
+        pub wrong_o : field_of (long / 2) (field_at bs 32 l.next) ≡ None → None ≡ header_told long (fields_of bs)
         wrong_o e = no_header long (fields_of bs) refuted
           where
             refuted : (s : Start) → fields_of bs ≡ some s → 2 * s.header.outputs ≤ long → ⊥
@@ -125,7 +120,7 @@ module _ (bs : List ℕ) (long : ℕ) where
           known-o : (s : Start) (P : FieldsRead bs s) → P.o ≡ o
           known-o s P = same_number _ _ _ P.o_is (ap (λ (n : Number). field_at bs 32 n.next) (known-l s P) ∙ O)
 
-          pub wrong_a : field_of m.value (field_at bs 10 o.next) ≡ Wrong → NoStart ≡ header_told long (fields_of bs)
+          pub wrong_a : field_of m.value (field_at bs 10 o.next) ≡ None → None ≡ header_told long (fields_of bs)
           wrong_a e = no_header long (fields_of bs) refuted
             where
               refuted : (s : Start) → fields_of bs ≡ some s → 2 * s.header.outputs ≤ long → ⊥
@@ -138,7 +133,7 @@ module _ (bs : List ℕ) (long : ℕ) where
             known-a : (s : Start) (P : FieldsRead bs s) → P.a ≡ a
             known-a s P = same_number _ _ _ P.a-is (ap (λ (n : Number). field_at bs 10 n.next) (known-o s P) ∙ A)
 
-            pub wrong_sum : (i.value + l.value + a.value ≡ m.value → ⊥) → NoStart ≡ header_told long (fields_of bs)
+            pub wrong_sum : (i.value + l.value + a.value ≡ m.value → ⊥) → None ≡ header_told long (fields_of bs)
             wrong_sum e = no_header long (fields_of bs) refuted
               where
                 refuted : (s : Start) → fields_of bs ≡ some s → 2 * s.header.outputs ≤ long → ⊥
@@ -151,7 +146,7 @@ module _ (bs : List ℕ) (long : ℕ) where
                     e (omega (arith, P.whole.sum))
 
             pub right_sum : i.value + l.value + a.value ≡ m.value → m.value ≤ 2 ^ 30 → 2 * o.value ≤ long
-                → StartAt (record { inputs = i.value; latches = l.value; outputs = o.value; gates = a.value }) a.next ≡ header_told long (fields_of bs)
+                → Some (record { header = record { inputs = i.value; latches = l.value; outputs = o.value; gates = a.value }; next = a.next }) ≡ header_told long (fields_of bs)
             unfolding fields_of bind
             right_sum e fits lines =
                 let s : Start = record { header = record { inputs = i.value; latches = l.value; outputs = o.value; gates = a.value }; next = a.next } in
@@ -160,10 +155,10 @@ module _ (bs : List ℕ) (long : ℕ) where
 
 -- ---- the header
 
-pub header_yes : (bs : List ℕ) (long : ℕ) (r : StartRead) → true ≡ is_marked bs → r ≡ header_told long (fields_of bs) → r ≡ header_told long (header_of bs)
+pub header_yes : (bs : List ℕ) (long : ℕ) (r : code.Option StartRead) → true ≡ is_marked bs → r ≡ header_told long (fields_of bs) → r ≡ header_told long (header_of bs)
 header_yes bs long r e is = is ∙ ap (header_told long) (sym (header_marked bs (sym e)))
 
-pub header_no : (bs : List ℕ) (long : ℕ) → false ≡ is_marked bs → NoStart ≡ header_told long (header_of bs)
+pub header_no : (bs : List ℕ) (long : ℕ) → false ≡ is_marked bs → None ≡ header_told long (header_of bs)
 unfolding header_told
 header_no bs long e = ap (header_told long) (sym (header_other bs (sym e)))
 
@@ -182,7 +177,7 @@ module _ (bs : List ℕ) (most i : ℕ) where
   unfolding line_at bind
   line-good x e h = rw e (end_good most x h)
 
-  line-bad : field_of most (field_at bs 10 i) ≡ Wrong → line_at bs most i ≡ none
+  line-bad : field_of most (field_at bs 10 i) ≡ None → line_at bs most i ≡ none
   unfolding line_at bind
   line-bad e = go (field_at bs 10 i) refl
     where
@@ -194,14 +189,14 @@ module _ (bs : List ℕ) (most i : ℕ) where
           large true t = absurd (field_refuted most (field_at bs 10 i) x e p (leb-true _ _ t))
           large false t = rw p (end_large most x (leb-false _ _ t))
 
-  pub line_next : (left x next : ℕ) → 0 < left → field_of most (field_at bs 10 i) ≡ Value x next → lines_from bs most left i ≡ lines_from bs most (left - 1) next
+  pub line_next : (left : ℕ) (n : NumberRead) → 0 < left → field_of most (field_at bs 10 i) ≡ Some n → lines_from bs most left i ≡ lines_from bs most (left - 1) n.next
   unfolding lines_from bind
-  line_next zero x next p e = absurd (omega arith)
-  line_next (suc k) x next p e =
-      let N = value_parts most (field_at bs 10 i) x next e in
-      rw (line-good (record { value = x; next = next }) N.is N.fits) (ap (λ (n : ℕ). lines_from bs most n next) (sym (sub-one (suc k))))
+  line_next zero n p e = absurd (omega arith)
+  line_next (suc k) n p e =
+      let N = value_parts most (field_at bs 10 i) n e in
+      rw (line-good (read n) N.is N.fits) (ap (λ (j : ℕ). lines_from bs most j n.next) (sym (sub-one (suc k))))
 
-  pub line_wrong : (left : ℕ) → 0 < left → field_of most (field_at bs 10 i) ≡ Wrong → lines_from bs most left i ≡ none
+  pub line_wrong : (left : ℕ) → 0 < left → field_of most (field_at bs 10 i) ≡ None → lines_from bs most left i ≡ none
   unfolding lines_from bind
   line_wrong zero p e = absurd (omega arith)
   line_wrong (suc k) p e = rw (line-bad e)
@@ -235,22 +230,14 @@ lines_long bs most (suc n) at next h e =
     let rest = lines_long bs most n L.0 next line.1 L.2 in
     omega (arith, line.0)
 
-pub lines_end : (o : Option ℕ) (next : ℕ) → lines_of o ≡ End next → o ≡ some next
-lines_end none next e = let z : ◌≡◌ {A = ℕ} 0 1 = cc in absurd (omega arith)
-lines_end (some i) next e = let same : i ≡ next = cc in ap some same
-
-pub lines_none : (o : Option ℕ) → lines_of o ≡ NoLines → o ≡ none
-lines_none none e = refl
-lines_none (some i) e = let z : ◌≡◌ {A = ℕ} 0 1 = cc in absurd (omega arith)
-
 -- ---- all that stands before the gates
 
-no_start : (o : Option Start) → ((s : Start) → o ≡ some s → ⊥) → NoStart ≡ start_told o
+no_start : (o : Option Start) → ((s : Start) → o ≡ some s → ⊥) → None ≡ start_told o
 no_start none h = refl
 no_start (some s) h = absurd (h s refl)
 
 -- a header that is told wrong has no lines
-pub start_wrong : (bs : List ℕ) → header_told (length bs) (header_of bs) ≡ NoStart → NoStart ≡ start_told (gates_start bs)
+pub start_wrong : (bs : List ℕ) → header_told (length bs) (header_of bs) ≡ None → None ≡ start_told (gates_start bs)
 start_wrong bs e = no_start (gates_start bs) refuted
   where
     refuted : (s : Start) → gates_start bs ≡ some s → ⊥
@@ -261,7 +248,7 @@ start_wrong bs e = no_start (gates_start bs) refuted
         let end = field_ends_in bs 10 H.o.next H.a (lit< tt) H.a-is in
         let long = lines_long bs _ _ S.head.next s.next (omega (arith, end.1)) S.lines_are in
         let told = header_lines (length bs) S.head (omega arith) in
-        let f : start_told (some S.head) ≡ NoStart = told ∙ ap (header_told (length bs)) (sym S.header_is) ∙ e in
+        let f : start_told (some S.head) ≡ None = told ∙ ap (header_told (length bs)) (sym S.header_is) ∙ e in
         let z : ◌≡◌ {A = ℕ} 0 1 = cc in
         omega arith
 
@@ -271,35 +258,34 @@ pub record HeaderAt (bs : List ℕ) (h : HeaderRead) (at : ℕ) : Type 0 where
   pub lines : 2 * h.outputs ≤ length bs
   pub fits : h.inputs + h.latches + h.gates ≤ 2 ^ 30
 
-pub start_header : (bs : List ℕ) (h : HeaderRead) (at : ℕ) → header_told (length bs) (header_of bs) ≡ StartAt h at → HeaderAt bs h at
+pub start_header : (bs : List ℕ) (r : StartRead) → header_told (length bs) (header_of bs) ≡ Some r → HeaderAt bs r.header r.next
 unfolding header_told
-start_header bs h at e = go (header_of bs) refl
+start_header bs r e = go (header_of bs) refl
   where
-    go : (o : Option Start) → header_of bs ≡ o → HeaderAt bs h at
+    go : (o : Option Start) → header_of bs ≡ o → HeaderAt bs r.header r.next
     go none p =
-        let f : NoStart ≡ StartAt h at = ap (header_told (length bs)) (sym p) ∙ e in
+        let f : None ≡ Some r = ap (header_told (length bs)) (sym p) ∙ e in
         let z : ◌≡◌ {A = ℕ} 0 1 = cc in
         absurd (omega arith)
     go (some s) p = told (leb (2 * s.header.outputs) (length bs)) refl
       where
-        told : (t : Bool) → leb (2 * s.header.outputs) (length bs) ≡ t → HeaderAt bs h at
+        told : (t : Bool) → leb (2 * s.header.outputs) (length bs) ≡ t → HeaderAt bs r.header r.next
         told true t =
             let small : 2 * s.header.outputs ≤ length bs = leb-true _ _ t in
-            let f : StartAt (header_is s.header) s.next ≡ StartAt h at = header_lines (length bs) s small ∙ ap (header_told (length bs)) (sym p) ∙ e in
-            let same : header_is s.header ≡ h = cc in
-            let end : s.next ≡ at = cc in
+            let f : Some (record { header = header_is s.header; next = s.next }) ≡ Some r = header_lines (length bs) s small ∙ ap (header_told (length bs)) (sym p) ∙ e in
+            let same : ◌≡◌ {A = StartRead} (record { header = header_is s.header; next = s.next }) r = cc in
             let fits = header_fits bs s p in
-            rw (← same, ← end) (record { is = p; lines = small; fits = fits })
+            rw (← same) (record { is = p; lines = small; fits = fits })
         told false t =
-            let f : NoStart ≡ StartAt h at = rw (t, header_told) at (ap (header_told (length bs)) (sym p) ∙ e) in
+            let f : None ≡ Some r = rw (t, header_told) at (ap (header_told (length bs)) (sym p) ∙ e) in
             let z : ◌≡◌ {A = ℕ} 0 1 = cc in
             absurd (omega arith)
 
 module _ (bs : List ℕ) (h : HeaderRead) (at : ℕ) (H : HeaderAt bs h at) where
-  pub start_found : (next : ℕ) → lines_from bs (2 * (h.inputs + h.latches + h.gates) + 1) (h.latches + h.outputs) at ≡ some next → StartAt h next ≡ start_told (gates_start bs)
+  pub start_found : (next : ℕ) → lines_from bs (2 * (h.inputs + h.latches + h.gates) + 1) (h.latches + h.outputs) at ≡ some next → Some (record { header = h; next = next }) ≡ start_told (gates_start bs)
   unfolding gates_start bind
   start_found next e = rw (H.is, e)
 
-  pub start_cut : lines_from bs (2 * (h.inputs + h.latches + h.gates) + 1) (h.latches + h.outputs) at ≡ none → NoStart ≡ start_told (gates_start bs)
+  pub start_cut : lines_from bs (2 * (h.inputs + h.latches + h.gates) + 1) (h.latches + h.outputs) at ≡ none → None ≡ start_told (gates_start bs)
   unfolding gates_start bind
   start_cut e = rw (H.is, e)

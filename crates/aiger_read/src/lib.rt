@@ -11,49 +11,22 @@ ghost use Rattle.aiger.specs.Reading.{read_aiger};
 ghost use Rattle.aiger.specs.AigerAnswer.{fitting, gate_list_after};
 ghost use Rattle.aiger_read.specs.ReadTold.{gates_read_of};
 
-use lists::{Judged, fill, judge};
+use lists::{fill, judge};
 use start::{Header, Start, start_of};
-use words::refusals::{BEFORE_GATES, RESULT_SHORT, Refusal};
+use words::refusals::{Reason, Refusal};
 use words::units::Pin;
 
-// The header's numbers, or the refusal.
-#[derive(Drop)]
-pub enum Gates {
-    Read(Header),
-    Refused(Refusal),
-}
-
-fn refused(number: u32) -> Gates
-    ensures { result ≡ Gates.Refused (record { number = number; part = 0; item = 0 }) }
-{
-    Gates::Refused(Refusal {
-        number: number,
-        part: 0,
-        item: 0,
-    })
-}
-
-// The gates of a binary AIGER file, three words each: pin, first and second inverted pin number.
-pub fn read_gates(bytes: &[u8], out: &mut [u32]) -> Gates
+// The gates of a binary AIGER file, three words each: pin, first and second inverted pin number. Tells the header's numbers.
+pub fn read_gates(bytes: &[u8], out: &mut [u32]) -> Result<Header, Refusal>
     ensures value { result ≡ gates_read_of (fitting (length out.old) (read_aiger bytes.now)) }
     ensures out_after { out.new ≡ gate_list_after (fitting (length out.old) (read_aiger bytes.now)) out.old }
 {
-    match start_of(bytes) {
-        Start::Wrong => refused(BEFORE_GATES),
-        Start::At(header, at) => {
-            let first = Pin((header.inputs + header.latches + 1) as u32);
-            let gates = header.gates;
-            match judge(bytes, gates, first, at) {
-                Judged::Refused(n) => refused(n),
-                Judged::Good => {
-                    let words = out.len() as u64;
-                    if words < 3 * gates {
-                        return refused(RESULT_SHORT);
-                    }
-                    fill(bytes, out, gates, first, at);
-                    Gates::Read(header)
-                }
-            }
-        }
+    let Start { header, next } = start_of(bytes).ok_or(Refusal::nowhere(Reason::BeforeGates))?;
+    let first = Pin((header.inputs + header.latches + 1) as u32);
+    judge(bytes, header.gates, first, next)?;
+    if (out.len() as u64) < 3 * header.gates {
+        return Err(Refusal::nowhere(Reason::ResultShort));
     }
+    fill(bytes, out, header.gates, first, next);
+    Ok(header)
 }

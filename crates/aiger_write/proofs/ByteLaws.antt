@@ -1,4 +1,4 @@
--- Laws of a difference's bytes in the writers' terms: how many there are, and one after the other.
+-- Laws of a difference's bytes and what a writer wrote of them: how many there are, and one after the other.
 -- Assumes nothing.
 use mathlib.Core.Path.{◌≡◌, refl, sym, ap, subst, ◌∙◌}
 use mathlib.Core.Bool.{Bool, true, false}
@@ -9,8 +9,9 @@ use native.Mathlib.Omega.{arith}
 use borrow.Author.Tests.{ltb-true, ltb-false}
 use lib.Dec.{ltb}
 use lib.ListN.{length, length-append}
-use Rattle.text.specs.TextPut.{Put}
-use Rattle.text.proofs.WritingLaws.{TextGoing, going_start, going_more, going_done, put_then}
+use Rattle.text.specs.Wrote.{Wrote}
+use Rattle.text.specs.declared.Writer.{Writer}
+use Rattle.text.proofs.WritingLaws.{Writing, writing_start, writing_more, writing_done, wrote_then}
 use Rattle.aiger.specs.Writing.{group_bytes, difference_bytes}
 use Rattle.aiger.proofs.DifferenceLaws.{group_last, group_more}
 
@@ -66,11 +67,11 @@ gate_long v a b w m n e p q =
     let first : m ≡ length (difference_bytes (2 * v - a)) = p ∙ ap (λ (x : ℕ). length (difference_bytes (x - a))) twice in
     omega (arith, length-append (difference_bytes (2 * v - a)) (difference_bytes (a - b)))
 
-pub gate_put : (v a b w : ℕ) {l m n : List ℕ} {p q r : ℕ} → w ≡ 2 * v + 0 → Put 5 (difference_bytes (w - a)) l p m q → Put 5 (difference_bytes (a - b)) m q n r
-    → Put 10 (difference_bytes (2 * v - a) ++ difference_bytes (a - b)) l p n r
-gate_put v a b w {l} {m} {n} {p} {q} {r} e f g =
+pub gate_wrote : (v a b w : ℕ) {p q r : Writer} → w ≡ 2 * v + 0 → Wrote 5 (difference_bytes (w - a)) p q → Wrote 5 (difference_bytes (a - b)) q r
+    → Wrote 10 (difference_bytes (2 * v - a) ++ difference_bytes (a - b)) p r
+gate_wrote v a b w {p} {q} {r} e f g =
     let twice : w ≡ 2 * v = omega arith in
-    put_then (difference_bytes (2 * v - a)) (difference_bytes (a - b)) (subst (λ (x : ℕ). Put 5 (difference_bytes (x - a)) l p m q) twice f) g
+    wrote_then (difference_bytes (2 * v - a)) (difference_bytes (a - b)) (subst (λ (x : ℕ). Wrote 5 (difference_bytes (x - a)) p q) twice f) g
 
 -- ---- one after the other
 
@@ -96,33 +97,33 @@ group_short (suc k) x = go (ltb x 128) refl (group_short k (x / 128))
     go false e r = omega (arith, more_long k x _ (ltb-false _ _ e) refl)
 
 -- the bytes that are put, with those of the rest, make the whole
-pub record Putting (x : ℕ) (old : List ℕ) (at : ℕ) (new : List ℕ) (end rest : ℕ) : Type 0 where
+pub record Putting (x : ℕ) (old new : Writer) (rest : ℕ) : Type 0 where
   pub small : rest < 2 ^ 32
-  pub going : TextGoing (difference_bytes rest) (difference_bytes x) (length (difference_bytes x) - length (difference_bytes rest)) old at new end
+  pub going : Writing (difference_bytes rest) (difference_bytes x) (length (difference_bytes x) - length (difference_bytes rest)) old new
   pub less : length (difference_bytes rest) ≤ length (difference_bytes x)
 
-pub putting_start : (x : ℕ) (old : List ℕ) (at : ℕ) → x < 2 ^ 32 → Putting x old at old at x
-putting_start x old at h =
+pub putting_start : (x : ℕ) (w : Writer) → x < 2 ^ 32 → Putting x w w x
+putting_start x w h =
     let none : length (difference_bytes x) - length (difference_bytes x) ≡ 0 = omega arith in
-    record { small = h; going = rw none (going_start (difference_bytes x) old at); less = omega arith }
+    record { small = h; going = rw none (writing_start (difference_bytes x) w); less = omega arith }
 
-module _ {x : ℕ} {old : List ℕ} {at : ℕ} {new : List ℕ} {end rest : ℕ} (P : Putting x old at new end rest) where
-  pub putting_short : end ≤ at + 5
+module _ {x : ℕ} {old new : Writer} {rest : ℕ} (P : Putting x old new rest) where
+  pub putting_short : new.at ≤ old.at + 5
   putting_short = omega (arith, P.going.count, group_short 5 x)
 
-  pub putting_more : {k : ℕ} {new' : List ℕ} {end' : ℕ} → 128 ≤ rest → Put k ((rest % 128 + 128) ∷ []) new end new' end' → k ≤ 1 → Putting x old at new' end' (rest / 128)
-  putting_more h f k =
+  pub putting_more : {new' : Writer} → 128 ≤ rest → Wrote 1 ((rest % 128 + 128) ∷ []) new new' → Putting x old new' (rest / 128)
+  putting_more h f =
       let small = P.small in
       let less = P.less in
       let here = difference_rest rest h small in
       let one : length (difference_bytes rest) ≡ suc (length (difference_bytes (rest / 128))) = ap length here in
-      record { small = omega arith; going = going_more P.going ((rest % 128 + 128) ∷ []) (difference_bytes (rest / 128)) here f (omega arith); less = omega arith }
+      record { small = omega arith; going = writing_more P.going ((rest % 128 + 128) ∷ []) (difference_bytes (rest / 128)) here f (omega arith); less = omega arith }
 
-  pub putting_done : {k : ℕ} {new' : List ℕ} {end' : ℕ} → rest < 128 → Put k (rest ∷ []) new end new' end' → k ≤ 1 → Put 5 (difference_bytes x) old at new' end'
-  putting_done {new' = new'} {end' = end'} h f k =
+  pub putting_done : {new' : Writer} → rest < 128 → Wrote 1 (rest ∷ []) new new' → Wrote 5 (difference_bytes x) old new'
+  putting_done {new' = new'} h f =
       let less = P.less in
       let here : difference_bytes rest ≡ rest ∷ [] = group_last 4 rest h in
       let one : length (difference_bytes rest) ≡ 1 = ap length here in
       let all = group_short 5 x in
-      let end : TextGoing [] (difference_bytes x) (length (difference_bytes x)) old at new' end' = going_more P.going (rest ∷ []) [] here f (omega arith) in
-      going_done end 5 refl all
+      let end : Writing [] (difference_bytes x) (length (difference_bytes x)) old new' = writing_more P.going (rest ∷ []) [] here f (omega arith) in
+      writing_done end 5 refl all

@@ -1,13 +1,10 @@
--- What the functions that write answer and ask: the definitions of `aiger` as the code's enums.
+-- What the functions that write answer and ask: the definitions of `aiger` in the code's terms.
 -- Assumes nothing.
-use Rattle.std.specs.Prelude.{◌≡◌, Bool, ◌&&◌, List, ℕ, ◌+◌, ◌*◌, ◌%◌, ◌^◌, ◌<◌, ◌≤◌, leb, ltb, eqb, length}
+use Rattle.std.specs.Prelude.{◌≡◌, Bool, ◌&&◌, List, ℕ, ◌+◌, ◌*◌, ◌%◌, ◌^◌, ◌<◌, ◌≤◌, leb, ltb, eqb, length, Some, None}
+use Rattle.std.specs.declared.option.Option as code
 use Rattle.words.specs.Answer.{Answer, good, refused}
 use Rattle.gatelist.specs.ListWords.{whole_gates}
 use Rattle.aiger.specs.Writing.{inputs_of}
-use Rattle.aiger_write.specs.declared.lists.Judged.{Judged}
-use Rattle.aiger_write.specs.declared.lists.Judged.TheVariants.{Bytes, Other}
-use Rattle.aiger_write.specs.declared.Text.{Text}
-use Rattle.aiger_write.specs.declared.Text.TheVariants.{Bytes as TextIs, Refused as NoText}
 
 -- what the bytes of a gate ask of its numbers
 pub record GateRight (pin first second : ℕ) : Type 0 where
@@ -25,10 +22,7 @@ pub record InRange (l : List ℕ) (inputs : ℕ) : Type 0 where
   pub whole : length l % 3 ≡ 0
   pub fits : inputs + whole_gates l ≤ 2 ^ 30
 
-abbrev pub list_judged : Answer (List ℕ) → Judged
-list_judged (good t) = Bytes (length t)
-list_judged (refused q) = Other
-
-abbrev pub text_written_of : Answer (List ℕ) → Text
-text_written_of (good t) = TextIs (length t)
-text_written_of (refused q) = NoText q
+-- how long the text is, where there is one
+abbrev pub list_judged : Answer (List ℕ) → code.Option ℕ
+list_judged (good t) = Some (length t)
+list_judged (refused q) = None

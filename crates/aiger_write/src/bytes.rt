@@ -1,10 +1,10 @@
-// Differences and gates as bytes. A writer puts its bytes as those of crate `text` do.
+// Differences and gates as bytes.
 ghost use Rattle.std.specs.Prelude.{◌≡◌, ◌++◌, ◌*◌, ◌-◌, ◌^◌, ◌<◌, ◌≤◌, length};
-ghost use Rattle.text.specs.TextPut.{Put};
+ghost use Rattle.text.specs.Wrote.{Wrote};
 ghost use Rattle.aiger.specs.Writing.{difference_bytes};
 ghost use Rattle.aiger_write.specs.WriteTold.{GateRight};
 
-use text::put;
+use text::Writer;
 use words::units::{Pin, PinIv};
 
 // How many bytes a difference takes.
@@ -27,17 +27,16 @@ fn difference_length(x: u32) -> usize
 }
 
 // Seven bits a byte, least first.
-fn put_difference(out: &mut [u8], at: usize, x: u32) -> usize
-    requires { at < 2 ^ 62 }
-    ensures { Put 5 (difference_bytes x) out.old at out.new result }
+fn put_difference(out: &mut Writer, x: u32)
+    requires { out.old.at < 2 ^ 62 }
+    ensures { Wrote 5 (difference_bytes x) out.old out.new }
 {
-    let mut end = at;
     let mut rest = x;
     while 128 <= rest {
-        end = put(out, end, (rest % 128 + 128) as u8);
-        rest = rest / 128;
+        out.put((rest % 128 + 128) as u8);
+        rest /= 128;
     }
-    put(out, end, rest as u8)
+    out.put(rest as u8);
 }
 
 // How many bytes a gate takes.
@@ -49,10 +48,10 @@ pub fn gate_length(pin: Pin, first: PinIv, second: PinIv) -> usize
 }
 
 // A gate's two differences.
-pub fn put_gate(out: &mut [u8], at: usize, pin: Pin, first: PinIv, second: PinIv) -> usize
-    requires { GateRight pin.0 first.0 second.0 × (at < 2 ^ 61) }
-    ensures { Put 10 (difference_bytes (2 * pin.0 - first.0) ++ difference_bytes (first.0 - second.0)) out.old at out.new result }
+pub fn put_gate(out: &mut Writer, pin: Pin, first: PinIv, second: PinIv)
+    requires { GateRight pin.0 first.0 second.0 × (out.old.at < 2 ^ 61) }
+    ensures { Wrote 10 (difference_bytes (2 * pin.0 - first.0) ++ difference_bytes (first.0 - second.0)) out.old out.new }
 {
-    let middle = put_difference(out, at, pin.inverted(0).0 - first.0);
-    put_difference(out, middle, first.0 - second.0)
+    put_difference(out, pin.inverted(0).0 - first.0);
+    put_difference(out, first.0 - second.0);
 }

@@ -5,33 +5,119 @@
 
 ghost use Rattle.std.specs.Prelude.{◌≡◌, [], ◌∷◌};
 ghost use Rattle.capi.specs.Exported.{after_read_rounds, after_local_position, after_list, after_value, after_run, after_plan_sizes, after_build, after_place_bit, after_purge_bit, after_read_aiger, after_write_aiger, after_join};
-ghost use Rattle.capi.specs.Numbers.{rounds_numbers, brought_numbers, listed_numbers, valued_numbers, ran_numbers, flattened_numbers, repaired_numbers, gates_numbers, text_numbers, joined_numbers};
+ghost use Rattle.capi.specs.Numbers.{rounds_numbers, brought_numbers, one_number, four_numbers, flattened_numbers, gates_numbers};
 ghost use Rattle.capi.specs.Promised.{Promised};
 
-use aiger_read::Gates;
-use aiger_write::Text;
-use flatten::Flattened;
-use joins::Joined;
-use listing::Listed;
-use locals::Brought;
-use repair_settle::Repaired;
-use rounds::Rounds;
-use run::Ran;
-use values::Valued;
+use aiger_read::start::Header;
+use flatten::sizes::Sizes;
+use rounds::Placed;
 use words::answer::{hand_good, hand_refusal};
-use words::units::Pin;
+use words::refusals::Refusal;
+use words::units::{LocalPosition, Pin};
 
-fn tell_rounds(answer: Rounds, first: &mut u64, second: &mut u64) -> u32
+// What is told for the position of a bit that a set does not ask for.
+const NO_POSITION: u64 = 0xFFFF_FFFF;
+
+fn tell_rounds(answer: Result<Placed, Refusal>, first: &mut u64, second: &mut u64) -> u32
     ensures { (result ∷ first.new ∷ second.new ∷ []) ≡ rounds_numbers answer }
 {
     match answer {
-        Rounds::Placed(n, size) => {
-            *first = n as u64;
-            *second = size as u64;
+        Ok(placed) => {
+            *first = placed.rounds as u64;
+            *second = placed.size as u64;
             0
         }
-        Rounds::Refused(refusal) => hand_refusal(refusal, first, second),
+        Err(refusal) => hand_refusal(refusal, first, second),
     }
+}
+
+fn tell_position(
+    answer: Result<Option<LocalPosition>, Refusal>,
+    first: &mut u64,
+    second: &mut u64,
+) -> u32
+    ensures { (result ∷ first.new ∷ second.new ∷ []) ≡ brought_numbers answer }
+{
+    match answer {
+        Ok(Some(position)) => hand_good(position.0 as u64, first, second),
+        Ok(None) => hand_good(NO_POSITION, first, second),
+        Err(refusal) => hand_refusal(refusal, first, second),
+    }
+}
+
+// One number of something good.
+fn tell(answer: Result<u64, Refusal>, first: &mut u64, second: &mut u64) -> u32
+    ensures { (result ∷ first.new ∷ second.new ∷ []) ≡ one_number answer }
+{
+    match answer {
+        Ok(n) => hand_good(n, first, second),
+        Err(refusal) => hand_refusal(refusal, first, second),
+    }
+}
+
+// The same of a length.
+fn tell_length(answer: Result<usize, Refusal>, first: &mut u64, second: &mut u64) -> u32
+    ensures { (result ∷ first.new ∷ second.new ∷ []) ≡ one_number answer }
+{
+    tell(answer.map(|n| n as u64), first, second)
+}
+
+// Four numbers of something good.
+fn tell_four(
+    answer: Result<(u64, u64, u64, u64), Refusal>,
+    first: &mut u64,
+    second: &mut u64,
+    third: &mut u64,
+    fourth: &mut u64,
+) -> u32
+    ensures { (result ∷ first.new ∷ second.new ∷ third.new ∷ fourth.new ∷ []) ≡ four_numbers answer }
+{
+    match answer {
+        Ok((a, b, c, e)) => {
+            *first = a;
+            *second = b;
+            *third = c;
+            *fourth = e;
+            0
+        }
+        Err(refusal) => {
+            *third = 0;
+            *fourth = 0;
+            hand_refusal(refusal, first, second)
+        }
+    }
+}
+
+fn tell_sizes(
+    answer: Result<Sizes, Refusal>,
+    first: &mut u64,
+    second: &mut u64,
+    third: &mut u64,
+    fourth: &mut u64,
+) -> u32
+    ensures { (result ∷ first.new ∷ second.new ∷ third.new ∷ fourth.new ∷ []) ≡ flattened_numbers answer }
+{
+    let numbers = answer.map(|x| (x.starts, x.words, x.state, x.sram));
+    tell_four(numbers, first, second, third, fourth)
+}
+
+fn tell_header(
+    answer: Result<Header, Refusal>,
+    first: &mut u64,
+    second: &mut u64,
+    third: &mut u64,
+    fourth: &mut u64,
+) -> u32
+    ensures { (result ∷ first.new ∷ second.new ∷ third.new ∷ fourth.new ∷ []) ≡ gates_numbers answer }
+{
+    let numbers = answer.map(|x| (x.gates, x.inputs, x.latches, x.outputs));
+    tell_four(numbers, first, second, third, fourth)
+}
+
+fn tell_bit(answer: Result<u32, Refusal>, first: &mut u64, second: &mut u64) -> u32
+    ensures { (result ∷ first.new ∷ second.new ∷ []) ≡ one_number answer }
+{
+    tell(answer.map(|b| b as u64), first, second)
 }
 
 // A read set's rounds: `first` is their number, or the refusal's part; `second` is the piece size that won, or its item.
@@ -53,19 +139,6 @@ pub extern "C" fn juolgesot_read_rounds(
     )
 }
 
-// What is told for the position of a bit that a set does not ask for.
-const NO_POSITION: u64 = 0xFFFF_FFFF;
-
-fn tell_brought(answer: Brought, first: &mut u64, second: &mut u64) -> u32
-    ensures { (result ∷ first.new ∷ second.new ∷ []) ≡ brought_numbers answer }
-{
-    match answer {
-        Brought::To(position) => hand_good(position.0 as u64, first, second),
-        Brought::Unasked => hand_good(NO_POSITION, first, second),
-        Brought::Refused(refusal) => hand_refusal(refusal, first, second),
-    }
-}
-
 // The local position of a bit of a word in the packing of a read set: `first` is the position, or 0xFFFFFFFF where the set does not ask for the bit,
 // or the refusal's part; `second` is 0, or its item.
 #[unsafe(no_mangle)]
@@ -80,20 +153,11 @@ pub extern "C" fn juolgesot_local_position(
 ) -> u32
     ensures { ((result ∷ first.new ∷ second.new ∷ []) ∷ room.new ∷ []) ≡ after_local_position set.now room.old word bit edition }
 {
-    tell_brought(
+    tell_position(
         locals::local_position(set, room, word, bit, edition),
         first,
         second,
     )
-}
-
-fn tell_listed(answer: Listed, first: &mut u64, second: &mut u64) -> u32
-    ensures { (result ∷ first.new ∷ second.new ∷ []) ≡ listed_numbers answer }
-{
-    match answer {
-        Listed::Text(n) => hand_good(n as u64, first, second),
-        Listed::Refused(refusal) => hand_refusal(refusal, first, second),
-    }
 }
 
 // The listing program's text for any records: `first` is its length, or the refusal's part; `second` is 0, or its item.
@@ -108,16 +172,7 @@ pub extern "C" fn juolgesot_list(
 ) -> u32
     ensures { ((result ∷ first.new ∷ second.new ∷ []) ∷ room.new ∷ out.new ∷ []) ≡ after_list records.now room.old out.old edition }
 {
-    tell_listed(listing::list(records, room, out, edition), first, second)
-}
-
-fn tell_valued(answer: Valued, first: &mut u64, second: &mut u64) -> u32
-    ensures { (result ∷ first.new ∷ second.new ∷ []) ≡ valued_numbers answer }
-{
-    match answer {
-        Valued::Bit(b) => hand_good(b as u64, first, second),
-        Valued::Refused(refusal) => hand_refusal(refusal, first, second),
-    }
+    tell_length(listing::list(records, room, out, edition), first, second)
 }
 
 // The value of a pin in a part of a plan, between two states: `first` is the bit, or the refusal's part; `second` is 0, or its item. `bits` then
@@ -136,20 +191,11 @@ pub extern "C" fn juolgesot_value(
 ) -> u32
     ensures { ((result ∷ first.new ∷ second.new ∷ []) ∷ room.new ∷ bits.new ∷ []) ≡ after_value plan.now room.old old.now new.now bits.old part pin }
 {
-    tell_valued(
+    tell_bit(
         values::value(plan, part, old, new, room, bits, Pin(pin)),
         first,
         second,
     )
-}
-
-fn tell_ran(answer: Ran, first: &mut u64, second: &mut u64) -> u32
-    ensures { (result ∷ first.new ∷ second.new ∷ []) ≡ ran_numbers answer }
-{
-    match answer {
-        Ran::Left(n) => hand_good(n, first, second),
-        Ran::Refused(refusal) => hand_refusal(refusal, first, second),
-    }
 }
 
 // A run of one major stage: `first` is the turns left, or the refusal's part; `second` is 0, or its item.
@@ -168,36 +214,11 @@ pub extern "C" fn juolgesot_run(
     ensures room_after { ((result ∷ first.new ∷ second.new ∷ []) ∷ new.new ∷ room.new ∷ []) ≡ after_run words.now starts.now turns.now old.now new.old room.old edition }
     ensures promise { Promised words.now starts.now old.now new.old edition result first.new new.new }
 {
-    tell_ran(
+    tell(
         run::run(words, starts, turns, old, new, room, edition),
         first,
         second,
     )
-}
-
-fn tell_flattened(
-    answer: Flattened,
-    first: &mut u64,
-    second: &mut u64,
-    third: &mut u64,
-    fourth: &mut u64,
-) -> u32
-    ensures { (result ∷ first.new ∷ second.new ∷ third.new ∷ fourth.new ∷ []) ≡ flattened_numbers answer }
-{
-    match answer {
-        Flattened::Built(sizes) => {
-            *first = sizes.starts;
-            *second = sizes.words;
-            *third = sizes.state;
-            *fourth = sizes.sram;
-            0
-        }
-        Flattened::Refused(refusal) => {
-            *third = 0;
-            *fourth = 0;
-            hand_refusal(refusal, first, second)
-        }
-    }
 }
 
 // What a plan's result takes: starts, words, state words and SRAM words, or the refusal's part and item and twice 0.
@@ -212,7 +233,7 @@ pub extern "C" fn juolgesot_plan_sizes(
 ) -> u32
     ensures { ((result ∷ first.new ∷ second.new ∷ third.new ∷ fourth.new ∷ []) ∷ room.new ∷ []) ≡ after_plan_sizes plan.now room.old }
 {
-    tell_flattened(
+    tell_sizes(
         flatten::plan_sizes(plan, room),
         first,
         second,
@@ -236,22 +257,13 @@ pub extern "C" fn juolgesot_build(
 ) -> u32
     ensures { ((result ∷ first.new ∷ second.new ∷ third.new ∷ fourth.new ∷ []) ∷ room.new ∷ starts.new ∷ words.new ∷ pieces.new ∷ []) ≡ after_build plan.now room.old starts.old words.old pieces.old }
 {
-    tell_flattened(
+    tell_sizes(
         flatten::build_flattened_script_v1(plan, room, starts, words, pieces),
         first,
         second,
         third,
         fourth,
     )
-}
-
-fn tell_repaired(answer: Repaired, first: &mut u64, second: &mut u64) -> u32
-    ensures { (result ∷ first.new ∷ second.new ∷ []) ≡ repaired_numbers answer }
-{
-    match answer {
-        Repaired::Listed(n) => hand_good(n as u64, first, second),
-        Repaired::Refused(refusal) => hand_refusal(refusal, first, second),
-    }
 }
 
 // A node placed at a slot of a level of one stage: `first` is the entries of the new count list, or the refusal's part; `second` is 0, or its item.
@@ -284,7 +296,7 @@ pub extern "C" fn juolgesot_place_bit(
         Pin(node),
         edition,
     );
-    tell_repaired(answer, first, second)
+    tell_length(answer, first, second)
 }
 
 // A slot of a level of one stage cleared, with what stands below it: the numbers are as for a placing.
@@ -302,36 +314,11 @@ pub extern "C" fn juolgesot_purge_bit(
 ) -> u32
     ensures { ((result ∷ first.new ∷ second.new ∷ []) ∷ slots.new ∷ after.new ∷ room.new ∷ []) ≡ after_purge_bit counts.now slots.old after.old room.old level slot edition }
 {
-    tell_repaired(
+    tell_length(
         repair::purge_bit(counts, slots, after, room, level, slot, edition),
         first,
         second,
     )
-}
-
-fn tell_gates(
-    answer: Gates,
-    first: &mut u64,
-    second: &mut u64,
-    third: &mut u64,
-    fourth: &mut u64,
-) -> u32
-    ensures { (result ∷ first.new ∷ second.new ∷ third.new ∷ fourth.new ∷ []) ≡ gates_numbers answer }
-{
-    match answer {
-        Gates::Read(header) => {
-            *first = header.gates;
-            *second = header.inputs;
-            *third = header.latches;
-            *fourth = header.outputs;
-            0
-        }
-        Gates::Refused(refusal) => {
-            *third = 0;
-            *fourth = 0;
-            hand_refusal(refusal, first, second)
-        }
-    }
 }
 
 // The gates of a binary AIGER file: gates, inputs, latches and outputs, or the refusal's part and item and twice 0.
@@ -346,22 +333,13 @@ pub extern "C" fn juolgesot_read_aiger(
 ) -> u32
     ensures { ((result ∷ first.new ∷ second.new ∷ third.new ∷ fourth.new ∷ []) ∷ out.new ∷ []) ≡ after_read_aiger bytes.now out.old }
 {
-    tell_gates(
+    tell_header(
         aiger_read::read_gates(bytes, out),
         first,
         second,
         third,
         fourth,
     )
-}
-
-fn tell_text(answer: Text, first: &mut u64, second: &mut u64) -> u32
-    ensures { (result ∷ first.new ∷ second.new ∷ []) ≡ text_numbers answer }
-{
-    match answer {
-        Text::Bytes(n) => hand_good(n as u64, first, second),
-        Text::Refused(refusal) => hand_refusal(refusal, first, second),
-    }
 }
 
 // The binary AIGER text of a gate list: `first` is its length, or the refusal's part; `second` is 0, or its item.
@@ -374,16 +352,7 @@ pub extern "C" fn juolgesot_write_aiger(
 ) -> u32
     ensures { ((result ∷ first.new ∷ second.new ∷ []) ∷ out.new ∷ []) ≡ after_write_aiger gates.now out.old }
 {
-    tell_text(aiger_write::write_gates(gates, out), first, second)
-}
-
-fn tell_joined(answer: Joined, first: &mut u64, second: &mut u64) -> u32
-    ensures { (result ∷ first.new ∷ second.new ∷ []) ≡ joined_numbers answer }
-{
-    match answer {
-        Joined::Pairs(n) => hand_good(n as u64, first, second),
-        Joined::Refused(refusal) => hand_refusal(refusal, first, second),
-    }
+    tell_length(aiger_write::write_gates(gates, out), first, second)
 }
 
 // The join of two read sets: `first` is its pairs, or the refusal's part; `second` is 0, or its item.
@@ -397,5 +366,5 @@ pub extern "C" fn juolgesot_join(
 ) -> u32
     ensures { ((result ∷ first.new ∷ second.new ∷ []) ∷ out.new ∷ []) ≡ after_join a.now b.now out.old }
 {
-    tell_joined(joins::join_sets(a, b, out), first, second)
+    tell_length(joins::join_sets(a, b, out), first, second)
 }

@@ -15,6 +15,7 @@ use Rattle.words.specs.Answer.{Answer, good, refused, nowhere}
 use Rattle.words.specs.Section.{list_of}
 use Rattle.words.proofs.ListLaws.{sets_append}
 use Rattle.words.proofs.SectionLaws.{length_list_of}
+use Rattle.std.specs.Prelude.{Err}
 use Rattle.words.specs.declared.refusals.Refusal.{Refusal}
 use Rattle.plan_record.specs.Record.{plan_lanes, blocks_of, majors_of, parts_of}
 use Rattle.plan_record.specs.Form.{plan_room_words}
@@ -24,28 +25,16 @@ use Rattle.plan_refusals.specs.Refusals.{plan_refusal, plan_verdict}
 use Rattle.plan_checks.specs.CheckedRoom.{PlanReady, ready_room, room_left}
 use Rattle.plan_checks.specs.Verdicts.{verdict_of}
 use Rattle.words.proofs.TestLaws.{some_not_none}
-use Rattle.plan_checks.specs.declared.Verdict.TheVariants as verdict
+use Rattle.plan_checks.proofs.VerdictLaws.{refused_is}
 use Rattle.script_assembly.specs.Assembly.{script_words}
 use Rattle.script_assembly.proofs.ScriptStartLaws.{starts_length}
 use Rattle.script_layout.specs.Layout.{AcceptedTabled, PlanRoom}
 use Rattle.flatten.specs.declared.sizes.Sizes.{Sizes}
-use Rattle.flatten.specs.declared.Flattened.TheVariants as flattened
 use Rattle.flatten.specs.Flatten as flat
 use Rattle.flatten.specs.Flatten.{sizes_of, sizing, fits, if_fits, fitted, building, laid, build_room_after}
 use Rattle.flatten.specs.FlattenedAnswer.{sizes_in, flattened_of}
 
-no_verdict : {A : Type 0} (x : Refusal) → verdict.Accepted ≡ verdict.Refused x → A
-no_verdict x e = let z : ◌≡◌ {A = ℕ} 0 1 = cc in absurd (omega arith)
-
 -- ---- a refusal
-
-refused_is : (o : Option Refusal) (x : Refusal) → verdict.Refused x ≡ verdict_of o → o ≡ some x
-refused_is none x e = no_verdict x (sym e)
-refused_is (some q) x e = cc
-
-pub accepted_is : (o : Option Refusal) → verdict.Accepted ≡ verdict_of o → o ≡ none
-accepted_is none e = refl
-accepted_is (some q) e = no_verdict _ e
 
 module _ (d room : List ℕ) where
   -- what the room of a refused plan holds
@@ -148,14 +137,14 @@ laid_refused o q e l before = rw (e, laid)
 
 -- ---- a refused plan's answer, and its slices
 
-module _ (d room : List ℕ) (x : Refusal) (v : verdict.Refused x ≡ verdict_of (plan_verdict d (length room))) (after : List ℕ) (is : after ≡ room_left d room) where
-  pub refused_sized : (flattened.Refused x ≡ flattened_of (sizing (plan_lanes d) d (length room))) × (after ≡ build_room_after d room)
+module _ (d room : List ℕ) (x : Refusal) (v : Err x ≡ verdict_of (plan_verdict d (length room))) (after : List ℕ) (is : after ≡ room_left d room) where
+  pub refused_sized : (Err x ≡ flattened_of (sizing (plan_lanes d) d (length room))) × (after ≡ build_room_after d room)
   refused_sized =
       let e = refused_is (plan_verdict d (length room)) x v in
       (ap flattened_of (refused-sizing d room x e), refused_room d room x e after is)
 
   module _ (starts words pieces : List ℕ) where
-    pub refused_built : flattened.Refused x ≡ flattened_of (building (plan_lanes d) d (length room) (length starts) (length words) (length pieces))
+    pub refused_built : Err x ≡ flattened_of (building (plan_lanes d) d (length room) (length starts) (length words) (length pieces))
     refused_built = ap flattened_of (refused-building d room x (refused_is (plan_verdict d (length room)) x v) (length starts) (length words) (length pieces))
 
     pub refused_kept : (l before : List ℕ) → before ≡ laid (building (plan_lanes d) d (length room) (length starts) (length words) (length pieces)) l before

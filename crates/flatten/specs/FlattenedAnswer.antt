@@ -1,16 +1,15 @@
 -- What the answers of the code stand for.
 -- Assumes nothing.
-use Rattle.words.specs.Answer.{Answer, good, refused}
+use Rattle.std.specs.declared.result.Result.{Result}
+use Rattle.words.specs.declared.refusals.Refusal.{Refusal}
+use Rattle.words.specs.Answer.{Answer, result_of}
 use Rattle.flatten.specs.declared.sizes.Sizes.{Sizes}
-use Rattle.flatten.specs.declared.Flattened.{Flattened}
-use Rattle.flatten.specs.declared.Flattened.TheVariants.{Built, Refused}
 use Rattle.flatten.specs.Flatten as flat
 
 -- the four sizes
 abbrev pub sizes_in : flat.Sizes → Sizes
 sizes_in x = record { starts = x.starts; words = x.words; state = x.state; sram = x.sram }
 
--- a build, or the refusal
-abbrev pub flattened_of : Answer flat.Sizes → Flattened
-flattened_of (good x) = Built (sizes_in x)
-flattened_of (refused q) = Refused q
+-- the sizes of a build, or the refusal
+abbrev pub flattened_of : Answer flat.Sizes → Result Sizes Refusal
+flattened_of o = result_of sizes_in o

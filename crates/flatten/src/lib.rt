@@ -5,74 +5,55 @@ pub mod pieces;
 pub mod sizes;
 
 ghost use Rattle.std.specs.Prelude.{◌≡◌, ◌&&◌, leb, length, replicate};
-ghost use Rattle.words.specs.Answer.{good};
 ghost use Rattle.plan_record.specs.Record.{plan_lanes};
 ghost use Rattle.plan_reads.specs.ReadsReady.{SetRoom};
 ghost use Rattle.script_assembly.specs.Assembly.{script_words, script_starts};
 ghost use Rattle.script_layout.specs.Layout.{AcceptedTabled};
 ghost use Rattle.flatten.specs.Flatten.{sizes_of, sizing, piece_sizes, fitted, building, laid, starts_after, words_after, pieces_after, build_room_after};
-ghost use Rattle.flatten.specs.FlattenedAnswer.{flattened_of};
+ghost use Rattle.flatten.specs.FlattenedAnswer.{sizes_in, flattened_of};
 
 use pieces::write_pieces;
-use plan_checks::{Verdict, check_plan};
+use plan_checks::check_plan;
 use plan_record::bodies::parts_of;
 use script_layout::write_plan;
 use sizes::{Sizes, sizes_of};
 use words::clear::clear;
 use words::edition::Edition;
-use words::refusals::{RESULT_SHORT, Refusal};
+use words::refusals::{Reason, Refusal};
 
 // The words of a read set, a pair to each slot at most. With two lists of as many keys as slots they are all the scratch that a check and a build
 // have: 192 KiB of stack.
 const SET_WORDS: usize = 2 * Edition::SLOTS;
 
-// What a build gives: the sizes, or the refusal.
-#[derive(Drop)]
-pub enum Flattened {
-    Built(Sizes),
-    Refused(Refusal),
-}
-
 // The sizes of an accepted plan. The room is clear afterwards.
-fn size_accepted(plan: &[u8], room: &mut [u32]) -> Flattened
+fn size_accepted(plan: &[u8], room: &mut [u32]) -> Sizes
     requires { AcceptedTabled plan.now room.old }
-    ensures value { result ≡ flattened_of (good (sizes_of (plan_lanes plan.now) plan.now)) }
+    ensures value { result ≡ sizes_in (sizes_of (plan_lanes plan.now) plan.now) }
     ensures room_after { room.new ≡ replicate (length room.old) 0 }
 {
     let sizes = sizes_of(plan, room);
     clear(room);
-    Flattened::Built(sizes)
+    sizes
 }
 
 // How much room a plan's result takes.
-pub fn plan_sizes(plan: &[u8], room: &mut [u32]) -> Flattened
+pub fn plan_sizes(plan: &[u8], room: &mut [u32]) -> Result<Sizes, Refusal>
     ensures value { result ≡ flattened_of (sizing (plan_lanes plan.now) plan.now (length room.old)) }
     ensures room_after { room.new ≡ build_room_after plan.now room.old }
 {
     let mut keys = [0u64; Edition::SLOTS];
     let mut scratch = [0u64; Edition::SLOTS];
     let mut set = [0u32; SET_WORDS];
-    match check_plan(plan, room, &mut keys, &mut scratch, &mut set) {
-        Verdict::Refused(x) => Flattened::Refused(x),
-        Verdict::Accepted => size_accepted(plan, room),
-    }
-}
-
-// Whether starts and words are long enough.
-fn script_fits(sizes: Sizes, starts: usize, words: usize) -> bool
-    ensures { result ≡ (leb sizes.starts starts && leb sizes.words words) }
-{
-    sizes.starts <= starts as u64 && sizes.words <= words as u64
+    check_plan(plan, room, &mut keys, &mut scratch, &mut set)?;
+    Ok(size_accepted(plan, room))
 }
 
 // Whether the result slices are long enough: there is a piece size for each part.
+#[tactic(auto, using(crate::proofs::BuildAnswerLaws::test_on, crate::proofs::BuildAnswerLaws::test_off))]
 fn enough(sizes: Sizes, parts: usize, starts: usize, words: usize, pieces: usize) -> bool
     ensures { result ≡ (leb parts pieces && (leb sizes.starts starts && leb sizes.words words)) }
 {
-    if parts <= pieces {
-        return script_fits(sizes, starts, words);
-    }
-    false
+    parts <= pieces && sizes.starts <= starts as u64 && sizes.words <= words as u64
 }
 
 // The result of an accepted plan, or refusal 14. The room is clear afterwards; what keys, scratch and set then hold is left open.
@@ -85,7 +66,7 @@ fn build_accepted(
     keys: &mut [u64],
     scratch: &mut [u64],
     set: &mut [u32],
-) -> Flattened
+) -> Result<Sizes, Refusal>
     requires { AcceptedTabled plan.now room.old × SetRoom (length keys.old) (length scratch.old) (length set.old) }
     ensures value { result ≡ flattened_of (fitted (plan_lanes plan.now) plan.now (length starts.old) (length words.old) (length pieces.old)) }
     ensures room_after { room.new ≡ replicate (length room.old) 0 }
@@ -99,14 +80,10 @@ fn build_accepted(
         write_pieces(plan, room, pieces);
         write_plan(plan, room, starts, words, keys, scratch, set);
         clear(room);
-        return Flattened::Built(sizes);
+        return Ok(sizes);
     }
     clear(room);
-    Flattened::Refused(Refusal {
-        number: RESULT_SHORT,
-        part: 0,
-        item: 0,
-    })
+    Err(Refusal::nowhere(Reason::ResultShort))
 }
 
 // The assembled script of a plan, where its blocks begin, and the piece size of each part.
@@ -116,7 +93,7 @@ pub fn build_flattened_script_v1(
     starts: &mut [u64],
     words: &mut [u32],
     pieces: &mut [u32],
-) -> Flattened
+) -> Result<Sizes, Refusal>
     ensures value { result ≡ flattened_of (building (plan_lanes plan.now) plan.now (length room.old) (length starts.old) (length words.old) (length pieces.old)) }
     ensures room_after { room.new ≡ build_room_after plan.now room.old }
     ensures starts_after { starts.new ≡ starts_after (plan_lanes plan.now) plan.now (length room.old) starts.old words.old pieces.old }
@@ -126,17 +103,15 @@ pub fn build_flattened_script_v1(
     let mut keys = [0u64; Edition::SLOTS];
     let mut scratch = [0u64; Edition::SLOTS];
     let mut set = [0u32; SET_WORDS];
-    match check_plan(plan, room, &mut keys, &mut scratch, &mut set) {
-        Verdict::Refused(x) => Flattened::Refused(x),
-        Verdict::Accepted => build_accepted(
-            plan,
-            room,
-            starts,
-            words,
-            pieces,
-            &mut keys,
-            &mut scratch,
-            &mut set,
-        ),
-    }
+    check_plan(plan, room, &mut keys, &mut scratch, &mut set)?;
+    build_accepted(
+        plan,
+        room,
+        starts,
+        words,
+        pieces,
+        &mut keys,
+        &mut scratch,
+        &mut set,
+    )
 }

@@ -14,9 +14,7 @@ pub fn write_pieces(d: &[u8], room: &[u32], pieces: &mut [u32])
     ensures { pieces.new ≡ sets pieces.old 0 (piece_sizes (plan_lanes d.now) d.now) }
 {
     let parts = parts_of(d);
-    let mut p = 0;
-    while p < parts {
+    for p in 0..parts {
         pieces[p] = cell_at(room, p, Column::PIECE_SIZE);
-        p += 1;
     }
 }

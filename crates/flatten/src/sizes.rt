@@ -1,5 +1,5 @@
 // The sizes of an accepted plan's result: document 01, "Blocks and offsets".
-ghost use Rattle.std.specs.Prelude.{◌≡◌, ◌*◌, ◌-◌, ◌^◌, ◌≤◌, length};
+ghost use Rattle.std.specs.Prelude.{◌≡◌, ◌*◌, ◌^◌, ◌≤◌, length};
 ghost use Rattle.words.specs.Sum.{sum_to};
 ghost use Rattle.plan_record.specs.Record.{plan_lanes, majors_of, parts_of};
 ghost use Rattle.script_assembly.specs.Assembly.{script_words};
@@ -24,13 +24,6 @@ pub struct Sizes {
     pub sram: u64,
 }
 
-// The blocks that a number of parts leaves empty.
-fn blocks_left(blocks: u32, parts: u32) -> u32
-    ensures { result ≡ blocks - parts }
-{
-    if parts < blocks { blocks - parts } else { 0 }
-}
-
 // The empty blocks of all major stages.
 fn empty_blocks(d: &[u8], room: &[u32]) -> u64
     requires { AcceptedTabled d.now room.now }
@@ -39,10 +32,8 @@ fn empty_blocks(d: &[u8], room: &[u32]) -> u64
     let blocks = blocks_of(d);
     let majors = majors_of(d) as usize;
     let mut sum: u64 = 0;
-    let mut s = 0;
-    while s < majors {
-        sum += blocks_left(blocks, count_at(d, s)) as u64;
-        s += 1;
+    for s in 0..majors {
+        sum += blocks.saturating_sub(count_at(d, s)) as u64;
     }
     sum
 }
@@ -56,11 +47,9 @@ fn parts_words(d: &[u8], room: &[u32]) -> u64
     let parts = parts_of(d);
     let heads = head_base(d);
     let mut sum: u64 = 0;
-    let mut p = 0;
-    while p < parts {
+    for p in 0..parts {
         let rounds = cell_at(room, p, Column::ROUNDS);
         sum += part_words(lanes, rounds, stages_at(d, heads, p));
-        p += 1;
     }
     sum
 }

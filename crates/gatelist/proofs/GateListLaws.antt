@@ -1,8 +1,7 @@
 -- Laws of a gate list over three functions and a count. A gate found by its pin has that pin. Where refusal 6 is excluded pins ascend strictly from above 0,
 -- fan-in pins are below their gate's, and a pin has one gate at most.
 -- Assumes nothing.
-use Rattle.std.proofs.Common.{◌≡◌, ℕ, ◌+◌, ◌/◌, ◌<◌, ◌≤◌, true, false, not, ◌&&◌, eqb, ltb, refl, ap, add-one, arith, ltb-true, le-ltb, lt-ltb, eq-eqb, ne_eqb, eqb-true}
-use mathlib.Core.Bool.{and-false}
+use Rattle.std.proofs.Common.{◌≡◌, ℕ, ◌+◌, ◌/◌, ◌<◌, ◌≤◌, true, false, not, ◌&&◌, eqb, ltb, refl, ap, add-one, arith, ltb-true, lt-ltb, eq-eqb, ne_eqb, eqb-true}
 use mathlib.Core.Option.{none, some}
 use borrow.Author.Tests.{not-false}
 use Rattle.sort.specs.HalfSearch.{Monotone, Between, least}
@@ -21,18 +20,10 @@ unfolding before_over
 before_next pin g = rw add-one
 
 module _ (pin first second : ℕ → ℕ) (g : ℕ) where
-  -- a gate is right or not by its three tests, in their order
-  pub right_not_above : pin g ≤ before_over pin g → right_over pin first second g ≡ false
+  -- a gate is right or not by its three tests, of the numbers as they are read
+  pub right_read : (b p f s : ℕ) → b ≡ before_over pin g → p ≡ pin g → f ≡ first g → s ≡ second g → (ltb b p && ltb (f / 2) p && ltb (s / 2) p) ≡ right_over pin first second g
   unfolding right_over
-  right_not_above h = rw (le-ltb (before_over pin g) (pin g) h)
-
-  pub right_not_first : pin g ≤ first g / 2 → right_over pin first second g ≡ false
-  unfolding right_over
-  right_not_first h = rw (le-ltb (first g / 2) (pin g) h, and-false (ltb (before_over pin g) (pin g)))
-
-  pub right_last : before_over pin g < pin g → first g / 2 < pin g → right_over pin first second g ≡ ltb (second g / 2) (pin g)
-  unfolding right_over
-  right_last h k = rw (lt-ltb (before_over pin g) (pin g) h, lt-ltb (first g / 2) (pin g) k)
+  right_read b p f s hb hp hf hs = rw (hb, hp, hf, hs)
 
   pub record Right : Type 0 where
     pub above : before_over pin g < pin g

@@ -1,14 +1,10 @@
 -- Laws of a gate list as words: a list that passes refusal 6 has whole gates only, and they pass it as gates.
 -- Assumes nothing.
-use Rattle.std.proofs.Common.{◌≡◌, ℕ, ◌+◌, ◌-◌, ◌*◌, ◌/◌, ◌%◌, ◌<◌, ◌≤◌, true, false, ◌&&◌, eqb, ltb, List, length, sym, ◌∙◌, arith, le-leb}
+use Rattle.std.proofs.Common.{◌≡◌, ℕ, ◌+◌, ◌*◌, ◌/◌, ◌%◌, ◌<◌, ◌≤◌, true, false, ◌&&◌, eqb, ltb, List, length, sym, ◌∙◌, arith, le-leb}
 use mathlib.Core.Option.{none, some}
 use borrow.Author.Tests.{lt-leb}
 use Rattle.sort.specs.HalfSearch.{Monotone, least}
-use Rattle.words.specs.Tests.{first_from}
-use Rattle.words.specs.Found.{item_of}
-use Rattle.words.specs.declared.found.Item.TheVariants as item
-use Rattle.words.proofs.TestLaws.{not_none, none_not}
-use Rattle.words.proofs.FoundLaws.{look_start, look_fault, look_next, look_end}
+use Rattle.words.proofs.TestLaws.{not_at, not_none, none_not, not_is}
 use Rattle.gatelist.specs.GateList.{right_over, bad_over}
 use Rattle.gatelist.specs.ListWords.{list_pin, list_first, list_second, whole_gates, all_gates, list_right, bad_list, gate_in}
 use Rattle.gatelist.proofs.GateListLaws.{gate_at_lem, first_falls, second_falls, pins_monotone, has_gate, least_gate}
@@ -23,27 +19,25 @@ module _ (l : List ℕ) where
   unfolding list_right
   right_cut = let k : length l < 3 * whole_gates l + 3 = omega arith in rw (lt-leb (3 * whole_gates l + 3) (length l) k)
 
-  -- refusal 6, gate by gate: the answer from gate g on is the answer
-  pub list_from : first_from (list_right l) (all_gates l - 0) 0 ≡ bad_list l
-  unfolding bad_list
-  list_from = look_start (list_right l) (all_gates l)
+  -- the lowest whole gate that is not right is the list's; where all are right, a gate that is cut; else none
+  pub wrong_whole : (g : ℕ) → bad_over (list_pin l) (list_first l) (list_second l) (whole_gates l) ≡ some g → bad_list l ≡ some g
+  unfolding bad_list bad_over
+  wrong_whole g h =
+      let (k, f, p) = not_at (right_over (list_pin l) (list_first l) (list_second l)) (whole_gates l) g h in
+      not_is (list_right l) (all_gates l) g (omega arith) (right_whole g k ∙ f) (λ j u. right_whole j (omega arith) ∙ p j u)
 
-  pub list_fault : (g : ℕ) → g < whole_gates l → first_from (list_right l) (all_gates l - g) g ≡ bad_list l
-      → right_over (list_pin l) (list_first l) (list_second l) g ≡ false → item.At g ≡ item_of (bad_list l)
-  list_fault g h b f = look_fault (list_right l) (all_gates l) g (bad_list l) b (omega arith) (right_whole g h ∙ f)
+  module _ (whole : bad_over (list_pin l) (list_first l) (list_second l) (whole_gates l) ≡ none) where
+    whole_right : (g : ℕ) → g < whole_gates l → list_right l g ≡ true
+    unfolding bad_over
+    whole_right g k = right_whole g k ∙ not_none (right_over (list_pin l) (list_first l) (list_second l)) (whole_gates l) whole g k
 
-  pub list_next : (g : ℕ) → g < whole_gates l → first_from (list_right l) (all_gates l - g) g ≡ bad_list l
-      → right_over (list_pin l) (list_first l) (list_second l) g ≡ true → first_from (list_right l) (all_gates l - (g + 1)) (g + 1) ≡ bad_list l
-  list_next g h b t = look_next (list_right l) (all_gates l) g (bad_list l) b (omega arith) (right_whole g h ∙ t)
+    pub wrong_cut : 0 < length l % 3 → bad_list l ≡ some (whole_gates l)
+    unfolding bad_list
+    wrong_cut r = not_is (list_right l) (all_gates l) (whole_gates l) (omega arith) right_cut whole_right
 
-  pub list_cut : (g : ℕ) → g ≡ whole_gates l → 0 < length l % 3 → first_from (list_right l) (all_gates l - g) g ≡ bad_list l → item.At g ≡ item_of (bad_list l)
-  list_cut g e h b =
-      let k : g < all_gates l = omega arith in
-      let f : list_right l g ≡ false = rw e right_cut in
-      look_fault (list_right l) (all_gates l) g (bad_list l) b k f
-
-  pub list_good : (g : ℕ) → g ≡ whole_gates l → length l % 3 ≡ 0 → first_from (list_right l) (all_gates l - g) g ≡ bad_list l → item.Fine ≡ item_of (bad_list l)
-  list_good g e h b = let k : all_gates l ≤ g = omega arith in look_end (list_right l) (all_gates l) g (bad_list l) b k
+    pub none_wrong : length l % 3 ≡ 0 → bad_list l ≡ none
+    unfolding bad_list
+    none_wrong r = none_not (list_right l) (all_gates l) (λ g k. whole_right g (omega arith))
 
   module _ (good : bad_list l ≡ none) where
     pub gates_good : bad_over (list_pin l) (list_first l) (list_second l) (whole_gates l) ≡ none

@@ -1,11 +1,9 @@
 -- A gate list as words, three a gate: pin, first fan-in, second fan-in. A last gate that is cut breaks the form at its own index.
 -- Assumes nothing.
 use Rattle.std.specs.Prelude.{ℕ, ◌+◌, ◌*◌, ◌/◌, Bool, ◌&&◌, List, length, nat_le, slice_index}
-use Rattle.std.proofs.Math.Option.{Option, none, some}
+use Rattle.std.proofs.Math.Option.{Option}
 use Rattle.words.specs.Tests.{first_not}
 use Rattle.gatelist.specs.GateList.{right_over, gate_over}
-use Rattle.gatelist.specs.declared.Listed.{Listed}
-use Rattle.gatelist.specs.declared.Listed.TheVariants.{Gate, Missing}
 
 abbrev pub list_pin : List ℕ → ℕ → ℕ
 list_pin l g = slice_index l (3 * g)
@@ -33,8 +31,3 @@ bad_list l = first_not (list_right l) (all_gates l)
 -- the gate of pin x
 unfoldable pub gate_in : List ℕ → ℕ → Option ℕ
 gate_in l x = gate_over (list_pin l) (whole_gates l) x
-
--- as an answer
-abbrev pub gate_listed_of : Option ℕ → Listed
-gate_listed_of none = Missing
-gate_listed_of (some g) = Gate g

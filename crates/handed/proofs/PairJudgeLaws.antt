@@ -28,9 +28,13 @@ use Rattle.reads.proofs.SetLaws.{times_here}
 use Rattle.reads_try.specs.LaneTable.{table_of}
 use Rattle.reads_try.specs.TableLanes.{pair_at, put_in_lane}
 use Rattle.reads_try.proofs.LaneTableLaws.{table_put, table_empty, table_length}
-use Rattle.handed.specs.declared.fill.Judged.{Judged}
-use Rattle.handed.specs.declared.fill.Judged.TheVariants.{Bad, Lanes}
-use Rattle.handed_lanes.specs.Handed.{number_of, pair_for, in_front, pair_more, lanes_in, belongs, bad_from, bad_pair}
+use Rattle.std.specs.Prelude.{Some, None, Ok, Err}
+use Rattle.std.specs.declared.option.Option as code
+use Rattle.std.specs.declared.result.Result.{Result}
+use Rattle.words.specs.Found.{item_of}
+use Rattle.words.proofs.FoundLaws.{item_some, item_none}
+use Rattle.handed.specs.declared.fill.Misplaced.{Misplaced}
+use Rattle.handed_lanes.specs.Handed.{pair_index, pair_for, in_front, pair_more, lanes_in, belongs, bad_from, bad_pair}
 use Rattle.handed_pairs.specs.HandedPair.{fitting_pair, tabled}
 use Rattle.handed.specs.Fill.{judged_of, PairsFilled}
 use Rattle.handed_lanes.proofs.FaultLaws.{times_one, one_is, Belongs, belongs_is, bad_next, bad_here}
@@ -261,7 +265,7 @@ module _ (st : List ℕ) (ws : List ℕ) (n : ℕ) where
       m = get_or ws (i + 1) 0
 
       abbrev k : ℕ
-      k = number_of ps w m
+      k = pair_index ps w m
 
       some-mask : 0 < m
       some-mask = omega arith
@@ -296,49 +300,52 @@ module _ (st : List ℕ) (ws : List ℕ) (n : ℕ) where
           ap (λ (t : Bool). (t && eqb (bit_at seen k) 0) && leb (b + pop m) 32) z ∙ sym (ap (λ (t : Bool). (t && eqb (times w m j.stood) 0) && leb (b + pop m) 32) z))
           (lt_or_ge 0 (times w m ps))
 
-      abbrev picked : Bool → ℕ
-      picked t = elim t [ true ↦ k | false ↦ length st / 2 ]
+      abbrev picked : Bool → Option ℕ
+      picked t = elim t [ true ↦ some k | false ↦ none ]
 
       fit_is : fitting_pair st seen b w m ≡ picked (belongs ps j.stood b (pair_for ps w m))
       unfolding fitting_pair belongs
       fit_is = ap picked tests-are
 
       -- it may not
-      pub judged_bad : (p : ℕ) → p ≡ fitting_pair st seen b w m → p ≡ length st / 2 → (x : ℕ) → x ≡ (64 * lane + place) % 2 ^ 64
-          → (Bad x ≡ judged_of (bad_pair ps [] 0 (lanes_in ps ws)) (length (lanes_in ps ws)))
+      pub judged_bad : (r : code.Option ℕ) → r ≡ item_of (fitting_pair st seen b w m) → r ≡ None → (x : ℕ) → x ≡ (64 * lane + place) % 2 ^ 64
+          → (Err (record { item = x }) ≡ judged_of (bad_pair ps [] 0 (lanes_in ps ws)) (length (lanes_in ps ws)))
           × (bad_pair ps [] 0 (lanes_in ps ws) ≡ none → PairsFilled st n (lanes_in ps ws) table seen)
-      judged_bad p ep f x ex = go (belongs ps j.stood b (pair_for ps w m)) refl
+      judged_bad r er f x ex = go (belongs ps j.stood b (pair_for ps w m)) refl
         where
           Post : Type 0
-          Post = (Bad x ≡ judged_of (bad_pair ps [] 0 (lanes_in ps ws)) (length (lanes_in ps ws))) × (bad_pair ps [] 0 (lanes_in ps ws) ≡ none → PairsFilled st n (lanes_in ps ws) table seen)
+          Post = (Err (record { item = x }) ≡ judged_of (bad_pair ps [] 0 (lanes_in ps ws)) (length (lanes_in ps ws))) × (bad_pair ps [] 0 (lanes_in ps ws) ≡ none → PairsFilled st n (lanes_in ps ws) table seen)
 
           go : (t : Bool) → belongs ps j.stood b (pair_for ps w m) ≡ t → Post
           go true t =
-              let is : p ≡ k = ep ∙ fit_is ∙ ap picked t in
-              let there = (found_pair st form w m (belongs_is ps j.stood b (pair_for ps w m) t).of_set).0 in
-              absurd (omega arith)
+              absurd (some_not_none (sym (fit_is ∙ ap picked t) ∙ item_none _ (sym er ∙ f)))
           go false t =
               let bad : bad_pair ps [] 0 (lanes_in ps ws) ≡ some (64 * lane + place) =
               sym (rw next at j.same_bad) ∙ rest-bad ps j.stood b lane place (pair_for ps w m) (left ps ws (i + 2)) t in
-              (rw bad (ap Bad ex), λ e. absurd (some_not_none (sym bad ∙ e)))
+              (rw bad (ap (λ (y : ℕ). Err (record { item = y })) ex), λ e. absurd (some_not_none (sym bad ∙ e)))
 
       mask-bits : 0 < pop m
       mask-bits = pop_some m (small (i + 1)) some-mask
 
       -- it may
-      module _ (p : ℕ) (ep : p ≡ fitting_pair st seen b w m) (fits : p ≡ length st / 2 → ⊥) where
+      module _ (r : code.Option ℕ) (er : r ≡ item_of (fitting_pair st seen b w m)) (p : ℕ) (fits : r ≡ Some p) where
+        fitting : fitting_pair st seen b w m ≡ some p
+        fitting = item_some _ p (sym er ∙ fits)
+
         right-test : belongs ps j.stood b (pair_for ps w m) ≡ true
         right-test = go (belongs ps j.stood b (pair_for ps w m)) refl
           where
             go : (t : Bool) → belongs ps j.stood b (pair_for ps w m) ≡ t → t ≡ true
-            go false t = absurd (fits (ep ∙ fit_is ∙ ap picked t))
+            go false t = absurd (some_not_none (sym fitting ∙ (fit_is ∙ ap picked t)))
             go true t = refl
 
         right : Belongs ps j.stood b (pair_for ps w m)
         right = belongs_is ps j.stood b (pair_for ps w m) right-test
 
         number_is : p ≡ k
-        number_is = ep ∙ fit_is ∙ ap picked right-test
+        number_is =
+            let same : ◌≡◌ {A = Option ℕ} (some p) (some k) = sym fitting ∙ (fit_is ∙ ap picked right-test) in
+            cc
 
         pub may_number : p < 8192
         may_number = omega (arith, (found_pair st form w m right.of_set).0, number_is)
@@ -429,31 +436,31 @@ module _ (st : List ℕ) (ws : List ℕ) (n : ℕ) where
         })
 
     -- what is promised of the judgement
-    abbrev Post : Judged → Type 0
+    abbrev Post : Result ℕ Misplaced → Type 0
     Post r = (r ≡ judged_of (bad_pair ps [] 0 (lanes_in ps ws)) (length (lanes_in ps ws))) × (bad_pair ps [] 0 (lanes_in ps ws) ≡ none → PairsFilled st n (lanes_in ps ws) table seen)
 
     -- nothing is left
-    judged-all : length ws ≤ i → Post (Lanes (lane + left_lanes place 0))
+    judged-all : length ws ≤ i → Post (Ok (lane + left_lanes place 0))
     unfolding joined
     judged-all h =
         let next : left ps ws i ≡ [] = no_words ps ws i h in
         let fine : bad_pair ps [] 0 (lanes_in ps ws) ≡ none = sym (rw next at j.same_bad) in
         let count : lane + left_lanes place 0 ≡ length (lanes_in ps ws) = rw next at j.same_count in
         let pairs : j.stood ≡ joined (lanes_in ps ws) = sym (append-nil j.stood) ∙ rw next at j.same_pairs in
-        (rw fine (ap Lanes count), λ e. filled pairs (rw next at j.same_lanes))
+        (rw fine (ap Ok count), λ e. filled pairs (rw next at j.same_lanes))
 
-    pub judged_open : length ws ≤ i → 0 < place → Post (Lanes (lane + 1))
+    pub judged_open : length ws ≤ i → 0 < place → Post (Ok (lane + 1))
     judged_open h l =
         let one : lane + left_lanes place 0 ≡ lane + 1 = ap (λ (x : ℕ). lane + x) (left_open place l) in
-        (ap Lanes (sym one) ∙ (judged-all h).0, (judged-all h).1)
+        (ap Ok (sym one) ∙ (judged-all h).0, (judged-all h).1)
 
-    pub judged_closed : length ws ≤ i → place ≤ 0 → Post (Lanes lane)
+    pub judged_closed : length ws ≤ i → place ≤ 0 → Post (Ok lane)
     judged_closed h l =
         let none_left : lane + left_lanes place 0 ≡ lane = ap (λ (x : ℕ). lane + x) (left_closed place l) ∙ add-zero lane in
-        (ap Lanes (sym none_left) ∙ (judged-all h).0, (judged-all h).1)
+        (ap Ok (sym none_left) ∙ (judged-all h).0, (judged-all h).1)
 
     -- a half pair is left, which is an end
-    pub judged_half : i < length ws → length ws ≤ i + 1 → Post (Lanes (lane + 1))
+    pub judged_half : i < length ws → length ws ≤ i + 1 → Post (Ok (lane + 1))
     unfolding joined bad_pair bad_from
     judged_half h k =
         let next : left ps ws i ≡ [] ∷ [] = half_words_lem ps ws i h k in
@@ -461,4 +468,4 @@ module _ (st : List ℕ) (ws : List ℕ) (n : ℕ) where
         let count : lane + left_lanes place 1 ≡ length (lanes_in ps ws) = rw next at j.same_count in
         let one : lane + 1 ≡ length (lanes_in ps ws) = ap (λ (x : ℕ). lane + x) (sym (left_end place 0)) ∙ count in
         let pairs : j.stood ≡ joined (lanes_in ps ws) = sym (append-nil j.stood) ∙ rw next at j.same_pairs in
-        (rw fine (ap Lanes one), λ e. filled pairs (rw next at j.same_lanes))
+        (rw fine (ap Ok one), λ e. filled pairs (rw next at j.same_lanes))

@@ -1,14 +1,14 @@
 -- What the code leaves and asks. n is the number of lanes.
 -- Assumes nothing.
-use Rattle.std.specs.Prelude.{◌≡◌, List, ℕ, ◌+◌, ◌*◌, ◌/◌, ◌%◌, ◌^◌, ◌≤◌, ◌<◌, length, get_or, replicate}
+use Rattle.std.specs.Prelude.{◌≡◌, Ok, Err, List, ℕ, ◌+◌, ◌*◌, ◌/◌, ◌%◌, ◌^◌, ◌≤◌, ◌<◌, length, get_or, replicate}
 use Rattle.std.proofs.Math.Option.{Option, none, some}
 use Rattle.words.specs.Bit.{bit_at}
 use Rattle.reads.specs.Search.{Lane, joined}
 use Rattle.reads.specs.Packing.{times}
 use Rattle.reads_try.specs.LaneTable.{table_of}
 use Rattle.handed_pairs.specs.HandedPair.{SetFormed}
-use Rattle.handed.specs.declared.fill.Judged.{Judged}
-use Rattle.handed.specs.declared.fill.Judged.TheVariants.{Bad, Lanes}
+use Rattle.std.specs.declared.result.Result.{Result}
+use Rattle.handed.specs.declared.fill.Misplaced.{Misplaced}
 
 -- the table of lanes that are a packing, or an empty one
 abbrev pub table_handed : ℕ → Option ℕ → List Lane → List ℕ
@@ -16,9 +16,9 @@ table_handed n none lanes = table_of lanes
 table_handed n (some x) lanes = replicate (32 * n) 0
 
 -- the first bad pair's item, in 64 bits, or the number of lanes
-abbrev pub judged_of : Option ℕ → ℕ → Judged
-judged_of none count = Lanes count
-judged_of (some x) count = Bad (x % 2 ^ 64)
+abbrev pub judged_of : Option ℕ → ℕ → Result ℕ Misplaced
+judged_of none count = Ok count
+judged_of (some x) count = Err (record { item = x % 2 ^ 64 })
 
 -- what filling asks: a set in form, a row of the table for each lane, a bit for each pair
 pub record Fillable (set : List ℕ) (table seen n : ℕ) : Type 0 where

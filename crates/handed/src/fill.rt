@@ -9,13 +9,11 @@ ghost use Rattle.handed.specs.Fill.{Fillable, PairsFilled, judged_of, table_hand
 use handed_pairs::{fit, is_whole, put};
 use words::bits;
 use words::clear::clear;
-use words::found::Item;
 
-// What the judgement of the pairs ends in: the item of the first that may not stand where it does, or the number of lanes.
-#[derive(Drop)]
-enum Judged {
-    Bad(usize),
-    Lanes(usize),
+// A pair may not stand where it does: its item.
+#[derive(Clone, Copy)]
+struct Misplaced {
+    item: usize,
 }
 
 // A place of the lanes as an item, in 64 bits.
@@ -28,46 +26,55 @@ fn item(lane: usize, place: usize) -> usize
 
 // Judges the pairs handed in, one after the other, and puts them into the table: the first that may not stand where it does, or how many lanes
 // there are. After a pair that may not, what the table and the marks hold is left open.
-fn judge_pairs(set: &[u32], lanes: &[u32], table: &mut [u32], seen: &mut [u32], n: usize) -> Judged
+fn judge_pairs(
+    set: &[u32],
+    lanes: &[u32],
+    table: &mut [u32],
+    seen: &mut [u32],
+    n: usize,
+) -> Result<usize, Misplaced>
     requires { Fillable set.now (length table.old) (length seen.old) n × (table.old ≡ replicate (32 * n) 0) × (seen.old ≡ replicate 256 0) }
     ensures value { result ≡ judged_of (bad_pair (pairs_of set.now) [] 0 (lanes_in (pairs_of set.now) lanes.now)) (length (lanes_in (pairs_of set.now) lanes.now)) }
     ensures pairs_filled { bad_pair (pairs_of set.now) [] 0 (lanes_in (pairs_of set.now) lanes.now) ≡ none → PairsFilled set.now n (lanes_in (pairs_of set.now) lanes.now) table.new seen.new }
 {
-    let pairs = set.len() / 2;
     let mut lane = 0;
     let mut place = 0;
     let mut b = 0;
-    let mut i = 0;
-    while i + 1 < lanes.len() {
-        let m = lanes[i + 1];
+    for k in 0..lanes.len() / 2 {
+        let m = lanes[2 * k + 1];
         if m == 0 {
             lane += 1;
             place = 0;
             b = 0;
-            i += 2;
-        } else {
-            let p = fit(set, seen, b, lanes[i], m);
-            if p == pairs {
-                return Judged::Bad(item(lane, place));
-            }
-            put(table, seen, n, lane, place, p);
-            place += 1;
-            b += bits::count(m);
-            i += 2;
+            continue;
         }
+        let Some(p) = fit(set, seen, b, lanes[2 * k], m) else {
+            return Err(Misplaced {
+                item: item(lane, place),
+            });
+        };
+        put(table, seen, n, lane, place, p);
+        place += 1;
+        b += bits::count(m);
     }
-    if i < lanes.len() {
-        return Judged::Lanes(lane + 1);
+    if lanes.len() % 2 == 1 {
+        return Ok(lane + 1);
     }
     if 0 < place {
-        return Judged::Lanes(lane + 1);
+        return Ok(lane + 1);
     }
-    Judged::Lanes(lane)
+    Ok(lane)
 }
 
 // Judges lanes handed in and leaves their table; where they are not a packing of the set, what is wrong first and an empty table. What the marks
 // hold afterwards is left open.
-pub fn fill_lanes(set: &[u32], lanes: &[u32], table: &mut [u32], seen: &mut [u32], n: usize) -> Item
+pub fn fill_lanes(
+    set: &[u32],
+    lanes: &[u32],
+    table: &mut [u32],
+    seen: &mut [u32],
+    n: usize,
+) -> Option<usize>
     requires { Fillable set.now (length table.old) (length seen.old) n }
     ensures value { result ≡ item_of (told_item (fault n (pairs_of set.now) (lanes_in (pairs_of set.now) lanes.now))) }
     ensures table_after { table.new ≡ table_handed n (fault n (pairs_of set.now) (lanes_in (pairs_of set.now) lanes.now)) (lanes_in (pairs_of set.now) lanes.now) }
@@ -75,16 +82,16 @@ pub fn fill_lanes(set: &[u32], lanes: &[u32], table: &mut [u32], seen: &mut [u32
     clear(table);
     clear(seen);
     match judge_pairs(set, lanes, table, seen, n) {
-        Judged::Bad(x) => {
+        Err(bad) => {
             clear(table);
-            Item::At(x)
+            Some(bad.item)
         }
-        Judged::Lanes(count) => {
+        Ok(count) => {
             if is_whole(seen, set.len() / 2, count, n) {
-                return Item::Fine;
+                return None;
             }
             clear(table);
-            Item::At(item(count, 0))
+            Some(item(count, 0))
         }
     }
 }

@@ -23,45 +23,45 @@ use Rattle.reads_try.specs.TableLanes.{pair_at, Each, Drawn, SoundLane, SoundLan
 use Rattle.reads_try.proofs.SetPairLaws.{pairs_length, pairs_at}
 use Rattle.reads_try.proofs.LaneTableLaws.{each_of}
 use Rattle.reads_section.proofs.PairFormLaws.{form_whole}
-use Rattle.handed_lanes.specs.Handed.{number_of, pair_for, in_front, pair_more, lanes_in, lane_words, words_of}
+use Rattle.handed_lanes.specs.Handed.{pair_index, pair_for, in_front, pair_more, lanes_in, lane_words, words_of}
 
 -- ---- the number of a pair
 
 -- a pair of this word and mask stands there
 pub record Found (ps : List Pair) (w m : ℕ) (d : Pair) : Type 0 where
-  pub in_set : number_of ps w m < length ps
-  pub word_is : (get_or ps (number_of ps w m) d).word ≡ w
-  pub mask_is : (get_or ps (number_of ps w m) d).mask ≡ m
+  pub in_set : pair_index ps w m < length ps
+  pub word_is : (get_or ps (pair_index ps w m) d).word ≡ w
+  pub mask_is : (get_or ps (pair_index ps w m) d).mask ≡ m
 
 pub number_found : (ps : List Pair) (w m : ℕ) (d : Pair) → 0 < times w m ps → Found ps w m d
-unfolding number_of times
+unfolding pair_index times
 number_found [] w m d h = absurd (omega (arith, times_nil w m))
 number_found (p ∷ ps) w m d h = go (eqb p.word w && eqb p.mask m) refl (number_found ps w m d)
   where
     go : (t : Bool) → eqb p.word w && eqb p.mask m ≡ t → (0 < times w m ps → Found ps w m d) → Found (p ∷ ps) w m d
     go true t r =
         let s = and_true (eqb p.word w) _ t in
-        record { in_set = rw (t, number_of) (omega arith); word_is = rw (t, number_of) (eqb-true _ _ s.0); mask_is = rw (t, number_of) (eqb-true _ _ s.1) }
+        record { in_set = rw (t, pair_index) (omega arith); word_is = rw (t, pair_index) (eqb-true _ _ s.0); mask_is = rw (t, pair_index) (eqb-true _ _ s.1) }
     go false t r =
         let f = r (rw (t, times) at h) in
-        record { in_set = rw (t, number_of) (omega (arith, f.in_set)); word_is = rw (t, number_of) f.word_is; mask_is = rw (t, number_of) f.mask_is }
+        record { in_set = rw (t, pair_index) (omega (arith, f.in_set)); word_is = rw (t, pair_index) f.word_is; mask_is = rw (t, pair_index) f.mask_is }
 
 -- none stands there
-pub number_nowhere : (ps : List Pair) (w m : ℕ) → times w m ps ≡ 0 → number_of ps w m ≡ length ps
-unfolding number_of times
+pub number_nowhere : (ps : List Pair) (w m : ℕ) → times w m ps ≡ 0 → pair_index ps w m ≡ length ps
+unfolding pair_index times
 number_nowhere [] w m h = refl
 number_nowhere (p ∷ ps) w m h = go (eqb p.word w && eqb p.mask m) refl (number_nowhere ps w m)
   where
-    go : (t : Bool) → eqb p.word w && eqb p.mask m ≡ t → (times w m ps ≡ 0 → number_of ps w m ≡ length ps) → number_of (p ∷ ps) w m ≡ suc (length ps)
+    go : (t : Bool) → eqb p.word w && eqb p.mask m ≡ t → (times w m ps ≡ 0 → pair_index ps w m ≡ length ps) → pair_index (p ∷ ps) w m ≡ suc (length ps)
     go true t r = let z : suc (times w m ps) ≡ 0 = rw (t, times) at h in absurd (omega arith)
-    go false t r = rw (t, number_of) (ap suc (r (rw (t, times) at h)))
+    go false t r = rw (t, pair_index) (ap suc (r (rw (t, times) at h)))
 
 -- it stands at one place alone
 pub number_one : (ps : List Pair) (k : ℕ) (d : Pair) → k < length ps → times (get_or ps k d).word (get_or ps k d).mask ps ≤ 1
-    → number_of ps (get_or ps k d).word (get_or ps k d).mask ≡ k
-unfolding number_of
+    → pair_index ps (get_or ps k d).word (get_or ps k d).mask ≡ k
+unfolding pair_index
 number_one [] k d h o = absurd (not-suc-le-zero h)
-number_one (p ∷ ps) zero d h o = rw (eq-eqb p.word p.word refl, eq-eqb p.mask p.mask refl, number_of)
+number_one (p ∷ ps) zero d h o = rw (eq-eqb p.word p.word refl, eq-eqb p.mask p.mask refl, pair_index)
 number_one (p ∷ ps) (suc k) d h o = go (eqb p.word w && eqb p.mask m) refl (number_one ps k d (le_of_suc-le-suc h) (omega (arith, times_cons w m p ps)))
   where
     w : ℕ
@@ -70,8 +70,8 @@ number_one (p ∷ ps) (suc k) d h o = go (eqb p.word w && eqb p.mask m) refl (nu
     m : ℕ
     m = (get_or ps k d).mask
 
-    go : (t : Bool) → eqb p.word w && eqb p.mask m ≡ t → number_of ps w m ≡ k → number_of (p ∷ ps) w m ≡ suc k
-    go false t r = rw (t, number_of) (ap suc r)
+    go : (t : Bool) → eqb p.word w && eqb p.mask m ≡ t → pair_index ps w m ≡ k → pair_index (p ∷ ps) w m ≡ suc k
+    go false t r = rw (t, pair_index) (ap suc r)
     go true t r =
         let s = and_true (eqb p.word w) _ t in
         let same_word : p.word ≡ w = eqb-true _ _ s.0 in
@@ -144,15 +144,15 @@ module _ (set : List ℕ) (form : broken (pairs_of set) ≡ none) where
       let at : get_or (pairs_of set) p (pair_at set 0) ≡ pair_at set p = pairs_at set p (pair_at set 0) h in
       rw at at (times_at (pairs_of set) p (pair_at set 0) (omega (arith, pairs_count)))
 
-  pub pair_number : (p : ℕ) → p < length set / 2 → number_of (pairs_of set) (get_or set (2 * p) 0) (get_or set (2 * p + 1) 0) ≡ p
+  pub pair_number : (p : ℕ) → p < length set / 2 → pair_index (pairs_of set) (get_or set (2 * p) 0) (get_or set (2 * p + 1) 0) ≡ p
   pair_number p h =
       let at : get_or (pairs_of set) p (pair_at set 0) ≡ pair_at set p = pairs_at set p (pair_at set 0) h in
       rw at at (number_one (pairs_of set) p (pair_at set 0) (omega (arith, pairs_count)) (pair_once (pairs_of set) form _ _))
 
   -- a pair of the set, as it is handed in
-  pub found_pair : (w m : ℕ) → 0 < times w m (pairs_of set) → (number_of (pairs_of set) w m < length set / 2) × (pair_for (pairs_of set) w m ≡ pair_at set (number_of (pairs_of set) w m))
+  pub found_pair : (w m : ℕ) → 0 < times w m (pairs_of set) → (pair_index (pairs_of set) w m < length set / 2) × (pair_for (pairs_of set) w m ≡ pair_at set (pair_index (pairs_of set) w m))
   found_pair w m h =
-      let k = number_of (pairs_of set) w m in
+      let k = pair_index (pairs_of set) w m in
       let f = number_found (pairs_of set) w m (pair_at set 0) h in
       let l : k < length set / 2 = omega (arith, f.in_set, pairs_count) in
       let at : get_or (pairs_of set) k (pair_at set 0) ≡ pair_at set k = pairs_at set k (pair_at set 0) l in
@@ -164,7 +164,7 @@ module _ (set : List ℕ) (form : broken (pairs_of set) ≡ none) where
     found-drawn : (p : Pair) → Numbered (pairs_of set) p → 0 < times p.word p.mask (pairs_of set) → Drawn set p
     found-drawn p n h =
         let f = found_pair p.word p.mask h in
-        let is_at : p.at ≡ number_of (pairs_of set) p.word p.mask = ap (λ (q : Pair). q.at) n.same in
+        let is_at : p.at ≡ pair_index (pairs_of set) p.word p.mask = ap (λ (q : Pair). q.at) n.same in
         record {
           in_set = omega (arith, is_at, f.0);
           same = n.same ∙ f.1 ∙ ap (pair_at set) (sym is_at);
@@ -196,7 +196,7 @@ module _ (set : List ℕ) (form : broken (pairs_of set) ≡ none) where
   drawn-numbered p d =
       let word_is : p.word ≡ get_or set (2 * p.at) 0 = ap (λ (q : Pair). q.word) d.same in
       let mask_is : p.mask ≡ get_or set (2 * p.at + 1) 0 = ap (λ (q : Pair). q.mask) d.same in
-      let is_at : number_of (pairs_of set) p.word p.mask ≡ p.at = rw (word_is, mask_is) (pair_number p.at d.in_set) in
+      let is_at : pair_index (pairs_of set) p.word p.mask ≡ p.at = rw (word_is, mask_is) (pair_number p.at d.in_set) in
       let there : 0 < times p.word p.mask (pairs_of set) = rw (word_is, mask_is) (pair_times p.at d.in_set) in
       record { same = rw is_at; some-mask = mask_some (pairs_of set) form _ _ there }
 

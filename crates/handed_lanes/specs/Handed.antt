@@ -12,13 +12,13 @@ use Rattle.reads.specs.SetAnswer.{Packed, set_fitted}
 -- ---- the lanes that words say
 
 -- the number that a word with a mask has in the set; as many as the set has where it does not stand there
-unfoldable pub number_of : List Pair → ℕ → ℕ → ℕ
-number_of [] w m = 0
-number_of (p ∷ ps) w m = elim (eqb p.word w && eqb p.mask m) [ true ↦ 0 | false ↦ suc (number_of ps w m) ]
+unfoldable pub pair_index : List Pair → ℕ → ℕ → ℕ
+pair_index [] w m = 0
+pair_index (p ∷ ps) w m = elim (eqb p.word w && eqb p.mask m) [ true ↦ 0 | false ↦ suc (pair_index ps w m) ]
 
 -- a pair that is handed in, with that number
 abbrev pub pair_for : List Pair → ℕ → ℕ → Pair
-pair_for ps w m = record { at = number_of ps w m; word = w; mask = m }
+pair_for ps w m = record { at = pair_index ps w m; word = w; mask = m }
 
 -- a pair in front of the first lane, which it begins where there is none
 unfoldable pub in_front : Pair → List Lane → List Lane

@@ -1,27 +1,32 @@
 -- The answers of the code, and one step of its two passes.
 -- Assumes nothing.
-use Rattle.std.specs.Prelude.{◌≡◌, true, false, List, [], ◌∷◌, ℕ, ◌+◌, ◌%◌, ◌≤◌, ◌<◌, ltb, eqb, length, get_or}
+use Rattle.std.specs.declared.result.Result.{Result}
+use Rattle.std.specs.Prelude.{◌≡◌, ⊤, Ok, Err, true, false, List, [], ◌∷◌, ℕ, ◌+◌, ◌%◌, ◌≤◌, ◌<◌, ltb, eqb, length, get_or}
 use Rattle.std.proofs.Math.Option.{Option, none, some}
 use Rattle.std.specs.Int.Bits.{bit_or}
-use Rattle.words.specs.Answer.{Answer, good, refused}
+use Rattle.words.specs.Answer.{Answer, result_of}
 use Rattle.words.specs.declared.refusals.Refusal.{Refusal}
 use Rattle.reads.specs.ReadSet.{pairs_of}
 use Rattle.reads_asked.specs.Rising.{Rising}
-use Rattle.joins_sets.specs.Join.{join}
-use Rattle.joins.specs.declared.Joined.{Joined}
-use Rattle.joins.specs.declared.Joined.TheVariants.{Pairs, Refused as NotJoined}
-use Rattle.joins.specs.declared.Tested.{Tested}
-use Rattle.joins.specs.declared.Tested.TheVariants.{Fine, Refused as Bad}
+use Rattle.joins_sets.specs.Join.{join, set_refusal}
 use Rattle.joins.specs.declared.merging.Step.{Step}
 
--- the number of pairs, or the refusal
-abbrev pub joined_of : Answer (List ℕ) → Joined
-joined_of (good s) = Pairs (length (pairs_of s))
-joined_of (refused q) = NotJoined q
+-- the number of pairs of a set's words
+abbrev pub pairs_count : List ℕ → ℕ
+pairs_count s = length (pairs_of s)
 
-abbrev pub tested_of : Option Refusal → Tested
-tested_of none = Fine
-tested_of (some q) = Bad q
+abbrev pub tested_of : Option Refusal → Result ⊤ Refusal
+tested_of none = Ok tt
+tested_of (some q) = Err q
+
+-- whether there is an answer
+abbrev pub fits_of : Answer (List ℕ) → Result ⊤ Refusal
+fits_of = result_of (λ s. tt)
+
+-- two sets that each test lets through
+pub record FineSets (a b : List ℕ) : Type 0 where
+  pub first : set_refusal a ≡ none
+  pub second : set_refusal b ≡ none
 
 -- the first pair of the first set, of the second, or of both with masks or'ed, and how many words of each set it takes
 abbrev pub of_first : List ℕ → Step
@@ -54,7 +59,7 @@ pub record HasPair (a b : List ℕ) : Type 0 where
   pub second : length b % 2 ≡ 0
   pub some_words : 0 < length a + length b
 
--- two sets that each test lets through
+-- two such sets, by their words
 pub record Joinable (a b : List ℕ) : Type 0 where
   pub first : Rising 0 a
   pub second : Rising 0 b

@@ -4,88 +4,61 @@
 pub mod merging;
 
 ghost use Rattle.std.specs.Prelude.{◌≡◌, ◌&&◌, leb, length};
+ghost use Rattle.words.specs.Answer.{result_of};
 ghost use Rattle.joins_sets.specs.Join.{set_refusal, joining, join_after};
-ghost use Rattle.joins.specs.Merge.{joined_of, tested_of};
+ghost use Rattle.joins.specs.Merge.{pairs_count, tested_of, fits_of, FineSets};
 
 use merging::{count_words, write_pairs};
-use words::found::Item;
-use words::refusals::{MANY_PAIRS, PAIR_FORM, RESULT_SHORT, Refusal};
+use words::refusals::{Reason, Refusal};
 
-// The number of pairs that were written, or the refusal.
-#[derive(Drop)]
-pub enum Joined {
-    Pairs(usize),
-    Refused(Refusal),
-}
-
-// A set that is in form, or its refusal.
-#[derive(Drop)]
-enum Tested {
-    Fine,
-    Refused(Refusal),
-}
+// The most words of a set.
+const SET_WORDS: usize = 16384;
 
 // 1, then 2.
-fn test_set(set: &[u32]) -> Tested
+fn test_set(set: &[u32]) -> Result<(), Refusal>
     ensures { result ≡ tested_of (set_refusal set.now) }
 {
-    if 16384 < set.len() {
-        return Tested::Refused(Refusal {
-            number: MANY_PAIRS,
-            part: 0,
-            item: 0,
-        });
+    if SET_WORDS < set.len() {
+        return Err(Refusal::nowhere(Reason::ManyPairs));
     }
-    if let Item::At(i) = reads_section::check_form(set) {
-        return Tested::Refused(Refusal {
-            number: PAIR_FORM,
-            part: 0,
-            item: i as u64,
-        });
+    match reads_section::check_form(set) {
+        Some(i) => Err(Refusal::at_item(Reason::PairForm, i as u64)),
+        None => Ok(()),
     }
-    Tested::Fine
-}
-
-fn refused(number: u32) -> Joined
-    ensures { result ≡ Joined.Refused (record { number = number; part = 0; item = 0 }) }
-{
-    Joined::Refused(Refusal {
-        number: number,
-        part: 0,
-        item: 0,
-    })
 }
 
 // Whether any join of so many words of both sets is written: no join is longer than both sets.
 fn is_roomy(words: usize, room: usize) -> bool
     ensures { result ≡ (leb words 16384 && leb words room) }
 {
-    if 16384 < words {
-        return false;
-    }
-    words <= room
+    words <= SET_WORDS && words <= room
 }
 
-// The join of two read sets, from the start of `out`. Its words are counted first only where the join could be refused.
-pub fn join_sets(a: &[u32], b: &[u32], out: &mut [u32]) -> Joined
-    ensures value { result ≡ joined_of (joining a.now b.now (length out.old)) }
-    ensures out_after { out.new ≡ join_after (joining a.now b.now (length out.old)) out.old }
+// 1, then 14, of the join of two sets in form. Its words are counted only where it could be refused.
+fn test_room(a: &[u32], b: &[u32], room: usize) -> Result<(), Refusal>
+    requires { FineSets a.now b.now }
+    ensures { result ≡ fits_of (joining a.now b.now room) }
 {
-    if let Tested::Refused(refusal) = test_set(a) {
-        return Joined::Refused(refusal);
-    }
-    if let Tested::Refused(refusal) = test_set(b) {
-        return Joined::Refused(refusal);
-    }
-    if is_roomy(a.len() + b.len(), out.len()) {
-        return Joined::Pairs(write_pairs(a, b, out) / 2);
+    if is_roomy(a.len() + b.len(), room) {
+        return Ok(());
     }
     let words = count_words(a, b);
-    if 16384 < words {
-        return refused(MANY_PAIRS);
+    if SET_WORDS < words {
+        return Err(Refusal::nowhere(Reason::ManyPairs));
     }
-    if out.len() < words {
-        return refused(RESULT_SHORT);
+    if room < words {
+        return Err(Refusal::nowhere(Reason::ResultShort));
     }
-    Joined::Pairs(write_pairs(a, b, out) / 2)
+    Ok(())
+}
+
+// The join of two read sets, from the start of `out`: the number of pairs that were written, or the refusal.
+pub fn join_sets(a: &[u32], b: &[u32], out: &mut [u32]) -> Result<usize, Refusal>
+    ensures value { result ≡ result_of pairs_count (joining a.now b.now (length out.old)) }
+    ensures out_after { out.new ≡ join_after (joining a.now b.now (length out.old)) out.old }
+{
+    test_set(a)?;
+    test_set(b)?;
+    test_room(a, b, out.len())?;
+    Ok(write_pairs(a, b, out) / 2)
 }

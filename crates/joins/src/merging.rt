@@ -1,8 +1,8 @@
 // The join of two sets pair by pair: one pass counts its words, one writes them.
-ghost use Rattle.std.specs.Prelude.{◌≡◌, length};
+ghost use Rattle.std.specs.Prelude.{◌≡◌, ◌≤◌, length};
 ghost use Rattle.std.proofs.lemmas.List.Edits.{sets};
 ghost use Rattle.joins_sets.specs.Join.{join};
-ghost use Rattle.joins.specs.Merge.{first_pair, PairOfEach, HasPair, Joinable, RoomForJoin};
+ghost use Rattle.joins.specs.Merge.{of_first, of_second, first_pair, PairOfEach, HasPair, Joinable, RoomForJoin};
 
 // A pair of the join, and how many words of each set it takes.
 #[derive(Drop)]
@@ -13,6 +13,32 @@ pub struct Step {
     pub second: usize,
 }
 
+// The first set's first pair.
+fn of_first(a: &[u32]) -> Step
+    requires { 2 ≤ length a.now }
+    ensures { result ≡ of_first a.now }
+{
+    Step {
+        word: a[0],
+        mask: a[1],
+        first: 2,
+        second: 0,
+    }
+}
+
+// The second set's.
+fn of_second(b: &[u32]) -> Step
+    requires { 2 ≤ length b.now }
+    ensures { result ≡ of_second b.now }
+{
+    Step {
+        word: b[0],
+        mask: b[1],
+        first: 0,
+        second: 2,
+    }
+}
+
 // The first pair of the join of two sets that have one each.
 fn lower_pair(a: &[u32], b: &[u32]) -> Step
     requires { PairOfEach a.now b.now }
@@ -21,12 +47,7 @@ fn lower_pair(a: &[u32], b: &[u32]) -> Step
     let w = a[0];
     let v = b[0];
     if w < v {
-        return Step {
-            word: w,
-            mask: a[1],
-            first: 2,
-            second: 0,
-        };
+        return of_first(a);
     }
     if w == v {
         return Step {
@@ -36,12 +57,7 @@ fn lower_pair(a: &[u32], b: &[u32]) -> Step
             second: 2,
         };
     }
-    Step {
-        word: v,
-        mask: b[1],
-        first: 0,
-        second: 2,
-    }
+    of_second(b)
 }
 
 // The first pair of the join.
@@ -50,20 +66,10 @@ fn first_pair(a: &[u32], b: &[u32]) -> Step
     ensures { result ≡ first_pair a.now b.now }
 {
     if b.len() == 0 {
-        return Step {
-            word: a[0],
-            mask: a[1],
-            first: 2,
-            second: 0,
-        };
+        return of_first(a);
     }
     if a.len() == 0 {
-        return Step {
-            word: b[0],
-            mask: b[1],
-            first: 0,
-            second: 2,
-        };
+        return of_second(b);
     }
     lower_pair(a, b)
 }

@@ -99,7 +99,7 @@ pub record GoodJoin (a b : List ℕ) (o : ℕ) (s : List ℕ) : Type 0 where
   pub few : length s ≤ 16384
   pub room : length s ≤ o
 
-good_join : (a b : List ℕ) (o : ℕ) (s : List ℕ) → joining a b o ≡ good s → GoodJoin a b o s
+pub good_join : (a b : List ℕ) (o : ℕ) (s : List ℕ) → joining a b o ≡ good s → GoodJoin a b o s
 unfolding joining join_fitted
 good_join a b o s e = by (set_refusal a) refl (set_refusal b) refl (leb (length (pairs_of (join a b))) 8192) refl (leb (length (join a b)) o) refl e
   where

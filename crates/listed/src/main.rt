@@ -3,11 +3,8 @@
 // positions 0 to 8191 and the end; 8193 positions; 257 words of 17 bits; M5; positions out of order, twice, staged, and the last there is.
 #![tactic(auto)]
 
-ghost use Rattle.std.specs.Prelude.{◌≤◌, length, IfOk};
-
 use listing::{RECORD_BYTES, TEXT_BYTES};
 use std::fs::File;
-use std::io::Read;
 use std::rt::Files;
 use std::{env, io};
 
@@ -20,23 +17,6 @@ fn text_place() -> [u8; TEXT_BYTES] {
     [0u8; TEXT_BYTES]
 }
 
-// Fills `to` from its front with what a reader has left, as in `lanes`.
-fn read_full<R: Read>(mut from: R, to: &mut [u8]) -> io::Result<usize>
-where
-    R: Drop,
-    ensures { IfOk result (λ n. n ≤ length to.new) }
-{
-    let mut n = 0;
-    while n < to.len() {
-        let came = from.read(&mut to[n..])?;
-        if came == 0 {
-            break;
-        }
-        n += came;
-    }
-    Ok(n)
-}
-
 // A file that cannot be opened is named on standard error, and the next one follows.
 fn show(rt: &(impl Files + Print + Eprint + AllocGlobal), path: &str) -> io::Result<()> {
     let file = match File::open(rt, path) {
@@ -44,7 +24,7 @@ fn show(rt: &(impl Files + Print + Eprint + AllocGlobal), path: &str) -> io::Res
         Err(error) => return eprintln!(rt; "{path}: {error}"),
     };
     let mut input = input_place();
-    let n = read_full(file, &mut input)?;
+    let n = input::read_full(file, &mut input)?;
     let mut out = text_place();
     let size = listing::text_of(&input[..n], &mut out);
     rt.write_all(&out[..size])

@@ -1,34 +1,27 @@
 -- Laws of the answer as text: its parts, one after the other.
 -- Assumes nothing.
-use mathlib.Core.Path.{◌≡◌, ap}
+use mathlib.Core.Path.{ap}
 use mathlib.Core.List.{List, [], ◌∷◌, ◌++◌, append_assoc}
 use Prim.Native.Nat.{ℕ, ◌*◌, ◌^◌}
 use native.Mathlib.Omega.{arith}
+use Rattle.std.specs.Prelude.{Ok, Err}
 use Rattle.text.specs.Text.{decimal}
+use Rattle.text.specs.Wrote.{Wrote}
+use Rattle.text.specs.declared.Writer.{Writer}
+use Rattle.text.proofs.WritingLaws.{wrote_then, wrote_is, wrote_wide}
 use Rattle.listing.specs.SectionLines.{section_lines}
-use Rattle.listing.specs.Listing.{rounds_word, refused_word, at_word}
-use Rattle.text.specs.TextPut.{Put}
-use Rattle.listing.specs.ListingAnswer.{answer_text}
-use Rattle.listing.specs.declared.answer.Said.{Said}
-use Rattle.listing.specs.declared.answer.Said.TheVariants.{Rounds, Refused, Bad}
-use Rattle.text.proofs.WritingLaws.{put_then, put_is, put_wide}
+use Rattle.listing.specs.Listing.{rounds_word}
+use Rattle.listing.specs.ListingAnswer.{answer_text, unlisted_text}
+use Rattle.listing.specs.declared.answer.Unlisted.{Unlisted}
 
-pub put_rounds : (lanes n : ℕ) (s : List ℕ) {a b c d : List ℕ} {o p q r : ℕ}
-    → Put 7 rounds_word a o b p → Put 21 (decimal n ++ (10 ∷ [])) b p c q → Put (256 * (74 * 2 ^ 32)) (section_lines lanes s n lanes 0) c q d r
-    → Put (2 ^ 60) (answer_text lanes (Rounds n) s) a o d r
-unfolding answer_text
-put_rounds lanes n s word number lines =
-    put_is _ _ (ap (λ (l : List ℕ). rounds_word ++ l) (append_assoc (decimal n) (10 ∷ []) (section_lines lanes s n lanes 0)))
-    (put_wide (omega arith) (put_then rounds_word _ word (put_then (decimal n ++ (10 ∷ [])) _ number lines)))
-
-module _ (lanes : ℕ) (x : Said) (s : List ℕ) {a b : List ℕ} {q : ℕ} where
-  pub put_is_rounds : (n : ℕ) → x ≡ Rounds n → Put (2 ^ 60) (answer_text lanes (Rounds n) s) a 0 b q → Put (2 ^ 60) (answer_text lanes x s) a 0 b q
-  put_is_rounds n e f = rw e f
-
-  pub put_is_refused : (n : ℕ) → x ≡ Refused n → Put 29 (refused_word ++ (decimal n ++ (10 ∷ []))) a 0 b q → Put (2 ^ 60) (answer_text lanes x s) a 0 b q
+module _ (lanes : ℕ) (s : List ℕ) where
+  pub wrote_rounds : (n : ℕ) {a b c d : Writer} → Wrote 7 rounds_word a b → Wrote 21 (decimal n ++ (10 ∷ [])) b c
+      → Wrote (256 * (74 * 2 ^ 32)) (section_lines lanes s n lanes 0) c d → Wrote (2 ^ 60) (answer_text lanes (Ok n) s) a d
   unfolding answer_text
-  put_is_refused n e f = rw e (put_wide (omega arith) f)
+  wrote_rounds n word number lines =
+      wrote_is _ _ (ap (λ (l : List ℕ). rounds_word ++ l) (append_assoc (decimal n) (10 ∷ []) (section_lines lanes s n lanes 0)))
+      (wrote_wide (omega arith) (wrote_then rounds_word _ word (wrote_then (decimal n ++ (10 ∷ [])) _ number lines)))
 
-  pub put_is_bad : (n : ℕ) → x ≡ Bad n → Put 35 (refused_word ++ (at_word ++ (decimal n ++ (10 ∷ [])))) a 0 b q → Put (2 ^ 60) (answer_text lanes x s) a 0 b q
+  pub wrote_unlisted : (u : Unlisted) {a b : Writer} → Wrote 35 (unlisted_text u) a b → Wrote (2 ^ 60) (answer_text lanes (Err u) s) a b
   unfolding answer_text
-  put_is_bad n e f = rw e (put_wide (omega arith) f)
+  wrote_unlisted u f = wrote_wide (omega arith) f

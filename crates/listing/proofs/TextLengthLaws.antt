@@ -8,6 +8,8 @@ use mathlib.Core.List.{List, [], ◌∷◌, ◌++◌}
 use Prim.Native.Nat.{ℕ, zero, suc, ◌+◌, ◌*◌, ◌/◌, ◌%◌, ◌^◌, ◌≤◌, ◌<◌}
 use native.Mathlib.Nat.{pow-suc}
 use native.Mathlib.Omega.{arith}
+use Rattle.std.specs.Prelude.{Ok}
+use Rattle.std.specs.declared.result.Result.{Result}
 use borrow.Author.Tests.{ltb-true, ltb-false}
 use lib.Dec.{ltb}
 use lib.ListN.{length, get_or, take, length-append}
@@ -18,15 +20,14 @@ use Rattle.reads.specs.ReadSet.{pairs_of}
 use Rattle.reads.specs.Search.{Lane, longest}
 use Rattle.reads.specs.Asked.{read_set_of}
 use Rattle.reads.specs.Packing.{Packing}
-use Rattle.words.specs.Answer.{Answer, good, refused}
+use Rattle.words.specs.Answer.{Answer, good, refused, result_of}
 use Rattle.reads.specs.SetAnswer.{Packed, read_set, set_fitted}
 use Rattle.reads.proofs.RoundCountLaws.{longest_ge}
 use Rattle.reads.proofs.SetAnswerLaws.{placed_packing, placed_passed, fitted_placed}
 use Rattle.listing_records.specs.Records.{records}
 use Rattle.text.specs.Text.{decimal_in, decimal, field}
 use Rattle.listing_line.specs.Line.{hex, kind_letter, line}
-use Rattle.listing.specs.Listing.{lane_lines, lines, refused_word, records_answer, printed, printed_at, said, listing, listed, listed_of, text_after}
-use Rattle.listing.specs.declared.Listed.TheVariants.{Text, Refused}
+use Rattle.listing.specs.Listing.{lane_lines, lines, refused_word, records_answer, printed, printed_at, said, listing, listed, text_after}
 use Rattle.text.proofs.TextLaws.{decimal_one, decimal_more, decimal_short}
 use Rattle.listing_line.proofs.LineLaws.{hex_length}
 use Rattle.listing.proofs.ListedTextLaws.{is_text}
@@ -118,18 +119,15 @@ module _ (bs out : List ℕ) (r : ℕ) (h : 237578 ≤ length out) (k : 16384 �
   text-listed : listed 256 bs (length out) r ≡ good (listing 256 bs)
   text-listed = is_text 256 bs out r k (known_passes 256 (inl refl)) (omega (arith, listing_length bs))
 
-  pub text_never : (f : Refusal) → Refused f ≡ listed_of (listed 256 bs (length out) r) → ⊥
-  text_never f e =
-      let q : Refused f ≡ Text (length (listing 256 bs)) = e ∙ ap listed_of text-listed in
-      let z : ◌≡◌ {A = ℕ} 0 1 = cc in
-      omega arith
+  pub text_ok : (x : Result ℕ Refusal) → x ≡ result_of length (listed 256 bs (length out) r) → x ≡ Ok (length (listing 256 bs))
+  text_ok x e = e ∙ ap (result_of length) text-listed
 
   -- what a caller then holds: n bytes of text at the front
-  pub text_given : (n : ℕ) (new : List ℕ) → Text n ≡ listed_of (listed 256 bs (length out) r) → new ≡ text_after (listed 256 bs (length out) r) out
+  pub text_given : (n : ℕ) (new : List ℕ) → Ok n ≡ result_of length (listed 256 bs (length out) r) → new ≡ text_after (listed 256 bs (length out) r) out
       → ((n ≤ length new) × (n ≡ length (take n new))) × ((n ≡ length (listing 256 bs)) × (new ≡ sets out 0 (listing 256 bs)))
   unfolding text_after
   text_given n new e g =
-      let q : Text n ≡ Text (length (listing 256 bs)) = e ∙ ap listed_of text-listed in
+      let q = text_ok (Ok n) e in
       let s : n ≡ length (listing 256 bs) = cc in
       let w : new ≡ sets out 0 (listing 256 bs) = g ∙ (rw text-listed) in
       let l : length new ≡ length out = ap length w ∙ length-sets out 0 (listing 256 bs) in

@@ -13,8 +13,6 @@ use Rattle.reads.specs.SetAnswer.{Packed, read_set, set_fitted}
 use Rattle.listing_records.specs.Records.{Parsed, records}
 use Rattle.text.specs.Text.{decimal}
 use Rattle.listing_line.specs.Line.{line}
-use Rattle.listing.specs.declared.Listed.{Listed}
-use Rattle.listing.specs.declared.Listed.TheVariants.{Text, Refused}
 
 -- "by lane, then round)": the lines of lane i from round r on, then those of the lanes from lane i on
 unfoldable pub lane_lines : ℕ → ℕ → Lane → List ℕ
@@ -66,11 +64,6 @@ listed n bs o r =
         | true ↦ elim (leb (length (listing n bs)) o) [ false ↦ refused (nowhere 14) | true ↦ good (listing n bs) ]
       ]
     ]
-
--- the code tells the text's length
-abbrev pub listed_of : Answer (List ℕ) → Listed
-listed_of (good t) = Text (length t)
-listed_of (refused q) = Refused q
 
 -- the lent bytes then hold the text from their start, or what they held
 unfoldable pub text_after : Answer (List ℕ) → List ℕ → List ℕ

@@ -1,51 +1,52 @@
 // The answer as text.
-ghost use Rattle.std.specs.Prelude.{[], ◌∷◌, ◌++◌, ◌^◌, ◌≤◌};
-ghost use Rattle.text.specs.Text.{decimal};
-ghost use Rattle.text.specs.TextPut.{Put};
-ghost use Rattle.listing.specs.Listing.{refused_word, at_word};
-ghost use Rattle.listing.specs.ListingAnswer.{answer_text};
+ghost use Rattle.std.specs.Prelude.{◌^◌, ◌<◌};
+ghost use Rattle.text.specs.Wrote.{Wrote};
+ghost use Rattle.listing.specs.ListingAnswer.{answer_text, unlisted_text};
 
-use crate::lines::put_lanes;
-use text::{put_bytes, put_number};
+use crate::lines::Section;
+use text::Writer;
+use words::refusals::Refusal;
 
-// Rounds that a read section holds; a refusal's number; or the byte of a bad record.
+// Why no lines are listed: a bad record, by its byte; or the refusal of the read set that the records ask for.
 #[derive(Clone, Copy)]
-pub enum Said {
-    Rounds(u32),
-    Refused(u32),
-    Bad(usize),
+pub enum Unlisted {
+    Record(usize),
+    Set(Refusal),
 }
 
-fn put_rounds(out: &mut [u8], section: &[u32], rounds: u32, lanes: usize) -> usize
-    requires { lanes ≤ 256 }
-    ensures { Put (2 ^ 60) (answer_text lanes (Said.Rounds rounds) section.now) out.old 0 out.new result }
+// The rounds that a section holds.
+fn put_rounds(out: &mut Writer, section: &Section, rounds: u32)
+    requires { out.old.at < 2 ^ 57 }
+    ensures { Wrote (2 ^ 60) (answer_text section.now.lanes (Ok rounds) section.now.words.now) out.old out.new }
 {
-    let word_end = put_bytes(out, 0, b"rounds ");
-    let line_end = put_number(out, word_end, rounds as u64, b'\n');
-    put_lanes(out, line_end, section, rounds, lanes)
+    out.put_bytes(b"rounds ");
+    out.put_number(rounds as u64, b'\n');
+    section.put_lanes(out, rounds);
 }
 
-fn put_refused(out: &mut [u8], number: u32) -> usize
-    ensures { Put 29 (refused_word ++ (decimal number ++ (10 ∷ []))) out.old 0 out.new result }
+// Why there are none.
+fn put_unlisted(out: &mut Writer, why: Unlisted)
+    requires { out.old.at < 2 ^ 57 }
+    ensures { Wrote 35 (unlisted_text why) out.old out.new }
 {
-    let word_end = put_bytes(out, 0, b"refused ");
-    put_number(out, word_end, number as u64, b'\n')
+    match why {
+        Unlisted::Set(refusal) => {
+            out.put_bytes(b"refused ");
+            out.put_number(refusal.number as u64, b'\n');
+        }
+        Unlisted::Record(byte) => {
+            out.put_bytes(b"refused 17 at ");
+            out.put_number(byte as u64, b'\n');
+        }
+    }
 }
 
-fn put_bad(out: &mut [u8], byte: usize) -> usize
-    ensures { Put 35 (refused_word ++ (at_word ++ (decimal byte ++ (10 ∷ [])))) out.old 0 out.new result }
-{
-    let word_end = put_bytes(out, 0, b"refused 17 at ");
-    put_number(out, word_end, byte as u64, b'\n')
-}
-
-pub fn put_answer(out: &mut [u8], answer: Said, section: &[u32], lanes: usize) -> usize
-    requires { lanes ≤ 256 }
-    ensures { Put (2 ^ 60) (answer_text lanes answer section.now) out.old 0 out.new result }
+pub fn put_answer(out: &mut Writer, answer: Result<u32, Unlisted>, section: &Section)
+    requires { out.old.at < 2 ^ 57 }
+    ensures { Wrote (2 ^ 60) (answer_text section.now.lanes answer section.now.words.now) out.old out.new }
 {
     match answer {
-        Said::Rounds(rounds) => put_rounds(out, section, rounds, lanes),
-        Said::Refused(number) => put_refused(out, number),
-        Said::Bad(byte) => put_bad(out, byte),
+        Ok(rounds) => put_rounds(out, section, rounds),
+        Err(why) => put_unlisted(out, why),
     }
 }

@@ -1,71 +1,60 @@
-// The lines of a read section: by lane, then round.
+// A read section, and its lines: by lane, then round.
 ghost use Rattle.std.specs.Prelude.{◌≡◌, ◌*◌, ◌^◌, ◌<◌, ◌≤◌, get_or};
+ghost use Rattle.text.specs.Wrote.{Wrote};
 ghost use Rattle.listing.specs.SectionLines.{pair_line, lane_round_lines, section_lines};
-ghost use Rattle.text.specs.TextPut.{Put};
 
 use listing_line::put_line;
+use text::Writer;
 
-// A word of a section, 0 past its end.
-fn word_at(section: &[u32], i: usize) -> u32
-    ensures { result ≡ get_or section.now i 0 }
-{
-    if i < section.len() {
-        return section[i];
-    }
-    0
+// The words of a read section over a number of lanes.
+#[derive(Clone, Copy)]
+pub struct Section<'a> {
+    pub words: &'a [u32],
+    pub lanes: usize,
+    ghost few: { lanes ≤ 256 },
 }
 
-// The line of a lane in a round; none where the mask is 0.
-fn put_place(
-    out: &mut [u8],
-    at: usize,
-    section: &[u32],
-    lane: usize,
-    round: usize,
-    lanes: usize,
-) -> usize
-    requires { (at < 2 ^ 60) × (lane < 2 ^ 32) × (round < 2 ^ 32) × (lanes ≤ 256) }
-    ensures { Put 74 (pair_line lanes section.now lane round) out.old at out.new result }
-{
-    let place = 2 * lanes * round + 2 * lane;
-    let mask = word_at(section, place + 1);
-    if mask == 0 {
-        return at;
+impl<'a> Section<'a> {
+    // A word, 0 past the end.
+    fn word(&self, i: usize) -> u32
+        ensures { result ≡ get_or self.now.words.now i 0 }
+    {
+        if i < self.words.len() {
+            self.words[i]
+        } else {
+            0
+        }
     }
-    put_line(out, at, lane, round, word_at(section, place), mask)
-}
 
-// The lines of a lane.
-fn put_lane(
-    out: &mut [u8],
-    at: usize,
-    section: &[u32],
-    lane: usize,
-    rounds: u32,
-    lanes: usize,
-) -> usize
-    requires { (at < 2 ^ 59) × (lane < 2 ^ 32) × (lanes ≤ 256) }
-    ensures { Put (74 * 2 ^ 32) (lane_round_lines lanes section.now lane rounds 0) out.old at out.new result }
-{
-    let mut end = at;
-    let mut round = 0;
-    while round < rounds as usize {
-        end = put_place(out, end, section, lane, round, lanes);
-        round += 1;
+    // The line of a lane in a round; none where the mask is 0.
+    fn put_place(&self, out: &mut Writer, lane: usize, round: usize)
+        requires { (out.old.at < 2 ^ 60) × (lane < 2 ^ 32) × (round < 2 ^ 32) }
+        ensures { Wrote 74 (pair_line self.now.lanes self.now.words.now lane round) out.old out.new }
+    {
+        let place = 2 * self.lanes * round + 2 * lane;
+        let mask = self.word(place + 1);
+        if mask != 0 {
+            put_line(out, lane, round, self.word(place), mask);
+        }
     }
-    end
-}
 
-// All lines.
-pub fn put_lanes(out: &mut [u8], at: usize, section: &[u32], rounds: u32, lanes: usize) -> usize
-    requires { (at < 2 ^ 58) × (lanes ≤ 256) }
-    ensures { Put (256 * (74 * 2 ^ 32)) (section_lines lanes section.now rounds lanes 0) out.old at out.new result }
-{
-    let mut end = at;
-    let mut lane = 0;
-    while lane < lanes {
-        end = put_lane(out, end, section, lane, rounds, lanes);
-        lane += 1;
+    // The lines of a lane.
+    fn put_lane(&self, out: &mut Writer, lane: usize, rounds: u32)
+        requires { (out.old.at < 2 ^ 59) × (lane < 2 ^ 32) }
+        ensures { Wrote (74 * 2 ^ 32) (lane_round_lines self.now.lanes self.now.words.now lane rounds 0) out.old out.new }
+    {
+        for round in 0..rounds as usize {
+            self.put_place(out, lane, round);
+        }
     }
-    end
+
+    // All lines.
+    pub fn put_lanes(&self, out: &mut Writer, rounds: u32)
+        requires { out.old.at < 2 ^ 58 }
+        ensures { Wrote (256 * (74 * 2 ^ 32)) (section_lines self.now.lanes self.now.words.now rounds self.now.lanes 0) out.old out.new }
+    {
+        for lane in 0..self.lanes {
+            self.put_lane(out, lane, rounds);
+        }
+    }
 }

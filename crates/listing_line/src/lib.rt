@@ -1,53 +1,49 @@
-// A line of the listing as text: its writers put their text as those of crate `text` do. Document 01, "Listing program".
+// A line of the listing as text. Document 01, "Listing program".
 #![tactic(auto)]
 
 ghost use Rattle.std.specs.Prelude.{◌≡◌, ◌^◌, ◌<◌};
-ghost use Rattle.text.specs.TextPut.{Put};
+ghost use Rattle.text.specs.Wrote.{Wrote};
 ghost use Rattle.listing_line.specs.Line.{hex_digit, hex, kind_letter, line};
 
-use text::{put, put_number};
+use text::Writer;
 
+#[tactic(auto, unfolding(crate::specs::Line::hex_digit))]
 fn hex_digit(d: u32) -> u8
     requires { d < 16 }
     ensures { result ≡ hex_digit d }
 {
     if d < 10 {
-        return 48 + d as u8;
+        b'0' + d as u8
+    } else {
+        b'a' - 10 + d as u8
     }
-    87 + d as u8
 }
 
-fn put_hex(out: &mut [u8], at: usize, n: u32) -> usize
-    requires { at < 2 ^ 62 }
-    ensures { Put 8 (hex n) out.old at out.new result }
+fn put_hex(out: &mut Writer, n: u32)
+    requires { out.old.at < 2 ^ 62 }
+    ensures { Wrote 8 (hex n) out.old out.new }
 {
-    let mut end = at;
-    let mut k: u32 = 8;
-    while 0 < k {
-        k -= 1;
-        end = put(out, end, hex_digit((n >> (4 * k)) % 16));
+    for k in (0..8u32).rev() {
+        out.put(hex_digit((n >> (4 * k)) % 16));
     }
-    end
 }
 
+#[tactic(auto, unfolding(crate::specs::Line::kind_letter))]
 fn kind_letter(word: u32) -> u8
     ensures { result ≡ kind_letter word }
 {
-    if word < 0x8000_0000 {
-        return b'n';
-    }
-    b's'
+    if word < 0x8000_0000 { b'n' } else { b's' }
 }
 
-pub fn put_line(out: &mut [u8], at: usize, lane: usize, round: usize, word: u32, mask: u32) -> usize
-    requires { at < 2 ^ 60 }
-    ensures { Put 74 (line lane round word mask) out.old at out.new result }
+pub fn put_line(out: &mut Writer, lane: usize, round: usize, word: u32, mask: u32)
+    requires { out.old.at < 2 ^ 60 }
+    ensures { Wrote 74 (line lane round word mask) out.old out.new }
 {
-    let lane_end = put_number(out, at, lane as u64, b' ');
-    let round_end = put_number(out, lane_end, round as u64, b' ');
-    let letter_end = put(out, round_end, kind_letter(word));
-    let kind_end = put(out, letter_end, b' ');
-    let word_end = put_number(out, kind_end, (word % 0x8000_0000) as u64, b' ');
-    let mask_end = put_hex(out, word_end, mask);
-    put(out, mask_end, b'\n')
+    out.put_number(lane as u64, b' ');
+    out.put_number(round as u64, b' ');
+    out.put(kind_letter(word));
+    out.put(b' ');
+    out.put_number((word % 0x8000_0000) as u64, b' ');
+    put_hex(out, mask);
+    out.put(b'\n');
 }

@@ -3,71 +3,27 @@
 use mathlib.Core.Path.{◌≡◌, refl, sym, ap, ◌∙◌}
 use mathlib.Core.Option.{Option, none, some}
 use mathlib.Core.List.{List}
-use Prim.Native.Nat.{ℕ, zero, suc, ◌+◌, ◌-◌, ◌*◌, ◌^◌, ◌≤◌, ◌<◌}
+use Rattle.std.specs.Prelude.{Some, None, Ok, Err}
+use Prim.Native.Nat.{ℕ, zero, suc, ◌+◌, ◌-◌, ◌*◌, ◌≤◌, ◌<◌}
 use native.Mathlib.Nat.{not-suc-le-zero, add-zero, zero-add, sub-zero}
 use native.Mathlib.Numerals.{add-one, sub-one}
 use native.Mathlib.Omega.{arith}
-use borrow.Author.Tests.{lt-ltb, le-ltb, le-leb, lt-leb}
+use borrow.Author.Tests.{lt-ltb}
 use lib.ListN.{length, get_or, set, length-set}
 use lib.Seq.{sets}
-use Rattle.listing_records.specs.Records.{number_at, position_at, end_record_at, kind_at, record_at, Parsed, records_from, stopped, key_before}
+use Rattle.listing_records.specs.Records.{kind_at, record_at, Parsed, records_from, stopped, key_before}
 use Rattle.words.specs.declared.units.AskedBit.{AskedBit}
-use Rattle.listing_records.specs.declared.Record.TheVariants.{Position, End, Bad}
 use Rattle.listing_records.specs.RecordsRead.{read_of}
-use Rattle.listing_records.specs.declared.Read.TheVariants.{Asked, Refused}
 
-module _ (bs : List ℕ) (at : ℕ) where
-  pub at_length : length bs ≤ at → Bad at ≡ record_at bs at
-  unfolding record_at
-  at_length h = rw (le-ltb _ _ h, record_at)
-
-  module _ (h : at < length bs) where
-    pub by_kind : (k : ℕ) → get_or bs at 0 ≡ k → kind_at bs at k ≡ record_at bs at
-    unfolding record_at
-    by_kind k e = ap (kind_at bs at) (sym e) ∙ rw (lt-ltb _ _ h, record_at)
-
-    pub after_end : get_or bs at 0 ≡ 0 → at + 1 < length bs → Bad (at + 1) ≡ record_at bs at
-    unfolding kind_at end_record_at
-    after_end e g = (rw (lt-ltb _ _ g, end_record_at)) ∙ by_kind 0 e
-
-    pub right_end : get_or bs at 0 ≡ 0 → length bs ≤ at + 1 → End ≡ record_at bs at
-    unfolding kind_at end_record_at
-    right_end e g = (rw (le-ltb _ _ g, end_record_at)) ∙ by_kind 0 e
-
-    pub unknown_kind : 2 < get_or bs at 0 → Bad at ≡ record_at bs at
-    unfolding kind_at
-    unknown_kind g =
-        let e : get_or bs at 0 ≡ suc (suc (suc (get_or bs at 0 - 3))) = omega arith in
-        by_kind (suc (suc (suc (get_or bs at 0 - 3)))) e
-
-    pub cut_body : (get_or bs at 0 ≡ 0 → ⊥) → get_or bs at 0 ≤ 2 → length bs < at + 5 → Bad at ≡ record_at bs at
-    unfolding kind_at position_at
-    cut_body z g c = go (get_or bs at 0) refl z g
-      where
-        go : (k : ℕ) → get_or bs at 0 ≡ k → (k ≡ 0 → ⊥) → k ≤ 2 → Bad at ≡ record_at bs at
-        go zero e z g = absurd (z refl)
-        go (suc zero) e z g = (rw (lt-leb _ _ c, position_at)) ∙ by_kind 1 e
-        go (suc (suc zero)) e z g = (rw (lt-leb _ _ c, position_at)) ∙ by_kind 2 e
-        go (suc (suc (suc k))) e z g = absurd (omega (arith, g))
-
-    module _ (q : AskedBit) (g : at + 5 ≤ length bs) where
-      -- the position of a whole body, as the bit that it asks for
-      body-at : (staged : ℕ) → q.0 ≡ 2 ^ 36 * staged + number_at bs (at + 1) → Position q ≡ position_at bs at staged
-      unfolding position_at
-      body-at staged a = ap (λ (x : ℕ). Position (record { 0 = x })) a ∙ (rw (le-leb _ _ g, position_at))
-
-      pub unstaged : get_or bs at 0 ≡ 1 → q.0 ≡ 2 ^ 36 * 0 + number_at bs (at + 1) → Position q ≡ record_at bs at
-      unfolding kind_at
-      unstaged e a = body-at 0 a ∙ by_kind 1 e
-
-      pub staged : get_or bs at 0 ≡ 2 → q.0 ≡ 2 ^ 36 * 1 + number_at bs (at + 1) → Position q ≡ record_at bs at
-      unfolding kind_at
-      staged e a = body-at 1 a ∙ by_kind 2 e
+-- the record at a byte of a list, by its kind
+pub by_kind : (bs : List ℕ) (at : ℕ) → at < length bs → (k : ℕ) → get_or bs at 0 ≡ k → kind_at bs at k ≡ record_at bs at
+unfolding record_at
+by_kind bs at h k e = ap (kind_at bs at) (sym e) ∙ rw (lt-ltb _ _ h, record_at)
 
 -- ---- all records
 
 module _ (n : ℕ) (bs : List ℕ) (at : ℕ) where
-  pub stop_end : record_at bs at ≡ End → records_from n bs at ≡ stopped none
+  pub stop_end : record_at bs at ≡ Ok None → records_from n bs at ≡ stopped none
   unfolding records_from
   stop_end e = go n
     where
@@ -75,7 +31,7 @@ module _ (n : ℕ) (bs : List ℕ) (at : ℕ) where
       go zero = rw (e, records_from)
       go (suc n) = rw (e, records_from)
 
-  pub stop_bad : (b : ℕ) → record_at bs at ≡ Bad b → records_from n bs at ≡ stopped (some b)
+  pub stop_bad : (b : ℕ) → record_at bs at ≡ Err b → records_from n bs at ≡ stopped (some b)
   unfolding records_from
   stop_bad b e = go n
     where
@@ -83,11 +39,11 @@ module _ (n : ℕ) (bs : List ℕ) (at : ℕ) where
       go zero = rw (e, records_from)
       go (suc n) = rw (e, records_from)
 
-  pub stop_full : (q : AskedBit) → record_at bs at ≡ Position q → n ≡ 0 → records_from n bs at ≡ stopped (some at)
+  pub stop_full : (q : AskedBit) → record_at bs at ≡ Ok (Some q) → n ≡ 0 → records_from n bs at ≡ stopped (some at)
   unfolding records_from
   stop_full q e z = rw (z, e, records_from)
 
-  pub one_more : (q : AskedBit) → record_at bs at ≡ Position q → 0 < n → records_from n bs at ≡ key_before q.0 (records_from (n - 1) bs (at + 5))
+  pub one_more : (q : AskedBit) → record_at bs at ≡ Ok (Some q) → 0 < n → records_from n bs at ≡ key_before q.0 (records_from (n - 1) bs (at + 5))
   unfolding records_from
   one_more q e h = go n h
     where
@@ -110,7 +66,7 @@ reading_start m bs keys =
     record { few = omega arith; place = refl; long = refl; held = rw sub-zero; counted = rw (sub-zero, zero-add); fault = rw sub-zero }
 
 module _ {m : ℕ} {bs keys₀ keys : List ℕ} {n at : ℕ} (R : Reading m bs keys₀ keys n at) where
-  pub reading_more : (q : AskedBit) → record_at bs at ≡ Position q → n < m → Reading m bs keys₀ (set keys n q.0) (n + 1) (at + 5)
+  pub reading_more : (q : AskedBit) → record_at bs at ≡ Ok (Some q) → n < m → Reading m bs keys₀ (set keys n q.0) (n + 1) (at + 5)
   reading_more q e h =
       let s : records_from (m - n) bs at ≡ key_before q.0 (records_from (m - n - 1) bs (at + 5)) = one_more (m - n) bs at q e (omega arith) in
       let d : m - (n + 1) ≡ m - n - 1 = omega arith in
@@ -132,10 +88,10 @@ module _ {m : ℕ} {bs keys₀ keys : List ℕ} {n at : ℕ} (R : Reading m bs k
     ap (λ (p : Parsed). sets keys n p.keys) (sym e) ∙ R.held,
   )
 
-  pub reading_asked : record_at bs at ≡ End → (Asked n ≡ read_of (records_from m bs 0)) × (keys ≡ sets keys₀ 0 (records_from m bs 0).keys)
+  pub reading_asked : record_at bs at ≡ Ok None → (Ok n ≡ read_of (records_from m bs 0)) × (keys ≡ sets keys₀ 0 (records_from m bs 0).keys)
   reading_asked e =
       let s = reading_stops none (stop_end (m - n) bs at e) in
       (rw (s.1, s.0), s.2)
 
-  pub reading_refused : (b : ℕ) → records_from (m - n) bs at ≡ stopped (some b) → (Refused b ≡ read_of (records_from m bs 0)) × (keys ≡ sets keys₀ 0 (records_from m bs 0).keys)
+  pub reading_refused : (b : ℕ) → records_from (m - n) bs at ≡ stopped (some b) → (Err b ≡ read_of (records_from m bs 0)) × (keys ≡ sets keys₀ 0 (records_from m bs 0).keys)
   reading_refused b e = let s = reading_stops (some b) e in (rw s.1, s.2)

@@ -5,6 +5,7 @@ use mathlib.Core.Bool.{Bool, true, false}
 use mathlib.Core.Logic.{⊎_elim}
 use mathlib.Core.Option.{some}
 use mathlib.Core.List.{List}
+use Rattle.std.specs.Prelude.{Some, None, Ok, Err}
 use Prim.Native.Nat.{ℕ, zero, suc, ◌+◌, ◌*◌, ◌^◌, ◌≤◌, ◌<◌}
 use native.Mathlib.Numerals.{sub-one}
 use native.Mathlib.Omega.{arith}
@@ -13,19 +14,17 @@ use lib.Dec.{leb}
 use lib.ListN.{length, get_or, take}
 use lib.Seq.{take_all, length-take-le, get_or-take}
 use Rattle.words.proofs.BitLaws.{lt_or_ge}
-use Rattle.listing_records.specs.Records.{number_at, position_at, end_record_at, kind_at, record_at, records_from, records, stopped, key_before}
-use Rattle.listing_records.specs.declared.Record.{Record}
-use Rattle.listing_records.specs.declared.Record.TheVariants.{Position, End, Bad}
+use Rattle.listing_records.specs.Records.{Record, number_at, position_at, end_record_at, kind_at, record_at, records_from, records, stopped, key_before}
 use Rattle.listing_records.proofs.ListingRecordLaws.{by_kind, stop_end, stop_bad, one_more}
 
 -- where bytes come after, an end is refused there
-end_refused : (bs : List ℕ) (at : ℕ) → at + 1 < length bs → end_record_at bs at ≡ Bad (at + 1)
+end_refused : (bs : List ℕ) (at : ℕ) → at + 1 < length bs → end_record_at bs at ≡ Err (at + 1)
 unfolding end_record_at
 end_refused bs at h = rw (lt-ltb _ _ h, end_record_at)
 
 -- the position of a body, by its number
 abbrev numbered : ℕ → ℕ → Record
-numbered staged x = Position (record { 0 = 2 ^ 36 * staged + x })
+numbered staged x = Ok (Some (record { 0 = 2 ^ 36 * staged + x }))
 
 whole_body : (bs : List ℕ) (at staged : ℕ) → at + 5 ≤ length bs → position_at bs at staged ≡ numbered staged (number_at bs (at + 1))
 unfolding position_at
@@ -85,10 +84,10 @@ module _ (N : ℕ) (bs : List ℕ) (long : N < length bs) where
       here = same-record at (omega arith)
 
       go : (x : Record) → record_at bs at ≡ x → records_from n (take N bs) (at + 5) ≡ records_from n bs (at + 5) → records_from (suc n) (take N bs) at ≡ records_from (suc n) bs at
-      go (Position q) e r =
+      go (Ok (Some q)) e r =
           one_more (suc n) (take N bs) at q (here ∙ e) (omega arith) ∙ (rw sub-one (ap (key_before q.0) r)) ∙ sym (one_more (suc n) bs at q e (omega arith))
-      go End e r = stop_end (suc n) (take N bs) at (here ∙ e) ∙ sym (stop_end (suc n) bs at e)
-      go (Bad b) e r = stop_bad (suc n) (take N bs) at b (here ∙ e) ∙ sym (stop_bad (suc n) bs at b e)
+      go (Ok None) e r = stop_end (suc n) (take N bs) at (here ∙ e) ∙ sym (stop_end (suc n) bs at e)
+      go (Err b) e r = stop_bad (suc n) (take N bs) at b (here ∙ e) ∙ sym (stop_bad (suc n) bs at b e)
 
 pub records_prefix : (bs : List ℕ) → records (take 40962 bs) ≡ records bs
 records_prefix bs =

@@ -4,6 +4,7 @@ use mathlib.Core.Path.{◌≡◌, refl, sym, ap, ◌∙◌}
 use mathlib.Core.Bool.{Bool, true, false}
 use mathlib.Core.Option.{Option, none, some}
 use mathlib.Core.List.{List}
+use Rattle.std.specs.Prelude.{Some, None, Ok, Err}
 use Prim.Native.Nat.{ℕ, zero, suc, ◌+◌, ◌*◌, ◌/◌, ◌%◌, ◌^◌, ◌≤◌, ◌<◌}
 use native.Mathlib.Numerals.{sub-one}
 use native.Mathlib.Omega.{arith}
@@ -13,18 +14,15 @@ use lib.Seq.{sets, length-sets, length-take-le}
 use Rattle.reads.specs.Asked.{read_set_of}
 use Rattle.reads_asked.specs.Rising.{Settable}
 use Rattle.reads_asked.proofs.FrontStoreLaws.{take-front}
-use Rattle.listing_records.specs.Records.{number_at, position_at, end_record_at, kind_at, record_at, Parsed, records_from, records}
+use Rattle.listing_records.specs.Records.{Record, number_at, position_at, end_record_at, kind_at, record_at, Parsed, records_from, records}
 use Rattle.listing_records.specs.RecordsRead.{read_as, read_of, set_of, set_after}
-use Rattle.listing_records.specs.declared.Record.{Record}
-use Rattle.listing_records.specs.declared.Record.TheVariants.{Position, End, Bad}
-use Rattle.listing_records.specs.declared.Read.TheVariants.{Asked, Refused}
 use Rattle.listing_records.proofs.ListingRecordLaws.{stop_end, stop_bad, stop_full, one_more}
 
 -- what a record asks for, 0 where it asks for nothing
 abbrev key_of : Record → ℕ
-key_of (Position q) = q.0
-key_of End = 0
-key_of (Bad b) = 0
+key_of (Ok (Some q)) = q.0
+key_of (Ok None) = 0
+key_of (Err b) = 0
 
 -- below 2^37, and its word, without the flag, below 2^27
 abbrev pub BitAsking : ℕ → Type 0
@@ -66,56 +64,56 @@ module _ (bs : List ℕ) (bytes : (i : ℕ) → get_or bs i 0 < 256) where
   keys_ask zero at i = go (record_at bs at) refl
     where
       go : (x : Record) → record_at bs at ≡ x → BitAsking (get_or (records_from 0 bs at).keys i 0)
-      go (Position q) e = rw (stop_full 0 bs at q e refl) (omega arith, omega arith)
-      go End e = rw (stop_end 0 bs at e) (omega arith, omega arith)
-      go (Bad b) e = rw (stop_bad 0 bs at b e) (omega arith, omega arith)
+      go (Ok (Some q)) e = rw (stop_full 0 bs at q e refl) (omega arith, omega arith)
+      go (Ok None) e = rw (stop_end 0 bs at e) (omega arith, omega arith)
+      go (Err b) e = rw (stop_bad 0 bs at b e) (omega arith, omega arith)
   keys_ask (suc n) at i = go (record_at bs at) refl i (keys_ask n (at + 5))
     where
       go : (x : Record) → record_at bs at ≡ x → (i : ℕ) → ((i : ℕ) → BitAsking (get_or (records_from n bs (at + 5)).keys i 0)) → BitAsking (get_or (records_from (suc n) bs at).keys i 0)
-      go (Position q) e zero r = rw (one_more (suc n) bs at q e (omega arith)) (rw e at (record-asks at))
-      go (Position q) e (suc i) r = rw (one_more (suc n) bs at q e (omega arith), sub-one) (r i)
-      go End e i r = rw (stop_end (suc n) bs at e) (omega arith, omega arith)
-      go (Bad b) e i r = rw (stop_bad (suc n) bs at b e) (omega arith, omega arith)
+      go (Ok (Some q)) e zero r = rw (one_more (suc n) bs at q e (omega arith)) (rw e at (record-asks at))
+      go (Ok (Some q)) e (suc i) r = rw (one_more (suc n) bs at q e (omega arith), sub-one) (r i)
+      go (Ok None) e i r = rw (stop_end (suc n) bs at e) (omega arith, omega arith)
+      go (Err b) e i r = rw (stop_bad (suc n) bs at b e) (omega arith, omega arith)
 
 pub keys_few : (bs : List ℕ) (n at : ℕ) → length (records_from n bs at).keys ≤ n
 keys_few bs zero at = go (record_at bs at) refl
   where
     go : (x : Record) → record_at bs at ≡ x → length (records_from 0 bs at).keys ≤ 0
-    go (Position q) e = rw (stop_full 0 bs at q e refl) (omega arith)
-    go End e = rw (stop_end 0 bs at e) (omega arith)
-    go (Bad b) e = rw (stop_bad 0 bs at b e) (omega arith)
+    go (Ok (Some q)) e = rw (stop_full 0 bs at q e refl) (omega arith)
+    go (Ok None) e = rw (stop_end 0 bs at e) (omega arith)
+    go (Err b) e = rw (stop_bad 0 bs at b e) (omega arith)
 keys_few bs (suc n) at = go (record_at bs at) refl (keys_few bs n (at + 5))
   where
     go : (x : Record) → record_at bs at ≡ x → length (records_from n bs (at + 5)).keys ≤ n → length (records_from (suc n) bs at).keys ≤ suc n
-    go (Position q) e r = rw (one_more (suc n) bs at q e (omega arith), sub-one) (omega arith)
-    go End e r = rw (stop_end (suc n) bs at e) (omega arith)
-    go (Bad b) e r = rw (stop_bad (suc n) bs at b e) (omega arith)
+    go (Ok (Some q)) e r = rw (one_more (suc n) bs at q e (omega arith), sub-one) (omega arith)
+    go (Ok None) e r = rw (stop_end (suc n) bs at e) (omega arith)
+    go (Err b) e r = rw (stop_bad (suc n) bs at b e) (omega arith)
 
 -- ---- what reading told
 
-pub read_asked : (f : Option ℕ) (k n : ℕ) → Asked n ≡ read_as f k → (f ≡ none) × (n ≡ k)
+pub read_asked : (f : Option ℕ) (k n : ℕ) → Ok n ≡ read_as f k → (f ≡ none) × (n ≡ k)
 read_asked none k n e = (refl, cc)
 read_asked (some b) k n e = let z : ◌≡◌ {A = ℕ} 0 1 = cc in absurd (omega arith)
 
-pub refused_in : (f : Option ℕ) (k b : ℕ) → Refused b ≡ read_as f k → f ≡ some b
+pub refused_in : (f : Option ℕ) (k b : ℕ) → Err b ≡ read_as f k → f ≡ some b
 refused_in none k b e = let z : ◌≡◌ {A = ℕ} 0 1 = cc in absurd (omega arith)
 refused_in (some d) k b e = let s : d ≡ b = cc in ap some s
 
-pub set-refused : (p : Parsed) (b : ℕ) (set : List ℕ) → p.fault ≡ some b → (Refused b ≡ set_of p) × (set ≡ set_after p set)
+pub set-refused : (p : Parsed) (b : ℕ) (set : List ℕ) → p.fault ≡ some b → (Err b ≡ set_of p) × (set ≡ set_after p set)
 unfolding set_after
 set-refused p b set t = (rw t, rw (t, set_after))
 
 pub set_asked : (p : Parsed) (ks set new : List ℕ) (r : ℕ) → p.fault ≡ none → ks ≡ p.keys → r ≡ length (read_set_of ks) → new ≡ sets set 0 (read_set_of ks)
-    → (Asked r ≡ set_of p) × (new ≡ set_after p set)
+    → (Ok r ≡ set_of p) × (new ≡ set_after p set)
 unfolding set_after
 set_asked p ks set new r t k e h = (
-  ap Asked (e ∙ ap (λ (l : List ℕ). length (read_set_of l)) k) ∙ (rw t),
+  ap Ok (e ∙ ap (λ (l : List ℕ). length (read_set_of l)) k) ∙ (rw t),
   h ∙ ap (λ (l : List ℕ). sets set 0 (read_set_of l)) k ∙ (rw (t, set_after)),
 )
 
 -- the keys that `read_records` put into 8192 words
 module _ (bs keys₀ : List ℕ) (wide : length keys₀ ≡ 8192) {keys : List ℕ} (held : keys ≡ sets keys₀ 0 (records_from (length keys₀) bs 0).keys) (n : ℕ)
-    (asked : Asked n ≡ read_of (records_from (length keys₀) bs 0)) where
+    (asked : Ok n ≡ read_of (records_from (length keys₀) bs 0)) where
   is : keys ≡ sets keys₀ 0 (records bs).keys
   is = rw wide at held
 

@@ -26,8 +26,9 @@ use Rattle.reads_local.specs.Bases.{local_by}
 use Rattle.reads_local.proofs.LocalPositionLaws.{LocalAt, local_is}
 use Rattle.rounds.specs.Rounds.{table_after, SetSearchable}
 use Rattle.rounds.proofs.RoundsAnswerLaws.{searchable, is_read, won_table}
-use Rattle.locals.specs.declared.Brought.{Brought}
-use Rattle.locals.specs.declared.Brought.TheVariants.{To, Unasked, Refused}
+use Rattle.std.specs.Prelude.{Some, None, Ok, Err}
+use Rattle.std.specs.declared.option.Option as code
+use Rattle.std.specs.declared.result.Result.{Result}
 use Rattle.locals.specs.LocalAnswer.{asks_for, brought_by, brought_in, edition_local, local_answer}
 use Rattle.locals.specs.Bring.{brought_of, Formed, RowsLent, beginnings, BitFindable}
 use Rattle.locals.proofs.AsksLaws.{asked_at, asked_requested, asks_low}
@@ -74,12 +75,12 @@ module _ (n : ℕ) (ws : List ℕ) (formed : Formed ws) (fits : (i : ℕ) → ge
           let there : local_of (lanes_at ws table n) w k ≡ some (local_by ws (beginnings n ws table) (32 * w + k)) = rw (word_is, bit_is) at here.is in
           ap (λ (lanes : List Lane). local_of lanes w k) (sym readable.1) ∙ there
 
-      pub to_told : (r : LocalPosition) → r.0 ≡ local_by ws (beginnings n ws table) (32 * w + k) → To r ≡ brought_of (brought_in (pairs_of ws) w k (packed n (pairs_of ws)))
+      pub to_told : (r : LocalPosition) → r.0 ≡ local_by ws (beginnings n ws table) (32 * w + k) → Ok (Some r) ≡ brought_of (brought_in (pairs_of ws) w k (packed n (pairs_of ws)))
       unfolding brought_in brought_by
       to_told r is = rw (placed, brought_in, asks, brought_by, position, ← is)
 
 pub unasked_told : (n : ℕ) (ws : List ℕ) (x : Packed) (w k : ℕ) → packed n (pairs_of ws) ≡ good x → asks_for (pairs_of ws) w k ≡ false
-    → Unasked ≡ brought_of (brought_in (pairs_of ws) w k (packed n (pairs_of ws)))
+    → Ok None ≡ brought_of (brought_in (pairs_of ws) w k (packed n (pairs_of ws)))
 unfolding brought_in brought_by
 unasked_told n ws x w k placed not = rw (placed, brought_in, not, brought_by)
 
@@ -107,7 +108,7 @@ module _ (n : ℕ) (some_lanes : 0 < n) (ws : List ℕ) (x : Packed) (fits : (i 
 
 -- ---- a set that is refused
 
-pub lost_told : (ws : List ℕ) (w k : ℕ) (D : Answer Packed) (q : Refusal) → D ≡ refused q → Refused q ≡ brought_of (brought_in (pairs_of ws) w k D)
+pub lost_told : (ws : List ℕ) (w k : ℕ) (D : Answer Packed) (q : Refusal) → D ≡ refused q → Err q ≡ brought_of (brought_in (pairs_of ws) w k D)
 unfolding brought_in
 lost_told ws w k D q e = rw (e, brought_in)
 
@@ -122,25 +123,25 @@ read_bad n ws i h e = rw (le-leb (length (pairs_of ws)) 8192 (omega (arith, pair
 -- ---- 32 before all others, then 29, and the room
 
 module _ (n : ℕ) (ws : List ℕ) (w k : ℕ) where
-  pub told_unknown : known n ≡ false → (r : Brought) → r ≡ brought_of (refused (nowhere 29)) → r ≡ brought_of (edition_local n ws w k)
+  pub told_unknown : known n ≡ false → (q : Refusal) → q ≡ nowhere 29 → Err q ≡ brought_of (edition_local n ws w k)
   unfolding edition_local
-  told_unknown h r e = rw (h, edition_local) e
+  told_unknown h q e = rw (h, edition_local) (ap Err e)
 
-  pub told_known : known n ≡ true → (r : Brought) → r ≡ brought_of (brought_in (pairs_of ws) w k (read_set n (pairs_of ws))) → r ≡ brought_of (edition_local n ws w k)
+  pub told_known : known n ≡ true → (r : Result (code.Option LocalPosition) Refusal) → r ≡ brought_of (brought_in (pairs_of ws) w k (read_set n (pairs_of ws))) → r ≡ brought_of (edition_local n ws w k)
   unfolding edition_local
   told_known h r e = rw (h, edition_local) e
 
 -- what is promised of an answer and a room
-abbrev pub Told : (n : ℕ) (ws room : List ℕ) (w k : ℕ) → Brought → List ℕ → Type 0
+abbrev pub Told : (n : ℕ) (ws room : List ℕ) (w k : ℕ) → Result (code.Option LocalPosition) Refusal → List ℕ → Type 0
 Told n ws room w k r room' = (r ≡ brought_of (local_answer n ws (length room) w k)) × (room' ≡ set_room_after room)
 
-pub short_room : (n : ℕ) (ws room : List ℕ) (w k : ℕ) (r : Brought) → length room < 16384 → r ≡ brought_of (refused (nowhere 32)) → Told n ws room w k r room
+pub short_room : (n : ℕ) (ws room : List ℕ) (w k : ℕ) (q : Refusal) → length room < 16384 → q ≡ nowhere 32 → Told n ws room w k (Err q) room
 unfolding local_answer set_room_after
-short_room n ws room w k r h e =
+short_room n ws room w k q h e =
     let t : leb 16384 (length room) ≡ false = lt-leb 16384 (length room) h in
-    (rw (t, local_answer) e, rw (t, set_room_after))
+    (rw (t, local_answer) (ap Err e), rw (t, set_room_after))
 
-pub long_room : (n : ℕ) (ws room : List ℕ) (w k : ℕ) (r : Brought) (room' used : List ℕ) → 16384 ≤ length room → r ≡ brought_of (edition_local n ws w k)
+pub long_room : (n : ℕ) (ws room : List ℕ) (w k : ℕ) (r : Result (code.Option LocalPosition) Refusal) (room' used : List ℕ) → 16384 ≤ length room → r ≡ brought_of (edition_local n ws w k)
     → room' ≡ replicate (length used) 0 → length used ≡ length room → Told n ws room w k r room'
 unfolding local_answer set_room_after
 long_room n ws room w k r room' used h er em long =

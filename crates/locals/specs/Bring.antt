@@ -1,20 +1,22 @@
 -- The answer of the code, and what its functions ask. n is the number of lanes.
 -- Assumes nothing.
-use Rattle.std.specs.Prelude.{◌≡◌, List, ℕ, ◌*◌, ◌≤◌, ◌<◌, length, replicate}
+use Rattle.std.specs.Prelude.{◌≡◌, Some, None, Ok, Err, List, ℕ, ◌*◌, ◌≤◌, ◌<◌, length, replicate}
 use Rattle.std.proofs.Math.Option.{Option, none, some}
 use Rattle.words.specs.Answer.{Answer, good, refused}
 use Rattle.reads.specs.ReadSet.{pairs_of, broken}
 use Rattle.reads_try.specs.TableLanes.{lanes_at}
 use Rattle.reads_section.specs.Readout.{TableReadable}
 use Rattle.reads_local.specs.Bases.{store_lanes, Locatable}
-use Rattle.locals.specs.declared.Brought.{Brought}
-use Rattle.locals.specs.declared.Brought.TheVariants.{To, Unasked, Refused}
+use Rattle.std.specs.declared.option.Option as code
+use Rattle.std.specs.declared.result.Result.{Result}
+use Rattle.words.specs.declared.refusals.Refusal.{Refusal}
+use Rattle.words.specs.declared.units.LocalPosition.{LocalPosition}
 
 -- the position, that the set does not ask for the bit, or the refusal
-abbrev pub brought_of : Answer (Option ℕ) → Brought
-brought_of (good (some p)) = To (record { 0 = p })
-brought_of (good none) = Unasked
-brought_of (refused q) = Refused q
+abbrev pub brought_of : Answer (Option ℕ) → Result (code.Option LocalPosition) Refusal
+brought_of (good (some p)) = Ok (Some (record { 0 = p }))
+brought_of (good none) = Ok None
+brought_of (refused q) = Err q
 
 -- a set that 1 and 2 let through
 pub record Formed (ws : List ℕ) : Type 0 where

@@ -2,7 +2,6 @@
 #![tactic(auto)]
 
 ghost use Rattle.std.specs.Prelude.{◌≡◌, ◌+◌, ◌*◌, ◌<◌, ◌≤◌, length};
-ghost use Rattle.words.specs.Answer.{refused, at_item};
 ghost use Rattle.reads.specs.ReadSet.{pairs_of};
 ghost use Rattle.reads.specs.Search.{lanes_of};
 ghost use Rattle.reads.specs.SetAnswer.{packed, read_set, set_room_after};
@@ -11,28 +10,11 @@ ghost use Rattle.rounds.specs.Rounds.{searched_of, table_after};
 ghost use Rattle.locals.specs.LocalAnswer.{asks_for, brought_in, edition_local, local_answer};
 ghost use Rattle.locals.specs.Bring.{brought_of, Formed, RowsLent, beginnings, BitFindable};
 
-use rounds::Searched;
+use rounds::{PAIRS, ROOM_WORDS, SET_WORDS};
 use words::clear::clear;
 use words::edition::is_edition;
-use words::found::Item;
-use words::refusals;
+use words::refusals::{Reason, Refusal};
 use words::units::{AskedBit, LocalPosition};
-
-// The most pairs of a read set, and its words.
-const PAIRS: usize = 8192;
-
-const SET_WORDS: usize = 2 * PAIRS;
-
-// The working room of a read set, in words: a row of 32 entries for each lane finds its place there.
-const ROOM_WORDS: usize = 16384;
-
-// The position, that the set does not ask for the bit, or the refusal.
-#[derive(Drop)]
-pub enum Brought {
-    To(LocalPosition),
-    Unasked,
-    Refused(refusals::Refusal),
-}
 
 // Whether the set asks for bit k of word w.
 fn is_asked(set: &[u32], w: u32, k: u32) -> bool
@@ -61,7 +43,7 @@ fn asked_bit(w: u32, k: u32) -> AskedBit
 }
 
 // The search over a set. The table then has the lanes, or zeros where there are none.
-fn search_lanes(set: &[u32], table: &mut [u32], lanes: usize) -> Searched
+fn search_lanes(set: &[u32], table: &mut [u32], lanes: usize) -> Result<usize, Refusal>
     requires { Formed set.now × RowsLent lanes (length table.old) }
     ensures value { result ≡ searched_of (packed lanes (pairs_of set.now)) }
     ensures table_after { table.new ≡ table_after lanes (lanes_of lanes (pairs_of set.now)) }
@@ -81,67 +63,76 @@ fn position_in(set: &[u32], table: &[u32], q: AskedBit, lanes: usize) -> LocalPo
     reads_local::local_position(set, &bases, q)
 }
 
-// The answer of a set in form: 3, 21, 22, 4, or where the bit is brought. What the table holds afterwards is left open.
-fn bring(set: &[u32], table: &mut [u32], w: u32, k: u32, lanes: usize) -> Brought
+// The answer of a set in form: 3, 21, 22, 4, or where the bit is brought, none where the set does not ask for it. What the table holds afterwards is left open.
+fn bring(
+    set: &[u32],
+    table: &mut [u32],
+    w: u32,
+    k: u32,
+    lanes: usize,
+) -> Result<Option<LocalPosition>, Refusal>
     requires { Formed set.now × RowsLent lanes (length table.old) }
     ensures { result ≡ brought_of (brought_in (pairs_of set.now) w k (packed lanes (pairs_of set.now))) }
 {
-    match search_lanes(set, table, lanes) {
-        Searched::Lost(q) => Brought::Refused(q),
-        Searched::Won(_) => {
-            if is_asked(set, w, k) {
-                return Brought::To(position_in(set, table, asked_bit(w, k), lanes));
-            }
-            Brought::Unasked
-        }
+    search_lanes(set, table, lanes)?;
+    if !is_asked(set, w, k) {
+        return Ok(None);
     }
-}
-
-// A refusal of a read set: its part is 0.
-fn refused(number: u32, item: u64) -> Brought
-    ensures { result ≡ brought_of (refused (at_item number item)) }
-{
-    Brought::Refused(refusals::Refusal {
-        number,
-        part: 0,
-        item,
-    })
+    Ok(Some(position_in(set, table, asked_bit(w, k), lanes)))
 }
 
 // The answer of any set: 1 and 2 first. What the table holds afterwards is left open.
-fn bring_any(set: &[u32], table: &mut [u32], w: u32, k: u32, lanes: usize) -> Brought
+fn bring_any(
+    set: &[u32],
+    table: &mut [u32],
+    w: u32,
+    k: u32,
+    lanes: usize,
+) -> Result<Option<LocalPosition>, Refusal>
     requires { RowsLent lanes (length table.old) }
     ensures { result ≡ brought_of (brought_in (pairs_of set.now) w k (read_set lanes (pairs_of set.now))) }
 {
     if SET_WORDS < set.len() {
-        return refused(refusals::MANY_PAIRS, 0);
+        return Err(Refusal::nowhere(Reason::ManyPairs));
     }
-    if let Item::At(i) = reads_section::check_form(set) {
-        return refused(refusals::PAIR_FORM, i as u64);
+    if let Some(i) = reads_section::check_form(set) {
+        return Err(Refusal::at_item(Reason::PairForm, i as u64));
     }
     bring(set, table, w, k, lanes)
 }
 
 // The same for any number in the place of an edition's. What the room holds afterwards is left open.
-fn bring_in(set: &[u32], room: &mut [u32], w: u32, k: u32, edition: u32) -> Brought
+fn bring_in(
+    set: &[u32],
+    room: &mut [u32],
+    w: u32,
+    k: u32,
+    edition: u32,
+) -> Result<Option<LocalPosition>, Refusal>
     requires { 16384 ≤ length room.old }
     ensures { result ≡ brought_of (edition_local edition set.now w k) }
 {
     if !is_edition(edition) {
-        return refused(refusals::NO_EDITION, 0);
+        return Err(Refusal::nowhere(Reason::NoEdition));
     }
     let lanes = edition as usize;
     let rows = 32 * lanes;
     bring_any(set, &mut room[..rows], w, k, lanes)
 }
 
-// The local position of bit k of word w of a read set in an edition: word, mask, word, mask ..
-pub fn local_position(set: &[u32], room: &mut [u32], w: u32, k: u32, edition: u32) -> Brought
+// The local position of bit k of word w of a read set in an edition: word, mask, word, mask .. There is none where the set does not ask for the bit.
+pub fn local_position(
+    set: &[u32],
+    room: &mut [u32],
+    w: u32,
+    k: u32,
+    edition: u32,
+) -> Result<Option<LocalPosition>, Refusal>
     ensures value { result ≡ brought_of (local_answer edition set.now (length room.old) w k) }
     ensures room_after { room.new ≡ set_room_after room.old }
 {
     if room.len() < ROOM_WORDS {
-        return refused(refusals::ROOM_SHORT, 0);
+        return Err(Refusal::nowhere(Reason::RoomShort));
     }
     let answer = bring_in(set, room, w, k, edition);
     clear(room);

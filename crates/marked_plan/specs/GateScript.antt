@@ -1,4 +1,4 @@
--- The words of M10's part, written out: what `script` gives for its record (proofs/GateScriptLaws.antt, gate-script).
+-- The words of M10's part, written out: what `script` gives for its record (proofs/GateScriptLaws.antt, gate_script).
 -- Assumes nothing.
 use Rattle.std.specs.Prelude.{List, [], ◌∷◌, ◌++◌, ℕ, zero, suc, replicate}
 

@@ -11,7 +11,7 @@ use lib.Dec.{eqb}
 use lib.ListN.{length, replicate, length-append, length-replicate}
 use lib.Seq.{append_snoc}
 use Rattle.words.proofs.ListLaws.{zeros_at}
-use Rattle.pinmap.specs.declared.PutAnswer.TheVariants.{Stored}
+use Rattle.std.specs.Prelude.{Ok}
 use Rattle.pinmap.specs.PinMap.{capacity, look, put_in, put_answer, put_there, used_to, used, Findable, Entry, entry, replaced, last_from, last_put, renewed, after_puts, after_renewals, Holds, Renewed}
 use Rattle.pinmap.proofs.ProbeLaws.{slot_taken}
 use Rattle.pinmap.proofs.PinMapLaws.{look_none, map_law, there_law, put_length, used_new, used_there, used_renewed, used_free_step, room_stored}
@@ -65,17 +65,17 @@ unfolding last_from
 holds_none n = record { good = zeros_good n; finds = zeros_look n; few = rw zeros_used (omega arith) }
 
 -- there is room for one put more, where the puts are fewer than the slots
-pub holds_room : (t : List ℕ) (puts : List Entry) (p : ℕ) → Holds t puts → length puts < capacity t → put_answer t p ≡ Stored
+pub holds_room : (t : List ℕ) (puts : List Entry) (p : ℕ) → Holds t puts → length puts < capacity t → put_answer t p ≡ Ok tt
 holds_room t puts p h l = room_stored t p (omega (arith, h.few))
 
-used_most : (t : List ℕ) (p v : ℕ) → put_answer t p ≡ Stored → used (put_in t p v) ≤ 1 + used t
+used_most : (t : List ℕ) (p v : ℕ) → put_answer t p ≡ Ok tt → used (put_in t p v) ≤ 1 + used t
 used_most t p v h = go (look t p) refl
   where
     go : (o : Option ℕ) → look t p ≡ o → used (put_in t p v) ≤ 1 + used t
     go none e = omega (arith, used_new t p v h e)
     go (some w) e = omega (arith, used_there t p v w e)
 
-pub holds_put : (t : List ℕ) (puts : List Entry) (p v : ℕ) → Holds t puts → put_answer t p ≡ Stored → Holds (put_in t p v) (puts ++ (entry p v ∷ []))
+pub holds_put : (t : List ℕ) (puts : List Entry) (p v : ℕ) → Holds t puts → put_answer t p ≡ Ok tt → Holds (put_in t p v) (puts ++ (entry p v ∷ []))
 holds_put t puts p v h a =
     let (good, finds) = map_law t p v h.good a in
     record {
@@ -88,7 +88,7 @@ pub holds_puts : (t : List ℕ) (puts es : List Entry) → Holds t puts → leng
 unfolding after_puts
 holds_puts t puts [] h l = rw append-nil h
 holds_puts t puts (e ∷ es) h l =
-    let stored : put_answer t e.pin ≡ Stored = holds_room t puts e.pin h (omega arith) in
+    let stored : put_answer t e.pin ≡ Ok tt = holds_room t puts e.pin h (omega arith) in
     let size : length (put_in t e.pin e.value) ≡ length t = put_length t e.pin e.value in
     let room : length (puts ++ (e ∷ [])) + length es ≤ capacity (put_in t e.pin e.value) = rw (length-append, size) (omega arith) in
     rw append_snoc at (holds_puts (put_in t e.pin e.value) (puts ++ (e ∷ [])) es (holds_put t puts e.pin e.value h stored) room)

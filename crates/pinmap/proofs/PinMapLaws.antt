@@ -14,7 +14,7 @@ use lib.Seq.{get_or-set_same, get_or-set_other}
 use borrow.Author.Tests.{eqb-true, eqb-false, eq-eqb, ne_eqb}
 use Rattle.pinmap.specs.declared.Slot.{Slot}
 use Rattle.pinmap.specs.declared.Slot.TheVariants.{Free, Taken, Nowhere}
-use Rattle.pinmap.specs.declared.PutAnswer.TheVariants.{Stored}
+use Rattle.std.specs.Prelude.{Ok}
 use Rattle.pinmap.specs.PinMap.{capacity, key_at, value_at, slot_of, look_at, look, put_at, put_in, answer_at, put_answer, put_there_at, put_there, used_to, used, Findable, Entry, entry, replaced, last_from, renewed}
 use Rattle.pinmap.proofs.ProbeLaws.{slot_free, slot_taken, slot_nowhere, slot_kept, slot_given}
 
@@ -140,11 +140,11 @@ module _ (t u : List ℕ) (p i v : ℕ) (good : Findable t) (c : Changed t u p i
       go true e = rw (eqb-true q p e, found, c.value)
       go false e = same-look q (eqb-false q p e)
 
-stored : (t : List ℕ) (p v : ℕ) → put_answer t p ≡ Stored → (i : ℕ) × Changed t (put_in t p v) p i v × (slot_of (put_in t p v) p ≡ Taken i)
+stored : (t : List ℕ) (p v : ℕ) → put_answer t p ≡ Ok tt → (i : ℕ) × Changed t (put_in t p v) p i v × (slot_of (put_in t p v) p ≡ Taken i)
 unfolding put_at answer_at
 stored t p v h = go (slot_of t p) refl h
   where
-    go : (s : Slot) → slot_of t p ≡ s → answer_at s ≡ Stored → (i : ℕ) × Changed t (put_at t p v s) p i v × (slot_of (put_at t p v s) p ≡ Taken i)
+    go : (s : Slot) → slot_of t p ≡ s → answer_at s ≡ Ok tt → (i : ℕ) × Changed t (put_at t p v s) p i v × (slot_of (put_at t p v s) p ≡ Taken i)
     go (Free i) e a =
         let at : (i < capacity t) × (key_at t i ≡ 0) = slot_free t p i e in
         let c = changed_free t p i v at.0 at.1 in
@@ -156,7 +156,7 @@ stored t p v h = go (slot_of t p) refl h
     go Nowhere e a = let z : ◌≡◌ {A = ℕ} 0 1 = cc in absurd (omega arith)
 
 -- After a put that is stored, its value is found for its pin, and for every other pin what was found before.
-pub map_law : (t : List ℕ) (p v : ℕ) → Findable t → put_answer t p ≡ Stored
+pub map_law : (t : List ℕ) (p v : ℕ) → Findable t → put_answer t p ≡ Ok tt
     → Findable (put_in t p v) × ((q : ℕ) → look (put_in t p v) q ≡ elim (eqb q p) [ true ↦ some v | false ↦ look t q ])
 map_law t p v good h =
     let (i, c, found) = stored t p v h in
@@ -279,11 +279,11 @@ used_all t zero e = refl
 used_all t (suc n) e = used-taken-step t n (e n (omega arith)) ∙ ap suc (used_all t n (λ j h. e j (omega arith)))
 
 -- A put of a new pin takes one slot more, a put of a pin that is there none.
-pub used_new : (t : List ℕ) (p v : ℕ) → put_answer t p ≡ Stored → look t p ≡ none → used (put_in t p v) ≡ 1 + used t
+pub used_new : (t : List ℕ) (p v : ℕ) → put_answer t p ≡ Ok tt → look t p ≡ none → used (put_in t p v) ≡ 1 + used t
 unfolding put_at answer_at look_at
 used_new t p v h o = go (slot_of t p) refl h o
   where
-    go : (s : Slot) → slot_of t p ≡ s → answer_at s ≡ Stored → look_at t s ≡ none → used (put_at t p v s) ≡ 1 + used t
+    go : (s : Slot) → slot_of t p ≡ s → answer_at s ≡ Ok tt → look_at t s ≡ none → used (put_at t p v s) ≡ 1 + used t
     go (Free i) e a l =
         let at : (i < capacity t) × (key_at t i ≡ 0) = slot_free t p i e in
         let c = changed_free t p i v at.0 at.1 in
@@ -318,11 +318,11 @@ used_renewed t p v = go (slot_of t p)
 -- ---- a put is refused exactly where every slot is taken by other pins
 
 -- so a put is stored where not all slots are taken
-pub room_stored : (t : List ℕ) (p : ℕ) → used t < capacity t → put_answer t p ≡ Stored
+pub room_stored : (t : List ℕ) (p : ℕ) → used t < capacity t → put_answer t p ≡ Ok tt
 unfolding answer_at
 room_stored t p h = go (slot_of t p) refl
   where
-    go : (s : Slot) → slot_of t p ≡ s → answer_at s ≡ Stored
+    go : (s : Slot) → slot_of t p ≡ s → answer_at s ≡ Ok tt
     go (Free i) e = refl
     go (Taken i) e = refl
     go Nowhere e =

@@ -2,15 +2,13 @@
 -- word 2i + 1; an odd last word belongs to no slot. Zeros are the empty map. A pin has 32 homes, each found from the one before; it stands
 -- in the first that was free. Only where all of them are taken by others does probing go round the slots.
 -- Assumes nothing.
-use Rattle.std.specs.Prelude.{◌≡◌, true, false, List, [], ◌∷◌, ℕ, zero, suc, ◌+◌, ◌*◌, ◌/◌, ◌%◌, ◌^◌, ◌≤◌, ◌<◌, eqb, ltb, length, get_or, set}
+use Rattle.std.specs.Prelude.{◌≡◌, ⊤, Ok, Err, true, false, List, [], ◌∷◌, ℕ, zero, suc, ◌+◌, ◌*◌, ◌/◌, ◌%◌, ◌^◌, ◌≤◌, ◌<◌, eqb, ltb, length, get_or, set}
 use Rattle.std.proofs.Math.Option.{Option, none, some}
 use Rattle.words.specs.Round.{next}
 use Rattle.pinmap.specs.declared.Slot.{Slot}
 use Rattle.pinmap.specs.declared.Slot.TheVariants.{Free, Taken, Nowhere}
-use Rattle.pinmap.specs.declared.PutAnswer.{PutAnswer}
-use Rattle.pinmap.specs.declared.PutAnswer.TheVariants.{Stored, Full}
-use Rattle.pinmap.specs.declared.Found.{Found}
-use Rattle.pinmap.specs.declared.Found.TheVariants.{Value, Missing}
+use Rattle.std.specs.declared.result.Result.{Result}
+use Rattle.pinmap.specs.declared.Full.{Full}
 
 -- how many slots a table has
 abbrev pub capacity : List ℕ → ℕ
@@ -68,10 +66,6 @@ look_at t Nowhere = none
 abbrev pub look : List ℕ → ℕ → Option ℕ
 look t p = look_at t (slot_of t p)
 
-abbrev pub look_answer : Option ℕ → Found
-look_answer none = Missing
-look_answer (some v) = Value v
-
 -- the words after a put of value v for pin p, and its answer
 unfoldable pub put_at : List ℕ → ℕ → ℕ → Slot → List ℕ
 put_at t p v (Free i) = set (set t (2 * i) (p + 1)) (2 * i + 1) v
@@ -81,12 +75,12 @@ put_at t p v Nowhere = t
 abbrev pub put_in : List ℕ → ℕ → ℕ → List ℕ
 put_in t p v = put_at t p v (slot_of t p)
 
-unfoldable pub answer_at : Slot → PutAnswer
-answer_at (Free i) = Stored
-answer_at (Taken i) = Stored
-answer_at Nowhere = Full
+unfoldable pub answer_at : Slot → Result ⊤ Full
+answer_at (Free i) = Ok tt
+answer_at (Taken i) = Ok tt
+answer_at Nowhere = Err (record {})
 
-abbrev pub put_answer : List ℕ → ℕ → PutAnswer
+abbrev pub put_answer : List ℕ → ℕ → Result ⊤ Full
 put_answer t p = answer_at (slot_of t p)
 
 -- the words after a put of value v for pin p where p is there already

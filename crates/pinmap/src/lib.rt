@@ -3,10 +3,14 @@
 #![tactic(auto)]
 
 ghost use Rattle.std.specs.Prelude.{◌≡◌, ◌+◌, ◌*◌, ◌-◌, ◌<◌, ◌^◌, set};
-ghost use Rattle.pinmap.specs.PinMap.{capacity, key_at, value_at, scattered, scattered_on, home, probe_from, slot_of, put_answer, put_in, put_there, look, look_answer};
+ghost use Rattle.pinmap.specs.PinMap.{capacity, key_at, value_at, scattered, scattered_on, home, probe_from, slot_of, put_answer, put_in, put_there, look};
+ghost use Rattle.words.specs.Found.{item_of};
 
 use words::round::next_of;
 use words::units::Pin;
+
+// How many homes a pin has.
+const HOMES: usize = 32;
 
 // Where probing for a pin ends.
 #[derive(Drop)]
@@ -19,19 +23,9 @@ pub enum Slot {
     Nowhere,
 }
 
-// Full: every slot is taken by other pins.
-#[derive(Drop)]
-pub enum PutAnswer {
-    Stored,
-    Full,
-}
-
-// What is found for a pin.
-#[derive(Drop)]
-pub enum Found {
-    Value(u32),
-    Missing,
-}
+// Every slot is taken by other pins.
+#[derive(Clone, Copy)]
+pub struct Full;
 
 // A pin scattered, and the next number of the same pin.
 fn scatter(p: Pin) -> u64
@@ -98,8 +92,7 @@ fn go_round(t: &[u32], p: Pin, from: usize) -> Slot
     let slots = t.len() / 2;
     let key = p.0 + 1;
     let mut i = from;
-    let mut left = slots;
-    while 0 < left {
+    for _ in 0..slots {
         let found = key_of(t, i);
         if found == 0 {
             return Slot::Free(i);
@@ -108,7 +101,6 @@ fn go_round(t: &[u32], p: Pin, from: usize) -> Slot
             return Slot::Taken(i);
         }
         i = next_of(i, slots);
-        left -= 1;
     }
     Slot::Nowhere
 }
@@ -124,8 +116,7 @@ fn probe(t: &[u32], p: Pin) -> Slot
     }
     let key = p.0 + 1;
     let mut s = scatter(p);
-    let mut left: usize = 32;
-    while 0 < left {
+    for _ in 0..HOMES {
         let i = home_slot(slots, s);
         let found = key_of(t, i);
         if found == 0 {
@@ -135,13 +126,13 @@ fn probe(t: &[u32], p: Pin) -> Slot
             return Slot::Taken(i);
         }
         s = scatter_on(s);
-        left -= 1;
     }
     go_round(t, p, home_slot(slots, s))
 }
 
 // Puts a pin's value, over the one that was there. Where every slot is taken by other pins nothing changes.
-pub fn put(t: &mut [u32], p: Pin, v: u32) -> PutAnswer
+#[tactic(auto, using(crate::proofs::PinMapCodeLaws::free_inside, crate::proofs::PinMapCodeLaws::taken_inside), unfolding(crate::specs::PinMap::put_at, crate::specs::PinMap::answer_at))]
+pub fn put(t: &mut [u32], p: Pin, v: u32) -> Result<(), Full>
     requires { p.0 < 2 ^ 32 - 1 }
     ensures value { result ≡ put_answer t.old p.0 }
     ensures t_after { t.new ≡ put_in t.old p.0 v }
@@ -150,36 +141,35 @@ pub fn put(t: &mut [u32], p: Pin, v: u32) -> PutAnswer
         Slot::Free(i) => {
             take_slot(t, i, p);
             store_value(t, i, v);
-            PutAnswer::Stored
+            Ok(())
         }
         Slot::Taken(i) => {
             store_value(t, i, v);
-            PutAnswer::Stored
+            Ok(())
         }
-        Slot::Nowhere => PutAnswer::Full,
+        Slot::Nowhere => Err(Full),
     }
 }
 
 // The value of a pin.
-pub fn look_up(t: &[u32], p: Pin) -> Found
+#[tactic(auto, using(crate::proofs::PinMapCodeLaws::taken_inside), unfolding(crate::specs::PinMap::look_at))]
+pub fn look_up(t: &[u32], p: Pin) -> Option<u32>
     requires { p.0 < 2 ^ 32 - 1 }
-    ensures { result ≡ look_answer (look t.now p.0) }
+    ensures { result ≡ item_of (look t.now p.0) }
 {
     match probe(t, p) {
-        Slot::Free(_) => Found::Missing,
-        Slot::Taken(i) => Found::Value(value_of(t, i)),
-        Slot::Nowhere => Found::Missing,
+        Slot::Taken(i) => Some(value_of(t, i)),
+        Slot::Free(_) | Slot::Nowhere => None,
     }
 }
 
 // Puts a pin's value where the pin is there already, else nothing.
+#[tactic(auto, using(crate::proofs::PinMapCodeLaws::taken_inside), unfolding(crate::specs::PinMap::put_there_at))]
 pub fn put_where_there(t: &mut [u32], p: Pin, v: u32)
     requires { p.0 < 2 ^ 32 - 1 }
     ensures { t.new ≡ put_there t.old p.0 v }
 {
-    match probe(t, p) {
-        Slot::Free(_) => {}
-        Slot::Taken(i) => store_value(t, i, v),
-        Slot::Nowhere => {}
+    if let Slot::Taken(i) = probe(t, p) {
+        store_value(t, i, v);
     }
 }

@@ -18,7 +18,6 @@ use Rattle.words.proofs.SectionLaws.{length_list_of, get_d_list_of, list_of-is, 
 use Rattle.words.proofs.BitLaws.{lt_or_ge}
 use Rattle.plan_blocks.specs.Blocks.{least_to, block_for, costs_after, block_in}
 use Rattle.plan_blocks.specs.Sums.{where_true, in_block}
-use Rattle.plan_blocks.specs.TableFill.{lesser}
 use Rattle.plan_blocks.proofs.TotalLaws.{same_or, given_le, given_true, given_false, sum_mono, sum-most, sum_swap, sum_meets}
 
 -- ---- the first least
@@ -71,7 +70,7 @@ pub least_start : (costs : List ℕ) → least_to costs (1 - 1) ≡ 0
 unfolding least_to
 least_start costs = refl
 
-least_here : (costs : List ℕ) (best i : ℕ) → 0 < i → best ≡ least_to costs (i - 1) → get_or costs i 0 < get_or costs best 0 → i ≡ least_to costs (i + 1 - 1)
+pub least_here : (costs : List ℕ) (best i : ℕ) → 0 < i → best ≡ least_to costs (i - 1) → get_or costs i 0 < get_or costs best 0 → i ≡ least_to costs (i + 1 - 1)
 least_here costs best zero p e h = absurd (omega arith)
 least_here costs best (suc n) p e h =
     let q : suc n + 1 - 1 ≡ suc n = omega arith in
@@ -79,26 +78,13 @@ least_here costs best (suc n) p e h =
     let f : best ≡ least_to costs n = e ∙ ap (least_to costs) r in
     sym (ap (least_to costs) q ∙ least_new costs n (rw f at h))
 
-least_kept : (costs : List ℕ) (best i : ℕ) → 0 < i → best ≡ least_to costs (i - 1) → get_or costs best 0 ≤ get_or costs i 0 → best ≡ least_to costs (i + 1 - 1)
+pub least_kept : (costs : List ℕ) (best i : ℕ) → 0 < i → best ≡ least_to costs (i - 1) → get_or costs best 0 ≤ get_or costs i 0 → best ≡ least_to costs (i + 1 - 1)
 least_kept costs best zero p e h = absurd (omega arith)
 least_kept costs best (suc n) p e h =
     let q : suc n + 1 - 1 ≡ suc n = omega arith in
     let r : suc n - 1 ≡ n = omega arith in
     let f : best ≡ least_to costs n = e ∙ ap (least_to costs) r in
     f ∙ sym (ap (least_to costs) q ∙ least_old costs n (rw f at h))
-
-pub lesser_new : (best least i cost : ℕ) → cost < least → lesser best least i cost ≡ i
-lesser_new best least i cost h = rw (lt-ltb _ _ h, lesser)
-
-pub lesser_old : (best least i cost : ℕ) → least ≤ cost → lesser best least i cost ≡ best
-lesser_old best least i cost h = rw (le-ltb _ _ h, lesser)
-
-pub least_next : (costs : List ℕ) (best i : ℕ) → 0 < i → best ≡ least_to costs (i - 1) → lesser best (get_or costs best 0) i (get_or costs i 0) ≡ least_to costs (i + 1 - 1)
-least_next costs best i p e =
-    ⊎_elim
-    (λ h. lesser_new best (get_or costs best 0) i (get_or costs i 0) h ∙ least_here costs best i p e h)
-    (λ h. lesser_old best (get_or costs best 0) i (get_or costs i 0) h ∙ least_kept costs best i p e h)
-    (lt_or_ge (get_or costs i 0) (get_or costs best 0))
 
 -- ---- the block of a part
 

@@ -1,6 +1,6 @@
 -- How the part table is filled, cell by cell, and what the functions that do it ask for.
 -- Assumes nothing.
-use Rattle.std.specs.Prelude.{◌≡◌, true, false, List, ℕ, zero, suc, ◌+◌, ◌*◌, ◌/◌, ◌%◌, ◌^◌, ◌≤◌, ◌<◌, ltb, length, get_or, set, replicate}
+use Rattle.std.specs.Prelude.{◌≡◌, true, false, List, ℕ, zero, suc, ◌+◌, ◌*◌, ◌/◌, ◌%◌, ◌^◌, ◌≤◌, ◌<◌, length, get_or, set, replicate}
 use Rattle.std.proofs.Math.Option.{none}
 use Rattle.words.specs.Sum.{sum_to}
 use Rattle.words.specs.Section.{list_of}
@@ -46,10 +46,6 @@ block_part_counts n blocks = list_of (λ b. (get_or blocks b blank).parts) n
 -- the blocks with a part more, of cost c, in block b
 abbrev pub with_part : List BlockCost → ℕ → ℕ → List BlockCost
 with_part blocks b c = set blocks b (record { parts = (get_or blocks b blank).parts + 1; cost = (get_or blocks b blank).cost + c })
-
--- of two blocks and their costs the one of less cost, the first on a tie
-abbrev pub lesser : ℕ → ℕ → ℕ → ℕ → ℕ
-lesser best least i cost = elim (ltb cost least) [ true ↦ i | false ↦ best ]
 
 -- what part i takes: `scale` times word `from` of its row
 abbrev pub takes : List ℕ → ℕ → ℕ → ℕ → ℕ → ℕ

@@ -4,7 +4,7 @@ ghost use Rattle.plan_record.specs.Record.{stages_of};
 ghost use Rattle.plan_blocks.specs.Blocks.{least_to, block_for, costs_after};
 ghost use Rattle.plan_rows.specs.Columns as col;
 ghost use Rattle.plan_rows.specs.Rows.{cell};
-ghost use Rattle.plan_blocks.specs.TableFill.{PartPuttable, StagePlaceable, blank, costs_of, block_part_counts, with_part, lesser, placed_rows, part_counts};
+ghost use Rattle.plan_blocks.specs.TableFill.{PartPuttable, StagePlaceable, blank, costs_of, block_part_counts, with_part, placed_rows, part_counts};
 
 use plan_record::numbers::stages_at;
 use plan_record::places::head_base;
@@ -34,15 +34,6 @@ pub fn put_part(blocks: &mut [BlockCost], b: usize, cost: u32)
     blocks[b].cost += cost;
 }
 
-// The records with a part more in block b: they are lent to `put_part` here alone.
-pub fn with_part(mut blocks: [BlockCost; 1024], b: usize, cost: u32) -> [BlockCost; 1024]
-    requires { PartPuttable blocks b cost }
-    ensures { result ≡ with_part blocks b cost }
-{
-    put_part(&mut blocks, b, cost);
-    blocks
-}
-
 // What part p costs.
 fn part_cost(d: &[u8], p: usize) -> u32
     requires { (p < 262144) × (stages_of d.now p ≤ 255) }
@@ -51,39 +42,26 @@ fn part_cost(d: &[u8], p: usize) -> u32
     stages_at(d, head_base(d), p) + 3
 }
 
-// Of block `best`, of cost `least`, and a later block i the one of less cost, `best` on a tie.
-fn cheaper(best: usize, least: u32, i: usize, cost: u32) -> usize
-    ensures { result ≡ lesser best least i cost }
-{
-    if cost < least {
-        return i;
-    }
-    best
-}
-
 // The block of least cost of the first n, the lowest number on a tie.
-pub fn least_block(blocks: [BlockCost; 1024], n: usize) -> usize
+pub fn least_block(blocks: &[BlockCost; 1024], n: usize) -> usize
     requires { (0 < n) × (n ≤ 1024) }
-    ensures { (result ≡ least_to (costs_of n blocks) (n - 1)) × (result < n) }
+    ensures { (result ≡ least_to (costs_of n blocks.now) (n - 1)) × (result < n) }
 {
     let mut best = 0;
-    let mut i = 1;
-    while i < n {
-        best = cheaper(best, blocks[best].cost, i, blocks[i].cost);
-        i += 1;
+    for i in 1..n {
+        if blocks[i].cost < blocks[best].cost {
+            best = i;
+        }
     }
     best
 }
 
 // The block of part i, of n blocks: the first parts go one to a block.
-pub fn block_for(blocks: [BlockCost; 1024], n: usize, i: usize) -> usize
+pub fn block_for(blocks: &[BlockCost; 1024], n: usize, i: usize) -> usize
     requires { (0 < n) × (n ≤ 1024) }
-    ensures { (result ≡ block_for n (costs_of n blocks) i) × (result < n) }
+    ensures { (result ≡ block_for n (costs_of n blocks.now) i) × (result < n) }
 {
-    if i < n {
-        return i;
-    }
-    least_block(blocks, n)
+    if i < n { i } else { least_block(blocks, n) }
 }
 
 // Part p is in block b.
@@ -98,37 +76,31 @@ fn put_block(room: &mut [u32], p: usize, b: usize)
 pub fn place_parts(
     d: &[u8],
     room: &mut [u32],
-    blocks: [BlockCost; 1024],
     n: usize,
     base: usize,
     count: usize,
 ) -> [BlockCost; 1024]
-    requires { StagePlaceable d.now room.old n base count × (blocks ≡ replicate 1024 blank) }
+    requires { StagePlaceable d.now room.old n base count }
     ensures room_after { room.new ≡ placed_rows d.now room.old n base count }
-    ensures result_value { costs_of n result ≡ costs_after n (λ i. stages_of d.now (base + i)) count }
-    ensures result_value_2 { block_part_counts n result ≡ part_counts d.now n base count }
+    ensures costs { costs_of n result ≡ costs_after n (λ i. stages_of d.now (base + i)) count }
+    ensures parts { block_part_counts n result ≡ part_counts d.now n base count }
 {
-    let mut placed = blocks;
-    let mut i = 0;
-    while i < count {
-        let b = block_for(placed, n, i);
-        let next = with_part(placed, b, part_cost(d, base + i));
-        placed = next;
+    let mut placed = no_parts();
+    for i in 0..count {
+        let b = block_for(&placed, n, i);
+        put_part(&mut placed, b, part_cost(d, base + i));
         put_block(room, base + i, b);
-        i += 1;
     }
     placed
 }
 
 // The part counts of the first blocks alone.
-pub fn take_counts(blocks: [BlockCost; 1024], counts: &mut [u32])
+pub fn take_counts(blocks: &[BlockCost; 1024], counts: &mut [u32])
     requires { length counts.old ≤ 1024 }
-    ensures { counts.new ≡ block_part_counts (length counts.old) blocks }
+    ensures { counts.new ≡ block_part_counts (length counts.old) blocks.now }
 {
-    let mut b = 0;
-    while b < counts.len() {
+    for b in 0..counts.len() {
         counts[b] = blocks[b].parts;
-        b += 1;
     }
 }
 
@@ -138,6 +110,6 @@ pub fn give_blocks(d: &[u8], room: &mut [u32], counts: &mut [u32], base: usize, 
     ensures room_after { room.new ≡ placed_rows d.now room.old (length counts.old) base count }
     ensures counts_after { counts.new ≡ part_counts d.now (length counts.old) base count }
 {
-    let placed = place_parts(d, room, no_parts(), counts.len(), base, count);
-    take_counts(placed, counts);
+    let placed = place_parts(d, room, counts.len(), base, count);
+    take_counts(&placed, counts);
 }

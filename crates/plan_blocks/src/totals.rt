@@ -15,7 +15,7 @@ pub fn state_words(d: &[u8], room: &[u32]) -> u64
     requires { Tallied d.now room.now }
     ensures { result ≡ state_words d.now }
 {
-    (layout_of(d) as u64 + 31) / 32 + column_sum(room, parts_of(d), Column::WRITE_OUTS)
+    (layout_of(d) as u64).div_ceil(32) + column_sum(room, parts_of(d), Column::WRITE_OUTS)
 }
 
 // How many words of SRAM there are.

@@ -1,7 +1,7 @@
--- A verdict of one group of refusals is that of the plan, those before it being passed.
+-- A refusal of one group is that of the plan, those before it being passed.
 -- Assumes nothing.
 use mathlib.Core.Path.{◌≡◌, sym, ap, ◌∙◌}
-use mathlib.Core.Bool.{Bool, true}
+use mathlib.Core.Bool.{true}
 use mathlib.Core.Option.{Option, none}
 use mathlib.Core.List.{List}
 use Prim.Native.Nat.{ℕ}
@@ -17,45 +17,49 @@ use Rattle.words.specs.declared.refusals.Refusal.{Refusal}
 use Rattle.plan_refusals.specs.Refusals.{or_else, unless, gate_place, plan_refusal}
 use Rattle.plan_refusals.specs.RefusalGroups.{first, list_refusal, total_refusal, pin_refusal, place_refusal, read_refusal}
 use Rattle.plan_refusals.proofs.RefusalOrderLaws.{from_places, from_pins, from_totals, plan_first}
-use Rattle.plan_checks.specs.Verdicts.{verdict_of, is_refused}
-use Rattle.plan_checks.specs.declared.Verdict.{Verdict}
+use Rattle.std.specs.Prelude.{⊤, Err}
+use Rattle.std.specs.declared.result.Result.{Result}
+use Rattle.plan_checks.specs.Verdicts.{verdict_of}
 use Rattle.plan_checks.proofs.VerdictLaws.{stopped, stopped_at, stopped_by}
 
 -- ---- a later step of a group, those before it being passed
 
-module _ (d : List ℕ) (v : Verdict) where
-  pub list_edition : (t : Bool) → v ≡ verdict_of (unless 29 (known (edition_of d)) none) → t ≡ is_refused v → t ≡ true → v ≡ verdict_of (list_refusal d)
+module _ (d : List ℕ) (q : Refusal) where
+  pub list_edition : Err q ≡ verdict_of (unless 29 (known (edition_of d)) none) → Err q ≡ verdict_of (list_refusal d)
   unfolding list_refusal
-  list_edition t is told h = stopped_by 29 (known (edition_of d)) v is t told h _
+  list_edition is = stopped_by 29 (known (edition_of d)) q is _
 
   module _ (edition : known (edition_of d) ≡ true) where
-    pub list_five : (t : Bool) → v ≡ verdict_of (unless 5 (plan_form d) none) → t ≡ is_refused v → t ≡ true → v ≡ verdict_of (list_refusal d)
+    pub list_five : Err q ≡ verdict_of (unless 5 (plan_form d) none) → Err q ≡ verdict_of (list_refusal d)
     unfolding list_refusal
-    list_five t is told h = rw (list_refusal, edition) (stopped_by 5 (plan_form d) v is t told h _)
+    list_five is = rw (list_refusal, edition) (stopped_by 5 (plan_form d) q is _)
 
-    pub list_six : plan_form d ≡ true → (t : Bool) → v ≡ verdict_of (or_else 6 (gate_place (bad_gate d)) none) → t ≡ is_refused v → t ≡ true → v ≡ verdict_of (list_refusal d)
+    pub list_six : plan_form d ≡ true → Err q ≡ verdict_of (or_else 6 (gate_place (bad_gate d)) none) → Err q ≡ verdict_of (list_refusal d)
     unfolding list_refusal
-    list_six form t is told h = rw (list_refusal, edition, form) (stopped_at 6 (gate_place (bad_gate d)) v is t told h _)
+    list_six form is = rw (list_refusal, edition, form) (stopped_at 6 (gate_place (bad_gate d)) q is _)
 
-    pub list_seven : plan_form d ≡ true → gate_place (bad_gate d) ≡ none → v ≡ verdict_of (or_else 7 (refusal7 d) none) → v ≡ verdict_of (list_refusal d)
-    unfolding list_refusal
-    list_seven form gates is = rw (list_refusal, edition, form, gates) is
-
-  pub pin_nine : (t : Bool) → v ≡ verdict_of (or_else 9 (refusal9 d) none) → t ≡ is_refused v → t ≡ true → v ≡ verdict_of (pin_refusal d)
+  pub pin_nine : Err q ≡ verdict_of (or_else 9 (refusal9 d) none) → Err q ≡ verdict_of (pin_refusal d)
   unfolding pin_refusal
-  pin_nine t is told h = stopped_at 9 (refusal9 d) v is t told h _
+  pin_nine is = stopped_at 9 (refusal9 d) q is _
 
-  pub pin_ten : refusal9 d ≡ none → (t : Bool) → v ≡ verdict_of (or_else 10 (refusal10 d) none) → t ≡ is_refused v → t ≡ true → v ≡ verdict_of (pin_refusal d)
+  pub pin_ten : refusal9 d ≡ none → Err q ≡ verdict_of (or_else 10 (refusal10 d) none) → Err q ≡ verdict_of (pin_refusal d)
   unfolding pin_refusal
-  pin_ten nine t is told h = rw (pin_refusal, nine) (stopped_at 10 (refusal10 d) v is t told h _)
+  pin_ten nine is = rw (pin_refusal, nine) (stopped_at 10 (refusal10 d) q is _)
+
+  pub place_twelve : Err q ≡ verdict_of (or_else 12 (refusal12 d) none) → Err q ≡ verdict_of (place_refusal d)
+  unfolding place_refusal
+  place_twelve is = stopped_at 12 (refusal12 d) q is _
+
+-- ---- the last step of a group
+
+module _ (d : List ℕ) (v : Result ⊤ Refusal) where
+  pub list_seven : known (edition_of d) ≡ true → plan_form d ≡ true → gate_place (bad_gate d) ≡ none → v ≡ verdict_of (or_else 7 (refusal7 d) none) → v ≡ verdict_of (list_refusal d)
+  unfolding list_refusal
+  list_seven edition form gates is = rw (list_refusal, edition, form, gates) is
 
   pub pin_eleven : refusal9 d ≡ none → refusal10 d ≡ none → v ≡ verdict_of (or_else 11 (refusal11 d) none) → v ≡ verdict_of (pin_refusal d)
   unfolding pin_refusal
   pin_eleven nine ten is = rw (pin_refusal, nine, ten) is
-
-  pub place_twelve : (t : Bool) → v ≡ verdict_of (or_else 12 (refusal12 d) none) → t ≡ is_refused v → t ≡ true → v ≡ verdict_of (place_refusal d)
-  unfolding place_refusal
-  place_twelve t is told h = stopped_at 12 (refusal12 d) v is t told h _
 
   pub place_thirteen : refusal12 d ≡ none → v ≡ verdict_of (or_else 13 (refusal13 d) none) → v ≡ verdict_of (place_refusal d)
   unfolding place_refusal
@@ -63,30 +67,30 @@ module _ (d : List ℕ) (v : Verdict) where
 
 -- ---- a group that ends the checks
 
-module _ (d : List ℕ) (v : Verdict) where
-  pub plan_lists : (t : Bool) → v ≡ verdict_of (list_refusal d) → t ≡ is_refused v → t ≡ true → v ≡ verdict_of (plan_refusal d)
-  plan_lists t is told h = stopped (list_refusal d) v is t told h (from_totals d) ∙ ap verdict_of (sym (plan_first d))
+module _ (d : List ℕ) where
+  pub plan_lists : (q : Refusal) → Err q ≡ verdict_of (list_refusal d) → Err q ≡ verdict_of (plan_refusal d)
+  plan_lists q is = stopped (list_refusal d) q is (from_totals d) ∙ ap verdict_of (sym (plan_first d))
 
   module _ (lists : list_refusal d ≡ none) where
-    past-lists : v ≡ verdict_of (from_totals d) → v ≡ verdict_of (plan_refusal d)
-    past-lists is = is ∙ ap verdict_of (ap (λ (o : Option Refusal). first o (from_totals d)) (sym lists) ∙ sym (plan_first d))
+    past-lists : (v : Result ⊤ Refusal) → v ≡ verdict_of (from_totals d) → v ≡ verdict_of (plan_refusal d)
+    past-lists v is = is ∙ ap verdict_of (ap (λ (o : Option Refusal). first o (from_totals d)) (sym lists) ∙ sym (plan_first d))
 
-    pub plan_totals : (t : Bool) → v ≡ verdict_of (total_refusal d) → t ≡ is_refused v → t ≡ true → v ≡ verdict_of (plan_refusal d)
-    plan_totals t is told h = past-lists (stopped (total_refusal d) v is t told h (from_pins d))
+    pub plan_totals : (q : Refusal) → Err q ≡ verdict_of (total_refusal d) → Err q ≡ verdict_of (plan_refusal d)
+    plan_totals q is = past-lists _ (stopped (total_refusal d) q is (from_pins d))
 
     module _ (totals : total_refusal d ≡ none) where
-      past-totals : v ≡ verdict_of (from_pins d) → v ≡ verdict_of (plan_refusal d)
-      past-totals is = past-lists (is ∙ ap verdict_of (ap (λ (o : Option Refusal). first o (from_pins d)) (sym totals)))
+      past-totals : (v : Result ⊤ Refusal) → v ≡ verdict_of (from_pins d) → v ≡ verdict_of (plan_refusal d)
+      past-totals v is = past-lists _ (is ∙ ap verdict_of (ap (λ (o : Option Refusal). first o (from_pins d)) (sym totals)))
 
-      pub plan_pins : (t : Bool) → v ≡ verdict_of (pin_refusal d) → t ≡ is_refused v → t ≡ true → v ≡ verdict_of (plan_refusal d)
-      plan_pins t is told h = past-totals (stopped (pin_refusal d) v is t told h (from_places d))
+      pub plan_pins : (q : Refusal) → Err q ≡ verdict_of (pin_refusal d) → Err q ≡ verdict_of (plan_refusal d)
+      plan_pins q is = past-totals _ (stopped (pin_refusal d) q is (from_places d))
 
       module _ (pins : pin_refusal d ≡ none) where
-        past-pins : v ≡ verdict_of (from_places d) → v ≡ verdict_of (plan_refusal d)
-        past-pins is = past-totals (is ∙ ap verdict_of (ap (λ (o : Option Refusal). first o (from_places d)) (sym pins)))
+        past-pins : (v : Result ⊤ Refusal) → v ≡ verdict_of (from_places d) → v ≡ verdict_of (plan_refusal d)
+        past-pins v is = past-totals _ (is ∙ ap verdict_of (ap (λ (o : Option Refusal). first o (from_places d)) (sym pins)))
 
-        pub plan_places : (t : Bool) → v ≡ verdict_of (place_refusal d) → t ≡ is_refused v → t ≡ true → v ≡ verdict_of (plan_refusal d)
-        plan_places t is told h = past-pins (stopped (place_refusal d) v is t told h (read_refusal d))
+        pub plan_places : (q : Refusal) → Err q ≡ verdict_of (place_refusal d) → Err q ≡ verdict_of (plan_refusal d)
+        plan_places q is = past-pins _ (stopped (place_refusal d) q is (read_refusal d))
 
-        pub plan_reads : place_refusal d ≡ none → v ≡ verdict_of (read_refusal d) → v ≡ verdict_of (plan_refusal d)
-        plan_reads places is = past-pins (is ∙ ap verdict_of (ap (λ (o : Option Refusal). first o (read_refusal d)) (sym places)))
+        pub plan_reads : (v : Result ⊤ Refusal) → place_refusal d ≡ none → v ≡ verdict_of (read_refusal d) → v ≡ verdict_of (plan_refusal d)
+        plan_reads v places is = past-pins _ (is ∙ ap verdict_of (ap (λ (o : Option Refusal). first o (read_refusal d)) (sym places)))

@@ -4,28 +4,30 @@ use mathlib.Core.Path.{◌≡◌, refl, sym, ap, ◌∙◌}
 use mathlib.Core.Bool.{true}
 use mathlib.Core.Option.{Option, none, some}
 use mathlib.Core.List.{List}
-use Prim.Native.Nat.{ℕ}
+use Prim.Native.Nat.{ℕ, ◌^◌, ◌<◌}
 use native.Mathlib.Omega.{arith}
 use Rattle.plan_record.specs.Record.{plan_lanes, parts_of}
 use Rattle.words.specs.Tests.{Place, lowest}
 use Rattle.plan_record.specs.Form.{plan_form}
 use Rattle.words.proofs.TestLaws.{lowest_at}
 use Rattle.plan_record.proofs.PlanFormLaws.{formed}
-use Rattle.words.specs.declared.found.Item.{Item}
-use Rattle.words.specs.declared.found.Lowest.{Lowest}
+use Rattle.std.specs.declared.option.Option as code
+use Rattle.words.specs.declared.found.Place as found
 use Rattle.words.specs.Found.{item_of, lowest_of}
 use Rattle.plan_counts.specs.Counts.{refusal7}
 use Rattle.plan_slots.specs.Slots.{refusal9, refusal10, refusal11}
 use Rattle.plan_positions.specs.Positions.{refusal12}
 use Rattle.plan_entries.specs.TableEntries.{refusal13}
-use Rattle.plan_reads.specs.declared.check.Checked.{Checked}
+use Rattle.std.specs.Prelude.{⊤, Err}
+use Rattle.std.specs.declared.result.Result.{Result}
+use Rattle.plan_reads.specs.declared.check.Unread.{Unread}
+use Rattle.plan_reads.specs.declared.check.Unread.TheVariants as unread
 use Rattle.plan_reads.specs.PartReads.{refused_reads}
 use Rattle.plan_reads.specs.PartReadAnswers.{checked_of}
 use Rattle.plan_reads.proofs.CheckLaws.{zero_item}
 use Rattle.plan_refusals.specs.Refusals.{or_else, gate_place}
 use Rattle.plan_refusals.specs.RefusalGroups.{Few, read_refusal}
-use Rattle.plan_checks.specs.Verdicts.{lowest_place, list_place, checked_place, checked_refusal}
-use Rattle.words.proofs.TestLaws.{some_not_none}
+use Rattle.plan_checks.specs.Verdicts.{lowest_place, list_place, unread_place, checked_refusal}
 
 -- ---- parts are few
 
@@ -63,11 +65,11 @@ module _ (d : List ℕ) (form : plan_form d ≡ true) where
 
 -- ---- an answer's place
 
-pub list_told : (o : Option ℕ) (r : Item) → r ≡ item_of o → list_place r ≡ gate_place o
+pub list_told : (o : Option ℕ) (r : code.Option ℕ) → r ≡ item_of o → list_place r ≡ gate_place o
 list_told none r e = ap list_place e
 list_told (some g) r e = ap list_place e
 
-pub lowest_told : (o : Option Place) (r : Lowest) → r ≡ lowest_of o → lowest_place r ≡ o
+pub lowest_told : (o : Option Place) (r : code.Option found.Place) → r ≡ lowest_of o → lowest_place r ≡ o
 lowest_told none r e = ap lowest_place e
 lowest_told (some x) r e = ap lowest_place e
 
@@ -89,10 +91,10 @@ checked_told none none none (some x) h g l = refl
 checked_told none none none none h g l = refl
 
 -- what the pass over the parts answers for plan d
-abbrev pub checked_reads : List ℕ → Checked
+abbrev pub checked_reads : List ℕ → Result ⊤ Unread
 checked_reads d = checked_of (refused_reads (plan_lanes d) 3 d) (refused_reads (plan_lanes d) 21 d) (refused_reads (plan_lanes d) 22 d) (refused_reads (plan_lanes d) 4 d)
 
-pub reads_told : (d : List ℕ) (r : Checked) → r ≡ checked_reads d → checked_refusal r ≡ read_refusal d
+pub reads_told : (d : List ℕ) (r : Result ⊤ Unread) → r ≡ checked_reads d → checked_refusal r ≡ read_refusal d
 unfolding read_refusal
 reads_told d r e =
     let three = reads_item 3 (λ f. omega arith) d in
@@ -100,16 +102,12 @@ reads_told d r e =
     let wide = reads_item 22 (λ f. omega arith) d in
     ap checked_refusal e ∙ checked_told (refused_reads (plan_lanes d) 3 d) (refused_reads (plan_lanes d) 21 d) (refused_reads (plan_lanes d) 22 d) (refused_reads (plan_lanes d) 4 d) three bits wide
 
--- the part of a place that stands for another
-same_part : (x y : Place) (i : ℕ) → some (record { part = x.part; item = i }) ≡ some y → x.part ≡ y.part
-same_part x y i e = let q : record { part = x.part; item = i } ≡ y = cc in ap (λ (z : Place). z.part) q
+checked_few : (a b w f : Option Place) → Few a → Few b → Few w → Few f → (u : Unread) → Err u ≡ checked_of a b w f → (unread_place u).part < 2 ^ 32
+checked_few (some x) b w f h g l m u e = let q : u ≡ unread.Nothing x.part = cc in rw q (h x refl)
+checked_few none (some x) w f h g l m u e = let q : u ≡ unread.Bits x.part = cc in rw q (g x refl)
+checked_few none none (some x) f h g l m u e = let q : u ≡ unread.Wide x.part = cc in rw q (l x refl)
+checked_few none none none (some x) h g l m u e = let q : u ≡ unread.NoRoom x.part x.item = cc in rw q (m x refl)
+checked_few none none none none h g l m u e = let z : ◌≡◌ {A = ℕ} 0 1 = cc in absurd (omega arith)
 
-checked_few : (a b w f : Option Place) → Few a → Few b → Few w → Few f → Few (checked_place (checked_of a b w f))
-checked_few (some x) b w f h g l m y e = omega (arith, h x refl, same_part x y 0 e)
-checked_few none (some x) w f h g l m y e = omega (arith, g x refl, same_part x y 0 e)
-checked_few none none (some x) f h g l m y e = omega (arith, l x refl, same_part x y 0 e)
-checked_few none none none (some x) h g l m y e = omega (arith, m x refl, same_part x y x.item e)
-checked_few none none none none h g l m y e = absurd (some_not_none (sym e))
-
-pub reads_few : (d : List ℕ) → plan_form d ≡ true → (r : Checked) → r ≡ checked_reads d → Few (checked_place r)
-reads_few d form r e = rw e (checked_few _ _ _ _ (few_reads d form 3) (few_reads d form 21) (few_reads d form 22) (few_reads d form 4))
+pub reads_few : (d : List ℕ) → plan_form d ≡ true → (u : Unread) → Err u ≡ checked_reads d → (unread_place u).part < 2 ^ 32
+reads_few d form u e = checked_few _ _ _ _ (few_reads d form 3) (few_reads d form 21) (few_reads d form 22) (few_reads d form 4) u e

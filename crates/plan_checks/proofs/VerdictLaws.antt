@@ -1,16 +1,18 @@
--- A verdict that is a refusal ends the checks: it is that of all refusals from there on. One that is not says that there is none so far.
+-- A step that refuses ends the checks: its refusal is that of all steps from there on. One that does not says that there is none so far.
 -- Assumes nothing.
 use mathlib.Core.Path.{◌≡◌, refl, sym, ap, ◌∙◌}
 use mathlib.Core.Bool.{Bool, true, false}
 use mathlib.Core.Option.{Option, none, some}
 use Prim.Native.Nat.{ℕ}
+use native.Mathlib.Omega.{arith}
+use Rattle.std.specs.Prelude.{⊤, Ok, Err}
+use Rattle.std.specs.declared.result.Result.{Result}
 use Rattle.words.specs.Tests.{Place}
-use Rattle.words.proofs.TestLaws.{not_both}
+use Rattle.words.proofs.TestLaws.{some_not_none}
 use Rattle.words.specs.declared.refusals.Refusal.{Refusal}
 use Rattle.plan_refusals.specs.Refusals.{or_else, unless}
 use Rattle.plan_refusals.specs.RefusalGroups.{first}
-use Rattle.plan_checks.specs.Verdicts.{verdict_of, is_refused}
-use Rattle.plan_checks.specs.declared.Verdict.{Verdict}
+use Rattle.plan_checks.specs.Verdicts.{verdict_of}
 use Rattle.plan_refusals.proofs.PassedLaws.{past, past_unless}
 
 -- ---- the first of two
@@ -23,47 +25,39 @@ unless_first : (k : ℕ) (b : Bool) (r : Option Refusal) → first (unless k b n
 unless_first k true r = refl
 unless_first k false r = refl
 
-some_first : (o r : Option Refusal) → is_refused (verdict_of o) ≡ true → verdict_of o ≡ verdict_of (first o r)
-some_first none r h = absurd (not_both (is_refused (verdict_of none)) h refl)
-some_first (some x) r h = refl
+-- ---- what a verdict says
 
-none_so_far : (o : Option Refusal) → is_refused (verdict_of o) ≡ false → o ≡ none
-none_so_far none h = refl
-none_so_far (some x) h = absurd (not_both (is_refused (verdict_of (some x))) refl h)
+pub refused_is : (o : Option Refusal) (q : Refusal) → Err q ≡ verdict_of o → o ≡ some q
+refused_is none q h = let z : ◌≡◌ {A = ℕ} 0 1 = cc in absurd (omega arith)
+refused_is (some x) q h = cc
 
--- ---- a verdict and the test of it
+pub went_on : (o : Option Refusal) (x : ⊤) → Ok x ≡ verdict_of o → o ≡ none
+went_on none x h = refl
+went_on (some q) x h = let z : ◌≡◌ {A = ℕ} 0 1 = cc in absurd (omega arith)
 
-module _ (o : Option Refusal) (v : Verdict) (is : v ≡ verdict_of o) (t : Bool) (told : t ≡ is_refused v) where
-  tested : is_refused (verdict_of o) ≡ t
-  tested = sym (ap is_refused is) ∙ sym told
+module _ (o : Option Refusal) (q : Refusal) (is : Err q ≡ verdict_of o) where
+  pub stopped : (r : Option Refusal) → Err q ≡ verdict_of (first o r)
+  stopped r = rw (refused_is o q is)
 
-  pub stopped : t ≡ true → (r : Option Refusal) → v ≡ verdict_of (first o r)
-  stopped h r = is ∙ some_first o r (tested ∙ h)
+  pub never : {A : Type 0} → o ≡ none → A
+  never e = absurd (some_not_none (sym (refused_is o q is) ∙ e))
 
-  pub went_on : t ≡ false → o ≡ none
-  went_on h = none_so_far o (tested ∙ h)
+pub stopped_at : (k : ℕ) (o : Option Place) (q : Refusal) → Err q ≡ verdict_of (or_else k o none) → (r : Option Refusal) → Err q ≡ verdict_of (or_else k o r)
+stopped_at k o q is r = stopped (or_else k o none) q is r ∙ ap verdict_of (or_first k o r)
 
-  pub never : {A : Type 0} → t ≡ true → o ≡ none → A
-  never h e = absurd (not_both (is_refused (verdict_of o)) (tested ∙ h) (ap (λ (x : Option Refusal). is_refused (verdict_of x)) e))
+pub went_past : (k : ℕ) (o : Option Place) (x : ⊤) → Ok x ≡ verdict_of (or_else k o none) → o ≡ none
+went_past k o x is = (past k o none (went_on (or_else k o none) x is)).0
 
-module _ (k : ℕ) (o : Option Place) (v : Verdict) (is : v ≡ verdict_of (or_else k o none)) (t : Bool) (told : t ≡ is_refused v) where
-  pub stopped_at : t ≡ true → (r : Option Refusal) → v ≡ verdict_of (or_else k o r)
-  stopped_at h r = stopped (or_else k o none) v is t told h r ∙ ap verdict_of (or_first k o r)
+pub stopped_by : (k : ℕ) (b : Bool) (q : Refusal) → Err q ≡ verdict_of (unless k b none) → (r : Option Refusal) → Err q ≡ verdict_of (unless k b r)
+stopped_by k b q is r = stopped (unless k b none) q is r ∙ ap verdict_of (unless_first k b r)
 
-  pub went_past : t ≡ false → o ≡ none
-  went_past h = (past k o none (went_on (or_else k o none) v is t told h)).0
-
-module _ (k : ℕ) (b : Bool) (v : Verdict) (is : v ≡ verdict_of (unless k b none)) (t : Bool) (told : t ≡ is_refused v) where
-  pub stopped_by : t ≡ true → (r : Option Refusal) → v ≡ verdict_of (unless k b r)
-  stopped_by h r = stopped (unless k b none) v is t told h r ∙ ap verdict_of (unless_first k b r)
-
-  pub held : t ≡ false → b ≡ true
-  held h = (past_unless k b none (went_on (unless k b none) v is t told h)).0
+pub held : (k : ℕ) (b : Bool) (x : ⊤) → Ok x ≡ verdict_of (unless k b none) → b ≡ true
+held k b x is = (past_unless k b none (went_on (unless k b none) x is)).0
 
 -- ---- an answer in place of what it stands for
 
-pub unless_told : (k : ℕ) (b b' : Bool) (v : Verdict) → b ≡ b' → v ≡ verdict_of (unless k b none) → v ≡ verdict_of (unless k b' none)
+pub unless_told : (k : ℕ) (b b' : Bool) (v : Result ⊤ Refusal) → b ≡ b' → v ≡ verdict_of (unless k b none) → v ≡ verdict_of (unless k b' none)
 unless_told k b b' v e is = is ∙ ap (λ (x : Bool). verdict_of (unless k x none)) e
 
-pub at_told : (k : ℕ) (o o' : Option Place) (v : Verdict) → o ≡ o' → v ≡ verdict_of (or_else k o none) → v ≡ verdict_of (or_else k o' none)
+pub at_told : (k : ℕ) (o o' : Option Place) (v : Result ⊤ Refusal) → o ≡ o' → v ≡ verdict_of (or_else k o none) → v ≡ verdict_of (or_else k o' none)
 at_told k o o' v e is = is ∙ ap (λ (x : Option Place). verdict_of (or_else k x none)) e

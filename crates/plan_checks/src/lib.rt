@@ -19,72 +19,51 @@ use pins::check_pins;
 use places::check_places;
 use plan_record::places::room_words;
 use reading::check_reading;
-use tell::is_refused;
 use words::clear::clear;
-use words::refusals::{ROOM_SHORT, Refusal};
+use words::refusals::{Reason, Refusal};
 
-// A plan is accepted, or refused: with its first refusal.
-#[derive(Clone, Copy)]
-pub enum Verdict {
-    Accepted,
-    Refused(Refusal),
-}
-
-// All refusals but for room. What the room of a refused plan holds is left open, and so is what keys, scratch and set do, here and below.
+// All refusals but for room: the first of them. What the room of a refused plan holds is left open, and so is what keys, scratch and set do, here and
+// below.
 fn check_all(
     plan: &[u8],
     room: &mut [u32],
     keys: &mut [u64],
     scratch: &mut [u64],
     set: &mut [u32],
-) -> Verdict
+) -> Result<(), Refusal>
     requires { Cleared plan.now room.old × SetRoom (length keys.old) (length scratch.old) (length set.old) }
     ensures value { result ≡ verdict_of (plan_refusal plan.now) }
     ensures room_after { plan_refusal plan.now ≡ none → room.new ≡ ready_room plan.now (length room.old) }
 {
-    let lists = check_lists(plan, keys, scratch);
-    if is_refused(lists) {
-        return lists;
-    }
-    let totals = check_totals(plan, room, keys, scratch);
-    if is_refused(totals) {
-        return totals;
-    }
-    let pins = check_pins(plan, room);
-    if is_refused(pins) {
-        return pins;
-    }
-    let places = check_places(plan, room, keys);
-    if is_refused(places) {
-        return places;
-    }
+    check_lists(plan, keys, scratch)?;
+    check_totals(plan, room, keys, scratch)?;
+    check_pins(plan, room)?;
+    check_places(plan, room, keys)?;
     check_reading(plan, room, keys, scratch, set)
 }
 
-// Checks a plan. Once it is accepted, the room has its part table; once it is refused, the room is clear, unless it was too short.
+// Checks a plan: its first refusal. Once it is accepted, the room has its part table; once it is refused, the room is clear, unless it was too short.
 pub fn check_plan(
     plan: &[u8],
     room: &mut [u32],
     keys: &mut [u64],
     scratch: &mut [u64],
     set: &mut [u32],
-) -> Verdict
+) -> Result<(), Refusal>
     requires { SetRoom (length keys.old) (length scratch.old) (length set.old) }
     ensures value { result ≡ verdict_of (plan_verdict plan.now (length room.old)) }
     ensures room_after { room.new ≡ room_left plan.now room.old }
     ensures plan_ready { plan_verdict plan.now (length room.old) ≡ none → PlanReady plan.now room.new }
 {
     if room.len() < room_words(plan) {
-        return Verdict::Refused(Refusal {
-            number: ROOM_SHORT,
-            part: 0,
-            item: 0,
-        });
+        return Err(Refusal::nowhere(Reason::RoomShort));
     }
     clear(room);
-    let verdict = check_all(plan, room, keys, scratch, set);
-    if is_refused(verdict) {
-        clear(room);
+    match check_all(plan, room, keys, scratch, set) {
+        Ok(()) => Ok(()),
+        Err(refusal) => {
+            clear(room);
+            Err(refusal)
+        }
     }
-    verdict
 }

@@ -4,41 +4,36 @@ ghost use Rattle.plan_blocks.specs.TableFill.{TableFillable, allotted_room};
 ghost use Rattle.plan_refusals.specs.RefusalGroups.{list_refusal, total_refusal};
 ghost use Rattle.plan_checks.specs.Verdicts.{verdict_of};
 
-use crate::Verdict;
-use crate::tell::{is_refused, of_gates, of_lowest, of_test};
+use crate::tell::{of_gates, of_lowest, of_test};
 use plan_counts::check_counts;
 use plan_form::plan_form;
 use plan_gates::check_gates;
 use plan_record::numbers::edition_of;
 use plan_table::table::allot;
 use words::edition::is_edition;
-use words::refusals::{NO_EDITION, PLAN_FORM, TOTALS, WRITE_OUTS};
+use words::refusals::{Reason, Refusal};
 
 // Refusals 29, 5, 6 and 7. What keys and scratch hold afterwards is left open, here and below.
-pub fn check_lists(plan: &[u8], keys: &mut [u64], scratch: &mut [u64]) -> Verdict
+pub fn check_lists(plan: &[u8], keys: &mut [u64], scratch: &mut [u64]) -> Result<(), Refusal>
     requires { (8192 ≤ length keys.old) × (8192 ≤ length scratch.old) }
     ensures { result ≡ verdict_of (list_refusal plan.now) }
 {
-    let edition = of_test(NO_EDITION, is_edition(edition_of(plan)));
-    if is_refused(edition) {
-        return edition;
-    }
-    let form = of_test(PLAN_FORM, plan_form(plan));
-    if is_refused(form) {
-        return form;
-    }
-    let gates = of_gates(check_gates(plan));
-    if is_refused(gates) {
-        return gates;
-    }
-    of_lowest(WRITE_OUTS, check_counts(plan, keys, scratch))
+    of_test(Reason::NoEdition, is_edition(edition_of(plan)))?;
+    of_test(Reason::PlanForm, plan_form(plan))?;
+    of_gates(check_gates(plan))?;
+    of_lowest(Reason::WriteOuts, check_counts(plan, keys, scratch))
 }
 
 // Refusal 8.
-pub fn check_totals(plan: &[u8], room: &mut [u32], keys: &mut [u64], scratch: &mut [u64]) -> Verdict
+pub fn check_totals(
+    plan: &[u8],
+    room: &mut [u32],
+    keys: &mut [u64],
+    scratch: &mut [u64],
+) -> Result<(), Refusal>
     requires { TableFillable plan.now room.old × (8192 ≤ length keys.old) × (8192 ≤ length scratch.old) }
     ensures value { result ≡ verdict_of (total_refusal plan.now) }
     ensures room_after { room.new ≡ allotted_room plan.now room.old }
 {
-    of_test(TOTALS, allot(plan, room, keys, scratch))
+    of_test(Reason::Totals, allot(plan, room, keys, scratch))
 }

@@ -9,17 +9,16 @@ ghost use Rattle.plan_reads.specs.ReadsReady.{ClearRoom};
 ghost use Rattle.plan_refusals.specs.RefusalGroups.{pin_refusal};
 ghost use Rattle.plan_checks.specs.Verdicts.{verdict_of};
 
-use crate::Verdict;
-use crate::tell::{is_refused, of_lowest};
+use crate::tell::of_lowest;
 use plan_positions::planned::PIN_TABLE;
 use plan_slot_tests::computed::refusal11;
 use plan_slot_tests::later::refusal10;
 use plan_slot_tests::standing::refusal9;
-use words::found::Lowest;
-use words::refusals::{NOT_IN_STAGE_BEFORE, READ_AND_COMPUTED, SLOT};
+use words::found::Place;
+use words::refusals::{Reason, Refusal};
 
 // Refusal 10.
-fn later_pins(plan: &[u8], room: &mut [u32]) -> Lowest
+fn later_pins(plan: &[u8], room: &mut [u32]) -> Option<Place>
     requires { (plan_form plan.now ≡ true) × ClearRoom plan.now room.old }
     ensures value { result ≡ lowest_of (refusal10 plan.now) }
     ensures room_unchanged { room.new ≡ room.old }
@@ -28,7 +27,7 @@ fn later_pins(plan: &[u8], room: &mut [u32]) -> Lowest
 }
 
 // Refusal 11.
-fn computed_pins(plan: &[u8], room: &mut [u32]) -> Lowest
+fn computed_pins(plan: &[u8], room: &mut [u32]) -> Option<Place>
     requires { (plan_form plan.now ≡ true) × ClearRoom plan.now room.old }
     ensures value { result ≡ lowest_of (refusal11 plan.now) }
     ensures room_unchanged { room.new ≡ room.old }
@@ -37,18 +36,12 @@ fn computed_pins(plan: &[u8], room: &mut [u32]) -> Lowest
 }
 
 // Refusals 9, 10 and 11.
-pub fn check_pins(plan: &[u8], room: &mut [u32]) -> Verdict
+pub fn check_pins(plan: &[u8], room: &mut [u32]) -> Result<(), Refusal>
     requires { (plan_form plan.now ≡ true) × (bad_gate plan.now ≡ none) × ClearRoom plan.now room.old }
     ensures value { result ≡ verdict_of (pin_refusal plan.now) }
     ensures room_unchanged { room.new ≡ room.old }
 {
-    let standing = of_lowest(SLOT, refusal9(plan));
-    if is_refused(standing) {
-        return standing;
-    }
-    let later = of_lowest(NOT_IN_STAGE_BEFORE, later_pins(plan, room));
-    if is_refused(later) {
-        return later;
-    }
-    of_lowest(READ_AND_COMPUTED, computed_pins(plan, room))
+    of_lowest(Reason::Slot, refusal9(plan))?;
+    of_lowest(Reason::NotInStageBefore, later_pins(plan, room))?;
+    of_lowest(Reason::ReadAndComputed, computed_pins(plan, room))
 }

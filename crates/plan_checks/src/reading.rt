@@ -5,9 +5,9 @@ ghost use Rattle.plan_reads.specs.PartReadAnswers.{searched_room};
 ghost use Rattle.plan_refusals.specs.RefusalGroups.{read_refusal};
 ghost use Rattle.plan_checks.specs.Verdicts.{verdict_of};
 
-use crate::Verdict;
-use crate::tell::of_reads;
+use crate::tell::refusal_of;
 use plan_reads::check::check_reads;
+use words::refusals::Refusal;
 
 // Refusals 3, 21, 22 and 4. What keys, scratch and set hold afterwards is left open.
 pub fn check_reading(
@@ -16,10 +16,13 @@ pub fn check_reading(
     keys: &mut [u64],
     scratch: &mut [u64],
     set: &mut [u32],
-) -> Verdict
+) -> Result<(), Refusal>
     requires { ReadsSearchable plan.now room.old × SetRoom (length keys.old) (length scratch.old) (length set.old) }
     ensures value { result ≡ verdict_of (read_refusal plan.now) }
     ensures room_after { room.new ≡ searched_room plan.now room.old }
 {
-    of_reads(check_reads(plan, room, keys, scratch, set))
+    match check_reads(plan, room, keys, scratch, set) {
+        Ok(()) => Ok(()),
+        Err(unread) => Err(refusal_of(unread)),
+    }
 }

@@ -16,19 +16,11 @@ use Rattle.plan_counts.specs.Parts.{activations_at}
 
 -- ---- one endpoint
 
-put_one : (keys acts : List ℕ) (n v : ℕ) → acts ≡ v ∷ [] → (n + 1 ≡ n + length acts) × (set keys n v ≡ sets keys n acts)
+pub put_one : (keys acts : List ℕ) (n v : ℕ) → acts ≡ v ∷ [] → (n + 1 ≡ n + length acts) × (set keys n v ≡ sets keys n acts)
 put_one keys acts n v h = rw h (refl, refl)
 
-put_none : (keys acts : List ℕ) (n : ℕ) → acts ≡ [] → (n ≡ n + length acts) × (keys ≡ sets keys n acts)
+pub put_none : (keys acts : List ℕ) (n : ℕ) → acts ≡ [] → (n ≡ n + length acts) × (keys ≡ sets keys n acts)
 put_none keys acts n h = rw h (omega arith, refl)
-
-module _ (d : List ℕ) (p i : ℕ) (keys : List ℕ) (n : ℕ) (e : Endpoint) (read : e ≡ endpoint_at d p i) where
-  pub put_key : (v w : ℕ) → v ≡ w → activations_of e ≡ w ∷ []
-      → (n + 1 ≡ n + length (activations_at d p i)) × (set keys n v ≡ sets keys n (activations_at d p i))
-  put_key v w u h = put_one keys (activations_at d p i) n v (ap activations_of (sym read) ∙ (h ∙ ap (λ (k : ℕ). k ∷ []) (sym u)))
-
-  pub put_nothing : activations_of e ≡ [] → (n ≡ n + length (activations_at d p i)) × (keys ≡ sets keys n (activations_at d p i))
-  put_nothing h = put_none keys (activations_at d p i) n (ap activations_of (sym read) ∙ h)
 
 activations_few : (e : Endpoint) → length (activations_of e) ≤ 1
 unfolding activations_of

@@ -12,6 +12,8 @@ use Rattle.words.specs.Sum.{sum_to}
 use Rattle.words.proofs.SumLaws.{sum_more}
 use Rattle.plan_record.specs.Record.{plan_lanes, parts_of, endpoints_of, locations_of, location_at}
 use Rattle.plan_record.specs.Endpoint.{endpoint_at}
+use Rattle.plan_record.specs.declared.bodies.Endpoint.{Endpoint}
+use Rattle.plan_record.specs.declared.bodies.Endpoint.TheVariants.{Output, Staged, Register, Sram}
 use Rattle.plan_record.specs.declared.bodies.Body.{Body}
 use Rattle.plan_record.specs.Form.{plan_form}
 use Rattle.plan_record.specs.Body.{BodyOf}
@@ -20,8 +22,8 @@ use Rattle.words.proofs.TestLaws.{not_none, lowest_none}
 use Rattle.sort.specs.Sorted.{sort_of}
 use Rattle.sort.proofs.SortLaws.{sort_length}
 use Rattle.plan_counts.specs.Counts.{activations, is_sram, srams, duplicates, write_outs, bad_counts, refusal7}
-use Rattle.words.specs.declared.found.Item.{Item}
-use Rattle.words.specs.declared.found.Item.TheVariants.{Fine, At}
+use Rattle.std.specs.Prelude.{Some, None}
+use Rattle.std.specs.declared.option.Option as code
 use Rattle.plan_counts.specs.Parts.{Countable, location_fits, bad_location}
 use Rattle.words.specs.Found.{item_of}
 use Rattle.plan_counts.specs.Neighbours.{extras}
@@ -37,21 +39,32 @@ srams_to d p i = sum_to (λ j. is_sram (endpoint_at d p j)) i
 pub srams_more : (d : List ℕ) (p i : ℕ) → srams_to d p (i + 1) ≡ srams_to d p i + is_sram (endpoint_at d p i)
 srams_more d p i = sum_more (λ j. is_sram (endpoint_at d p j)) i
 
+pub not_sram : (e : Endpoint) → (e ≡ Sram → ⊥) → is_sram e ≡ 0
+unfolding is_sram
+not_sram (Output x) h = refl
+not_sram (Staged x) h = refl
+not_sram (Register x y) h = refl
+not_sram Sram h = absurd (h refl)
+
+pub one_sram : (e : Endpoint) → e ≡ Sram → is_sram e ≡ 1
+unfolding is_sram
+one_sram e h = ap is_sram h
+
 -- ---- the ends of refusal 7 in a part
 
-module _ (d : List ℕ) (p : ℕ) (r : Item) (looked : r ≡ item_of (bad_location d p)) where
-  pub counts_location : (l : ℕ) → r ≡ At l → At l ≡ item_of (bad_counts d p)
+module _ (d : List ℕ) (p : ℕ) (r : code.Option ℕ) (looked : r ≡ item_of (bad_location d p)) where
+  pub counts_location : (l : ℕ) → r ≡ Some l → Some l ≡ item_of (bad_counts d p)
   unfolding bad_counts
   counts_location l h = let e : bad_location d p ≡ some l = item_some _ l (sym looked ∙ h) in rw (e, bad_counts)
 
-  module _ (fine : r ≡ Fine) where
-    pub counts_fine : write_outs d p ≤ plan_lanes d → Fine ≡ item_of (bad_counts d p)
+  module _ (fine : r ≡ None) where
+    pub counts_fine : write_outs d p ≤ plan_lanes d → None ≡ item_of (bad_counts d p)
     unfolding bad_counts
     counts_fine h = let e : bad_location d p ≡ none = item_none _ (sym looked ∙ fine) in rw (e, le-leb (write_outs d p) (plan_lanes d) h, bad_counts)
 
-    pub counts_many : (n : ℕ) → n ≡ locations_of d p → plan_lanes d < write_outs d p → At n ≡ item_of (bad_counts d p)
+    pub counts_many : (n : ℕ) → n ≡ locations_of d p → plan_lanes d < write_outs d p → Some n ≡ item_of (bad_counts d p)
     unfolding bad_counts
-    counts_many n c h = let e : bad_location d p ≡ none = item_none _ (sym looked ∙ fine) in rw (e, lt-leb (write_outs d p) (plan_lanes d) h, bad_counts) (ap At c)
+    counts_many n c h = let e : bad_location d p ≡ none = item_none _ (sym looked ∙ fine) in rw (e, lt-leb (write_outs d p) (plan_lanes d) h, bad_counts) (ap Some c)
 
 -- ---- what is known of a part
 

@@ -2,58 +2,45 @@
 #![tactic(auto)]
 
 ghost use Rattle.std.specs.Prelude.{◌≡◌, true, ◌*◌, ◌<◌};
-ghost use Rattle.plan_record.specs.Body.{BodyOf};
 ghost use Rattle.plan_record.specs.Form.{plan_form};
 ghost use Rattle.words.specs.Found.{item_of, lowest_of};
 ghost use Rattle.plan_entries.specs.TableEntries.{thirteen_right, bad_entry};
 
-use plan_record::bodies::{Body, body_at, first_body, parts_of, table_word};
-use words::found::{Item, Lowest};
+use plan_record::bodies::{Part, first_body, parts_of};
+use words::found::{Place, first_not};
 
 // Whether entry i, the enables' from the number of slots on, is a position. Between the two tables' entries stand the inversions and the zeros of the
 // first.
-fn entry_right(d: &[u8], p: usize, body: Body, i: usize) -> bool
-    requires { BodyOf d.now p body × (i < 64 * body.lanes) }
-    ensures { result ≡ thirteen_right d.now p i }
+fn entry_right(part: &Part, i: usize) -> bool
+    requires { i < 64 * part.now.body.lanes }
+    ensures { result ≡ thirteen_right part.now.d.now part.now.p i }
 {
-    let slots = 32 * body.lanes;
+    let slots = 32 * part.body.lanes;
     if i < slots {
-        return (table_word(d, p, body, i) as usize) < slots;
+        return (part.table_word(i) as usize) < slots;
     }
-    (table_word(d, p, body, i + 2 * body.lanes) as usize) < slots
+    (part.table_word(i + 2 * part.body.lanes) as usize) < slots
 }
 
 // The first entry of a part that is not.
-fn bad_entry(d: &[u8], p: usize, body: Body) -> Item
-    requires { BodyOf d.now p body }
-    ensures { result ≡ item_of (bad_entry d.now p) }
+fn bad_entry(part: &Part) -> Option<usize>
+    ensures { result ≡ item_of (bad_entry part.now.d.now part.now.p) }
 {
-    let entries = 64 * body.lanes;
-    let mut i = 0;
-    while i < entries {
-        if !entry_right(d, p, body, i) {
-            return Item::At(i);
-        }
-        i += 1;
-    }
-    Item::Fine
+    first_not(64 * part.body.lanes, |i| entry_right(part, i))
 }
 
 // Refusal 13.
-pub fn refusal13(d: &[u8]) -> Lowest
+pub fn refusal13(d: &[u8]) -> Option<Place>
     requires { plan_form d.now ≡ true }
     ensures { result ≡ lowest_of (Rattle.plan_entries.specs.TableEntries.refusal13 d.now) }
 {
-    let parts = parts_of(d);
     let mut at = first_body(d);
-    let mut p = 0;
-    while p < parts {
-        let body = body_at(d, p, at);
-        if let Item::At(i) = bad_entry(d, p, body) {
-            return Lowest::At(p, i);
+    for p in 0..parts_of(d) {
+        let part = Part::at(d, p, at);
+        if let Some(item) = bad_entry(&part) {
+            return Some(Place { part: p, item });
         }
-        at = body.end;
-        p += 1;
+        at = part.body.end;
     }
-    Lowest::Fine
+    None
 }

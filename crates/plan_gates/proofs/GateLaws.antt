@@ -1,45 +1,13 @@
 -- Laws of a plan's gate list: those of `gatelist`, and on bits the code's operations are the definition's.
 -- Assumes nothing.
-use Rattle.std.proofs.Common.{◌≡◌, ℕ, zero, suc, ◌+◌, ◌-◌, ◌/◌, ◌%◌, ◌<◌, ◌≤◌, min, true, false, ◌&&◌, eqb, ltb, List, refl, ◌∙◌, ap₂, arith}
+use Rattle.std.proofs.Common.{◌≡◌, ℕ, zero, suc, ◌/◌, ◌%◌, ◌<◌, min, true, false, ◌&&◌, eqb, ltb, List, refl, ◌∙◌, ap₂, arith}
 use mathlib.Core.Option.{none, some}
 use lib.Bits.{bit_and, bit_xor, differ}
 use Rattle.words.proofs.BitLaws.{differ_lt}
 use Rattle.sort.specs.HalfSearch.{Monotone, least}
 use Rattle.plan_record.specs.Record.{gates_of, gate_pin, gate_first, gate_second}
-use Rattle.words.specs.Tests.{first_from}
-use Rattle.words.proofs.FoundLaws.{look_start}
-use Rattle.gatelist.specs.GateList.{bad_over}
 use Rattle.gatelist.proofs.GateListLaws as over
-use Rattle.plan_gates.specs.Gates.{pin_before, gate_right, bad_gate, gate_of}
-
--- ---- refusal 6, gate by gate
-
-pub pin_before_first : (d : List ℕ) → pin_before d 0 ≡ 0
-unfolding pin_before
-pin_before_first d = over.before_first (gate_pin d)
-
-pub pin_before_next : (d : List ℕ) (g : ℕ) → pin_before d (g + 1) ≡ gate_pin d g
-unfolding pin_before
-pin_before_next d g = over.before_next (gate_pin d) g
-
--- the answer from the first gate on
-pub bad_from_lem : (d : List ℕ) → first_from (gate_right d) (gates_of d - 0) 0 ≡ bad_gate d
-unfolding bad_gate bad_over gate_right
-bad_from_lem d = look_start (gate_right d) (gates_of d)
-
-module _ (d : List ℕ) (g : ℕ) where
-  -- a gate is right or not by its three tests, in their order
-  pub right_not_above : gate_pin d g ≤ pin_before d g → gate_right d g ≡ false
-  unfolding gate_right pin_before
-  right_not_above = over.right_not_above (gate_pin d) (gate_first d) (gate_second d) g
-
-  pub right_not_first : gate_pin d g ≤ gate_first d g / 2 → gate_right d g ≡ false
-  unfolding gate_right
-  right_not_first = over.right_not_first (gate_pin d) (gate_first d) (gate_second d) g
-
-  pub right_last : pin_before d g < gate_pin d g → gate_first d g / 2 < gate_pin d g → gate_right d g ≡ ltb (gate_second d g / 2) (gate_pin d g)
-  unfolding gate_right pin_before
-  right_last = over.right_last (gate_pin d) (gate_first d) (gate_second d) g
+use Rattle.plan_gates.specs.Gates.{bad_gate, gate_of}
 
 -- ---- a gate by its pin
 

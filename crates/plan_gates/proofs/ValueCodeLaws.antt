@@ -12,64 +12,46 @@ use Rattle.words.specs.Section.{list_of}
 use Rattle.words.proofs.BitLaws.{lt_or_ge, bit_zero, bit_ext, bit_word_of, word_of_lt, with_lt, at_lt, at_set-bit, set-bit_length}
 use Rattle.words.proofs.ListLaws.{zeros_at}
 use Rattle.words.proofs.SectionLaws.{length_list_of, get_d_list_of, list_of-is}
-use Rattle.pinmap.specs.PinMap.{look, look_answer}
-use Rattle.pinmap.specs.declared.Found.{Found}
-use Rattle.pinmap.specs.declared.Found.TheVariants as Known-as
+use Rattle.std.specs.Prelude.{Some, None}
+use Rattle.std.specs.declared.option.Option as code
+use Rattle.words.specs.Found.{item_of}
+use Rattle.words.proofs.FoundLaws.{item_some, item_none}
+use Rattle.pinmap.specs.PinMap.{look}
 use Rattle.plan_record.specs.Record.{gates_of, gate_pin, gate_first, gate_second}
 use Rattle.plan_gates.specs.Gates.{bad_gate, gate_of, gate_bit, value}
-use Rattle.plan_gates.specs.GateValues.{gate_found_of, gate_value, gate_words, store_bit, Given, ValuedBelow}
-use Rattle.plan_gates.specs.declared.GateFound.{GateFound}
-use Rattle.plan_gates.specs.declared.GateFound.TheVariants as found_as
+use Rattle.plan_gates.specs.GateValues.{gate_value, gate_words, store_bit, Given, ValuedBelow}
 use Rattle.plan_gates.proofs.GateLaws.{gate_at_lem, first_falls, second_falls}
 use Rattle.plan_gates.proofs.ValueLaws.{value_read, value_gate, value_else, value_lt}
 
--- ---- what an answer says
-
-pub known_some : (o : Option ℕ) (r : Found) (v : ℕ) → r ≡ look_answer o → r ≡ Known-as.Value v → o ≡ some v
-known_some none r v p q = let z : ◌≡◌ {A = ℕ} 0 1 = cc in absurd (omega arith)
-known_some (some w) r v p q = cc
-
-pub known_none : (o : Option ℕ) (r : Found) → r ≡ look_answer o → r ≡ Known-as.Missing → o ≡ none
-known_none none r p q = refl
-known_none (some w) r p q = let z : ◌≡◌ {A = ℕ} 0 1 = cc in absurd (omega arith)
-
-pub gate_there : (o : Option ℕ) (r : GateFound) (g : ℕ) → r ≡ gate_found_of o → r ≡ found_as.Gate g → o ≡ some g
-gate_there none r g p q = let z : ◌≡◌ {A = ℕ} 0 1 = cc in absurd (omega arith)
-gate_there (some w) r g p q = cc
-
-pub gate_missing : (o : Option ℕ) (r : GateFound) → r ≡ gate_found_of o → r ≡ found_as.Missing → o ≡ none
-gate_missing none r p q = refl
-gate_missing (some w) r p q = let z : ◌≡◌ {A = ℕ} 0 1 = cc in absurd (omega arith)
-
 -- ---- the fan-ins' pins, as the code has them, of a gate found by its pin
 
-module _ (d : List ℕ) (good : bad_gate d ≡ none) (x : ℕ) (q : GateFound) (answer : q ≡ gate_found_of (gate_of d x)) (g : ℕ) (is : q ≡ found_as.Gate g) where
+module _ (d : List ℕ) (good : bad_gate d ≡ none) (x : ℕ) (q : code.Option ℕ) (answer : q ≡ item_of (gate_of d x)) (g : ℕ) (is : q ≡ Some g) where
   pub first_under : (f u : ℕ) → f ≡ gate_first d g → u ≡ f / 2 → u < x
-  first_under f u ef eu = let o = first_falls d good x g (gate_there _ q g answer is) in omega arith
+  first_under f u ef eu = let o = first_falls d good x g (item_some _ g (sym answer ∙ is)) in omega arith
 
   pub second_under : (f u : ℕ) → f ≡ gate_second d g → u ≡ f / 2 → u < x
-  second_under f u ef eu = let o = second_falls d good x g (gate_there _ q g answer is) in omega arith
+  second_under f u ef eu = let o = second_falls d good x g (item_some _ g (sym answer ∙ is)) in omega arith
 
 -- ---- the ways out
 
-module _ (d known : List ℕ) (given : Given d known) (x : ℕ) (r : Found) (answer : r ≡ look_answer (look known x)) where
-  pub bit_known : (v : ℕ) → r ≡ Known-as.Value v → (v ≡ value d (look known) x) × (v < 2)
+module _ (d known : List ℕ) (given : Given d known) (x : ℕ) (r : code.Option ℕ) (answer : r ≡ item_of (look known x)) where
+  pub bit_known : (v : ℕ) → r ≡ Some v → (v ≡ value d (look known) x) × (v < 2)
   bit_known v e =
-      let i = known_some (look known x) r v answer e in
+      let i = item_some (look known x) v (sym answer ∙ e) in
       (sym (value_read d (look known) x v i), given.bits x v i)
 
-  pub bit_neither : (q : GateFound) → r ≡ Known-as.Missing → q ≡ gate_found_of (gate_of d x) → q ≡ found_as.Missing → (0 ≡ value d (look known) x) × (0 < 2)
+  pub bit_neither : (q : code.Option ℕ) → r ≡ None → q ≡ item_of (gate_of d x) → q ≡ None → (0 ≡ value d (look known) x) × (0 < 2)
   bit_neither q e p n =
-      let i = known_none (look known x) r answer e in
-      let o = gate_missing (gate_of d x) q p n in
+      let i = item_none (look known x) (sym answer ∙ e) in
+      let o = item_none (gate_of d x) (sym p ∙ n) in
       (sym (value_else d (look known) x i o), omega arith)
 
   -- u and w are the fan-ins' pins, a and b their values, y the gate's bit
-  pub bit_gate : (g f s u w a b y : ℕ) → r ≡ Known-as.Missing → gate_of d x ≡ some g → f ≡ gate_first d g → s ≡ gate_second d g → u ≡ f / 2 → w ≡ s / 2
+  pub bit_gate : (g f s u w a b y : ℕ) → r ≡ None → gate_of d x ≡ some g → f ≡ gate_first d g → s ≡ gate_second d g → u ≡ f / 2 → w ≡ s / 2
       → a ≡ value d (look known) u → b ≡ value d (look known) w → y ≡ min (differ a (f % 2)) (differ b (s % 2)) → y ≡ value d (look known) x
   unfolding gate_bit
   bit_gate g f s u w a b y e o ef es eu ew ea eb ey =
-      let i = known_none (look known x) r answer e in
+      let i = item_none (look known x) (sym answer ∙ e) in
       let p : a ≡ value d (look known) (gate_first d g / 2) = ea ∙ ap (value d (look known)) (eu ∙ ap (λ (n : ℕ). n / 2) ef) in
       let q : b ≡ value d (look known) (gate_second d g / 2) = eb ∙ ap (value d (look known)) (ew ∙ ap (λ (n : ℕ). n / 2) es) in
       ey ∙ ap₂ (λ (m : ℕ) (n : ℕ). min (differ m (f % 2)) (differ n (s % 2))) p q

@@ -8,12 +8,6 @@ use Rattle.words.specs.Section.{list_of}
 use Rattle.pinmap.specs.PinMap.{look}
 use Rattle.plan_record.specs.Record.{gates_of, gate_pin}
 use Rattle.plan_gates.specs.Gates.{bad_gate, value}
-use Rattle.plan_gates.specs.declared.GateFound.{GateFound}
-use Rattle.plan_gates.specs.declared.GateFound.TheVariants.{Gate, Missing}
-
-abbrev pub gate_found_of : Option ℕ → GateFound
-gate_found_of none = Missing
-gate_found_of (some g) = Gate g
 
 -- what the value of a pin asks: refusal 6 is excluded, and what is known of a pin is a bit
 pub record Given (d known : List ℕ) : Type 0 where

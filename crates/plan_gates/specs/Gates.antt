@@ -4,12 +4,9 @@ use Rattle.std.specs.Prelude.{ℕ, zero, suc, ◌/◌, ◌%◌, min, Bool, List}
 use Rattle.std.proofs.Math.Option.{Option, none, some}
 use Rattle.std.specs.Int.Bits.{differ}
 use Rattle.plan_record.specs.Record.{gates_of, gate_pin, gate_first, gate_second}
-use Rattle.gatelist.specs.GateList.{before_over, right_over, bad_over, gate_over}
+use Rattle.gatelist.specs.GateList.{right_over, bad_over, gate_over}
 
 -- refusal 6 and the gate of a pin, as `gatelist` has them of any gate list: here its gates are those of a plan record
-unfoldable pub pin_before : List ℕ → ℕ → ℕ
-pin_before d g = before_over (gate_pin d) g
-
 unfoldable pub gate_right : List ℕ → ℕ → Bool
 gate_right d g = right_over (gate_pin d) (gate_first d) (gate_second d) g
 

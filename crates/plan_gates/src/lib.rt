@@ -6,58 +6,32 @@ ghost use Rattle.std.proofs.Math.Option.{none};
 ghost use Rattle.std.specs.Int.Bits.{differ};
 ghost use Rattle.sort.specs.HalfSearch.{least};
 ghost use Rattle.pinmap.specs.PinMap.{look};
-ghost use Rattle.plan_record.specs.Record.{gates_of, gate_pin};
+ghost use Rattle.plan_record.specs.Record.{gates_of, gate_pin, gate_first, gate_second};
 ghost use Rattle.words.specs.Found.{item_of};
-ghost use Rattle.plan_gates.specs.Gates.{pin_before, gate_right, bad_gate, gate_of, value};
-ghost use Rattle.plan_gates.specs.GateValues.{gate_found_of, gate_words, store_bit, Given, AskablePin, ValuedBelow, GateReady, ValuesFillable};
+ghost use Rattle.plan_gates.specs.Gates.{bad_gate, gate_of, value};
+ghost use Rattle.plan_gates.specs.GateValues.{gate_words, store_bit, Given, AskablePin, ValuedBelow, GateReady, ValuesFillable};
 
-use pinmap::Found;
+use gatelist::Gate;
 use plan_record::numbers::{gate_first, gate_pin, gate_second, gates_of};
-use std::num::wrapping_sub_u32;
 use words::bits::{bit_at, set_bit};
-use words::clear::clear;
-use words::found::Item;
 use words::units::{Pin, PinIv};
 
-#[derive(Drop)]
-pub enum GateFound {
-    Gate(u32),
-    Missing,
-}
-
-// Whether gate g stands above the gate before it and above its fan-ins.
-fn gate_right(d: &[u8], before: Pin, g: u32) -> bool
-    requires { before.0 ≡ pin_before d.now g }
-    ensures { result ≡ gate_right d.now g }
+// A gate by its number.
+fn gate_at(d: &[u8], g: u32) -> Gate
+    ensures { (result.pin.0 ≡ gate_pin d.now g) × (result.first.0 ≡ gate_first d.now g) × (result.second.0 ≡ gate_second d.now g) }
 {
-    let pin = gate_pin(d, g);
-    let first = gate_first(d, g).pin();
-    let second = gate_second(d, g).pin();
-    if pin.0 <= before.0 {
-        return false;
+    Gate {
+        pin: gate_pin(d, g),
+        first: gate_first(d, g),
+        second: gate_second(d, g),
     }
-    if pin.0 <= first.0 {
-        return false;
-    }
-    second.0 < pin.0
 }
 
 // Refusal 6 over the whole list: the lowest gate that is not right.
-pub fn check_gates(d: &[u8]) -> Item
+pub fn check_gates(d: &[u8]) -> Option<usize>
     ensures { result ≡ item_of (bad_gate d.now) }
 {
-    let gates = gates_of(d);
-    let mut before = Pin(0);
-    let mut g = 0;
-    while g < gates {
-        if gate_right(d, before, g) {
-            before = gate_pin(d, g);
-            g += 1;
-        } else {
-            return Item::At(g as usize);
-        }
-    }
-    Item::Fine
+    gatelist::first_wrong(gates_of(d) as usize, |g| gate_at(d, g as u32))
 }
 
 // The first gate whose pin is not below this one, by halves.
@@ -65,19 +39,10 @@ fn first_not_below(d: &[u8], pin: Pin) -> u32
     requires { bad_gate d.now ≡ none }
     ensures { result ≡ least (gate_pin d.now) (gates_of d.now) pin.0 }
 {
-    let mut low = 0;
-    let mut high = gates_of(d);
-    while low < high {
-        let middle = low + (high - low) / 2;
-        if gate_pin(d, middle).0 < pin.0 {
-            low = middle + 1;
-        } else {
-            high = middle;
-        }
-    }
-    low
+    sort::partition_point(gates_of(d) as usize, |g| gate_pin(d, g as u32).0 < pin.0) as u32
 }
 
+// stays: `gatelist` has the same look; in one body of both the search's closure would call a closure parameter, which has then to serve any number.
 // Whether there is a gate g, and it has this pin.
 fn has_pin(d: &[u8], g: u32, pin: Pin) -> bool
     ensures { result ≡ (nat_lt g (gates_of d.now) && gate_pin d.now g == pin.0) }
@@ -86,20 +51,16 @@ fn has_pin(d: &[u8], g: u32, pin: Pin) -> bool
 }
 
 // The gate of a pin. Gates' pins are nearly always consecutive numbers, so that the gate they give is looked at first.
-pub fn find_gate(d: &[u8], pin: Pin) -> GateFound
+pub fn find_gate(d: &[u8], pin: Pin) -> Option<u32>
     requires { bad_gate d.now ≡ none }
-    ensures { result ≡ gate_found_of (gate_of d.now pin.0) }
+    ensures { result ≡ item_of (gate_of d.now pin.0) }
 {
-    let guess = wrapping_sub_u32(pin.0, gate_pin(d, 0).0);
+    let guess = pin.0.wrapping_sub(gate_pin(d, 0).0);
     if has_pin(d, guess, pin) {
-        return GateFound::Gate(guess);
+        return Some(guess);
     }
     let g = first_not_below(d, pin);
-    if has_pin(d, g, pin) {
-        GateFound::Gate(g)
-    } else {
-        GateFound::Missing
-    }
+    if has_pin(d, g, pin) { Some(g) } else { None }
 }
 
 // The AND of two bits, each with its fan-in's inversion.
@@ -117,9 +78,9 @@ pub fn value(d: &[u8], known: &[u32], bits: &[u32], done: u32, pin: Pin) -> u32
     ensures { (result ≡ value d.now (look known.now) pin.0) × (result < 2) }
 {
     match pinmap::look_up(known, pin) {
-        Found::Value(v) => v,
-        Found::Missing => match find_gate(d, pin) {
-            GateFound::Gate(g) => {
+        Some(v) => v,
+        None => match find_gate(d, pin) {
+            Some(g) => {
                 if g < done {
                     return bit_at(bits, g as usize);
                 }
@@ -129,7 +90,7 @@ pub fn value(d: &[u8], known: &[u32], bits: &[u32], done: u32, pin: Pin) -> u32
                 let b = value(d, known, bits, done, second.pin());
                 and_gate(a, first, b, second)
             }
-            GateFound::Missing => 0,
+            None => 0,
         },
     }
 }
@@ -139,10 +100,9 @@ fn store_gate(d: &[u8], known: &[u32], bits: &mut [u32], g: u32)
     requires { GateReady d.now known.now bits.old g }
     ensures { bits.new ≡ store_bit bits.old g (value d.now (look known.now) (gate_pin d.now g)) }
 {
-    if value(d, known, bits, g, gate_pin(d, g)) == 0 {
-        return;
+    if value(d, known, bits, g, gate_pin(d, g)) != 0 {
+        set_bit(bits, g as usize);
     }
-    set_bit(bits, g as usize);
 }
 
 // The values of all gates in one pass up the list: bit g is the value of gate g's pin.
@@ -150,11 +110,8 @@ pub fn all_values(d: &[u8], known: &[u32], bits: &mut [u32])
     requires { ValuesFillable d.now known.now bits.old }
     ensures { bits.new ≡ gate_words d.now (look known.now) (length bits.old) }
 {
-    clear(bits);
-    let gates = gates_of(d);
-    let mut g = 0;
-    while g < gates {
+    bits.fill(0);
+    for g in 0..gates_of(d) {
         store_gate(d, known, bits, g);
-        g += 1;
     }
 }

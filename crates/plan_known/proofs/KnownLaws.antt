@@ -12,9 +12,10 @@ use lib.Dec.{ltb, eqb}
 use lib.ListN.{length, take, drop, replicate, take-append-drop, length-append, length-drop, drop_of_length-le}
 use lib.Seq.{length-take-le, take_all, take_at, drop_at}
 use Rattle.words.proofs.ListLaws.{zeros_front}
-use Rattle.pinmap.specs.declared.Found.{Found}
-use Rattle.pinmap.specs.declared.Found.TheVariants.{Value, Missing}
-use Rattle.pinmap.specs.PinMap.{Entry, entry, look, look_answer, put_in, last_put, last_from, after_puts}
+use Rattle.std.specs.Prelude.{Some, None}
+use Rattle.std.specs.declared.option.Option as code
+use Rattle.words.specs.Found.{item_of}
+use Rattle.pinmap.specs.PinMap.{Entry, entry, look, put_in, last_put, last_from, after_puts}
 use Rattle.pinmap.proofs.PinMapLaws.{replaced_same, replaced_other}
 use Rattle.pinmap.proofs.HoldsLaws.{last_snoc, puts_look}
 use Rattle.plan_record.specs.declared.bodies.Body.{Body}
@@ -169,11 +170,11 @@ module _ (d : List ℕ) (p : ℕ) (b : Body) (old new room : List ℕ) (ready : 
         ap (λ (a : List ℕ). look a x) (part ∙ ready.winners)
         ∙ planned_look d p x (length (drop 32768 room)) (omega (arith, length-drop 32768 room, ready.wide)) held (ap (reads_pin d p) read ∙ slot_read d p j l)
 
-    pub bit_value : (f : Found) (w : ℕ) (u : List ℕ) → f ≡ look_answer (look t x) → f ≡ Value w
+    pub bit_value : (f : code.Option ℕ) (w : ℕ) (u : List ℕ) → f ≡ item_of (look t x) → f ≡ Some w
         → u ≡ after_puts (take 32768 room) (found_put x (planned_bit old new (planned_by d w)))
         → u ++ drop 32768 room ≡ after_puts (take 32768 room) (found_put (level_at d p 0 j) (held_bit d old new (level_at d p 0 j))) ++ drop 32768 room
     bit_value f w u a v e =
-        let k : Value w ≡ Value (winner d x) = sym v ∙ (a ∙ ap look_answer slot-look) in
+        let k : Some w ≡ Some (winner d x) = sym v ∙ (a ∙ ap item_of slot-look) in
         let g : w ≡ winner d x = cc in
         let o : planned_bit old new (planned_by d w) ≡ held_bit d old new x =
         ap (λ (y : ℕ). planned_bit old new (planned_by d y)) g ∙ (ap (planned_bit old new) (sym (planned_winner d x)) ∙ sym (held-pin d p old new x held))
@@ -183,9 +184,9 @@ module _ (d : List ℕ) (p : ℕ) (b : Body) (old new room : List ℕ) (ready : 
         in
         ap (λ (c : List ℕ). c ++ drop 32768 room) (e ∙ ap (after_puts (take 32768 room)) q)
 
-    pub bit_missing : (f : Found) → f ≡ look_answer (look t x) → f ≡ Missing → ⊥
+    pub bit_missing : (f : code.Option ℕ) → f ≡ item_of (look t x) → f ≡ None → ⊥
     bit_missing f a v =
-        let k : Missing ≡ Value (winner d x) = sym v ∙ (a ∙ ap look_answer slot-look) in
+        let k : None ≡ Some (winner d x) = sym v ∙ (a ∙ ap item_of slot-look) in
         let z : ◌≡◌ {A = ℕ} 0 1 = cc in
         omega arith
 

@@ -7,15 +7,14 @@ ghost use Rattle.words.specs.Bit.{bit_at};
 ghost use Rattle.pinmap.specs.PinMap.{after_puts};
 ghost use Rattle.plan_record.specs.Record.{slots_of, parts_of, level_at};
 ghost use Rattle.plan_record.specs.Form.{plan_form};
-ghost use Rattle.plan_record.specs.Body.{BodyOf};
 ghost use Rattle.plan_slots.specs.Puts.{filled};
 ghost use Rattle.plan_winners.specs.Winners.{planned_by};
 ghost use Rattle.plan_positions.specs.Input.{planned_bit};
 ghost use Rattle.plan_known.specs.Known.{held_bit, found_put, bit_puts, known_puts, Clear, WinnersTabled};
 
-use pinmap::{Found, look_up};
+use pinmap::look_up;
 use plan_positions::planned::{PIN_TABLE, fill_planned};
-use plan_record::bodies::{Body, body_at, first_body, level_slot, parts_of};
+use plan_record::bodies::{Part, first_body, parts_of};
 use plan_winners::planned_by;
 use words::units::{EMPTY_PIN, Pin, StatePosition};
 
@@ -51,58 +50,45 @@ fn put_planned(d: &[u8], old: &[u32], new: &[u32], table: &mut [u32], pin: Pin, 
     if w == 0 {
         return;
     }
-    pinmap::put(table, pin, planned_bit(d, old, new, w));
+    let _ = pinmap::put(table, pin, planned_bit(d, old, new, w));
 }
 
 // Puts the bit of the pin at slot j of level 0 of stage 0, if it has one.
-fn put_slot_bit(
-    d: &[u8],
-    p: usize,
-    body: Body,
-    old: &[u32],
-    new: &[u32],
-    room: &mut [u32],
-    j: usize,
-)
-    requires { WinnersTabled d.now p body room.old × (j < 32 * body.lanes) }
-    ensures { room.new ≡ after_puts (take 32768 room.old) (found_put (level_at d.now p 0 j) (held_bit d.now old.now new.now (level_at d.now p 0 j))) ++ drop 32768 room.old }
+fn put_slot_bit(part: &Part, old: &[u32], new: &[u32], room: &mut [u32], j: usize)
+    requires { WinnersTabled part.now.d.now part.now.p part.now.body room.old × (j < 32 * part.now.body.lanes) }
+    ensures { room.new ≡ after_puts (take 32768 room.old) (found_put (level_at part.now.d.now part.now.p 0 j) (held_bit part.now.d.now old.now new.now (level_at part.now.d.now part.now.p 0 j))) ++ drop 32768 room.old }
 {
-    let pin = level_slot(d, p, body, 0, j);
+    let pin = part.level_slot(0, j);
     if pin.0 == EMPTY_PIN {
         return;
     }
-    match look_up(&room[PIN_TABLE..], pin) {
-        Found::Value(w) => put_planned(d, old, new, &mut room[..PIN_TABLE], pin, w),
-        Found::Missing => {}
+    if let Some(w) = look_up(&room[PIN_TABLE..], pin) {
+        put_planned(part.d, old, new, &mut room[..PIN_TABLE], pin, w);
     }
 }
 
 // The bits of all pins that part p reads. The words after the table are for the numbers of the entries that win.
-fn fill_part(d: &[u8], p: usize, body: Body, old: &[u32], new: &[u32], room: &mut [u32])
-    requires { (plan_form d.now ≡ true) × BodyOf d.now p body × (0 < body.stages) × Clear room.old }
-    ensures { take 32768 room.new ≡ filled 32768 (bit_puts d.now p old.now new.now (slots_of d.now)) }
+fn fill_part(part: &Part, old: &[u32], new: &[u32], room: &mut [u32])
+    requires { (plan_form part.now.d.now ≡ true) × (0 < part.now.body.stages) × Clear room.old }
+    ensures { take 32768 room.new ≡ filled 32768 (bit_puts part.now.d.now part.now.p old.now new.now (slots_of part.now.d.now)) }
 {
-    let slots = 32 * body.lanes;
-    fill_planned(d, p, body, &mut room[PIN_TABLE..]);
-    let mut j = 0;
-    while j < slots {
-        put_slot_bit(d, p, body, old, new, room, j);
-        j += 1;
+    let slots = 32 * part.body.lanes;
+    fill_planned(part, &mut room[PIN_TABLE..]);
+    for j in 0..slots {
+        put_slot_bit(part, old, new, room, j);
     }
 }
 
-// The body of part p.
-fn part_body(d: &[u8], p: usize) -> Body
+// Part p.
+fn part_of<'a>(d: &'a [u8], p: usize) -> Part<'a>
     requires { (plan_form d.now ≡ true) × (p < parts_of d.now) }
-    ensures { BodyOf d.now p result }
+    ensures { (result.d.now ≡ d.now) × (result.p ≡ p) }
 {
     let mut at = first_body(d);
-    let mut k = 0;
-    while k < p {
-        at = body_at(d, k, at).end;
-        k += 1;
+    for k in 0..p {
+        at = Part::at(d, k, at).body.end;
     }
-    body_at(d, p, at)
+    Part::at(d, p, at)
 }
 
 // The same of any part: one past the plan reads nothing.
@@ -111,6 +97,6 @@ pub fn fill_known(d: &[u8], p: usize, old: &[u32], new: &[u32], room: &mut [u32]
     ensures { take 32768 room.new ≡ filled 32768 (known_puts d.now p old.now new.now) }
 {
     if p < parts_of(d) {
-        fill_part(d, p, part_body(d, p), old, new, room);
+        fill_part(&part_of(d, p), old, new, room);
     }
 }

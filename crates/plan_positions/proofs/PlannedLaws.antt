@@ -11,9 +11,10 @@ use borrow.Author.Tests.{eq-eqb, ne_eqb, eqb-true, eqb-false}
 use lib.Dec.{ltb, eqb}
 use lib.ListN.{length, get_or, take, drop, replicate, take-append-drop, length-append, length-drop}
 use lib.Seq.{sets, sets-eq, length-take-le, take_at, drop_at, get_or-append-add, get_or-drop}
-use Rattle.pinmap.specs.declared.Found.{Found}
-use Rattle.pinmap.specs.declared.Found.TheVariants.{Value, Missing}
-use Rattle.pinmap.specs.PinMap.{look, look_answer}
+use Rattle.std.specs.Prelude.{Some, None}
+use Rattle.std.specs.declared.option.Option as opt
+use Rattle.words.specs.Found.{item_of}
+use Rattle.pinmap.specs.PinMap.{look}
 use Rattle.plan_record.specs.declared.bodies.Body.{Body}
 use Rattle.plan_record.specs.Record.{slots_of, parts_before, parts_of, level_at}
 use Rattle.words.specs.Pins.{empty}
@@ -21,8 +22,6 @@ use Rattle.plan_record.specs.Body.{BodyOf}
 use Rattle.words.specs.Tests.{all_below, some_below}
 use Rattle.words.proofs.TestLaws.{not_both, all_at, some_at, not_at}
 use Rattle.plan_record.proofs.PlanFormLaws.{Formed, formed}
-use Rattle.words.specs.Found.{item_of}
-use Rattle.words.specs.declared.found.Item.TheVariants as item
 use Rattle.plan_blocks.specs.Blocks.{state_words}
 use Rattle.plan_rows.specs.Rows.{cell}
 use Rattle.plan_blocks.specs.TableFill.{Tallied}
@@ -98,16 +97,16 @@ module _ (d room : List ℕ) (state n : ℕ) (ready : TableSearchable d room sta
 
 -- pin x, whose entry the table has
 module _ (d room : List ℕ) (n x : ℕ) (held : WinnerHeld d room x) where
-  pub pin_value_lem : (f : Found) (w : ℕ) (r : Bool) → f ≡ look_answer (look (take 32768 room) x) → f ≡ Value w → r ≡ position_right_in d n (planned_by d w)
+  pub pin_value_lem : (f : opt.Option ℕ) (w : ℕ) (r : Bool) → f ≡ item_of (look (take 32768 room) x) → f ≡ Some w → r ≡ position_right_in d n (planned_by d w)
       → r ≡ position_right_in d n (planned_by d (winner d x))
   pin_value_lem f w r a v e =
-      let k : Value w ≡ Value (winner d x) = sym v ∙ (a ∙ ap look_answer held.found) in
+      let k : Some w ≡ Some (winner d x) = sym v ∙ (a ∙ ap item_of held.found) in
       let g : w ≡ winner d x = cc in
       e ∙ ap (λ (y : ℕ). position_right_in d n (planned_by d y)) g
 
-  pub pin_missing : (f : Found) → f ≡ look_answer (look (take 32768 room) x) → f ≡ Missing → ⊥
+  pub pin_missing : (f : opt.Option ℕ) → f ≡ item_of (look (take 32768 room) x) → f ≡ None → ⊥
   pin_missing f a v =
-      let k : Missing ≡ Value (winner d x) = sym v ∙ (a ∙ ap look_answer held.found) in
+      let k : None ≡ Some (winner d x) = sym v ∙ (a ∙ ap item_of held.found) in
       let z : ◌≡◌ {A = ℕ} 0 1 = cc in
       omega arith
 
@@ -144,7 +143,7 @@ module _ (d : List ℕ) (p : ℕ) (b : Body) (room : List ℕ) (state n : ℕ) (
             let k : a.at < length list = omega (arith, a.inside, ap length is) in
             sym (slot_by j (get_or list a.at 0) true x (λ z. eqb-false _ _ e (sym x ∙ z)) (sym (all_at (listed_pin_right d n list) (length list) a.at right k)))
 
-    pub list_fine : all_below (listed_pin_right d n list) (length list) ≡ true → item.Fine ≡ item_of (bad_slot d p)
+    pub list_fine : all_below (listed_pin_right d n list) (length list) ≡ true → None ≡ item_of (bad_slot d p)
     list_fine right = ap item_of (go (bad_slot d p) refl)
       where
         go : (o : Option ℕ) → bad_slot d p ≡ o → none ≡ o

@@ -8,9 +8,9 @@ use Prim.Native.Nat.{ℕ, zero, suc, ◌+◌, ◌*◌, ◌^◌, ◌≤◌, ◌<�
 use native.Mathlib.Omega.{arith}
 use lib.Dec.{eqb}
 use lib.ListN.{length, length-append}
-use Rattle.pinmap.specs.PinMap.{look, look_answer}
-use Rattle.pinmap.specs.declared.Found.{Found}
-use Rattle.pinmap.specs.declared.Found.TheVariants.{Value, Missing}
+use Rattle.pinmap.specs.PinMap.{look}
+use Rattle.std.specs.Prelude.{unwrap_or}
+use Rattle.words.specs.Found.{item_of}
 use Rattle.plan_record.specs.Record.{level_at}
 use Rattle.words.specs.Pins.{empty}
 use Rattle.plan_winners.specs.Planned.{Planned, in_layout, in_positions, planned}
@@ -34,21 +34,9 @@ module _ (d : List ℕ) (w : ℕ) (e : EntryOf d w) (x : code.Planned) (by : pla
 
 -- ---- what a look into the table of pins tells
 
-pub value_or_zero : (o : Option ℕ) (r : Found) (w : ℕ) → r ≡ look_answer o → r ≡ Value w → w ≡ or_zero o
-value_or_zero none r w e h =
-    let q : Missing ≡ Value w = sym e ∙ h in
-    let z : ◌≡◌ {A = ℕ} 0 1 = cc in
-    absurd (omega arith)
-value_or_zero (some v) r w e h =
-    let q : Value v ≡ Value w = sym e ∙ h in
-    cc
-
-pub missing_zero : (o : Option ℕ) (r : Found) → r ≡ look_answer o → r ≡ Missing → 0 ≡ or_zero o
-missing_zero none r e h = refl
-missing_zero (some v) r e h =
-    let q : Value v ≡ Missing = sym e ∙ h in
-    let z : ◌≡◌ {A = ℕ} 0 1 = cc in
-    absurd (omega arith)
+pub looked_or_zero : (o : Option ℕ) → unwrap_or (item_of o) 0 ≡ or_zero o
+looked_or_zero none = refl
+looked_or_zero (some v) = refl
 
 -- ---- the bit of a pin with a winner
 

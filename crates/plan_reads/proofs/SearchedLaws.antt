@@ -12,14 +12,17 @@ use lib.ListN.{length, get_or}
 use Rattle.reads.specs.ReadSet.{pairs_of}
 use Rattle.reads.specs.Search.{Lane, lanes_found, size_found, lanes_of, size_of, longest}
 use Rattle.words.specs.Answer.{good, refused}
+use Rattle.std.specs.Prelude.{Ok, Err}
+use Rattle.std.specs.declared.result.Result.{Result}
 use Rattle.words.specs.declared.refusals.Refusal.{Refusal}
 use Rattle.reads.specs.SetAnswer.{Packed, packed}
 use Rattle.reads.proofs.SearchLaws.{win_none}
-use Rattle.reads.proofs.SetAnswerLaws.{packed_placed, found_packed, Sound, placed_sound}
+use Rattle.reads.proofs.SetAnswerLaws.{placed_lanes, packed_placed, found_packed, Sound, placed_sound}
 use Rattle.reads_try.proofs.SetPairLaws.{pairs_length}
 use Rattle.reads_try.specs.TableLanes.{lanes_at}
-use Rattle.rounds.specs.Rounds.{SetSearchable, Solvable}
-use Rattle.rounds.proofs.RoundsAnswerLaws.{searchable, is_read, Win}
+use Rattle.rounds.specs.declared.Placed.{Placed}
+use Rattle.rounds.specs.Rounds.{rounds_of, searched_of, table_after, SetSearchable, Solvable}
+use Rattle.rounds.proofs.RoundsAnswerLaws.{searchable, is_read, Win, win_of, won_is, won_small}
 use Rattle.pinmap.specs.PinMap.{look}
 use Rattle.plan_record.specs.Record.{slots_of, level_at}
 use Rattle.words.proofs.TestLaws.{some_at}
@@ -30,11 +33,13 @@ use Rattle.plan_winners.specs.Planned.{planned}
 use Rattle.plan_winners.specs.Winners.{winner, planned_by, winner_puts}
 use Rattle.plan_positions.specs.Places.{planned_table}
 use Rattle.plan_winners.proofs.WinnerLaws.{winners_look, planned_winner, by_none, renewals_length}
-use Rattle.plan_reads.specs.declared.searched.Reads.TheVariants.{Refused, Rounds}
 use Rattle.plan_reads.specs.ReadsReady.{AllPlanned, AllWon, SetInForm}
-use Rattle.plan_reads.specs.PartReadAnswers.{reads_of}
 
 -- ---- the outcome
+
+size_of_lem : (n : ℕ) (ws : List ℕ) (x : Packed) → packed n (pairs_of ws) ≡ good x → size_of n (pairs_of ws) ≡ x.size
+unfolding size_found
+size_of_lem n ws x e = ap size_found (packed_placed n (pairs_of ws) x e).1
 
 module _ {ws : List ℕ} {t K S n : ℕ} (f : SetInForm ws) (s : Solvable t K S n) (fits : (x : ℕ) → get_or ws x 0 < 2 ^ 32) where
   pub in_search : SetSearchable ws t K S n
@@ -67,15 +72,20 @@ module _ {ws : List ℕ} {t K S n : ℕ} (f : SetInForm ws) (s : Solvable t K S 
     pub won_few : r ≤ 32
     won_few = omega (arith, rounds_are, (won_sound w.lanes w.found).rounds.1)
 
-    pub won_reads : (k : ℕ) → size_of n (pairs_of ws) ≡ k → Rounds r k ≡ reads_of (packed n (pairs_of ws))
-    won_reads k size_is = rw (won_packed w.lanes w.found) (ap₂ Rounds rounds_are (sym size_is))
+    pub won_reads : (k : ℕ) → size_of n (pairs_of ws) ≡ k → Ok (record { rounds = r; size = k }) ≡ rounds_of (packed n (pairs_of ws))
+    won_reads k size_is =
+        let placed : ℕ → ℕ → Placed = λ a b. record { rounds = a; size = b } in
+        rw (won_packed w.lanes w.found) (ap₂ (λ a b. Ok (placed a b)) rounds_are (sym size_is))
 
--- the size that is told, and the refusal
-pub size_of_lem : (n : ℕ) (ws : List ℕ) (x : Packed) → packed n (pairs_of ws) ≡ good x → size_of n (pairs_of ws) ≡ x.size
-unfolding size_found
-size_of_lem n ws x e = ap size_found (packed_placed n (pairs_of ws) x e).1
+  -- the size that is told, and the table with its lanes
+  pub searched_win : (table : List ℕ) (r : Result ℕ Refusal) (k : ℕ) → r ≡ searched_of (packed n (pairs_of ws)) → r ≡ Ok k
+      → table ≡ table_after n (lanes_of n (pairs_of ws)) → length table ≡ t → Win ws table n × (size_of n (pairs_of ws) ≡ k) × (k ≤ 8192)
+  searched_win table r k told e after long =
+      let (x, is, size) = won_is _ k (sym told ∙ e) in
+      (win_of in_search x.lanes table (placed_lanes n (pairs_of ws) x is) after (long ∙ s.room), size_of_lem n ws x is ∙ size, omega (arith, won_small in_search x is, size))
 
-pub lost_reads : (n : ℕ) (ws : List ℕ) (q : Refusal) → packed n (pairs_of ws) ≡ refused q → Refused q ≡ reads_of (packed n (pairs_of ws))
+-- the refusal
+pub lost_reads : (n : ℕ) (ws : List ℕ) (q : Refusal) → packed n (pairs_of ws) ≡ refused q → Err q ≡ rounds_of (packed n (pairs_of ws))
 lost_reads n ws q e = rw e
 
 -- ---- the table of pins

@@ -1,76 +1,68 @@
 -- What the answers of the code stand for.
 -- Assumes nothing.
-use Rattle.std.specs.Prelude.{◌≡◌, Bool, true, false, List, ℕ, eqb}
+use Rattle.std.specs.Prelude.{◌≡◌, ⊤, Some, None, Ok, Err, true, false, List, ℕ, eqb}
+use Rattle.std.specs.declared.option.Option as code
+use Rattle.std.specs.declared.result.Result.{Result}
 use Rattle.std.proofs.Math.Option.{Option, none, some}
 use Rattle.reads.specs.Search.{longest}
-use Rattle.words.specs.Answer.{Answer, good, refused}
-use Rattle.reads.specs.SetAnswer.{Packed}
+use Rattle.words.specs.declared.found.Place as found
+use Rattle.words.specs.declared.refusals.Refusal.{Refusal}
+use Rattle.rounds.specs.declared.Placed.{Placed}
 use Rattle.plan_record.specs.Record.{plan_lanes, parts_of}
 use Rattle.words.specs.Tests.{Place}
 use Rattle.plan_rows.specs.Columns as col
 use Rattle.plan_blocks.specs.TableFill.{put_cells}
 use Rattle.plan_reads.specs.PartReads.{part_lanes, part_size, refused_reads}
-use Rattle.plan_reads.specs.declared.searched.Reads.{Reads}
-use Rattle.plan_reads.specs.declared.searched.Reads.TheVariants.{Refused, Rounds}
-use Rattle.plan_reads.specs.declared.check.Checked.{Checked}
-use Rattle.plan_reads.specs.declared.check.Checked.TheVariants as checked
+use Rattle.plan_reads.specs.declared.check.Unread.{Unread}
+use Rattle.plan_reads.specs.declared.check.Unread.TheVariants as unread
 use Rattle.plan_reads.specs.declared.check.Firsts.{Firsts}
 
--- the number of rounds and the piece size, or the refusal
-abbrev pub reads_of : Answer Packed → Reads
-reads_of (good x) = Rounds (longest x.lanes) x.size
-reads_of (refused q) = Refused q
+-- the item that a part is refused at with number k
+abbrev pub refused_at : ℕ → Result Placed Refusal → code.Option ℕ
+refused_at k (Ok x) = None
+refused_at k (Err q) = elim (eqb q.number k) [ true ↦ Some q.item | false ↦ None ]
 
-abbrev pub is_nothing : Reads → Bool
-is_nothing (Refused q) = eqb q.number 3
-is_nothing (Rounds n k) = false
+-- the first place refused with number k, after part p
+abbrev pub place_of : ℕ → code.Option ℕ → code.Option found.Place
+place_of p None = None
+place_of p (Some i) = Some (record { part = p; item = i })
 
--- the first part refused with number k, after part p, and its item: `parts` stands for none
-unfoldable pub earlier_of : ℕ → ℕ → ℕ → ℕ
-earlier_of first parts x = elim (eqb first parts) [ true ↦ x | false ↦ first ]
+abbrev pub first_after : ℕ → code.Option found.Place → ℕ → Result Placed Refusal → code.Option found.Place
+first_after k (Some x) p r = Some x
+first_after k None p r = place_of p (refused_at k r)
 
-unfoldable pub first_after : ℕ → ℕ → ℕ → ℕ → Reads → ℕ
-first_after k first parts p (Rounds n s) = first
-first_after k first parts p (Refused q) = elim (eqb q.number k) [ true ↦ earlier_of first parts p | false ↦ first ]
-
-unfoldable pub word_after : ℕ → ℕ → ℕ → Reads → ℕ
-word_after word first parts (Rounds n s) = word
-word_after word first parts (Refused q) = elim (eqb q.number 4) [ true ↦ elim (eqb first parts) [ true ↦ q.item | false ↦ word ] | false ↦ word ]
-
--- the four numbers after part p
-pub record FirstsAfter (f : Firsts) (parts p : ℕ) (r : Reads) (g : Firsts) : Type 0 where
-  pub bits : g.bits ≡ first_after 21 f.bits parts p r
-  pub wide : g.wide ≡ first_after 22 f.wide parts p r
-  pub stuck : g.stuck ≡ first_after 4 f.stuck parts p r
-  pub word : g.word ≡ word_after f.word f.stuck parts r
+-- the three of them after part p
+pub record FirstsAfter (f : Firsts) (p : ℕ) (r : Result Placed Refusal) (g : Firsts) : Type 0 where
+  pub bits : g.bits ≡ first_after 21 f.bits p r
+  pub wide : g.wide ≡ first_after 22 f.wide p r
+  pub stuck : g.stuck ≡ first_after 4 f.stuck p r
 
 -- what they tell: 21, then 22, then 4
-unfoldable pub firsts_told : Firsts → ℕ → Checked
-firsts_told f parts =
-    elim (eqb f.bits parts) [
-      | false ↦ checked.Bits f.bits
-      | true ↦ elim (eqb f.wide parts) [
-        | false ↦ checked.Wide f.wide
-        | true ↦ elim (eqb f.stuck parts) [ false ↦ checked.NoRoom f.stuck f.word | true ↦ checked.Fine ]
-      ]
-    ]
+abbrev pub reads_told : (bits wide four : code.Option found.Place) → Result ⊤ Unread
+reads_told (Some x) w f = Err (unread.Bits x.part)
+reads_told None (Some x) f = Err (unread.Wide x.part)
+reads_told None None (Some x) = Err (unread.NoRoom x.part x.item)
+reads_told None None None = Ok tt
+
+abbrev pub firsts_told : Firsts → Result ⊤ Unread
+firsts_told f = reads_told f.bits f.wide f.stuck
 
 -- 3 over the whole plan, then 21, 22, 4
-abbrev pub checked_of : (three bits wide four : Option Place) → Checked
-checked_of (some x) b w f = checked.Nothing x.part
-checked_of none (some x) w f = checked.Bits x.part
-checked_of none none (some x) f = checked.Wide x.part
-checked_of none none none (some x) = checked.NoRoom x.part x.item
-checked_of none none none none = checked.Fine
+abbrev pub checked_of : (three bits wide four : Option Place) → Result ⊤ Unread
+checked_of (some x) b w f = Err (unread.Nothing x.part)
+checked_of none (some x) w f = Err (unread.Bits x.part)
+checked_of none none (some x) f = Err (unread.Wide x.part)
+checked_of none none none (some x) = Err (unread.NoRoom x.part x.item)
+checked_of none none none none = Ok tt
 
 -- the number of rounds and the piece size as they are kept: 0 where there are none
-abbrev pub rounds_kept : Reads → ℕ
-rounds_kept (Refused q) = 0
-rounds_kept (Rounds n k) = n
+abbrev pub rounds_kept : Result Placed Refusal → ℕ
+rounds_kept (Ok x) = x.rounds
+rounds_kept (Err q) = 0
 
-abbrev pub size_kept : Reads → ℕ
-size_kept (Refused q) = 0
-size_kept (Rounds n k) = k
+abbrev pub size_kept : Result Placed Refusal → ℕ
+size_kept (Ok x) = x.size
+size_kept (Err q) = 0
 
 abbrev pub rounds_in : List ℕ → ℕ → ℕ
 rounds_in d p = longest (part_lanes (plan_lanes d) d p)

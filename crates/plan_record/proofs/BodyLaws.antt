@@ -6,7 +6,7 @@ use Prim.Native.Nat.{ℕ, ◌+◌, ◌*◌, ◌/◌, ◌≤◌}
 use native.Mathlib.Omega.{arith}
 use lib.ListN.{length}
 use Rattle.words.specs.Edition.{Known}
-use Rattle.words.proofs.EditionLaws.{known_least, known_most}
+use Rattle.words.proofs.EditionLaws.{known_least, known_most, known_passes}
 use Rattle.plan_record.specs.Record.{part_head_words, endpoint_words, plan_lanes, slot_words, table_words, word_at, head_base, stages_of, endpoints_of, locations_in, body_at, count_base, slot_base, location_base, table_base}
 use Rattle.plan_record.specs.Body.{BodyReady, BodyOf}
 use Rattle.plan_record.proofs.RecordLaws.{lanes_known, body_long, tables_end, stages_at_lem, endpoints_at}
@@ -57,7 +57,7 @@ module _ (d : List ℕ) (p at : ℕ) (ready : BodyReady d p at) where
           tables = omega (arith, ready.place, endpoints-is, stages-is, slots-are);
           end = end_is;
           laid = record {
-            edition = edition;
+            edition = known_passes k edition;
             some_lanes = known_least k edition;
             lanes = known_most k edition;
             stages = body_sizes.1;

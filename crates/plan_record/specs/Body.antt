@@ -2,7 +2,7 @@
 -- Assumes nothing.
 use Rattle.std.specs.Prelude.{◌≡◌, true, List, ℕ, ◌+◌, ◌*◌, ◌/◌, ◌≤◌, ◌<◌, length}
 use Rattle.plan_record.specs.declared.bodies.Body.{Body}
-use Rattle.words.specs.Edition.{Known}
+use Rattle.words.specs.Edition.{known}
 use Rattle.words.specs.Tests.{all_below}
 use Rattle.plan_record.specs.Record.{endpoint_words, plan_lanes, slot_words, table_words, majors_of, parts_of, stages_of, endpoints_of, locations_of, body_at, count_base, slot_base, location_base, table_base}
 use Rattle.plan_record.specs.Form.{part_head_form, length_form}
@@ -28,7 +28,7 @@ pub record BodyReady (d : List ℕ) (p at : ℕ) : Type 0 where
 
 -- the lists of a body follow one another, and end inside m words; the lanes are an edition's
 pub record Laid (m : ℕ) (b : Body) : Type 0 where
-  pub edition : Known b.lanes
+  pub edition : known b.lanes ≡ true
   pub some_lanes : 128 ≤ b.lanes
   pub lanes : b.lanes ≤ 256
   pub stages : b.stages ≤ 255

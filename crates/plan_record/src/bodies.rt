@@ -52,6 +52,15 @@ pub fn first_body(d: &[u8]) -> usize
     head_base(d) + PART_HEAD_WORDS * parts_of(d)
 }
 
+// A part of a plan: the plan's record, the part's number, and its body there.
+#[derive(Clone, Copy)]
+pub struct Part<'a> {
+    pub d: &'a [u8],
+    pub p: usize,
+    pub body: Body,
+    ghost of: { BodyOf d.now p body },
+}
+
 // The body of part p, which begins at word `at`.
 pub fn body_at(d: &[u8], p: usize, at: usize) -> Body
     requires { BodyReady d.now p at }
@@ -80,69 +89,81 @@ pub fn body_at(d: &[u8], p: usize, at: usize) -> Body
     }
 }
 
-// Word k of endpoint i: its kind, or a number of it. What it holds is asked of `endpoint_at`.
-pub fn endpoint_word(d: &[u8], p: usize, body: Body, i: usize, k: usize) -> u32
-    requires { BodyOf d.now p body × (i < body.endpoints) × (k < 3) }
-    ensures { result ≡ endpoint_word d.now p i k }
-{
-    word_in(d, body.at + ENDPOINT_WORDS * i + k)
-}
-
-// Endpoint i.
-pub fn endpoint_at(d: &[u8], p: usize, body: Body, i: usize) -> Endpoint
-    requires { BodyOf d.now p body × (i < body.endpoints) }
-    ensures { result ≡ endpoint_at d.now p i }
-{
-    let kind = endpoint_word(d, p, body, i, 0);
-    let x = endpoint_word(d, p, body, i, 1);
-    if kind == 0 {
-        return Endpoint::Output(PinIv(x));
+impl<'a> Part<'a> {
+    // Part p, whose body begins at word `at`.
+    pub fn at(d: &'a [u8], p: usize, at: usize) -> Part<'a>
+        requires { BodyReady d.now p at }
+        ensures { (result.d.now ≡ d.now) × (result.p ≡ p) × BodyOf d.now p result.body }
+    {
+        Part {
+            d,
+            p,
+            body: body_at(d, p, at),
+        }
     }
-    if kind == 1 {
-        return Endpoint::Staged(Pin(x));
+
+    // Word k of endpoint i: its kind, or a number of it. What it holds is asked of `endpoint`.
+    pub fn endpoint_word(&self, i: usize, k: usize) -> u32
+        requires { (i < self.now.body.endpoints) × (k < 3) }
+        ensures { result ≡ endpoint_word self.now.d.now self.now.p i k }
+    {
+        word_in(self.d, self.body.at + ENDPOINT_WORDS * i + k)
     }
-    if kind == 2 {
-        return Endpoint::Register(PinIv(x), PinIv(endpoint_word(d, p, body, i, 2)));
+
+    // Endpoint i.
+    pub fn endpoint(&self, i: usize) -> Endpoint
+        requires { i < self.now.body.endpoints }
+        ensures { result ≡ endpoint_at self.now.d.now self.now.p i }
+    {
+        let x = self.endpoint_word(i, 1);
+        match self.endpoint_word(i, 0) {
+            0 => Endpoint::Output(PinIv(x)),
+            1 => Endpoint::Staged(Pin(x)),
+            2 => Endpoint::Register(PinIv(x), PinIv(self.endpoint_word(i, 2))),
+            _ => Endpoint::Sram,
+        }
     }
-    Endpoint::Sram
-}
 
-// How many locations stage s has.
-pub fn stage_locations(d: &[u8], p: usize, body: Body, s: usize) -> u32
-    requires { BodyOf d.now p body × (s < body.stages) }
-    ensures { result ≡ stage_locations d.now p s }
-{
-    word_in(d, body.counts + s)
-}
+    // How many locations stage s has.
+    pub fn stage_locations(&self, s: usize) -> u32
+        requires { s < self.now.body.stages }
+        ensures { result ≡ stage_locations self.now.d.now self.now.p s }
+    {
+        word_in(self.d, self.body.counts + s)
+    }
 
-// The pin at index q of stage s.
-pub fn slot(d: &[u8], p: usize, body: Body, s: usize, q: usize) -> Pin
-    requires { BodyOf d.now p body × (s < body.stages) × (1 ≤ q) × (q < 64 * body.lanes) }
-    ensures { result.0 ≡ slot_at d.now p s q }
-{
-    Pin(word_in(d, body.slots + slot_words(body.lanes, s) + (q - 1)))
-}
+    // The pin at index q of stage s.
+    pub fn slot(&self, s: usize, q: usize) -> Pin
+        requires { (s < self.now.body.stages) × (1 ≤ q) × (q < 64 * self.now.body.lanes) }
+        ensures { result.0 ≡ slot_at self.now.d.now self.now.p s q }
+    {
+        Pin(word_in(
+            self.d,
+            self.body.slots + slot_words(self.body.lanes, s) + (q - 1),
+        ))
+    }
 
-// The pin of slot j of level 0 of stage s.
-pub fn level_slot(d: &[u8], p: usize, body: Body, s: usize, j: usize) -> Pin
-    requires { BodyOf d.now p body × (s < body.stages) × (j < 32 * body.lanes) }
-    ensures { result.0 ≡ level_at d.now p s j }
-{
-    slot(d, p, body, s, 32 * body.lanes + j)
-}
+    // The pin of slot j of level 0 of stage s.
+    pub fn level_slot(&self, s: usize, j: usize) -> Pin
+        requires { (s < self.now.body.stages) × (j < 32 * self.now.body.lanes) }
+        ensures { result.0 ≡ level_at self.now.d.now self.now.p s j }
+    {
+        self.slot(s, 32 * self.body.lanes + j)
+    }
 
-// Location l, counted over the stages.
-pub fn location(d: &[u8], p: usize, body: Body, l: usize) -> u32
-    requires { BodyOf d.now p body × (l < body.locations) }
-    ensures { result ≡ location_at d.now p l }
-{
-    word_in(d, body.places + l)
-}
+    // Location l, counted over the stages.
+    pub fn location(&self, l: usize) -> u32
+        requires { l < self.now.body.locations }
+        ensures { result ≡ location_at self.now.d.now self.now.p l }
+    {
+        word_in(self.d, self.body.places + l)
+    }
 
-// Word i of the two tables.
-pub fn table_word(d: &[u8], p: usize, body: Body, i: usize) -> u32
-    requires { BodyOf d.now p body × (i < table_words body.lanes) }
-    ensures { result ≡ table_at d.now p i }
-{
-    word_in(d, body.tables + i)
+    // Word i of the two tables.
+    pub fn table_word(&self, i: usize) -> u32
+        requires { i < table_words self.now.body.lanes }
+        ensures { result ≡ table_at self.now.d.now self.now.p i }
+    {
+        word_in(self.d, self.body.tables + i)
+    }
 }

@@ -3,7 +3,9 @@
 ghost use Rattle.std.specs.Prelude.{◌≡◌, ◌^◌, ◌<◌};
 ghost use Rattle.plan_record.specs.Record.{blocks_of, majors_of, gates_of, layout_of, positions_of, edition_of, count_at, gate_pin, gate_first, gate_second, layout_base, layout_pin, position_base, position_pin, position_state, position_staged, head_base, stages_of};
 
-use crate::places::{HEAD_WORDS, PART_HEAD_WORDS, POSITION_WORDS, gate_base, word_at};
+use crate::places::{
+    HEAD_WORDS, PART_HEAD_WORDS, POSITION_WORDS, gate_base, position_base, word_at,
+};
 use words::units::{Pin, PinIv, StatePosition};
 
 // How many blocks.
@@ -83,26 +85,42 @@ pub fn layout_pin(d: &[u8], base: usize, i: u32) -> Pin
     Pin(word_at(d, base + i as usize))
 }
 
-// The pin of entry i of the positions, which begin at word `base`; its place in the state; 1 where it is staged.
-pub fn position_pin(d: &[u8], base: usize, i: u32) -> Pin
-    requires { (base ≡ position_base d.now) × (base < 2 ^ 36) }
-    ensures { result.0 ≡ position_pin d.now i }
-{
-    Pin(word_at(d, base + POSITION_WORDS * (i as usize)))
+// The positions of a plan: its record, and the word where they begin.
+#[derive(Clone, Copy)]
+pub struct Positions<'a> {
+    pub d: &'a [u8],
+    base: usize,
+    ghost begins: { (base ≡ position_base d.now) × (base < 2 ^ 36) },
 }
 
-pub fn position_place(d: &[u8], base: usize, i: u32) -> StatePosition
-    requires { (base ≡ position_base d.now) × (base < 2 ^ 36) }
-    ensures { result.0 ≡ position_state d.now i }
-{
-    StatePosition(word_at(d, base + POSITION_WORDS * (i as usize) + 1))
-}
+impl<'a> Positions<'a> {
+    pub fn of(d: &'a [u8]) -> Positions<'a>
+        ensures { result.d.now ≡ d.now }
+    {
+        Positions {
+            d,
+            base: position_base(d),
+        }
+    }
 
-pub fn position_staged(d: &[u8], base: usize, i: u32) -> u32
-    requires { (base ≡ position_base d.now) × (base < 2 ^ 36) }
-    ensures { result ≡ position_staged d.now i }
-{
-    word_at(d, base + POSITION_WORDS * (i as usize) + 2)
+    // The pin of entry i; its place in the state; 1 where it is staged.
+    pub fn pin(&self, i: u32) -> Pin
+        ensures { result.0 ≡ position_pin self.now.d.now i }
+    {
+        Pin(word_at(self.d, self.base + POSITION_WORDS * (i as usize)))
+    }
+
+    pub fn place(&self, i: u32) -> StatePosition
+        ensures { result.0 ≡ position_state self.now.d.now i }
+    {
+        StatePosition(word_at(self.d, self.base + POSITION_WORDS * (i as usize) + 1))
+    }
+
+    pub fn staged(&self, i: u32) -> u32
+        ensures { result ≡ position_staged self.now.d.now i }
+    {
+        word_at(self.d, self.base + POSITION_WORDS * (i as usize) + 2)
+    }
 }
 
 // How many boomerang stages part p has, of a record whose part heads begin at word `base`.

@@ -1,5 +1,5 @@
 // The words of a plan record, and where its lists begin.
-ghost use Rattle.std.specs.Prelude.{◌≡◌, ◌+◌, ◌*◌, ◌/◌, ◌^◌, ◌≤◌, ◌<◌, length};
+ghost use Rattle.std.specs.Prelude.{◌≡◌, ◌*◌, ◌/◌, ◌^◌, ◌≤◌, ◌<◌, length};
 ghost use Rattle.plan_record.specs.Record.{plan_lanes, slot_words, word_at, parts_before, gate_base, layout_base, position_base, head_base, locations_in, body_words};
 ghost use Rattle.plan_record.specs.Form.{plan_room_words};
 
@@ -17,19 +17,12 @@ pub const ENDPOINT_WORDS: usize = 4;
 // What a lane has of the two tables: 32 entries in each, and one word in each of five lists.
 pub const TABLE_WORDS: usize = 69;
 
-// Four bytes as one number, the lowest first.
-fn word_of(a: u8, b: u8, c: u8, e: u8) -> u32
-    ensures { result ≡ a + 256 * b + 65536 * c + 16777216 * e }
-{
-    a as u32 + 256 * (b as u32) + 65536 * (c as u32) + 16777216 * (e as u32)
-}
-
 // Word i of a record that has it.
 pub fn word_in(d: &[u8], i: usize) -> u32
     requires { i < length d.now / 4 }
     ensures { result ≡ word_at d.now i }
 {
-    word_of(d[4 * i], d[4 * i + 1], d[4 * i + 2], d[4 * i + 3])
+    u32::from_le_bytes([d[4 * i], d[4 * i + 1], d[4 * i + 2], d[4 * i + 3]])
 }
 
 // Word i of a record; 0 where the record does not have the whole of it.
@@ -44,9 +37,10 @@ pub fn lanes_of(d: &[u8]) -> usize
     ensures { (result ≡ plan_lanes d.now) × (128 ≤ result) × (result ≤ 256) }
 {
     if word_at(d, 5) == SmallEdition::LANES as u32 {
-        return SmallEdition::LANES;
+        SmallEdition::LANES
+    } else {
+        Edition::LANES
     }
-    Edition::LANES
 }
 
 // The slots of s stages: of a stage those from index 1 on, its positions and level 0.
@@ -101,12 +95,7 @@ pub fn parts_before(d: &[u8], s: usize) -> usize
 pub fn room_words(d: &[u8]) -> usize
     ensures { (result ≡ plan_room_words d.now) × (result < 2 ^ 44) }
 {
-    let majors = word_at(d, 1) as usize;
-    if majors < 64 {
-        65536 + 16 * parts_before(d, majors)
-    } else {
-        65536 + 16 * parts_before(d, 64)
-    }
+    65536 + 16 * parts_before(d, (word_at(d, 1) as usize).min(64))
 }
 
 // How many locations a body at word b has, with m stages and e endpoints.

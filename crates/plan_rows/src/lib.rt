@@ -6,6 +6,7 @@ ghost use Rattle.words.specs.Sum.{sum_to};
 ghost use Rattle.plan_rows.specs.Rows.{cell, cell_at, CellIn, ColumnIn};
 
 // What each word of a part's row is for.
+// stays: numbers and no enum, since a cell stands so many words behind where its row begins: each use would turn the enum into that number.
 #[derive(Drop)]
 pub struct Column;
 
@@ -58,10 +59,8 @@ pub fn column_sum(room: &[u32], parts: usize, k: usize) -> u64
     ensures { (result ≡ sum_to (λ p. cell_at room.now p k) parts) × (result < 2 ^ 50) }
 {
     let mut sum: u64 = 0;
-    let mut p = 0;
-    while p < parts {
+    for p in 0..parts {
         sum += cell_at(room, p, k) as u64;
-        p += 1;
     }
     sum
 }

@@ -1,13 +1,15 @@
 -- The items of a part in the code's terms: a sweep asks for the answer from item i on, and a stage's items are a run of them.
 -- Assumes nothing.
-use mathlib.Core.Path.{◌≡◌, refl, sym, ap, ap₂, ◌∙◌}
+use mathlib.Core.Path.{◌≡◌, refl, sym, ap, ap₂, subst, ◌∙◌}
 use mathlib.Core.Bool.{Bool, true, false}
 use mathlib.Core.List.{List}
 use mathlib.Core.Option.{Option, none, some}
 use Prim.Native.Nat.{ℕ, zero, suc, ◌+◌, ◌*◌, ◌-◌, ◌%◌, ◌≤◌, ◌<◌}
 use native.Mathlib.Nat.{mul-le-mul_left}
 use native.Mathlib.Omega.{arith}
+use Rattle.words.specs.Edition.{Known}
 use Rattle.words.proofs.EditionLaws.{runs_in}
+use Rattle.plan_record.proofs.RecordLaws.{lanes_known}
 use Rattle.plan_record.specs.Record.{plan_lanes, slots_of, majors_of, parts_of, stages_of, body_at}
 use Rattle.plan_record.specs.Form.{plan_form}
 use Rattle.plan_record.specs.Body.{BodyReady, BodyOf}
@@ -15,7 +17,7 @@ use Rattle.plan_record.specs.declared.bodies.Body.{Body}
 use Rattle.words.specs.Tests.{first_from}
 use Rattle.words.proofs.TestLaws.{some_not_none, first_here, first_on, first_none, none_not}
 use Rattle.plan_record.proofs.PlanFormLaws.{formed, body_ready}
-use Rattle.plan_slots.specs.Slots.{bad_item, over_items}
+use Rattle.plan_slots.specs.Slots.{TopOf, bad_item, over_items}
 use Rattle.plan_slots.proofs.SlotLaws.{over_item}
 
 -- ---- a run of items, then the others
@@ -151,3 +153,7 @@ module _ (d : List ℕ) (form : plan_form d ≡ true) where
 -- the item of a body's stage, as the code works it out
 pub item_is : (d : List ℕ) (p : ℕ) (b : Body) (s x r : ℕ) → BodyOf d p b → r ≡ 32 * b.lanes * s + x → r ≡ slots_of d * s + x
 item_is d p b s x r h e = e ∙ ap (λ (n : ℕ). 32 * n * s + x) h.lanes
+
+-- a position's slots a and b are inside the part's stage
+pub power_inside : (d : List ℕ) (p : ℕ) (b : Body) (q m : ℕ) → BodyOf d p b → TopOf q m → q < 32 * b.lanes → q + 2 * m < 64 * b.lanes
+power_inside d p b q m h power l = power.inside b.lanes (subst Known (sym h.lanes) (lanes_known d)) l

@@ -8,16 +8,14 @@ use Prim.Native.Nat.{ℕ, zero, suc, ◌+◌, ◌*◌, ◌/◌, ◌^◌, ◌≤�
 use native.Mathlib.Omega.{arith}
 use borrow.Author.Tests.{lt-ltb, le-leb, lt-leb, eq-eqb, ne_eqb}
 use lib.Dec.{leb, ltb, eqb}
-use Rattle.pinmap.specs.PinMap.{look, look_answer}
-use Rattle.pinmap.specs.declared.Found.{Found}
-use Rattle.pinmap.specs.declared.Found.TheVariants as Known-as
+use Rattle.pinmap.specs.PinMap.{look}
+use Rattle.std.specs.Prelude.{Some, None, is_some}
+use Rattle.std.specs.declared.option.Option as code
+use Rattle.words.specs.Found.{item_of}
+use Rattle.words.proofs.FoundLaws.{item_some, item_none}
 use Rattle.plan_record.specs.Record.{slot_at, level_at, gate_first, gate_second}
 use Rattle.words.specs.Pins.{is_pin, empty}
 use Rattle.plan_gates.specs.Gates.{gate_of}
-use Rattle.plan_gates.specs.GateValues.{gate_found_of}
-use Rattle.plan_gates.specs.declared.GateFound.{GateFound}
-use Rattle.plan_gates.specs.declared.GateFound.TheVariants as found_as
-use Rattle.plan_gates.proofs.ValueCodeLaws.{known_some, known_none, gate_there, gate_missing}
 use Rattle.plan_slots.specs.Slots.{top, slot_a, slot_b, feeds, pin_right, slot_right, nine_right, stands_in, ten_right, reads_pin, eleven_right, highest}
 use Rattle.plan_slots.specs.Puts.{position_puts, read_puts, FilledWith, found_if, found_at}
 use Rattle.plan_slots.proofs.PutLaws.{stands_highest, positions_found, reads_found}
@@ -33,18 +31,18 @@ pub pin_other : (x : ℕ) → (x ≡ empty → ⊥) → leb x (2 ^ 30) ≡ pin_r
 unfolding pin_right
 pin_other x h = sym (rw (ne_eqb x empty h))
 
-module _ (d : List ℕ) (x a b : ℕ) (r : GateFound) (found : r ≡ gate_found_of (gate_of d x)) where
-  pub fed_missing : r ≡ found_as.Missing → false ≡ feeds d (gate_of d x) a b
+module _ (d : List ℕ) (x a b : ℕ) (r : code.Option ℕ) (found : r ≡ item_of (gate_of d x)) where
+  pub fed_missing : r ≡ None → false ≡ feeds d (gate_of d x) a b
   unfolding feeds
-  fed_missing e = sym (ap (λ (o : Option ℕ). feeds d o a b) (gate_missing (gate_of d x) r found e))
+  fed_missing e = sym (ap (λ (o : Option ℕ). feeds d o a b) (item_none (gate_of d x) (sym found ∙ e)))
 
-  module _ (g f s u v : ℕ) (gate : r ≡ found_as.Gate g) (first : f ≡ gate_first d g) (second : s ≡ gate_second d g) (half : u ≡ f / 2) (half2 : v ≡ s / 2) where
+  module _ (g f s u v : ℕ) (gate : r ≡ Some g) (first : f ≡ gate_first d g) (second : s ≡ gate_second d g) (half : u ≡ f / 2) (half2 : v ≡ s / 2) where
     fed-by-gate : feeds d (gate_of d x) a b ≡ (eqb u a && eqb v b)
     unfolding feeds
     fed-by-gate =
         let i : gate_first d g / 2 ≡ u = sym (half ∙ ap (λ (y : ℕ). y / 2) first) in
         let j : gate_second d g / 2 ≡ v = sym (half2 ∙ ap (λ (y : ℕ). y / 2) second) in
-        ap (λ (o : Option ℕ). feeds d o a b) (gate_there (gate_of d x) r g found gate) ∙ ap₂ (λ (y : ℕ) (z : ℕ). eqb y a && eqb z b) i j
+        ap (λ (o : Option ℕ). feeds d o a b) (item_some (gate_of d x) g (sym found ∙ gate)) ∙ ap₂ (λ (y : ℕ) (z : ℕ). eqb y a && eqb z b) i j
 
     pub fed_first : u ≡ a → eqb v b ≡ feeds d (gate_of d x) a b
     fed_first e = sym (fed-by-gate ∙ ap (λ (t : Bool). t && eqb v b) (eq-eqb u a e))
@@ -104,7 +102,7 @@ module _ (d t : List ℕ) (p s j x : ℕ) (pin : x ≡ level_at d p (s + 1) j) w
   pub ten_empty : x ≡ empty → true ≡ ten_right d p (s + 1) j
   ten_empty h = sym (ten_later d p s j ∙ ap (λ (b : Bool). b || stands_in d p s (level_at d p (s + 1) j)) (eq-eqb _ _ (sym pin ∙ h)))
 
-  module _ (there : x ≡ empty → ⊥) (held : FilledWith (position_puts d p s) t) (r : Found) (found : r ≡ look_answer (look t x)) where
+  module _ (there : x ≡ empty → ⊥) (held : FilledWith (position_puts d p s) t) (r : code.Option ℕ) (found : r ≡ item_of (look t x)) where
     by-table : ten_right d p (s + 1) j ≡ ltb 0 (highest d p s x)
     by-table =
         ten_later d p s j
@@ -114,19 +112,12 @@ module _ (d t : List ℕ) (p s j x : ℕ) (pin : x ≡ level_at d p (s + 1) j) w
     at-highest : look t x ≡ found_at (highest d p s x)
     at-highest = positions_found d t p s x held there
 
-    pub ten_there : (v : ℕ) → r ≡ Known-as.Value v → true ≡ ten_right d p (s + 1) j
-    ten_there v e = go (highest d p s x) refl
+    pub ten_looked : is_some r ≡ ten_right d p (s + 1) j
+    ten_looked = go (highest d p s x) refl
       where
-        go : (h : ℕ) → highest d p s x ≡ h → true ≡ ten_right d p (s + 1) j
-        go zero k = let z : ◌≡◌ {A = ℕ} 0 1 = cc (known_some (look t x) r v found e, at-highest, ap found_at k) in absurd (omega arith)
-        go (suc h) k = sym (by-table ∙ lt-ltb 0 (highest d p s x) (omega arith))
-
-    pub ten_absent : r ≡ Known-as.Missing → false ≡ ten_right d p (s + 1) j
-    ten_absent e = go (highest d p s x) refl
-      where
-        go : (h : ℕ) → highest d p s x ≡ h → false ≡ ten_right d p (s + 1) j
-        go zero k = sym (by-table ∙ ap (ltb 0) k)
-        go (suc h) k = let z : ◌≡◌ {A = ℕ} 0 1 = cc (known_none (look t x) r found e, at-highest, ap found_at k) in absurd (omega arith)
+        go : (h : ℕ) → highest d p s x ≡ h → is_some r ≡ ten_right d p (s + 1) j
+        go zero k = ap is_some (found ∙ ap item_of (at-highest ∙ ap found_at k)) ∙ sym (by-table ∙ ap (ltb 0) k)
+        go (suc h) k = ap is_some (found ∙ ap item_of (at-highest ∙ ap found_at k)) ∙ sym (by-table ∙ lt-ltb 0 (highest d p s x) (omega arith))
 
 -- ---- 11
 
@@ -152,7 +143,7 @@ module _ (d t : List ℕ) (p s q x : ℕ) (some-q : 0 < q) (pin : x ≡ slot_at 
         let e : slot_at d p s q ≡ slot_a d p s q = sym pin ∙ (h ∙ carried_from) in
         sym (rw (not-zero, ne_eqb (slot_at d p s q) empty (λ k. there (pin ∙ k)), eq-eqb (slot_at d p s q) (slot_a d p s q) e))
 
-    module _ (differs : x ≡ a → ⊥) (held : FilledWith (read_puts d p) t) (r : Found) (found : r ≡ look_answer (look t x)) where
+    module _ (differs : x ≡ a → ⊥) (held : FilledWith (read_puts d p) t) (r : code.Option ℕ) (found : r ≡ item_of (look t x)) where
       by-reads : eleven_right d p s q ≡ not (reads_pin d p x)
       unfolding eleven_right
       by-reads =
@@ -160,20 +151,11 @@ module _ (d t : List ℕ) (p s q x : ℕ) (some-q : 0 < q) (pin : x ≡ slot_at 
           rw (not-zero, ne_eqb (slot_at d p s q) empty (λ k. there (pin ∙ k)), ne_eqb (slot_at d p s q) (slot_a d p s q) e)
           (ap (λ (y : ℕ). not (reads_pin d p y)) (sym pin))
 
-      pub eleven_read : (v : ℕ) → r ≡ Known-as.Value v → false ≡ eleven_right d p s q
-      eleven_read v e = go (reads_pin d p x) refl
+      pub eleven_looked : (b : Bool) → is_some r ≡ not b → b ≡ eleven_right d p s q
+      eleven_looked b e = go b (reads_pin d p x) refl (sym e ∙ ap is_some (found ∙ ap item_of (reads_found d t p x held there)))
         where
-          go : (b : Bool) → reads_pin d p x ≡ b → false ≡ eleven_right d p s q
-          go true k = sym (by-reads ∙ ap not k)
-          go false k =
-              let z : ◌≡◌ {A = ℕ} 0 1 = cc (known_some (look t x) r v found e, reads_found d t p x held there, ap (λ (b : Bool). found_if b 0) k) in
-              absurd (omega arith)
-
-      pub eleven_unread : r ≡ Known-as.Missing → true ≡ eleven_right d p s q
-      eleven_unread e = go (reads_pin d p x) refl
-        where
-          go : (b : Bool) → reads_pin d p x ≡ b → true ≡ eleven_right d p s q
-          go true k =
-              let z : ◌≡◌ {A = ℕ} 0 1 = cc (known_none (look t x) r found e, reads_found d t p x held there, ap (λ (b : Bool). found_if b 0) k) in
-              absurd (omega arith)
-          go false k = sym (by-reads ∙ ap not k)
+          go : (b h : Bool) → reads_pin d p x ≡ h → not b ≡ is_some (item_of (found_if h 0)) → b ≡ eleven_right d p s q
+          go true true k e = cc
+          go false true k e = sym (by-reads ∙ ap not k)
+          go true false k e = sym (by-reads ∙ ap not k)
+          go false false k e = cc

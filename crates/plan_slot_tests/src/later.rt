@@ -1,102 +1,87 @@
 // Refusal 10: a pin of a later stage that is absent from the stage before.
 ghost use Rattle.std.specs.Prelude.{◌≡◌, true, ◌+◌, ◌*◌, ◌≤◌, ◌<◌, length, replicate};
 ghost use Rattle.plan_record.specs.Record.{plan_lanes, slots_of};
-ghost use Rattle.plan_record.specs.Body.{BodyOf};
 ghost use Rattle.plan_record.specs.Form.{plan_form};
 ghost use Rattle.words.specs.Tests.{first_from};
 ghost use Rattle.plan_slots.specs.Slots.{ten_right, bad_item, over_items};
 ghost use Rattle.plan_slots.specs.Puts.{position_puts, FilledWith};
 ghost use Rattle.words.specs.Found.{item_of, lowest_of};
 
-use crate::runs::{eighth_empty, item_at};
-use pinmap::Found;
-use plan_record::bodies::{Body, body_at, first_body, level_slot, parts_of};
+use crate::runs::{eighth_empty, first_wrong};
+use plan_record::bodies::{Part, first_body, parts_of};
 use plan_slots::tables::fill_positions;
 use words::clear::clear;
-use words::found::{Item, Lowest};
+use words::found::Place;
 use words::units::EMPTY_PIN;
 
 // Whether slot j of level 0 of stage s + 1 is empty or its pin stands in stage s, whose positions the table holds.
-fn ten_right(d: &[u8], p: usize, body: Body, s: usize, j: usize, table: &[u32]) -> bool
-    requires { BodyOf d.now p body × (s + 1 < body.stages) × (j < 32 * body.lanes) × FilledWith (position_puts d.now p s) table.now }
-    ensures { result ≡ ten_right d.now p (s + 1) j }
+fn ten_right(part: &Part, s: usize, j: usize, table: &[u32]) -> bool
+    requires { (s + 1 < part.now.body.stages) × (j < 32 * part.now.body.lanes) × FilledWith (position_puts part.now.d.now part.now.p s) table.now }
+    ensures { result ≡ ten_right part.now.d.now part.now.p (s + 1) j }
 {
-    let pin = level_slot(d, p, body, s + 1, j);
+    let pin = part.level_slot(s + 1, j);
     if pin.0 == EMPTY_PIN {
         return true;
     }
-    match pinmap::look_up(table, pin) {
-        Found::Value(_) => true,
-        Found::Missing => false,
-    }
+    pinmap::look_up(table, pin).is_some()
 }
 
 // The lowest item of stage s + 1 that is refused.
-fn ten_items(d: &[u8], p: usize, body: Body, s: usize, table: &[u32]) -> Item
-    requires { BodyOf d.now p body × (s + 1 < body.stages) × FilledWith (position_puts d.now p s) table.now }
-    ensures { result ≡ item_of (first_from (over_items (plan_lanes d.now) (ten_right d.now p)) (slots_of d.now) (slots_of d.now * (s + 1))) }
+fn ten_items(part: &Part, s: usize, table: &[u32]) -> Option<usize>
+    requires { (s + 1 < part.now.body.stages) × FilledWith (position_puts part.now.d.now part.now.p s) table.now }
+    ensures { result ≡ item_of (first_from (over_items (plan_lanes part.now.d.now) (ten_right part.now.d.now part.now.p)) (slots_of part.now.d.now) (slots_of part.now.d.now * (s + 1))) }
 {
-    let slots = 32 * body.lanes;
-    let mut j = 0;
-    while j < slots {
-        if eighth_empty(d, p, body, s + 1, slots + j) {
-            j += 8;
-        } else if ten_right(d, p, body, s, j, table) {
-            j += 1;
-        } else {
-            return Item::At(item_at(body, s + 1, j));
-        }
-    }
-    Item::Fine
+    first_wrong(
+        part.body,
+        s + 1,
+        0,
+        |j| eighth_empty(part, s + 1, 32 * part.body.lanes + j),
+        |j| ten_right(part, s, j, table),
+    )
 }
 
 // The same with a lent table.
-fn ten_stage(d: &[u8], p: usize, body: Body, s: usize, table: &mut [u32]) -> Item
-    requires { BodyOf d.now p body × (s + 1 < body.stages) × (32768 ≤ length table.old) }
-    ensures { result ≡ item_of (first_from (over_items (plan_lanes d.now) (ten_right d.now p)) (slots_of d.now) (slots_of d.now * (s + 1))) }
+fn ten_stage(part: &Part, s: usize, table: &mut [u32]) -> Option<usize>
+    requires { (s + 1 < part.now.body.stages) × (32768 ≤ length table.old) }
+    ensures { result ≡ item_of (first_from (over_items (plan_lanes part.now.d.now) (ten_right part.now.d.now part.now.p)) (slots_of part.now.d.now) (slots_of part.now.d.now * (s + 1))) }
 {
-    fill_positions(d, p, body, s, table);
-    ten_items(d, p, body, s, table)
+    fill_positions(part, s, table);
+    ten_items(part, s, table)
 }
 
 // The lowest item of part p that is refused: stage 0 has none.
-fn ten_part(d: &[u8], p: usize, body: Body, table: &mut [u32]) -> Item
-    requires { BodyOf d.now p body × (0 < body.stages) × (32768 ≤ length table.old) }
-    ensures { result ≡ item_of (bad_item d.now (ten_right d.now p) p) }
+// stays: `first_of_stages` takes an Fn, and a closure that fills the table for each stage changes what it captures.
+fn ten_part(part: &Part, table: &mut [u32]) -> Option<usize>
+    requires { (0 < part.now.body.stages) × (32768 ≤ length table.old) }
+    ensures { result ≡ item_of (bad_item part.now.d.now (ten_right part.now.d.now part.now.p) part.now.p) }
 {
-    let mut s = 0;
-    while s + 1 < body.stages {
-        match ten_stage(d, p, body, s, table) {
-            Item::Fine => s += 1,
-            Item::At(i) => return Item::At(i),
+    for s in 0..part.body.stages - 1 {
+        if let Some(i) = ten_stage(part, s, table) {
+            return Some(i);
         }
     }
-    Item::Fine
+    None
 }
 
 // The lowest place of the plan that is refused. The room is left with the last stage's positions.
-fn ten_parts(d: &[u8], room: &mut [u32]) -> Lowest
+// stays: this pass over the parts, with its like of 9 and 11, is shorter than a trait of three tests that say what each asks of plan and room.
+fn ten_parts(d: &[u8], room: &mut [u32]) -> Option<Place>
     requires { (plan_form d.now ≡ true) × (32768 ≤ length room.old) }
     ensures { result ≡ lowest_of (Rattle.plan_slots.specs.Slots.refusal10 d.now) }
 {
-    let parts = parts_of(d);
     let mut at = first_body(d);
-    let mut p = 0;
-    while p < parts {
-        let body = body_at(d, p, at);
-        match ten_part(d, p, body, room) {
-            Item::Fine => {
-                at = body.end;
-                p += 1;
-            }
-            Item::At(i) => return Lowest::At(p, i),
+    for p in 0..parts_of(d) {
+        let part = Part::at(d, p, at);
+        if let Some(item) = ten_part(&part, room) {
+            return Some(Place { part: p, item });
         }
+        at = part.body.end;
     }
-    Lowest::Fine
+    None
 }
 
 // Refusal 10 over the whole plan.
-pub fn refusal10(d: &[u8], room: &mut [u32]) -> Lowest
+pub fn refusal10(d: &[u8], room: &mut [u32]) -> Option<Place>
     requires { (plan_form d.now ≡ true) × (32768 ≤ length room.old) }
     ensures value { result ≡ lowest_of (Rattle.plan_slots.specs.Slots.refusal10 d.now) }
     ensures room_after { room.new ≡ replicate (length room.old) 0 }

@@ -17,9 +17,10 @@ use Rattle.words.proofs.ListLaws.{sets_append}
 use Rattle.words.proofs.BitLaws.{lt_or_ge}
 use Rattle.pinmap.specs.declared.Slot.{Slot}
 use Rattle.pinmap.specs.declared.Slot.TheVariants.{Free, Taken, Nowhere}
-use Rattle.pinmap.specs.declared.Found.{Found}
-use Rattle.pinmap.specs.declared.Found.TheVariants.{Value, Missing}
-use Rattle.pinmap.specs.PinMap.{value_at, slot_of, look_at, look, look_answer, put_at, put_in, after_puts}
+use Rattle.std.specs.Prelude.{Some, None}
+use Rattle.std.specs.declared.option.Option as code
+use Rattle.words.specs.Found.{item_of}
+use Rattle.pinmap.specs.PinMap.{value_at, slot_of, look_at, look, put_at, put_in, after_puts}
 use Rattle.words.specs.Pins.{empty}
 use Rattle.words.specs.Tests.{some_below}
 use Rattle.plan_record.specs.Record.{slots_of}
@@ -145,11 +146,11 @@ module _ (pin : ℕ → ℕ) where
 
 -- ---- what a look tells of a slot
 
-value_seen : (b : Bool) (v : ℕ) → Value v ≡ look_answer (found_if b 0) → b ≡ true
+value_seen : (b : Bool) (v : ℕ) → Some v ≡ item_of (found_if b 0) → b ≡ true
 value_seen true v e = refl
 value_seen false v e = let z : ◌≡◌ {A = ℕ} 0 1 = cc in absurd (omega arith)
 
-missing_new : (b : Bool) → Missing ≡ look_answer (found_if b 0) → b ≡ false
+missing_new : (b : Bool) → None ≡ item_of (found_if b 0) → b ≡ false
 missing_new true e = let z : ◌≡◌ {A = ℕ} 0 1 = cc in absurd (omega arith)
 missing_new false e = refl
 
@@ -166,7 +167,7 @@ module _ (d : List ℕ) (p : ℕ) (t l : List ℕ) (n j x : ℕ) (read : x ≡ r
       let new : new_pin (read_pin d p) j ≡ [] = new-empty (read_pin d p) j k in
       rw new (omega arith, (held_none t _ 0 k, (refl, λ i h. absurd (omega arith))))
 
-  module _ (full : x ≡ empty → ⊥) (below : j < slots_of d) (f : FilledWith (held_below (read_pin d p) (λ k. 0) j) t) (r : Found) (told : r ≡ look_answer (look t x)) where
+  module _ (full : x ≡ empty → ⊥) (below : j < slots_of d) (f : FilledWith (held_below (read_pin d p) (λ k. 0) j) t) (r : code.Option ℕ) (told : r ≡ item_of (look t x)) where
     abbrev seen : Bool
     seen = some_below (λ i. eqb (read_pin d p i) (read_pin d p j)) j
 
@@ -179,17 +180,17 @@ module _ (d : List ℕ) (p : ℕ) (t l : List ℕ) (n j x : ℕ) (read : x ≡ r
         ∙ ((filled_holds (length t) (held_below (read_pin d p) (λ k. 0) j) (omega (arith, f.wide, held_length (read_pin d p) (λ k. 0) j, lanes_range d))).finds (read_pin d p j)
         ∙ last_put_found (read_pin d p) 0 j (read_pin d p j) there)
 
-    tells : r ≡ look_answer (found_if seen 0)
-    tells = told ∙ (ap (λ (y : ℕ). look_answer (look t y)) read ∙ ap look_answer slot-look)
+    tells : r ≡ item_of (found_if seen 0)
+    tells = told ∙ (ap (λ (y : ℕ). item_of (look t y)) read ∙ ap item_of slot-look)
 
-    pub slot_again : (v : ℕ) → r ≡ Value v → Listed d p t l n j t l n
+    pub slot_again : (v : ℕ) → r ≡ Some v → Listed d p t l n j t l n
     slot_again v e =
         let s : seen ≡ true = value_seen seen v (sym e ∙ tells) in
         let new : new_pin (read_pin d p) j ≡ [] = new-seen (read_pin d p) j there s in
         let same : put_in t (read_pin d p j) 0 ≡ t = put_same t _ 0 (slot-look ∙ ap (λ (b : Bool). found_if b 0) s) in
         rw new (omega arith, (sym same ∙ held_one t _ 0 there, (refl, λ i h. absurd (omega arith))))
 
-    pub slot_new : (t' l' : List ℕ) → r ≡ Missing → t' ≡ put_in t x 0 → l' ≡ set l n x → x < 2 ^ 32 → Listed d p t l n j t' l' (n + 1)
+    pub slot_new : (t' l' : List ℕ) → r ≡ None → t' ≡ put_in t x 0 → l' ≡ set l n x → x < 2 ^ 32 → Listed d p t l n j t' l' (n + 1)
     slot_new t' l' e a b small =
         let s : seen ≡ false = missing_new seen (sym e ∙ tells) in
         let new : new_pin (read_pin d p) j ≡ x ∷ [] = new-one (read_pin d p) j there s ∙ ap (λ (y : ℕ). y ∷ []) (sym read) in

@@ -3,7 +3,7 @@ ghost use Rattle.std.specs.Prelude.{◌≡◌, ◌+◌, length, replicate};
 ghost use Rattle.words.specs.Sum.{sum_to};
 ghost use Rattle.plan_blocks.specs.TableFill.{StagePlaceable, StageSummable, StageReady, FirstsOf, takes, ranked_rows, started_rows, stage_rows};
 
-use crate::starts::{add_words, make_starts, rank_parts, take_starts};
+use crate::starts::{Share, add_words, make_starts, rank_parts, take_starts};
 use plan_blocks::costs::give_blocks;
 use plan_blocks::firsts::Firsts;
 use plan_blocks::totals::SRAM_WORDS;
@@ -28,24 +28,22 @@ fn place_stage(d: &[u8], room: &mut [u32], blocks: usize, base: usize, count: us
     rank_stage(d, room, &mut counts[..blocks], base, count);
 }
 
-// Word `to` of their rows: where each part starts, from `first` on, if it takes `scale` times word `from` of its row. What comes after the last.
+// Where each part's share starts, from `first` on. What comes after the last.
 fn starts_in(
     room: &mut [u32],
     sums: &mut [u32],
     base: usize,
     count: usize,
-    from: usize,
-    scale: u32,
-    to: usize,
+    share: Share,
     first: u32,
 ) -> u32
-    requires { StageSummable room.old (length sums.old) base count from scale to first × (sums.old ≡ replicate (length sums.old) 0) }
-    ensures value { result ≡ first + sum_to (takes room.old base from scale) count }
-    ensures room_after { room.new ≡ started_rows room.old base count from scale to first }
+    requires { StageSummable room.old (length sums.old) base count share.from share.scale share.to first × (sums.old ≡ replicate (length sums.old) 0) }
+    ensures value { result ≡ first + sum_to (takes room.old base share.from share.scale) count }
+    ensures room_after { room.new ≡ started_rows room.old base count share.from share.scale share.to first }
 {
-    add_words(room, sums, base, count, from, scale);
+    add_words(room, sums, base, count, share);
     let next = make_starts(sums, first);
-    take_starts(room, sums, base, count, from, scale, to);
+    take_starts(room, sums, base, count, share);
     next
 }
 
@@ -55,26 +53,15 @@ fn give_starts(
     blocks: usize,
     base: usize,
     count: usize,
-    from: usize,
-    scale: u32,
-    to: usize,
+    share: Share,
     first: u32,
 ) -> u32
-    requires { StageSummable room.old blocks base count from scale to first }
-    ensures value { result ≡ first + sum_to (takes room.old base from scale) count }
-    ensures room_after { room.new ≡ started_rows room.old base count from scale to first }
+    requires { StageSummable room.old blocks base count share.from share.scale share.to first }
+    ensures value { result ≡ first + sum_to (takes room.old base share.from share.scale) count }
+    ensures room_after { room.new ≡ started_rows room.old base count share.from share.scale share.to first }
 {
     let mut sums = [0u32; 1024];
-    starts_in(
-        room,
-        &mut sums[..blocks],
-        base,
-        count,
-        from,
-        scale,
-        to,
-        first,
-    )
+    starts_in(room, &mut sums[..blocks], base, count, share, first)
 }
 
 // The rows of a major stage of `count` parts.
@@ -91,26 +78,18 @@ pub fn allot_stage(
     ensures room_after { room.new ≡ stage_rows d.now room.old s }
 {
     place_stage(d, room, blocks, at.parts, count);
-    let state = give_starts(
-        room,
-        blocks,
-        at.parts,
-        count,
-        Column::WRITE_OUTS,
-        1,
-        Column::STATE_START,
-        at.state,
-    );
-    let sram = give_starts(
-        room,
-        blocks,
-        at.parts,
-        count,
-        Column::SRAMS,
-        SRAM_WORDS,
-        Column::SRAM_START,
-        at.sram,
-    );
+    let words = Share {
+        from: Column::WRITE_OUTS,
+        scale: 1,
+        to: Column::STATE_START,
+    };
+    let state = give_starts(room, blocks, at.parts, count, words, at.state);
+    let srams = Share {
+        from: Column::SRAMS,
+        scale: SRAM_WORDS,
+        to: Column::SRAM_START,
+    };
+    let sram = give_starts(room, blocks, at.parts, count, srams, at.sram);
     Firsts {
         parts: at.parts + count,
         state,

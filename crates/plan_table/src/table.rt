@@ -11,7 +11,7 @@ use crate::stages::allot_stage;
 use plan_blocks::firsts::Firsts;
 use plan_blocks::totals::{sram_words, state_words};
 use plan_counts::counts_of;
-use plan_record::bodies::{Body, body_at, first_body, parts_of};
+use plan_record::bodies::{Part, first_body, parts_of};
 use plan_record::numbers::{blocks_of, count_at, layout_of, majors_of};
 use plan_rows::{Column, put_cell};
 
@@ -36,13 +36,13 @@ fn put_counts(room: &mut [u32], p: usize, srams: u32, duplicates: u32, words: us
 }
 
 // What the record says of part p. What keys and scratch hold afterwards is left open, here and below.
-fn fill_row(d: &[u8], room: &mut [u32], p: usize, body: Body, keys: &mut [u64], scratch: &mut [u64])
-    requires { RowReady d.now room.old p body × (8192 ≤ length keys.old) × (8192 ≤ length scratch.old) }
-    ensures { room.new ≡ count_row d.now room.old p }
+fn fill_row(part: &Part, room: &mut [u32], keys: &mut [u64], scratch: &mut [u64])
+    requires { RowReady part.now.d.now room.old part.now.p part.now.body × (8192 ≤ length keys.old) × (8192 ≤ length scratch.old) }
+    ensures { room.new ≡ count_row part.now.d.now room.old part.now.p }
 {
-    let counts = counts_of(d, p, body, keys, scratch);
-    put_body(room, p, body.at, body.locations);
-    put_counts(room, p, counts.srams, counts.duplicates, counts.words);
+    let counts = counts_of(part, keys, scratch);
+    put_body(room, part.p, part.body.at, part.body.locations);
+    put_counts(room, part.p, counts.srams, counts.duplicates, counts.words);
 }
 
 // The same of every part.
@@ -50,14 +50,11 @@ pub fn fill_counts(d: &[u8], room: &mut [u32], keys: &mut [u64], scratch: &mut [
     requires { TableFillable d.now room.old × (8192 ≤ length keys.old) × (8192 ≤ length scratch.old) }
     ensures { room.new ≡ counted_room d.now room.old }
 {
-    let parts = parts_of(d);
     let mut at = first_body(d);
-    let mut p = 0;
-    while p < parts {
-        let body = body_at(d, p, at);
-        fill_row(d, room, p, body, keys, scratch);
-        at = body.end;
-        p += 1;
+    for p in 0..parts_of(d) {
+        let part = Part::at(d, p, at);
+        fill_row(&part, room, keys, scratch);
+        at = part.body.end;
     }
 }
 
@@ -66,10 +63,7 @@ pub fn totals_fit(d: &[u8], room: &[u32]) -> bool
     requires { Tallied d.now room.now }
     ensures { result ≡ totals_fit d.now }
 {
-    if state_words(d, room) > 134217728 {
-        return false;
-    }
-    sram_words(d, room) <= 4294967295
+    state_words(d, room) <= 134217728 && sram_words(d, room) <= 4294967295
 }
 
 // The blocks, ranks and starts of every part.
@@ -78,16 +72,13 @@ pub fn allot_stages(d: &[u8], room: &mut [u32])
     ensures { room.new ≡ allot_rows d.now room.old (majors_of d.now) }
 {
     let blocks = blocks_of(d) as usize;
-    let majors = majors_of(d) as usize;
     let mut at = Firsts {
         parts: 0,
         state: (layout_of(d) + 31) / 32,
         sram: 0,
     };
-    let mut s = 0;
-    while s < majors {
+    for s in 0..majors_of(d) as usize {
         at = allot_stage(d, room, s, blocks, count_at(d, s) as usize, at);
-        s += 1;
     }
 }
 

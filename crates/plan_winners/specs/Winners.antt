@@ -4,7 +4,7 @@
 use Rattle.std.specs.Prelude.{◌≡◌, Bool, true, false, not, List, [], ◌∷◌, ◌++◌, ℕ, zero, suc, ◌+◌, ◌-◌, ◌^◌, ◌≤◌, ◌<◌, ltb, eqb}
 use Rattle.std.proofs.Math.Option.{Option, none, some}
 use Rattle.pinmap.specs.PinMap.{Entry, entry}
-use Rattle.plan_record.specs.Record.{layout_of, layout_base, layout_pin, positions_of, position_base, position_pin, position_state, position_staged}
+use Rattle.plan_record.specs.Record.{layout_of, layout_base, layout_pin, positions_of, position_pin, position_state, position_staged}
 use Rattle.words.specs.Pins.{empty}
 use Rattle.plan_winners.specs.declared.Planned as code
 use Rattle.plan_winners.specs.Planned.{Planned, in_layout, in_positions}
@@ -81,10 +81,8 @@ pub record LayoutAt (d : List ℕ) (base i : ℕ) : Type 0 where
   pub inside : base < 2 ^ 35
   pub within : i < 2 ^ 20
 
--- the positions begin at word `base` and are numbered from `first` on; entry i is there, and has a pin
-pub record PositionAt (d : List ℕ) (base first i : ℕ) : Type 0 where
-  pub begins : base ≡ position_base d
-  pub inside : base < 2 ^ 36
+-- the positions are numbered from `first` on; entry i is there, and has a pin
+pub record PositionAt (d : List ℕ) (first i : ℕ) : Type 0 where
   pub after : first ≡ 1 + layout_of d
   pub few : first ≤ 1 + 2 ^ 20
   pub within : i < 2 ^ 20

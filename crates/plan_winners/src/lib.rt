@@ -8,13 +8,12 @@ ghost use Rattle.plan_record.specs.Record.{layout_of, layout_pin, positions_of, 
 ghost use Rattle.plan_winners.specs.Winners.{planned_by, position_of, layout_number, position_number, chosen_put, in_use, has_mark, layout_puts, marked_puts, winner_puts, ListsInRange, LayoutAt, PositionAt};
 
 use pinmap::put_where_there;
-use plan_record::numbers::{
-    layout_of, layout_pin, position_pin, position_place, position_staged, positions_of,
-};
-use plan_record::places::{layout_base, position_base};
+use plan_record::numbers::{Positions, layout_of, layout_pin, positions_of};
+use plan_record::places::layout_base;
 use words::units::{EMPTY_PIN, StatePosition};
 
 // A planned position: 1 where it is staged, and the bit's place in the state.
+// stays: `staged` is the record's word, compared as it is read and counted into the bit that is asked: a bool would be turned back into it.
 #[derive(Drop)]
 pub struct Planned {
     pub staged: u32,
@@ -33,11 +32,11 @@ pub fn planned_by(d: &[u8], w: u32) -> Planned
             place: StatePosition(w - 1),
         };
     }
-    let base = position_base(d);
+    let positions = Positions::of(d);
     let i = w - 1 - layout;
     Planned {
-        staged: position_staged(d, base, i),
-        place: position_place(d, base, i),
+        staged: positions.staged(i),
+        place: positions.place(i),
     }
 }
 
@@ -47,19 +46,18 @@ fn renew_layout(d: &[u8], table: &mut [u32], base: usize, i: u32)
     ensures { table.new ≡ after_renewals table.old (chosen_put (in_use d.now i) (layout_pin d.now i) (layout_number i)) }
 {
     let pin = layout_pin(d, base, i);
-    if pin.0 == EMPTY_PIN {
-        return;
+    if pin.0 != EMPTY_PIN {
+        put_where_there(table, pin, 1 + i);
     }
-    put_where_there(table, pin, 1 + i);
 }
 
-// Puts entry i of the positions, which begin at word `base` and are numbered from `first` on, for its pin, if its mark is `mark`.
-fn renew_position(d: &[u8], table: &mut [u32], base: usize, first: u32, mark: u32, i: u32)
-    requires { PositionAt d.now base first i }
-    ensures { table.new ≡ after_renewals table.old (chosen_put (has_mark d.now mark i) (position_pin d.now i) (position_number d.now i)) }
+// Puts entry i of the positions, which are numbered from `first` on, for its pin, if its mark is `mark`.
+fn renew_position(positions: &Positions, table: &mut [u32], first: u32, mark: u32, i: u32)
+    requires { PositionAt positions.now.d.now first i }
+    ensures { table.new ≡ after_renewals table.old (chosen_put (has_mark positions.now.d.now mark i) (position_pin positions.now.d.now i) (position_number positions.now.d.now i)) }
 {
-    if position_staged(d, base, i) == mark {
-        put_where_there(table, position_pin(d, base, i), first + i);
+    if positions.staged(i) == mark {
+        put_where_there(table, positions.pin(i), first + i);
     }
 }
 
@@ -69,8 +67,7 @@ fn fill_layout(d: &[u8], table: &mut [u32])
     ensures { table.new ≡ after_renewals table.old (layout_puts d.now (layout_of d.now)) }
 {
     let base = layout_base(d);
-    let count = layout_of(d);
-    for i in 0..count {
+    for i in 0..layout_of(d) {
         renew_layout(d, table, base, i);
     }
 }
@@ -80,11 +77,10 @@ fn fill_marked(d: &[u8], table: &mut [u32], mark: u32)
     requires { ListsInRange d.now }
     ensures { table.new ≡ after_renewals table.old (marked_puts d.now mark (positions_of d.now)) }
 {
-    let base = position_base(d);
+    let positions = Positions::of(d);
     let first = 1 + layout_of(d);
-    let count = positions_of(d);
-    for i in 0..count {
-        renew_position(d, table, base, first, mark, i);
+    for i in 0..positions_of(d) {
+        renew_position(&positions, table, first, mark, i);
     }
 }
 

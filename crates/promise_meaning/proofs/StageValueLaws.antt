@@ -14,8 +14,8 @@ use Rattle.plan_record.specs.Record.{plan_lanes, slots_of, stages_of, slot_at, l
 use Rattle.plan_record.proofs.RecordLaws.{lanes_known}
 use Rattle.words.specs.Pins.{empty}
 use Rattle.plan_gates.specs.Gates.{gate_bit, value}
-use Rattle.plan_gates.specs.GateValues.{gate_found_of}
-use Rattle.plan_gates.specs.declared.GateFound.TheVariants as found_as
+use Rattle.std.specs.Prelude.{Some}
+use Rattle.words.specs.Found.{item_of}
 use Rattle.plan_gates.proofs.GateLaws.{first_falls, second_falls}
 use Rattle.plan_gates.proofs.ValueLaws.{value_gate}
 use Rattle.plan_slots.specs.Slots.{top, slot_a, slot_b}
@@ -96,7 +96,7 @@ module _ (d : List ℕ) (p : ℕ) (s : PassedPart d p) (last state sram : ℕ) (
             let first_pin_lem : u / 2 ≡ empty → ⊥ = λ z. omega arith in
             let second_pin_lem : v / 2 ≡ empty → ⊥ = λ z. omega arith in
             let masks : MaskBits d p k q (record { xora = u % 2; xorb = v % 2; orb = 0 }) =
-            bits_gate d p k q x refl (λ z. omega arith) full (top q) (slot_a d p k q) refl refl differs (found_as.Gate g) (ap gate_found_of (sym f.found)) g u v (u % 2) (v % 2) refl refl refl refl refl in
+            bits_gate d p k q x refl (λ z. omega arith) full (top q) (slot_a d p k q) refl refl differs (Some g) (ap item_of (sym f.found)) g u v (u % 2) (v % 2) refl refl refl refl refl in
             let inp = input d p old new in
             let one : a ≡ value d inp (u / 2) =
             first (λ z. first_pin_lem (f.first ∙ z)) ∙ ap (pin_value d p old new) (sym f.first) ∙ pin_value_lem d p old new (u / 2) first_pin_lem in

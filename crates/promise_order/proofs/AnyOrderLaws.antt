@@ -1,5 +1,5 @@
 -- The blocks of one major stage: whatever the order of their turns, once none is left each part's words hold what the part puts there (`stored`), and
--- words that no part stores stay (`untouched`). So all orders leave one new state (`in-any-order`).
+-- words that no part stores stay (`untouched`). So all orders leave one new state (`in_any_order`).
 -- Assumes nothing.
 use mathlib.Core.Path.{◌≡◌, refl, sym, ap, ◌∙◌, subst}
 use mathlib.Core.List.{List, [], ◌∷◌}

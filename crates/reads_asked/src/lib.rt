@@ -19,7 +19,7 @@ fn ask_next(set: &mut [u32], n: usize, q: AskedBit) -> usize
     let mask = 1u32 << q.bit();
     if 2 <= n {
         if set[n - 2] == word {
-            set[n - 1] = set[n - 1] | mask;
+            set[n - 1] |= mask;
             return n;
         }
     }
@@ -35,10 +35,8 @@ fn gather(keys: &[u64], set: &mut [u32]) -> usize
     ensures set_after { set.new ≡ sets set.old 0 (read_set_of keys.now) }
 {
     let mut n = 0;
-    let mut i = 0;
-    while i < keys.len() {
-        n = ask_next(set, n, AskedBit(keys[i]));
-        i += 1;
+    for key in keys {
+        n = ask_next(set, n, AskedBit(*key));
     }
     n
 }
@@ -51,6 +49,6 @@ pub fn read_set(keys: &mut [u64], scratch: &mut [u64], set: &mut [u32]) -> usize
     ensures scratch_after { scratch.new ≡ replicate (length keys.old) 0 ++ drop (length keys.old) scratch.old }
     ensures set_after { set.new ≡ sets set.old 0 (read_set_of keys.old) }
 {
-    sort::sort(keys, scratch);
+    sort::sort(keys, scratch).unwrap();
     gather(keys, set)
 }

@@ -60,9 +60,6 @@ module _ (ws t : List ℕ) (j : ℕ) (row : LaneRowIn ws t j) (bases₀ : List �
       let n : lane_of ws (drop r (row_at t j)) ≡ [] = rw e (lane_past ws (row_at t j)) in
       record { within = omega arith; few = omega (arith, short); stored = rw n; counted = rw n (omega arith) }
 
-  pub walked_length : (bases : List ℕ) (r sum : ℕ) → Walked ws t j bases₀ bases r sum → length bases ≡ length bases₀
-  walked_length bases r sum w = ap length w.stored ∙ lane_length (32 * j) (lane_of ws (drop r (row_at t j))) bases₀
-
   module _ (bases : List ℕ) (r sum e : ℕ) (w : Walked ws t j bases₀ bases r sum) (some_left : 0 < r) (is : e ≡ get_or t (32 * j + (r - 1)) 0) where
     at_row : e ≡ get_or (row_at t j) (r - 1) 0
     at_row = is ∙ sym (row_at_word t j (r - 1) (omega (arith, w.within, short)))
@@ -92,11 +89,6 @@ module _ (ws t : List ℕ) (j : ℕ) (row : LaneRowIn ws t j) (bases₀ : List �
           stored = eb ∙ (rw (pair, next, ← at_row, store_lane, ← w.stored, ← w.counted));
           counted = omega (arith, w.counted, rw (next, ← at_row) at bits);
         }
-
-  pub walked_all : (bases : List ℕ) (r sum : ℕ) → Walked ws t j bases₀ bases r sum → r ≤ 0 → bases ≡ store_lane (32 * j) (lane_of ws (row_at t j)) bases₀
-  walked_all bases r sum w h =
-      let z : r ≡ 0 = omega arith in
-      rw z at w.stored
 
 -- ---- all lanes
 

@@ -17,11 +17,9 @@ fn lane_bases(set: &[u32], table: &[u32], j: usize, bases: &mut [u64])
     ensures { bases.new ≡ store_lane (32 * j) (lane_of set.now (row_at table.now j)) bases.old }
 {
     let held = reads_try::lane_load(set, table, j);
-    let mut r = held.pairs;
     let first = LocalPosition::of(j as u32, 0);
     let mut sum = first.0;
-    while 0 < r {
-        r -= 1;
+    for r in (0..held.pairs).rev() {
         let e = table[32 * j + r] as usize;
         bases[e - 1] = sum as u64;
         sum += words::bits::count(set[2 * e - 1]);
@@ -33,10 +31,8 @@ pub fn fill_bases(set: &[u32], table: &[u32], lanes: usize, bases: &mut [u64])
     requires { TableReadable set.now table.now lanes × (length set.now / 2 ≤ length bases.old) }
     ensures { bases.new ≡ store_lanes 0 (lanes_at set.now table.now lanes) bases.old }
 {
-    let mut j = 0;
-    while j < lanes {
+    for j in 0..lanes {
         lane_bases(set, table, j, bases);
-        j += 1;
     }
 }
 
@@ -45,17 +41,7 @@ pub fn find_pair(set: &[u32], w: u32) -> usize
     requires { Monotone (pair_word_of set.now) (length set.now / 2) }
     ensures { (result ≡ least (pair_word_of set.now) (length set.now / 2) w) × (result ≤ length set.now / 2) }
 {
-    let mut low = 0;
-    let mut high = set.len() / 2;
-    while low < high {
-        let middle = low + (high - low) / 2;
-        if set[2 * middle] < w {
-            low = middle + 1;
-        } else {
-            high = middle;
-        }
-    }
-    low
+    sort::partition_point(set.len() / 2, |p| set[2 * p] < w)
 }
 
 // The local position of bit q, which the set asks for.

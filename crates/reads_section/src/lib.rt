@@ -10,33 +10,29 @@ ghost use Rattle.reads_try.specs.TableLanes.{lanes_at};
 ghost use Rattle.words.specs.Found.{item_of};
 ghost use Rattle.reads_section.specs.Readout.{entry_word, TableReadable, Writable};
 
-use words::found::Item;
-
 // The first pair that breaks the read-set form, if one does. A last half pair has no mask, and breaks it.
-pub fn check_form(set: &[u32]) -> Item
+pub fn check_form(set: &[u32]) -> Option<usize>
     ensures { result ≡ item_of (broken (pairs_of set.now)) }
 {
     let n = set.len() / 2;
-    let mut i = 0;
     let mut low = 0;
-    while i < n {
+    for i in 0..n {
         let w = set[2 * i];
         if w < low {
-            return Item::At(i);
+            return Some(i);
         }
         if w % 0x8000_0000 >= 0x0800_0000 {
-            return Item::At(i);
+            return Some(i);
         }
         if set[2 * i + 1] == 0 {
-            return Item::At(i);
+            return Some(i);
         }
         low = w + 1;
-        i += 1;
     }
     if set.len() % 2 == 1 {
-        return Item::At(n);
+        return Some(n);
     }
-    Item::Fine
+    None
 }
 
 // The number of rounds: the longest lane of the table.
@@ -45,13 +41,8 @@ pub fn longest_row(set: &[u32], room: &[u32], lanes: usize) -> usize
     ensures { result ≡ longest (lanes_at set.now room.now lanes) }
 {
     let mut best = 0;
-    let mut j = 0;
-    while j < lanes {
-        let held = reads_try::lane_load(set, room, j);
-        if best < held.pairs {
-            best = held.pairs;
-        }
-        j += 1;
+    for j in 0..lanes {
+        best = reads_try::lane_load(set, room, j).pairs.max(best);
     }
     best
 }
@@ -73,12 +64,10 @@ fn write_round(set: &[u32], room: &[u32], lanes: usize, r: usize, out: &mut [u32
     requires { TableReadable set.now room.now lanes × (r < 32) × (at + 2 * lanes ≤ length out.old) }
     ensures { out.new ≡ sets out.old at (round_words (lanes_at set.now room.now lanes) r) }
 {
-    let mut i = 0;
-    while i < lanes {
+    for i in 0..lanes {
         let e = room[32 * i + r];
         out[at + 2 * i] = entry_word(set, e, 0);
         out[at + 2 * i + 1] = entry_word(set, e, 1);
-        i += 1;
     }
 }
 
@@ -87,11 +76,7 @@ pub fn write_rounds(set: &[u32], room: &[u32], lanes: usize, rounds: usize, out:
     requires { Writable set.now room.now lanes rounds (length out.old) }
     ensures { out.new ≡ sets out.old 0 (rounds_from (lanes_at set.now room.now lanes) rounds 0) }
 {
-    let mut r = 0;
-    let mut at = 0;
-    while r < rounds {
-        write_round(set, room, lanes, r, out, at);
-        at += 2 * lanes;
-        r += 1;
+    for r in 0..rounds {
+        write_round(set, room, lanes, r, out, 2 * lanes * r);
     }
 }

@@ -4,7 +4,6 @@ use mathlib.Core.Path.{◌≡◌, refl, sym, ap, ◌∙◌}
 use mathlib.Core.Option.{Option, none, some}
 use mathlib.Core.List.{List, [], ◌∷◌, ◌++◌}
 use Prim.Native.Nat.{ℕ, ◌+◌, ◌*◌, ◌/◌, ◌%◌, min, ◌≤◌, ◌<◌}
-use native.Mathlib.Nat.{le_trans, mul-le-mul_left}
 use native.Mathlib.Numerals.{add-one}
 use native.Mathlib.Omega.{arith}
 use lib.ListN.{length, get_or, drop, replicate, length-append, drop_of_length-le, take-append-drop}
@@ -15,10 +14,10 @@ use Rattle.words.specs.Round.{next}
 use Rattle.reads.specs.Search.{Lane, first_room, push, Tried, stuck, try_from}
 use Rattle.words.proofs.RoundLaws.{next_lt}
 use Rattle.reads.proofs.SearchLaws.{room_found}
-use Rattle.reads_try.specs.declared.Ending.{Ending}
-use Rattle.reads_try.specs.declared.Ending.TheVariants.{All, Stuck}
-use Rattle.reads_try.specs.declared.Search.{Search}
-use Rattle.reads_try.specs.declared.Search.TheVariants.{Lane as LaneAt, Full}
+use Rattle.std.specs.Prelude.{⊤, Some, None, Ok, Err}
+use Rattle.std.specs.declared.option.Option as code
+use Rattle.std.specs.declared.result.Result.{Result}
+use Rattle.reads_try.specs.declared.Stuck.{Stuck}
 use Rattle.reads_try.specs.LaneTable.{table_of, used_of, held_of, piece_of, run_of}
 use Rattle.reads_try.specs.TableLanes.{pair_at, lanes_at, Each, Drawn, SoundLanes, LanesTabled, LanesLoaded}
 use Rattle.reads_try.specs.Tries.{lane_for, ending_of, tried_lanes, tried_of, PairPlaceable, TryReady}
@@ -76,7 +75,7 @@ pub record Held (ws : List ℕ) (n : ℕ) (rest : List ℕ) (goal : Tried) (run 
   pub ends : try_from n run (lanes_at ws room n) cur ≡ goal
 
 -- how a try ends
-abbrev pub Ended : Tried → List ℕ → Ending → (room used held : List ℕ) → Type 0
+abbrev pub Ended : Tried → List ℕ → Result ⊤ Stuck → (room used held : List ℕ) → Type 0
 Ended goal rest r room used held =
     (r ≡ ending_of goal) × ((room ≡ table_of (tried_lanes goal) ++ rest) × ((used ≡ used_of (tried_lanes goal)) × (held ≡ held_of (tried_lanes goal))))
 
@@ -95,24 +94,24 @@ module _ {ws : List ℕ} {n : ℕ} {rest : List ℕ} {goal : Tried} where
   held_held h = held_long h.loaded ∙ h.filled.kept.wide
 
   -- all is placed
-  pub held_all : {room used held : List ℕ} {cur : ℕ} → Held ws n rest goal [] room used held cur → Ended goal rest All room used held
+  pub held_all : {room used held : List ℕ} {cur : ℕ} → Held ws n rest goal [] room used held cur → Ended goal rest (Ok tt) room used held
   unfolding try_from
   held_all h = rw (← h.ends) (refl, (held_room h, (h.loaded.bits_are, h.loaded.pairs-are)))
 
   module _ {p : ℕ} {run : List Pair} {room used held : List ℕ} {cur : ℕ} (h : Held ws n rest goal (pair_at ws p ∷ run) room used held cur)
-      (r : Search) (room' used' held' : List ℕ) (placed : PairPlaced ws room n cur p r room' used' held') where
+      (r : code.Option ℕ) (room' used' held' : List ℕ) (placed : PairPlaced ws room n cur p r room' used' held') where
     -- the lane that is found takes the pair
-    pub held_step : Drawn ws (pair_at ws p) → (j : ℕ) → r ≡ LaneAt j → Held ws n rest goal run room' used' held' j
+    pub held_step : Drawn ws (pair_at ws p) → (j : ℕ) → r ≡ Some j → Held ws n rest goal run room' used' held' j
     unfolding try_from
     held_step d j f = go (lane_for ws room n cur p) refl
       where
         go : (o : Option ℕ) → lane_for ws room n cur p ≡ o → Held ws n rest goal run room' used' held' j
         go none e =
-            let q : Full ≡ LaneAt j = sym (rw e at placed.0) ∙ f in
+            let q : None ≡ Some j = sym (rw e at placed.0) ∙ f in
             let z : ◌≡◌ {A = ℕ} 0 1 = cc in
             absurd (omega arith)
         go (some i) e =
-            let q : LaneAt (next n i) ≡ LaneAt j = sym (rw e at placed.0) ∙ f in
+            let q : Some (next n i) ≡ Some j = sym (rw e at placed.0) ∙ f in
             let on : next n i ≡ j = cc in
             let x = room_found n n (lanes_at ws room n) (bits (pair_at ws p)) cur i h.lane e in
             let k = kept_push h.filled.kept i (pair_at ws p) x.0 x.1 d in
@@ -127,17 +126,17 @@ module _ {ws : List ℕ} {n : ℕ} {rest : List ℕ} {goal : Tried} where
             }
 
     -- no lane has room
-    pub held_stop : r ≡ Full → Ended goal rest (Stuck (get_or ws (2 * p) 0)) room' used' held'
+    pub held_stop : r ≡ None → Ended goal rest (Err (record { word = get_or ws (2 * p) 0 })) room' used' held'
     unfolding try_from
     held_stop f = go (lane_for ws room n cur p) refl
       where
-        go : (o : Option ℕ) → lane_for ws room n cur p ≡ o → Ended goal rest (Stuck (get_or ws (2 * p) 0)) room' used' held'
+        go : (o : Option ℕ) → lane_for ws room n cur p ≡ o → Ended goal rest (Err (record { word = get_or ws (2 * p) 0 })) room' used' held'
         go none e =
             let s : stuck (pair_at ws p) (lanes_at ws room n) ≡ goal = rw (e, try_from) at h.ends in
             let tabled = (rw e at placed.1.0) ∙ ap (λ (x : List ℕ). table_of (lanes_at ws room n) ++ x) h.rest_is in
             rw (← s) (refl, (tabled, (rw e at placed.1.1.0, rw e at placed.1.1.1)))
         go (some i) e =
-            let q : LaneAt (next n i) ≡ Full = sym (rw e at placed.0) ∙ f in
+            let q : Some (next n i) ≡ None = sym (rw e at placed.0) ∙ f in
             let z : ◌≡◌ {A = ℕ} 0 1 = cc in
             absurd (omega arith)
 
@@ -194,7 +193,7 @@ module _ {ws room₀ used₀ held₀ : List ℕ} {n k : ℕ} (ready : TryReady w
   -- a pair is placed, and the one after it comes next
   pub piece_step : (p₀ e : ℕ) (room used held : List ℕ) (cur₀ p : ℕ) (room₁ used₁ held₁ : List ℕ) (cur : ℕ)
       → Piece ws n p₀ e room used held cur₀ p room₁ used₁ held₁ cur → p < e → e ≤ length ws / 2
-      → (r : Search) (room₂ used₂ held₂ : List ℕ) → PairPlaced ws room₁ n cur p r room₂ used₂ held₂ → (j : ℕ) → r ≡ LaneAt j
+      → (r : code.Option ℕ) (room₂ used₂ held₂ : List ℕ) → PairPlaced ws room₁ n cur p r room₂ used₂ held₂ → (j : ℕ) → r ≡ Some j
       → Piece ws n p₀ e room used held cur₀ (p + 1) room₂ used₂ held₂ j
   piece_step p₀ e room used held cur₀ p room₁ used₁ held₁ cur P h l r room₂ used₂ held₂ placed j f rest goal tail H =
       held_step (rw (span_step ws p e h l) at (P rest goal tail H)) r room₂ used₂ held₂ placed (pair_drawn ws ready.whole ready.masks p (omega arith)) j f
@@ -206,12 +205,6 @@ run_next {ws} p e tail h H = rw (slice_none p e (pairs_of ws) h) at H
 
 -- so are all
 pub run_ended : {ws : List ℕ} {n : ℕ} {rest : List ℕ} {goal : Tried} (k : ℕ) (keys : List ℕ) (t : ℕ) {room used held : List ℕ} {cur : ℕ} → length keys ≤ t
-    → Held ws n rest goal (run_of k (pairs_of ws) (drop t keys)) room used held cur → Ended goal rest All room used held
+    → Held ws n rest goal (run_of k (pairs_of ws) (drop t keys)) room used held cur → Ended goal rest (Ok tt) room used held
 unfolding run_of
 run_ended k keys t h H = held_all (rw (drop_of_length-le keys h) at H)
-
--- a piece's place is a small number
-pub piece_small : (x k : ℕ) → k ≤ 8192 → x % 8192 * k ≤ 67108864
-piece_small x k h =
-    let m : x % 8192 ≤ 8192 = omega arith in
-    le_trans (mul-le-mul_left (x % 8192) h) (omega arith)

@@ -1,22 +1,15 @@
 -- What the functions answer, and what they ask. n is the number of lanes.
 -- Assumes nothing.
-use Rattle.std.specs.Prelude.{◌≡◌, true, false, List, [], ℕ, zero, suc, ◌+◌, ◌*◌, ◌/◌, ◌%◌, ◌≤◌, ◌<◌, leb, length, get_or, take, replicate}
+use Rattle.std.specs.Prelude.{◌≡◌, ⊤, Ok, Err, true, false, List, [], ℕ, zero, suc, ◌+◌, ◌*◌, ◌/◌, ◌%◌, ◌≤◌, ◌<◌, leb, length, get_or, take, replicate}
 use Rattle.std.proofs.Math.Option.{Option, none, some}
 use Rattle.words.specs.Bit.{pop}
 use Rattle.reads.specs.ReadSet.{Pair, bits, pairs_of}
 use Rattle.words.specs.Round.{next}
 use Rattle.reads.specs.Search.{Lane, first_room, push, Tried, all, stuck, try_from}
-use Rattle.reads_try.specs.declared.Ending.{Ending}
-use Rattle.reads_try.specs.declared.Ending.TheVariants.{All, Stuck}
-use Rattle.reads_try.specs.declared.Search.{Search}
-use Rattle.reads_try.specs.declared.Search.TheVariants.{Lane as LaneAt, Full}
+use Rattle.std.specs.declared.result.Result.{Result}
+use Rattle.reads_try.specs.declared.Stuck.{Stuck}
 use Rattle.reads_try.specs.LaneTable.{run_of}
 use Rattle.reads_try.specs.TableLanes.{pair_at, row_at, lanes_at, LanesTabled, LanesLoaded}
-
--- a lane that is found, or none, as the code says it
-abbrev pub lane_found : Option ℕ → Search
-lane_found none = Full
-lane_found (some j) = LaneAt j
 
 -- The search for room over the bits of the lanes as running numbers: f lanes from lane j are looked at.
 unfoldable pub first_free : ℕ → ℕ → List ℕ → ℕ → ℕ → Option ℕ
@@ -38,9 +31,9 @@ lanes_after none lanes p = lanes
 lanes_after (some i) lanes p = push lanes i p
 
 -- how a try ended, as the code says it, and the lanes as they then stand
-abbrev pub ending_of : Tried → Ending
-ending_of (all lanes) = All
-ending_of (stuck p lanes) = Stuck p.word
+abbrev pub ending_of : Tried → Result ⊤ Stuck
+ending_of (all lanes) = Ok tt
+ending_of (stuck p lanes) = Err (record { word = p.word })
 
 abbrev pub tried_lanes : Tried → List Lane
 tried_lanes (all lanes) = lanes

@@ -1,32 +1,25 @@
 // The lanes: the search for room, and one try.
 #![tactic(auto)]
 
-ghost use Rattle.std.specs.Prelude.{◌≡◌, ◌++◌, ◌+◌, ◌*◌, ◌-◌, ◌/◌, ◌%◌, ◌≤◌, min, length, get_or, set, drop};
+ghost use Rattle.std.specs.Prelude.{◌≡◌, ◌++◌, ◌+◌, ◌*◌, ◌/◌, ◌%◌, ◌≤◌, length, get_or, set, drop};
 ghost use Rattle.std.proofs.Math.Seq.{slice};
+ghost use Rattle.words.specs.Found.{item_of};
 ghost use Rattle.reads.specs.ReadSet.{total, pairs_of};
 ghost use Rattle.reads_try.specs.LaneTable.{table_of, used_of, held_of};
 ghost use Rattle.reads_try.specs.Late.{any_full, late_full};
 ghost use Rattle.reads_try.specs.TableLanes.{pair_at, lane_of, row_at, lanes_at, put_in_lane};
-ghost use Rattle.reads_try.specs.Tries.{lane_found, first_free, lane_for, next_of, lanes_after, ending_of, tried_lanes, tried_of, RowNamed, LaneRowIn, LanesSearchable, PairPuttable, PairPlaceable, TryReady};
+ghost use Rattle.reads_try.specs.Tries.{first_free, lane_for, next_of, lanes_after, ending_of, tried_lanes, tried_of, RowNamed, LaneRowIn, LanesSearchable, PairPuttable, PairPlaceable, TryReady};
 
 use words::round::next_of;
 
-// What a lane search finds.
-#[derive(Drop)]
-pub enum Search {
-    Lane(usize),
-    Full,
-}
-
-// How a try ends: all is placed, or no lane had room for a pair, told by its word.
-#[derive(Drop)]
-pub enum Ending {
-    All,
-    Stuck(u32),
+// No lane had room for the pair of this word, which ends a try.
+#[derive(Clone, Copy)]
+pub struct Stuck {
+    pub word: u32,
 }
 
 // What a lane holds: bits, and pairs.
-#[derive(Drop)]
+#[derive(Clone, Copy)]
 pub struct Load {
     pub bits: u32,
     pub pairs: usize,
@@ -38,16 +31,16 @@ fn row_load(set: &[u32], row: &[u32]) -> Load
     ensures { (result.bits ≡ total (lane_of set.now row.now)) × (result.pairs ≡ length (lane_of set.now row.now)) }
 {
     let mut bits = 0;
-    let mut pairs = 0;
-    while pairs < row.len() {
-        let e = row[pairs] as usize;
-        if e == 0 {
+    for (pairs, e) in row.iter().enumerate() {
+        if *e == 0 {
             return Load { bits, pairs };
         }
-        bits += words::bits::count(set[2 * e - 1]);
-        pairs += 1;
+        bits += words::bits::count(set[2 * (*e as usize) - 1]);
     }
-    Load { bits, pairs }
+    Load {
+        bits,
+        pairs: row.len(),
+    }
 }
 
 // The load of lane j.
@@ -61,20 +54,18 @@ pub fn lane_load(set: &[u32], room: &[u32], j: usize) -> Load
 }
 
 // The first lane with room for b more bits, going round from lane `from`.
-fn find_lane(used: &[u32], lanes: usize, from: usize, b: u32) -> Search
+fn find_lane(used: &[u32], lanes: usize, from: usize, b: u32) -> Option<usize>
     requires { LanesSearchable (length used.now) lanes from b }
-    ensures { result ≡ lane_found (first_free lanes lanes used.now b from) }
+    ensures { result ≡ item_of (first_free lanes lanes used.now b from) }
 {
     let mut j = from;
-    let mut left = lanes;
-    while 0 < left {
+    for passed in 0..lanes {
         if used[j] <= 32 - b {
-            return Search::Lane(j);
+            return Some(j);
         }
         j = next_of(j, lanes);
-        left -= 1;
     }
-    Search::Full
+    None
 }
 
 // Puts pair p, of b bits, behind those of lane j.
@@ -90,7 +81,7 @@ fn put(room: &mut [u32], used: &mut [u32], held: &mut [u32], j: usize, p: usize,
     held[j] += 1;
 }
 
-// Puts pair p into the first lane with room, going round from lane `cur`. The answer is the lane after that one, or Full.
+// Puts pair p into the first lane with room, going round from lane `cur`. The answer is the lane after that one, if one has room.
 fn place(
     set: &[u32],
     room: &mut [u32],
@@ -99,27 +90,17 @@ fn place(
     lanes: usize,
     cur: usize,
     p: usize,
-) -> Search
+) -> Option<usize>
     requires { PairPlaceable set.now room.old used.old held.old lanes cur p }
-    ensures value { result ≡ lane_found (next_of lanes (lane_for set.now room.old lanes cur p)) }
+    ensures value { result ≡ item_of (next_of lanes (lane_for set.now room.old lanes cur p)) }
     ensures room_after { room.new ≡ table_of (lanes_after (lane_for set.now room.old lanes cur p) (lanes_at set.now room.old lanes) (pair_at set.now p)) ++ drop (32 * lanes) room.old }
     ensures used_after { used.new ≡ used_of (lanes_after (lane_for set.now room.old lanes cur p) (lanes_at set.now room.old lanes) (pair_at set.now p)) }
     ensures held_after { held.new ≡ held_of (lanes_after (lane_for set.now room.old lanes cur p) (lanes_at set.now room.old lanes) (pair_at set.now p)) }
 {
     let b = words::bits::count(set[2 * p + 1]);
-    match find_lane(used, lanes, cur, b) {
-        Search::Full => Search::Full,
-        Search::Lane(j) => {
-            put(room, used, held, j, p, b);
-            Search::Lane(next_of(j, lanes))
-        }
-    }
-}
-
-pub fn least(a: usize, b: usize) -> usize
-    ensures { result ≡ min a b }
-{
-    if a < b { a } else { b }
+    let j = find_lane(used, lanes, cur, b)?;
+    put(room, used, held, j, p, b);
+    Some(next_of(j, lanes))
 }
 
 // One try at piece size k, the pieces in the order of the keys: a key's rest by 8192 is its piece's number. No lane with room for a pair ends it.
@@ -132,7 +113,7 @@ pub fn try_size(
     held: &mut [u32],
     lanes: usize,
     k: usize,
-) -> Ending
+) -> Result<(), Stuck>
     requires { TryReady set.now room.old used.old held.old lanes k }
     ensures value { result ≡ ending_of (tried_of lanes k set.now keys.now) }
     ensures room_after { room.new ≡ table_of (tried_lanes (tried_of lanes k set.now keys.now)) ++ drop (32 * lanes) room.old }
@@ -140,28 +121,18 @@ pub fn try_size(
     ensures held_after { held.new ≡ held_of (tried_lanes (tried_of lanes k set.now keys.now)) }
 {
     let n = set.len() / 2;
-    let mut ending = Ending::All;
     let mut cur = 0;
-    let mut t = 0;
-    'pieces: while t < keys.len() {
-        let i = (keys[t] % 8192) as usize;
-        let mut p = i * k;
-        let end = least(p + k, n);
-        'pairs: while p < end {
+    for key in keys {
+        let begin = (*key % 8192) as usize * k;
+        let end = (begin + k).min(n);
+        for p in begin..end {
             match place(set, room, used, held, lanes, cur, p) {
-                Search::Full => {
-                    ending = Ending::Stuck(set[2 * p]);
-                    break 'pieces;
-                }
-                Search::Lane(j) => {
-                    cur = j;
-                }
+                Some(j) => cur = j,
+                None => return Err(Stuck { word: set[2 * p] }),
             }
-            p += 1;
         }
-        t += 1;
     }
-    ending
+    Ok(())
 }
 
 // Whether a pair from a to e has all 32 bits.
@@ -169,21 +140,12 @@ pub fn full_in(set: &[u32], a: usize, e: usize) -> bool
     requires { e ≤ length set.now / 2 }
     ensures { result ≡ any_full (slice a e (pairs_of set.now)) }
 {
-    let mut p = a;
-    while p < e {
+    for p in a..e {
         if set[2 * p + 1] == 0xFFFF_FFFF {
             return true;
         }
-        p += 1;
     }
     false
-}
-
-// x less y, or 0.
-fn left_of(x: usize, y: usize) -> usize
-    ensures { result ≡ x - y }
-{
-    if x < y { 0 } else { x - y }
 }
 
 // Whether a pair of 32 bits comes after as many pairs as there are lanes, the pieces in the order of the keys: then the try of that order ends
@@ -194,16 +156,14 @@ pub fn late_full(set: &[u32], keys: &[u64], lanes: usize, k: usize) -> bool
 {
     let n = set.len() / 2;
     let mut left = lanes;
-    let mut t = 0;
-    while t < keys.len() {
-        let i = (keys[t] % 8192) as usize;
-        let a = least(i * k, n);
-        let e = least(a + k, n);
+    for key in keys {
+        let i = (*key % 8192) as usize;
+        let a = (i * k).min(n);
+        let e = (a + k).min(n);
         if full_in(set, a + left, e) {
             return true;
         }
-        left = left_of(left, e - a);
-        t += 1;
+        left = left.saturating_sub(e - a);
     }
     false
 }

@@ -20,13 +20,15 @@ use Rattle.repair_nodes.specs.RepairAnswer.{place_right, placed_at, cleared_at}
 use Rattle.repair_nodes.proofs.TwoWordLaws.{words_length}
 use Rattle.repair_nodes.proofs.PlacingLaws.{rooted_place}
 use Rattle.repair_nodes.proofs.JudgeLaws.{placing_size, clearing_size}
-use Rattle.repair_subtree.specs.Subtree.{judgement_of, Added}
-use Rattle.repair_subtree.specs.declared.Place.{Place}
-use Rattle.repair_subtree.specs.declared.Judgement.{Judgement}
-use Rattle.repair_subtree.specs.declared.Judgement.TheVariants.{Fine, WrongLevel, Gateless}
+use Rattle.std.specs.Prelude.{⊤, Ok, Err}
+use Rattle.std.specs.declared.result.Result.{Result}
+use Rattle.words.specs.declared.refusals.Refusal.{Refusal}
+use Rattle.repair_subtree.specs.Subtree.{judgement_of, refusal_of, Added}
+use Rattle.repair_subtree.specs.declared.places.Place.{Place}
+use Rattle.repair_subtree.specs.declared.Misplaced.{Misplaced}
+use Rattle.repair_subtree.specs.declared.Misplaced.TheVariants.{WrongLevel, Gateless}
 use Rattle.repair_settle.specs.Settle.{Ended, placed_spots, cleared_spots, Spotted}
 use Rattle.repair.specs.Repair.{Placed}
-use Rattle.repair_settle.specs.declared.Repaired.{Repaired}
 use Rattle.repair_settle.proofs.SpotLaws.{SpotsSound, sound_askable, sound_inside, added_words, spots_back}
 use Rattle.repair.proofs.RepairAnswerLaws.{is_24, is_25, is_26, is_placed, is_cleared}
 
@@ -36,8 +38,9 @@ pub place_by : (H h j w : ℕ) → h ≤ H → w ≡ width H h → ltb j w ≡ p
 unfolding place_right
 place_by H h j w l e = ap (λ (v : ℕ). ltb j v) e ∙ sym (ap (λ (b : Bool). b && ltb j (width H h)) (le-leb h H l))
 
-pub placed_place : (H h j w : ℕ) → h ≤ H → j < width H h → w ≡ width H h → Placed H h j (record { level = h; width = w; index = w + j })
-placed_place H h j w l k e =
+pub placed_place : (H h j w : ℕ) (r : Rooted 16383 h w (w + j)) → h ≤ H → j < width H h → w ≡ width H h
+    → Placed H h j (record { level = h; width = w; index = w + j; rooted = r })
+placed_place H h j w r l k e =
     record { level = refl; width = e; index = ap (λ (v : ℕ). v + j) e; rooted = rw e (rooted_place (2 ^ (H + 1) - 1) H h j l k (omega arith)) }
 
 -- a place of either edition's stage is one of the full edition's room
@@ -46,6 +49,9 @@ rooted_full H h m q l r =
     let k : H + 1 ≤ 14 = omega arith in
     let e : 2 ^ (H + 1) ≤ 16384 = pow_mono k in
     record { wide = r.wide; low = r.low; high = r.high; fits = omega (arith, r.fits, e) }
+
+pub place_full : (H h j w : ℕ) → H ≤ 13 → h ≤ H → j < width H h → w ≡ width H h → Rooted 16383 h w (w + j)
+place_full H h j w m l k e = rooted_full H h w (w + j) m (rw e (rooted_place (2 ^ (H + 1) - 1) H h j l k (omega arith)))
 
 -- ---- lists of spots
 
@@ -81,20 +87,10 @@ small_default (x ∷ s) h (suc i) = small_default s (λ j. h (suc j)) i
 
 -- ---- judgements
 
-pub judged_wrong : (a b : Bool) (r : Judgement) → r ≡ judgement_of a b → r ≡ WrongLevel → a ≡ true
-judged_wrong true b r e f = refl
-judged_wrong false true r e f = let z : ◌≡◌ {A = ℕ} 0 1 = cc in absurd (omega arith)
-judged_wrong false false r e f = let z : ◌≡◌ {A = ℕ} 0 1 = cc in absurd (omega arith)
-
-pub judged_gateless : (a b : Bool) (r : Judgement) → r ≡ judgement_of a b → r ≡ Gateless → (a ≡ false) × (b ≡ true)
-judged_gateless true b r e f = let z : ◌≡◌ {A = ℕ} 0 1 = cc in absurd (omega arith)
-judged_gateless false true r e f = (refl, refl)
-judged_gateless false false r e f = let z : ◌≡◌ {A = ℕ} 0 1 = cc in absurd (omega arith)
-
-pub judged_fine : (a b : Bool) (r : Judgement) → r ≡ judgement_of a b → r ≡ Fine → (a ≡ false) × (b ≡ false)
-judged_fine true b r e f = let z : ◌≡◌ {A = ℕ} 0 1 = cc in absurd (omega arith)
-judged_fine false true r e f = let z : ◌≡◌ {A = ℕ} 0 1 = cc in absurd (omega arith)
-judged_fine false false r e f = (refl, refl)
+judged_fine : (a b : Bool) (u : ⊤) → judgement_of a b ≡ Ok u → (a ≡ false) × (b ≡ false)
+judged_fine true b u f = let z : ◌≡◌ {A = ℕ} 0 1 = cc in absurd (omega arith)
+judged_fine false true u f = let z : ◌≡◌ {A = ℕ} 0 1 = cc in absurd (omega arith)
+judged_fine false false u f = (refl, refl)
 
 -- ---- a place's outcome
 
@@ -105,29 +101,39 @@ module _ (H : ℕ) (gates levels counts s out : List ℕ) (h j x : ℕ) (p : Pla
   pub at_24 : (b : Bool) → b ≡ empty_below s p.level p.width p.index → b ≡ false → placed_at H gates levels counts s (length out) h j x ≡ refused (nowhere 24)
   at_24 b e f = is_24 H gates levels counts s (length out) h j x (sym empty_is ∙ (sym e ∙ f))
 
-  module _ (b : Bool) (e : b ≡ empty_below s p.level p.width p.index) (t : b ≡ true) (r : Judgement) (k : r ≡ judgement_of (bad_level gates levels h x) (no_gate gates levels h x)) where
+  module _ (b : Bool) (e : b ≡ empty_below s p.level p.width p.index) (t : b ≡ true) where
     free : empty_below s h (width H h) (index_of H h j) ≡ true
     free = sym empty_is ∙ (sym e ∙ t)
 
-    pub at_25 : r ≡ WrongLevel → placed_at H gates levels counts s (length out) h j x ≡ refused (nowhere 25)
-    at_25 f = is_25 H gates levels counts s (length out) h j x free (judged_wrong _ _ r k f)
+    -- 25 or 26
+    pub at_misplaced : (m : Misplaced) → judgement_of (bad_level gates levels h x) (no_gate gates levels h x) ≡ Err m
+        → placed_at H gates levels counts s (length out) h j x ≡ refused (refusal_of m)
+    at_misplaced m f = go (bad_level gates levels h x) (no_gate gates levels h x) refl refl f
+      where
+        go : (a c : Bool) → bad_level gates levels h x ≡ a → no_gate gates levels h x ≡ c → judgement_of a c ≡ Err m
+            → placed_at H gates levels counts s (length out) h j x ≡ refused (refusal_of m)
+        go true c u v f =
+            let same : WrongLevel ≡ m = cc in
+            is_25 H gates levels counts s (length out) h j x free u ∙ ap (λ (k : Misplaced). refused (refusal_of k)) same
+        go false true u v f =
+            let same : Gateless ≡ m = cc in
+            is_26 H gates levels counts s (length out) h j x free u v ∙ ap (λ (k : Misplaced). refused (refusal_of k)) same
+        go false false u v f = let z : ◌≡◌ {A = ℕ} 0 1 = cc in absurd (omega arith)
 
-    pub at_26 : r ≡ Gateless → placed_at H gates levels counts s (length out) h j x ≡ refused (nowhere 26)
-    at_26 f = let (u, v) = judged_gateless _ _ r k f in is_26 H gates levels counts s (length out) h j x free u v
+    module _ (o : ⊤) (f : judgement_of (bad_level gates levels h x) (no_gate gates levels h x) ≡ Ok o) where
+      pub at_judged : bad_list gates ≡ none → Judged gates levels p.level x
+      at_judged g = let (u, v) = judged_fine _ _ o f in rw d.level (record { gates_right = g; levels-right = u; all-gates = v })
 
-    pub at_judged : bad_list gates ≡ none → r ≡ Fine → Judged gates levels p.level x
-    at_judged g f = let (u, v) = judged_fine _ _ r k f in rw d.level (record { gates_right = g; levels-right = u; all-gates = v })
+      pub at_placed : (a : Result ℕ Refusal) (s₁ out₁ : List ℕ)
+          → Ended (placed_spots H counts s (length out) (placing gates levels p.level p.width p.index x)) a s s₁ out out₁
+          → Ended (placed_at H gates levels counts s (length out) h j x) a s s₁ out out₁
+      at_placed a s₁ out₁ q =
+          let (u, v) = judged_fine _ _ o f in
+          let w : placing gates levels p.level p.width p.index x ≡ placing gates levels h (width H h) (index_of H h j) x =
+          ap₂ (λ (i : ℕ) (y : ℕ). placing gates levels i y p.index x) d.level d.width ∙ ap (λ (y : ℕ). placing gates levels h (width H h) y x) d.index in
+          rw (is_placed H gates levels counts s (length out) h j x free u v) (rw w at q)
 
-    pub at_placed : r ≡ Fine → (a : Repaired) (s₁ out₁ : List ℕ)
-        → Ended (placed_spots H counts s (length out) (placing gates levels p.level p.width p.index x)) a s s₁ out out₁
-        → Ended (placed_at H gates levels counts s (length out) h j x) a s s₁ out out₁
-    at_placed f a s₁ out₁ q =
-        let (u, v) = judged_fine _ _ r k f in
-        let w : placing gates levels p.level p.width p.index x ≡ placing gates levels h (width H h) (index_of H h j) x =
-        ap₂ (λ (i : ℕ) (y : ℕ). placing gates levels i y p.index x) d.level d.width ∙ ap (λ (y : ℕ). placing gates levels h (width H h) y x) d.index in
-        rw (is_placed H gates levels counts s (length out) h j x free u v) (rw w at q)
-
-  pub at_cleared : (a : Repaired) (s₁ out₁ : List ℕ)
+  pub at_cleared : (a : Result ℕ Refusal) (s₁ out₁ : List ℕ)
       → Ended (cleared_spots H counts s (length out) (clearing s p.level p.width p.index)) a s s₁ out out₁
       → Ended (cleared_at H counts s (length out) h j) a s s₁ out out₁
   at_cleared a s₁ out₁ q =

@@ -14,7 +14,8 @@ use Rattle.repair_nodes.specs.Stage.{width}
 use Rattle.words.specs.Answer.{Answer}
 use Rattle.repair_nodes.specs.RepairAnswer.{Repair, repair_room_words, place_right, slots_after, count_list_after, repair_room_after}
 use Rattle.repair_settle.specs.Settle.{repaired_of, Ended}
-use Rattle.repair_settle.specs.declared.Repaired.{Repaired}
+use Rattle.std.specs.declared.result.Result.{Result}
+use Rattle.words.specs.declared.refusals.Refusal.{Refusal}
 use Rattle.repair.proofs.RepairAnswerLaws.{room_is, room_clear}
 
 -- ---- the room
@@ -46,7 +47,7 @@ module _ (room room₁ : List ℕ) (e : room₁ ≡ replicate (length room) 0) w
   room_left_lem counts room₂ room₃ h l f = f ∙ (ap (λ (n : ℕ). replicate n 0) (l ∙ zeros_length) ∙ sym (room_clear counts room h))
 
 -- the four equations of a contract
-pub whole_end : (o : Answer Repair) (a : Repaired) (s s₁ out out₁ room₁ : List ℕ) (counts room : List ℕ) → Ended o a s s₁ out out₁ → room₁ ≡ repair_room_after counts room
+pub whole_end : (o : Answer Repair) (a : Result ℕ Refusal) (s s₁ out out₁ room₁ : List ℕ) (counts room : List ℕ) → Ended o a s s₁ out out₁ → room₁ ≡ repair_room_after counts room
     → (a ≡ repaired_of o) × ((s₁ ≡ slots_after o s) × ((out₁ ≡ count_list_after o out) × (room₁ ≡ repair_room_after counts room)))
 whole_end o a s s₁ out out₁ room₁ counts room e f = (e.answer, (e.slots, (e.list, f)))
 

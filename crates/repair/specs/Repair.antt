@@ -2,7 +2,7 @@
 -- Assumes nothing.
 use Rattle.std.specs.Prelude.{◌≡◌, ℕ, ◌+◌, ◌-◌, ◌^◌, ◌≤◌}
 use Rattle.repair_nodes.specs.Stage.{width, index_of, Rooted}
-use Rattle.repair_subtree.specs.declared.Place.{Place}
+use Rattle.repair_subtree.specs.declared.places.Place.{Place}
 
 -- the place of slot j of level h
 pub record Placed (H h j : ℕ) (p : Place) : Type 0 where

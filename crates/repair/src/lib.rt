@@ -7,20 +7,16 @@ ghost use Rattle.gatelist.specs.ListWords.{bad_list};
 ghost use Rattle.repair_nodes.specs.Stage.{width};
 ghost use Rattle.repair_nodes.specs.Placing.{placing, Judged};
 ghost use Rattle.repair_nodes.specs.RepairAnswer.{repair_room_words, place_right, placed_at, placed_form, placed, cleared_at, cleared_form, cleared, slots_after, count_list_after, repair_room_after};
-ghost use Rattle.repair_subtree.specs.Subtree.{Added, Listable};
 ghost use Rattle.repair_settle.specs.Settle.{repaired_of, Ended, placed_spots, Entered};
 ghost use Rattle.repair.specs.Repair.{Placed, NodePlaceable};
 
 use gatelist::check_list;
-use repair_settle::{Repaired, place_spots, purge_spots, refused};
-use repair_subtree::{
-    Judgement, Place, carry_down, judge, level_of, list_reached, split_gate, subtree_empty,
-};
+use repair_settle::{place_spots, purge_spots};
+use repair_subtree::places::Place;
+use repair_subtree::{judge, list_placed, list_reached, subtree_empty};
 use repair_tally::{check_counts, level_slots};
-use words::clear::clear;
 use words::edition::{is_edition, levels_for};
-use words::found::Item;
-use words::refusals;
+use words::refusals::{Reason, Refusal};
 use words::units::Pin;
 
 // How many slots a level has: the height of a stage is its levels above level 0.
@@ -55,17 +51,6 @@ fn place_of(height: u32, level: u32, slot: u32) -> Place
     }
 }
 
-// Lists what placing a judged node puts: above its level it is carried, at its level split.
-fn list_placing(gates: &[u32], levels: &[u32], list: &mut [u32], at: Place, node: Pin) -> usize
-    requires { Listable gates.now levels.now list.old 0 at.level at.width at.index node.0 }
-    ensures { Added list.old 0 (placing gates.now levels.now at.level at.width at.index node.0) list.new result }
-{
-    if level_of(levels, node) == at.level {
-        return split_gate(gates, levels, list, 0, at, node);
-    }
-    carry_down(gates, levels, list, 0, at, node)
-}
-
 // Places a judged node.
 fn place_node(
     gates: &[u32],
@@ -77,12 +62,12 @@ fn place_node(
     height: u32,
     at: Place,
     node: Pin,
-) -> Repaired
+) -> Result<usize, Refusal>
     requires { Judged gates.now levels.now at.level node.0 × NodePlaceable height at node.0 × Entered counts.now map.old }
     ensures { Ended (placed_spots height counts.now slots.old (length after.old) (placing gates.now levels.now at.level at.width at.index node.0)) result slots.old slots.new after.old after.new }
 {
     let mut list = [0u32; 32768];
-    let n = list_placing(gates, levels, &mut list, at, node);
+    let n = list_placed(gates, levels, &mut list, 0, at, node);
     place_spots(counts, slots, after, map, &list[..2 * n], height)
 }
 
@@ -98,21 +83,16 @@ fn place_at(
     level: u32,
     slot: u32,
     node: Pin,
-) -> Repaired
+) -> Result<usize, Refusal>
     requires { (bad_list gates.now ≡ none) × (height ≤ 13) × (level ≤ height) × (slot < width height level) × (node.0 ≤ 2 ^ 30) × Entered counts.now map.old }
     ensures { Ended (placed_at height gates.now levels.now counts.now slots.old (length after.old) level slot node.0) result slots.old slots.new after.old after.new }
 {
     let at = place_of(height, level, slot);
-    if subtree_empty(slots, at) {
-        return match judge(gates, levels, level, node) {
-            Judgement::WrongLevel => refused(refusals::LEVEL, 0),
-            Judgement::Gateless => refused(refusals::NO_GATE, 0),
-            Judgement::Fine => place_node(
-                gates, levels, counts, slots, after, map, height, at, node,
-            ),
-        };
+    if !subtree_empty(slots, at) {
+        return Err(Refusal::nowhere(Reason::NotEmpty));
     }
-    refused(refusals::NOT_EMPTY, 0)
+    judge(gates, levels, level, node)?;
+    place_node(gates, levels, counts, slots, after, map, height, at, node)
 }
 
 // Clears a place of the stage: 34, then 14.
@@ -124,7 +104,7 @@ fn purge_at(
     height: u32,
     level: u32,
     slot: u32,
-) -> Repaired
+) -> Result<usize, Refusal>
     requires { (height ≤ 13) × (level ≤ height) × (slot < width height level) × Entered counts.now map.old }
     ensures { Ended (cleared_at height counts.now slots.old (length after.old) level slot) result slots.old slots.new after.old after.new }
 {
@@ -156,27 +136,25 @@ fn place_over(
     level: u32,
     slot: u32,
     node: Pin,
-) -> Repaired
+) -> Result<usize, Refusal>
     requires { (map.old ≡ replicate (length map.old) 0) × (repair_room_words counts.now ≤ length map.old) × (height ≤ 13) }
     ensures { Ended (placed_form height gates.now levels.now counts.now slots.old (length after.old) level slot node.0) result slots.old slots.new after.old after.new }
 {
     if 1073741824 < node.0 {
-        return refused(refusals::PLAN_FORM, 0);
+        return Err(Refusal::nowhere(Reason::PlanForm));
     }
-    if place_form(height, level, slot) {
-        if check_counts(counts, map) {
-            return match check_list(gates) {
-                Item::At(g) => refused(refusals::GATE_ORDER, g as u64),
-                Item::Fine => {
-                    place_at(
-                        gates, levels, counts, slots, after, map, height, level, slot, node,
-                    )
-                }
-            };
-        }
-        return refused(refusals::PLAN_FORM, 0);
+    if !place_form(height, level, slot) {
+        return Err(Refusal::nowhere(Reason::PlanForm));
     }
-    refused(refusals::PLAN_FORM, 0)
+    if !check_counts(counts, map) {
+        return Err(Refusal::nowhere(Reason::PlanForm));
+    }
+    if let Some(g) = check_list(gates) {
+        return Err(Refusal::at_item(Reason::GateOrder, g as u64));
+    }
+    place_at(
+        gates, levels, counts, slots, after, map, height, level, slot, node,
+    )
 }
 
 // Clears a place with an empty map: 5, then the rest.
@@ -188,17 +166,17 @@ fn purge_over(
     height: u32,
     level: u32,
     slot: u32,
-) -> Repaired
+) -> Result<usize, Refusal>
     requires { (map.old ≡ replicate (length map.old) 0) × (repair_room_words counts.now ≤ length map.old) × (height ≤ 13) }
     ensures { Ended (cleared_form height counts.now slots.old (length after.old) level slot) result slots.old slots.new after.old after.new }
 {
-    if place_form(height, level, slot) {
-        if check_counts(counts, map) {
-            return purge_at(counts, slots, after, map, height, level, slot);
-        }
-        return refused(refusals::PLAN_FORM, 0);
+    if !place_form(height, level, slot) {
+        return Err(Refusal::nowhere(Reason::PlanForm));
     }
-    refused(refusals::PLAN_FORM, 0)
+    if !check_counts(counts, map) {
+        return Err(Refusal::nowhere(Reason::PlanForm));
+    }
+    purge_at(counts, slots, after, map, height, level, slot)
 }
 
 // Places a node with an empty map and any number in the place of an edition's: 29, then the rest.
@@ -213,12 +191,12 @@ fn place_in(
     slot: u32,
     node: Pin,
     edition: u32,
-) -> Repaired
+) -> Result<usize, Refusal>
     requires { (map.old ≡ replicate (length map.old) 0) × (repair_room_words counts.now ≤ length map.old) }
     ensures { Ended (placed edition gates.now levels.now counts.now slots.old (length after.old) (length map.old) level slot node.0) result slots.old slots.new after.old after.new }
 {
     if !is_edition(edition) {
-        return refused(refusals::NO_EDITION, 0);
+        return Err(Refusal::nowhere(Reason::NoEdition));
     }
     let height = levels_for(edition as usize);
     place_over(
@@ -235,12 +213,12 @@ fn purge_in(
     level: u32,
     slot: u32,
     edition: u32,
-) -> Repaired
+) -> Result<usize, Refusal>
     requires { (map.old ≡ replicate (length map.old) 0) × (repair_room_words counts.now ≤ length map.old) }
     ensures { Ended (cleared edition counts.now slots.old (length after.old) (length map.old) level slot) result slots.old slots.new after.old after.new }
 {
     if !is_edition(edition) {
-        return refused(refusals::NO_EDITION, 0);
+        return Err(Refusal::nowhere(Reason::NoEdition));
     }
     let height = levels_for(edition as usize);
     purge_over(counts, slots, after, map, height, level, slot)
@@ -259,21 +237,21 @@ pub fn place_bit(
     slot: u32,
     node: Pin,
     edition: u32,
-) -> Repaired
+) -> Result<usize, Refusal>
     ensures value { result ≡ repaired_of (placed edition gates.now levels.now counts.now slots.old (length after.old) (length room.old) level slot node.0) }
     ensures slots_after { slots.new ≡ slots_after (placed edition gates.now levels.now counts.now slots.old (length after.old) (length room.old) level slot node.0) slots.old }
     ensures after_after { after.new ≡ count_list_after (placed edition gates.now levels.now counts.now slots.old (length after.old) (length room.old) level slot node.0) after.old }
     ensures room_after { room.new ≡ repair_room_after counts.now room.old }
 {
-    if room_enough(counts, room) {
-        clear(room);
-        let answer = place_in(
-            gates, levels, counts, slots, after, room, level, slot, node, edition,
-        );
-        clear(room);
-        return answer;
+    if !room_enough(counts, room) {
+        return Err(Refusal::nowhere(Reason::RoomShort));
     }
-    refused(refusals::ROOM_SHORT, 0)
+    room.fill(0);
+    let answer = place_in(
+        gates, levels, counts, slots, after, room, level, slot, node, edition,
+    );
+    room.fill(0);
+    answer
 }
 
 // Clears a slot of a level and what stands below it, for any arguments.
@@ -285,17 +263,17 @@ pub fn purge_bit(
     level: u32,
     slot: u32,
     edition: u32,
-) -> Repaired
+) -> Result<usize, Refusal>
     ensures value { result ≡ repaired_of (cleared edition counts.now slots.old (length after.old) (length room.old) level slot) }
     ensures slots_after { slots.new ≡ slots_after (cleared edition counts.now slots.old (length after.old) (length room.old) level slot) slots.old }
     ensures after_after { after.new ≡ count_list_after (cleared edition counts.now slots.old (length after.old) (length room.old) level slot) after.old }
     ensures room_after { room.new ≡ repair_room_after counts.now room.old }
 {
-    if room_enough(counts, room) {
-        clear(room);
-        let answer = purge_in(counts, slots, after, room, level, slot, edition);
-        clear(room);
-        return answer;
+    if !room_enough(counts, room) {
+        return Err(Refusal::nowhere(Reason::RoomShort));
     }
-    refused(refusals::ROOM_SHORT, 0)
+    room.fill(0);
+    let answer = purge_in(counts, slots, after, room, level, slot, edition);
+    room.fill(0);
+    answer
 }

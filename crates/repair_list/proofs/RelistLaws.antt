@@ -2,6 +2,7 @@
 -- Assumes nothing.
 use mathlib.Core.Path.{◌≡◌, refl, sym, ap, ap₂, ◌∙◌}
 use mathlib.Core.List.{List, [], ◌∷◌, ◌++◌}
+use mathlib.Core.Option.{Option, none, some}
 use Prim.Native.Nat.{ℕ, ◌+◌, ◌*◌, ◌-◌, ◌≤◌, ◌<◌}
 use native.Mathlib.Numerals.{add-one}
 use native.Mathlib.Omega.{arith}
@@ -15,7 +16,15 @@ use Rattle.repair_nodes.specs.Stage.{Spot, spot, spots_of, spots_stored, emptied
 use Rattle.repair_nodes.specs.CountList.{Count, counted, counts_of, count_words, nodes_of, nonzero}
 use Rattle.repair_nodes.proofs.TwoWordLaws.{pairs_drop, pairs_end, words_length, words_append}
 use Rattle.repair_nodes.proofs.CountListLaws.{nonzero_append}
-use Rattle.repair_list.specs.Relist.{count_in_map, entries_of, EntriesPut}
+use Rattle.std.specs.Option.{unwrap_or}
+use Rattle.words.specs.Found.{item_of}
+use Rattle.repair_list.specs.Relist.{count_or_zero, count_in_map, entries_of, EntriesPut}
+
+-- ---- a node's number, as the code has it
+
+pub or_zero : (o : Option ℕ) → unwrap_or (item_of o) 0 ≡ count_or_zero o
+or_zero none = refl
+or_zero (some v) = refl
 
 -- ---- the entries of a count list's nodes from entry i on
 

@@ -7,7 +7,7 @@ ghost use Rattle.repair_nodes.specs.Stage.{spots_of, spots_stored, emptied};
 ghost use Rattle.repair_nodes.specs.CountList.{count_words, nonzero};
 ghost use Rattle.repair_list.specs.Relist.{count_in_map, entries_of, entries_in, EntriesPut, NodesAskable, NewAskable, AllInside};
 
-use pinmap::{Found, look_up};
+use pinmap::look_up;
 use words::units::{EMPTY_PIN, Pin};
 
 // A node's number in a map, 0 where it has none.
@@ -15,10 +15,7 @@ fn number_of(map: &[u32], node: Pin) -> u32
     requires { node.0 < 2 ^ 32 - 1 }
     ensures { result ≡ count_in_map map.now node.0 }
 {
-    match look_up(map, node) {
-        Found::Value(v) => v,
-        Found::Missing => 0,
-    }
+    look_up(map, node).unwrap_or(0)
 }
 
 // Writes entry i: a node with its number.
@@ -35,11 +32,8 @@ pub fn write_old(counts: &[u32], map: &[u32], after: &mut [u32])
     requires { NodesAskable counts.now × (length counts.now ≤ length after.old) }
     ensures { after.new ≡ sets after.old 0 (count_words (entries_in map.now counts.now)) }
 {
-    let entries = counts.len() / 2;
-    let mut i = 0;
-    while i < entries {
+    for i in 0..counts.len() / 2 {
         write_entry(map, after, i, Pin(counts[2 * i]));
-        i += 1;
     }
 }
 
@@ -48,10 +42,8 @@ pub fn write_new(news: &[u32], map: &[u32], after: &mut [u32], at: usize)
     requires { NewAskable news.now × (2 * (at + length news.now) ≤ length after.old) }
     ensures { after.new ≡ sets after.old (2 * at) (count_words (entries_of map.now news.now)) }
 {
-    let mut k = 0;
-    while k < news.len() {
+    for k in 0..news.len() {
         write_entry(map, after, at + k, Pin(news[k]));
-        k += 1;
     }
 }
 
@@ -60,14 +52,11 @@ pub fn left_count(counts: &[u32], map: &[u32]) -> usize
     requires { NodesAskable counts.now }
     ensures { result ≡ length (nonzero (entries_in map.now counts.now)) }
 {
-    let entries = counts.len() / 2;
     let mut n = 0;
-    let mut i = 0;
-    while i < entries {
+    for i in 0..counts.len() / 2 {
         if number_of(map, Pin(counts[2 * i])) != 0 {
             n += 1;
         }
-        i += 1;
     }
     n
 }
@@ -91,12 +80,9 @@ pub fn write_left(counts: &[u32], map: &[u32], after: &mut [u32])
     requires { NodesAskable counts.now × (2 * length (nonzero (entries_in map.now counts.now)) ≤ length after.old) }
     ensures { after.new ≡ sets after.old 0 (count_words (nonzero (entries_in map.now counts.now))) }
 {
-    let entries = counts.len() / 2;
     let mut n = 0;
-    let mut i = 0;
-    while i < entries {
+    for i in 0..counts.len() / 2 {
         n = write_left_one(map, after, n, Pin(counts[2 * i]));
-        i += 1;
     }
 }
 
@@ -113,11 +99,8 @@ pub fn store_spots(spots: &[u32], slots: &mut [u32])
     requires { AllInside spots.now slots.old }
     ensures { slots.new ≡ spots_stored slots.old (spots_of spots.now) }
 {
-    let count = spots.len() / 2;
-    let mut k = 0;
-    while k < count {
+    for k in 0..spots.len() / 2 {
         put_slot(slots, spots[2 * k], Pin(spots[2 * k + 1]));
-        k += 1;
     }
 }
 
@@ -126,10 +109,7 @@ pub fn clear_spots(spots: &[u32], slots: &mut [u32])
     requires { AllInside spots.now slots.old }
     ensures { slots.new ≡ spots_stored slots.old (emptied (spots_of spots.now)) }
 {
-    let count = spots.len() / 2;
-    let mut k = 0;
-    while k < count {
+    for k in 0..spots.len() / 2 {
         put_slot(slots, spots[2 * k], Pin(EMPTY_PIN));
-        k += 1;
     }
 }

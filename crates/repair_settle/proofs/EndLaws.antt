@@ -15,7 +15,7 @@ use Rattle.pinmap.specs.PinMap.{capacity}
 use Rattle.words.proofs.TestLaws.{not_both, or_cases}
 use Rattle.repair_nodes.specs.Stage.{Spot, spots_of, emptied, spots_stored}
 use Rattle.repair_nodes.specs.CountList.{Count, counted, counts_of, count_words, nodes_of, among, times_among, count_in, counted_nodes, fresh, counts_more, counts_less, nonzero, all_counts, any_short, short}
-use Rattle.words.specs.Answer.{Answer, refused, at_item, nowhere}
+use Rattle.words.specs.Answer.{Answer, refused, nowhere}
 use Rattle.repair_nodes.specs.RepairAnswer.{Repair, repaired, repair_fitted, slots_after, count_list_after}
 use Rattle.repair_nodes.proofs.TwoWordLaws.{pairs_length}
 use Rattle.repair_nodes.proofs.CountListLaws.{map-among, count_none, all_named, nodes_length}
@@ -24,21 +24,21 @@ use Rattle.repair_tally.proofs.HeldLaws.{held_some}
 use Rattle.repair_tally.proofs.WayLaws.{RaiseEnd, raise_end, LowerEnd, lower_end}
 use Rattle.repair_list.specs.Relist.{count_in_map, count_or_zero, entries_of, entries_in}
 use Rattle.repair_list.proofs.RelistLaws.{words_on}
-use Rattle.repair_settle.specs.Settle.{repaired_of, Ended, placed_spots, cleared_spots, Entered}
-use Rattle.repair_settle.specs.declared.Repaired.{Repaired}
-use Rattle.repair_settle.specs.declared.Repaired.TheVariants.{Listed}
+use Rattle.repair_settle.specs.Settle.{Ended, placed_spots, cleared_spots, Entered}
+use Rattle.std.specs.Prelude.{Ok, Err}
+use Rattle.words.specs.declared.refusals.Refusal.{Refusal}
 use Rattle.repair_settle.proofs.SpotLaws.{counted_length}
 
 -- ---- answers
 
-pub refused_end : (o : Answer Repair) (r : Repaired) (s out : List ℕ) (n i : ℕ) → o ≡ refused (at_item n i) → r ≡ repaired_of (refused (at_item n i)) → Ended o r s s out out
+pub refused_end : (o : Answer Repair) (q r : Refusal) (s out : List ℕ) → o ≡ refused q → r ≡ q → Ended o (Err r) s s out out
 unfolding slots_after count_list_after
-refused_end o r s out n i e f = rw e (record { answer = f; slots = refl; list = refl })
+refused_end o q r s out e f = rw e (record { answer = ap Err f; slots = refl; list = refl })
 
 pub repaired_end : (o : Answer Repair) (n : ℕ) (s s₁ out out₁ : List ℕ) (es : List Spot) (cs : List Count) → o ≡ repaired es cs → n ≡ length cs
-    → s₁ ≡ spots_stored s es → out₁ ≡ sets out 0 (count_words cs) → Ended o (Listed n) s s₁ out out₁
+    → s₁ ≡ spots_stored s es → out₁ ≡ sets out 0 (count_words cs) → Ended o (Ok n) s s₁ out out₁
 unfolding slots_after count_list_after
-repaired_end o n s s₁ out out₁ es cs e f u v = rw e (record { answer = ap Listed f; slots = u; list = v })
+repaired_end o n s s₁ out out₁ es cs e f u v = rw e (record { answer = ap Ok f; slots = u; list = v })
 
 -- ---- 14
 
@@ -217,7 +217,7 @@ module _ (H : ℕ) (counts map₀ : List ℕ) (n₀ : Entered counts map₀) (sp
 
     pub place_end : (s₁ out₁ out₂ : List ℕ) → 2 ^ (H + 1) - 1 ≤ length s → length counts / 2 + n ≤ length out / 2 → out₁ ≡ sets out 0 (count_words (entries_in t counts))
         → out₂ ≡ sets out₁ (2 * (length counts / 2)) (count_words (entries_of t (take n fresh₁))) → s₁ ≡ spots_stored s (spots_of spots)
-        → Ended (placed_spots H counts s (length out) (spots_of spots)) (Listed (length counts / 2 + n)) s s₁ out out₂
+        → Ended (placed_spots H counts s (length out) (spots_of spots)) (Ok (length counts / 2 + n)) s s₁ out out₂
     place_end s₁ out₁ out₂ h g u v w =
         let k = up_count H counts map₀ n₀ spots few t fresh₁ n e l in
         let m : length (counts_of counts) ≡ length counts / 2 = entries in
@@ -250,7 +250,7 @@ module _ (H : ℕ) (counts map₀ : List ℕ) (n₀ : Entered counts map₀) (sp
 
     pub purge_end : (n : ℕ) (s₁ out₁ : List ℕ) → n ≡ length (nonzero (entries_in t counts)) → 2 ^ (H + 1) - 1 ≤ length s → n ≤ length out / 2
         → out₁ ≡ sets out 0 (count_words (nonzero (entries_in t counts))) → s₁ ≡ spots_stored s (emptied (spots_of spots))
-        → Ended (cleared_spots H counts s (length out) (spots_of spots)) (Listed n) s s₁ out out₁
+        → Ended (cleared_spots H counts s (length out) (spots_of spots)) (Ok n) s s₁ out out₁
     purge_end n s₁ out₁ f h g u w =
         let k = purge_size in
         repaired_end (cleared_spots H counts s (length out) (spots_of spots)) n s s₁ out out₁ (emptied (spots_of spots)) (counts_less (counts_of counts) (nodes_in H spots))

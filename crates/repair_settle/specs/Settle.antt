@@ -4,20 +4,19 @@ use Rattle.std.specs.Prelude.{◌≡◌, true, false, List, [], ℕ, ◌+◌, �
 use Rattle.pinmap.specs.PinMap.{capacity}
 use Rattle.repair_nodes.specs.Stage.{Spot, emptied}
 use Rattle.repair_nodes.specs.CountList.{counts_of, nodes_of, count_in, entries_right, counted_nodes, counts_more, counts_less, short}
-use Rattle.words.specs.Answer.{Answer, good, refused, nowhere}
+use Rattle.words.specs.Answer.{Answer, refused, nowhere, result_of}
 use Rattle.repair_nodes.specs.RepairAnswer.{Repair, repair_fitted, slots_after, count_list_after}
 use Rattle.repair_tally.specs.Tally.{MapHolds, SpotsAskable}
 use Rattle.repair_list.specs.Relist.{AllInside}
-use Rattle.repair_settle.specs.declared.Repaired.{Repaired}
-use Rattle.repair_settle.specs.declared.Repaired.TheVariants.{Listed, Refused}
+use Rattle.words.specs.declared.refusals.Refusal.{Refusal}
+use Rattle.std.specs.declared.result.Result.{Result}
 
 -- the entries of the new count list, or the refusal
-abbrev pub repaired_of : Answer Repair → Repaired
-repaired_of (good x) = Listed (length x.counts)
-repaired_of (refused q) = Refused q
+abbrev pub repaired_of : Answer Repair → Result ℕ Refusal
+repaired_of o = result_of (λ (x : Repair). length x.counts) o
 
 -- an answer, with what the lent slots and the lent list then hold
-pub record Ended (o : Answer Repair) (r : Repaired) (s s₁ out out₁ : List ℕ) : Type 0 where
+pub record Ended (o : Answer Repair) (r : Result ℕ Refusal) (s s₁ out out₁ : List ℕ) : Type 0 where
   pub answer : r ≡ repaired_of o
   pub slots : s₁ ≡ slots_after o s
   pub list : out₁ ≡ count_list_after o out

@@ -2,9 +2,8 @@
 -- Assumes nothing.
 use mathlib.Core.Path.{◌≡◌, refl, sym, ap, ap₂, ◌∙◌}
 use mathlib.Core.Bool.{Bool, true, false, ◌&&◌, ◌||◌}
-use mathlib.Core.Option.{Option, none, some}
 use mathlib.Core.List.{List, [], ◌∷◌, ◌++◌}
-use Prim.Native.Nat.{ℕ, zero, suc, ◌+◌, ◌*◌, ◌-◌, ◌/◌, ◌≤◌, ◌<◌}
+use Prim.Native.Nat.{ℕ, zero, suc, ◌+◌, ◌*◌, ◌-◌, ◌≤◌, ◌<◌}
 use native.Mathlib.Nat.{not-suc-le-zero}
 use native.Mathlib.Numerals.{add-one, sub-one}
 use native.Mathlib.Omega.{arith}
@@ -13,16 +12,12 @@ use lib.ListN.{length, get_or, set, length-append, length-set, get_or-eq_default
 use lib.Seq.{sets}
 use Rattle.words.proofs.ListLaws.{sets_append}
 use Rattle.words.specs.Pins.{empty}
-use Rattle.gatelist.specs.ListWords.{bad_list, gate_in, gate_listed_of}
-use Rattle.gatelist.proofs.ListWordLaws.{found_whole}
-use Rattle.gatelist.specs.declared.Listed.{Listed}
-use Rattle.gatelist.specs.declared.Listed.TheVariants.{Gate, Missing}
 use Rattle.repair_nodes.specs.Stage.{Spot, spot, spot_words, Rooted, slot_in, empty_below}
 use Rattle.repair_nodes.specs.Pairs.{pair_words}
 use Rattle.repair_nodes.proofs.TwoWordLaws.{words_length, words_append}
 use Rattle.repair_nodes.proofs.PlacingLaws.{rooted_a, rooted_b, rooted_inside}
 use Rattle.repair_subtree.specs.Subtree.{judgement_of, worse_of, FirstBelow, SecondBelow, Added}
-use Rattle.repair_subtree.specs.declared.Place.{Place}
+use Rattle.repair_subtree.specs.declared.places.Place.{Place}
 
 -- ---- places
 
@@ -83,24 +78,6 @@ worse_is false false true false = refl
 worse_is false false false true = refl
 worse_is false false false false = refl
 
--- what a search for a gate found
-pub listed_gate : (l : List ℕ) (x g : ℕ) (r : Listed) → r ≡ gate_listed_of (gate_in l x) → r ≡ Gate g → gate_in l x ≡ some g
-listed_gate l x g r e f = go (gate_in l x) (sym e ∙ f)
-  where
-    go : (o : Option ℕ) → gate_listed_of o ≡ Gate g → o ≡ some g
-    go none k = let z : ◌≡◌ {A = ℕ} 0 1 = cc in absurd (omega arith)
-    go (some i) k = cc
-
-pub listed_none : (l : List ℕ) (x : ℕ) (r : Listed) → r ≡ gate_listed_of (gate_in l x) → r ≡ Missing → gate_in l x ≡ none
-listed_none l x r e f = go (gate_in l x) (sym e ∙ f)
-  where
-    go : (o : Option ℕ) → gate_listed_of o ≡ Missing → o ≡ none
-    go none k = refl
-    go (some i) k = let z : ◌≡◌ {A = ℕ} 0 1 = cc in absurd (omega arith)
-
-pub gate_whole : (l : List ℕ) (x g : ℕ) (r : Listed) → bad_list l ≡ none → r ≡ gate_listed_of (gate_in l x) → r ≡ Gate g → g < length l / 3
-gate_whole l x g r good e f = found_whole l good x g (listed_gate l x g r e f)
-
 -- ---- a list that grows
 
 pub added_one : (l : List ℕ) (n q x : ℕ) (l₁ l₂ : List ℕ) → l₁ ≡ set l (2 * n) q → l₂ ≡ set l₁ (2 * n + 1) x → Added l n (spot q x ∷ []) l₂ (n + 1)
@@ -132,9 +109,6 @@ added_on l l₁ l₂ n k j es fs a b =
           ∙ (sym p ∙ ap (λ (v : List ℕ). sets l (2 * n) v) (sym (words_append (λ (s : Spot). s.at) (λ (s : Spot). s.node) es fs))));
       size = b.size ∙ a.size;
     }
-
-pub added_is : (l l₁ l₂ : List ℕ) (n k j : ℕ) (es : List Spot) → Added l n es l₁ k → l₂ ≡ l₁ → j ≡ k → Added l n es l₂ j
-added_is l l₁ l₂ n k j es a e f = record { count = f ∙ a.count; words = e ∙ a.words; size = ap length e ∙ a.size }
 
 -- ---- an empty subtree, by the two places below
 

@@ -11,7 +11,7 @@ use borrow.Author.Tests.{eqb-true, eqb-false}
 use lib.Dec.{eqb}
 use lib.ListN.{replicate}
 use Rattle.pinmap.specs.PinMap.{capacity, look, put_in, put_answer, entry, replaced}
-use Rattle.pinmap.specs.declared.PutAnswer.TheVariants.{Stored}
+use Rattle.std.specs.Prelude.{Ok}
 use Rattle.pinmap.proofs.PinMapLaws.{map_law, replaced_same, replaced_other, used_new, used_there, room_stored}
 use Rattle.pinmap.proofs.HoldsLaws.{zeros_good, zeros_look, zeros_used}
 use Rattle.repair_nodes.specs.CountList.{among, times_among}
@@ -47,7 +47,7 @@ module _ (t names : List ℕ) (value : ℕ → ℕ) (n : ℕ) (h : MapHolds t na
       }
 
   module _ (p v : ℕ) (room : n < capacity t) (value₁ : ℕ → ℕ) (here : value₁ p ≡ v) (there : (q : ℕ) → (q ≡ p → ⊥) → value₁ q ≡ value q) where
-    stored : put_answer t p ≡ Stored
+    stored : put_answer t p ≡ Ok tt
     stored = room_stored t p (omega (arith, h.few))
 
     after : (names₁ : List ℕ) → ((q : ℕ) → (q ≡ p → ⊥) → among names₁ q ≡ among names q) → among names₁ p ≡ true → (q : ℕ) → look (put_in t p v) q ≡ held_as (among names₁ q) (value₁ q)

@@ -12,17 +12,17 @@ use lib.Dec.{ltb}
 use lib.Pow.{pow_mono}
 use lib.ListN.{length, get_or, take, drop, set, length-set, length-append}
 use lib.Seq.{take-suc-set, length-take-le}
-use Rattle.pinmap.specs.PinMap.{look, put_in, look_answer}
-use Rattle.pinmap.specs.declared.Found.{Found}
-use Rattle.pinmap.specs.declared.Found.TheVariants.{Value, Missing}
+use Rattle.std.specs.Prelude.{Some, None, Ok}
+use Rattle.std.specs.declared.option.Option as code
+use Rattle.pinmap.specs.PinMap.{look, look_at, slot_of, put_in, put_answer, answer_at}
+use Rattle.pinmap.specs.declared.Slot.{Slot}
+use Rattle.pinmap.specs.declared.Slot.TheVariants.{Free, Taken, Nowhere}
 use Rattle.words.specs.Pins.{is_pin}
 use Rattle.words.proofs.TestLaws.{not_both}
 use Rattle.repair_nodes.specs.Stage.{spot, spots_of}
 use Rattle.repair_nodes.specs.CountList.{counted, counts_of, counted_nodes}
 use Rattle.repair_nodes.proofs.TwoWordLaws.{pairs_drop, pairs_end}
 use Rattle.repair_tally.specs.Tally.{through, entering, entering_all, Raised, raised, raising, lowering, Told, ToldNew}
-use Rattle.repair_tally.specs.declared.Tallied.{Tallied}
-use Rattle.repair_tally.specs.declared.Tallied.TheVariants.{New, Over}
 
 -- ---- ways
 
@@ -39,15 +39,16 @@ module _ {S A : Type 0} (step : S → A → Option S) (s : S) where
   unfolding through
   through_none a l e = rw (e, through)
 
--- ---- what was found
+-- ---- a put over what was found has its place
 
-pub found_value : (o : Option ℕ) (r : Found) (v : ℕ) → r ≡ look_answer o → r ≡ Value v → o ≡ some v
-found_value none r v e f = let z : ◌≡◌ {A = ℕ} 0 1 = cc in absurd (omega arith)
-found_value (some w) r v e f = cc
-
-pub found_missing : (o : Option ℕ) (r : Found) → r ≡ look_answer o → r ≡ Missing → o ≡ none
-found_missing none r e f = refl
-found_missing (some w) r e f = let z : ◌≡◌ {A = ℕ} 0 1 = cc in absurd (omega arith)
+pub put_over : (t : List ℕ) (x v : ℕ) → look t x ≡ some v → put_answer t x ≡ Ok tt
+unfolding look_at answer_at
+put_over t x v e = go (slot_of t x) e
+  where
+    go : (s : Slot) → look_at t s ≡ some v → answer_at s ≡ Ok tt
+    go (Free i) e = let z : ◌≡◌ {A = ℕ} 0 1 = cc in absurd (omega arith)
+    go (Taken i) e = refl
+    go Nowhere e = let z : ◌≡◌ {A = ℕ} 0 1 = cc in absurd (omega arith)
 
 -- ---- entering
 
@@ -85,7 +86,7 @@ all_even t ws h = rw (eq-eqb (length ws % 2) 0 h, entering_all)
 
 module _ (t fresh : List ℕ) (n x : ℕ) where
   pub raise_there : (v : ℕ) → look t x ≡ some v → v < 4294967295 → n ≤ length fresh
-      → ToldNew (raising (raised t (take n fresh)) x) (New n) (put_in t x (v + 1)) fresh
+      → ToldNew (raising (raised t (take n fresh)) x) (Some n) (put_in t x (v + 1)) fresh
   unfolding raising
   raise_there v e h l = (rw (e, lt-ltb v 4294967295 h, raising), l)
 
@@ -94,7 +95,7 @@ module _ (t fresh : List ℕ) (n x : ℕ) where
   raise_over v e h = rw (e, le-ltb v 4294967295 h, raising)
 
   pub raise_new : look t x ≡ none → n < length fresh
-      → ToldNew (raising (raised t (take n fresh)) x) (New (n + 1)) (put_in t x 1) (set fresh n x)
+      → ToldNew (raising (raised t (take n fresh)) x) (Some (n + 1)) (put_in t x 1) (set fresh n x)
   unfolding raising
   raise_new e l =
       let k : take (n + 1) (set fresh n x) ≡ take n fresh ++ (x ∷ []) = rw add-one (take-suc-set fresh n x l) in
@@ -185,14 +186,14 @@ pub told_false : (o : Option (List ℕ)) (r : Bool) (t : List ℕ) → Told o r 
 told_false o true t h e = absurd (not_both true refl e)
 told_false o false t h e = h
 
-pub told_new : (o : Option Raised) (r : Tallied) (t fresh : List ℕ) (n : ℕ) → ToldNew o r t fresh → r ≡ New n
+pub told_new : (o : Option Raised) (r : code.Option ℕ) (t fresh : List ℕ) (n : ℕ) → ToldNew o r t fresh → r ≡ Some n
     → (o ≡ some (raised t (take n fresh))) × (n ≤ length fresh)
-told_new o (New m) t fresh n h e = let k : m ≡ n = cc in rw k at h
-told_new o Over t fresh n h e = let z : ◌≡◌ {A = ℕ} 0 1 = cc in absurd (omega arith)
+told_new o (Some m) t fresh n h e = let k : m ≡ n = cc in rw k at h
+told_new o None t fresh n h e = let z : ◌≡◌ {A = ℕ} 0 1 = cc in absurd (omega arith)
 
-pub told_over : (o : Option Raised) (r : Tallied) (t fresh : List ℕ) → ToldNew o r t fresh → r ≡ Over → o ≡ none
-told_over o (New m) t fresh h e = let z : ◌≡◌ {A = ℕ} 0 1 = cc in absurd (omega arith)
-told_over o Over t fresh h e = h
+pub told_over : (o : Option Raised) (r : code.Option ℕ) (t fresh : List ℕ) → ToldNew o r t fresh → r ≡ None → o ≡ none
+told_over o (Some m) t fresh h e = let z : ◌≡◌ {A = ℕ} 0 1 = cc in absurd (omega arith)
+told_over o None t fresh h e = h
 
 -- one node more is one new node at most
 new_size : (r s : Raised) (x : ℕ) → raising r x ≡ some s → length s.new ≤ length r.new + 1

@@ -1,13 +1,12 @@
 -- Counting nodes in a map of crate pinmap, step by step as the code takes them: a node's number in the map is its count. A step that cannot be taken ends it.
 -- Assumes nothing.
-use Rattle.std.specs.Prelude.{◌≡◌, Bool, true, false, ◌&&◌, List, [], ◌∷◌, ◌++◌, ℕ, ◌+◌, ◌*◌, ◌-◌, ◌%◌, ◌^◌, ◌≤◌, ◌<◌, eqb, ltb, length, get_or, take}
+use Rattle.std.specs.Prelude.{◌≡◌, Some, None, Bool, true, false, ◌&&◌, List, [], ◌∷◌, ◌++◌, ℕ, ◌+◌, ◌*◌, ◌-◌, ◌%◌, ◌^◌, ◌≤◌, ◌<◌, eqb, ltb, length, get_or, take}
 use Rattle.std.proofs.Math.Option.{Option, none, some}
 use Rattle.pinmap.specs.PinMap.{look, put_in, Findable, used}
 use Rattle.words.specs.Pins.{is_pin}
 use Rattle.repair_nodes.specs.Stage.{spots_of}
 use Rattle.repair_nodes.specs.CountList.{Count, counts_of, counted_nodes, among}
-use Rattle.repair_tally.specs.declared.Tallied.{Tallied}
-use Rattle.repair_tally.specs.declared.Tallied.TheVariants.{New, Over}
+use Rattle.std.specs.declared.option.Option as code
 
 -- from a state through many items
 unfoldable pub through : {S A : Type 0} → (S → A → Option S) → S → List A → Option S
@@ -50,9 +49,9 @@ Told o true t = o ≡ some t
 Told o false t = o ≡ none
 
 -- the same with the new nodes in the first words of a list
-abbrev pub ToldNew : Option Raised → Tallied → List ℕ → List ℕ → Type 0
-ToldNew o (New n) t fresh = (o ≡ some (raised t (take n fresh))) × (n ≤ length fresh)
-ToldNew o Over t fresh = o ≡ none
+abbrev pub ToldNew : Option Raised → code.Option ℕ → List ℕ → List ℕ → Type 0
+ToldNew o (Some n) t fresh = (o ≡ some (raised t (take n fresh))) × (n ≤ length fresh)
+ToldNew o None t fresh = o ≡ none
 
 -- the nodes of levels 1 and up of a list of slots in words, with H levels above level 0
 abbrev pub nodes_in : ℕ → List ℕ → List ℕ

@@ -1,27 +1,17 @@
 -- The form of a batch, test by test. The parts that are left to count are those of the words not yet seen.
 -- Assumes nothing.
-use mathlib.Core.Path.{◌≡◌, refl, sym, ◌∙◌}
+use mathlib.Core.Path.{◌≡◌, refl, sym}
 use mathlib.Core.Bool.{Bool, true, false, ◌&&◌}
 use mathlib.Core.List.{List}
 use Prim.Native.Nat.{ℕ, ◌+◌, ◌*◌, ◌≤◌, ◌<◌}
-use native.Mathlib.Nat.{le_trans, mul-le-mul_left}
 use native.Mathlib.Omega.{arith}
-use borrow.Author.Tests.{le-leb, lt-leb, eq-eqb, ne_eqb, eqb-true, eqb-false}
+use borrow.Author.Tests.{leb-true, eq-eqb, ne_eqb, eqb-true, eqb-false}
 use lib.Dec.{leb, eqb}
-use lib.ListN.{length, get_or-eq_default}
 use Rattle.words.specs.Sum.{sum_to}
-use Rattle.words.specs.Edition.{known}
 use Rattle.words.proofs.SumLaws.{sum_more, sum_le}
-use Rattle.words.proofs.EditionLaws.{known_number, known_passes, known_most, known_other}
-use mathlib.Core.Logic.{inl}
+use Rattle.words.proofs.EditionLaws.{known_number, known_most}
+use Rattle.words.proofs.TestLaws.{and_true}
 use Rattle.report.specs.Batch.{batch_at, refused_below, most_parts, edition_right, totals_right, batch_form}
-
-pub batch_word_none : (b : List ℕ) (i : ℕ) → length b ≤ i → 0 ≡ batch_at b i
-batch_word_none b i h = sym (get_or-eq_default b 0 h)
-
--- no product of a batch in form is too long for a word
-pub total_fits : (x y : ℕ) → x ≤ 256 → y ≤ 100000 → x * y ≤ 25600000
-total_fits x y h k = le_trans (mul-le-mul_left x k) (omega arith)
 
 -- ---- the parts that were fed
 
@@ -67,18 +57,6 @@ module _ (b : List ℕ) where
 
   -- ---- the edition
 
-  pub named_none : (fed lanes : ℕ) → fed ≡ batch_at b 0 → lanes ≡ batch_at b 7 → fed ≡ 0 → eqb lanes 0 ≡ edition_right b
-  named_none fed lanes ef el z = rw (el, eq-eqb (batch_at b 0) 0 (sym ef ∙ z), edition_right)
-
-  pub named_full : (fed lanes : ℕ) → fed ≡ batch_at b 0 → lanes ≡ batch_at b 7 → (fed ≡ 0 → ⊥) → lanes ≡ 256 → true ≡ edition_right b
-  named_full fed lanes ef el h e =
-      let k : known (batch_at b 7) ≡ true = known_passes (batch_at b 7) (inl (sym el ∙ e)) in
-      rw (ne_eqb (batch_at b 0) 0 (λ z. h (ef ∙ z)), edition_right) (sym k)
-
-  pub named_small : (fed lanes : ℕ) → fed ≡ batch_at b 0 → lanes ≡ batch_at b 7 → (fed ≡ 0 → ⊥) → (lanes ≡ 256 → ⊥) → eqb lanes 128 ≡ edition_right b
-  named_small fed lanes ef el h ne =
-      rw (el, ne_eqb (batch_at b 0) 0 (λ z. h (ef ∙ z)), edition_right) (known_other (batch_at b 7) (λ e. ne (el ∙ e)))
-
   named_lanes : edition_right b ≡ true → batch_at b 7 ≤ 256
   named_lanes e = go (eqb (batch_at b 0) 0) refl
     where
@@ -86,38 +64,17 @@ module _ (b : List ℕ) where
       go true t = let z : batch_at b 7 ≡ 0 = eqb-true (batch_at b 7) 0 (rw (t, edition_right) at e) in omega arith
       go false t = known_most (batch_at b 7) (known_number (batch_at b 7) (rw (t, edition_right) at e))
 
-  -- ---- the totals
-
-  pub totals_are : (x₁ x₂ x₃ x₄ x₅ x₆ x₇ : ℕ) → x₁ ≡ batch_at b 1 → x₂ ≡ batch_at b 2 → x₃ ≡ batch_at b 3 → x₄ ≡ batch_at b 4 → x₅ ≡ batch_at b 5 → x₆ ≡ batch_at b 6 → x₇ ≡ batch_at b 7
-      → {r : Bool} → r ≡ (leb x₂ (32 * (x₇ * x₁)) && leb x₃ (x₇ * x₁) && leb x₄ (32 * x₁) && leb x₅ (32 * (x₇ * x₁)) && leb x₆ (5205 * (x₇ * x₁)))
-      → r ≡ totals_right (batch_at b 7 * batch_at b 1) b
-  totals_are x₁ x₂ x₃ x₄ x₅ x₆ x₇ e₁ e₂ e₃ e₄ e₅ e₆ e₇ e = e ∙ rw (e₁, e₂, e₃, e₄, e₅, e₆, e₇)
-
   -- ---- all of it
 
-  pub form_many : (fed : ℕ) → fed ≡ batch_at b 0 → 100000 < fed → false ≡ batch_form b
+  abbrev pub Parts : Bool
+  Parts = leb (batch_at b 0) most_parts && Counted && edition_right b
+
+  pub parts_in : Parts ≡ true → (batch_at b 7 ≤ 256) × (batch_at b 1 ≤ 100000)
+  parts_in e =
+      let both = and_true (leb (batch_at b 0) most_parts && Counted) (edition_right b) e in
+      let two = and_true (leb (batch_at b 0) most_parts) Counted both.0 in
+      (named_lanes both.1, omega (arith, leb-true (batch_at b 0) most_parts two.0, eqb-true (batch_at b 0) (batch_at b 1 + refused_below b 40) two.1))
+
+  pub form_is : (t : Bool) → Parts ≡ t → (t && totals_right (batch_at b 7 * batch_at b 1) b) ≡ batch_form b
   unfolding batch_form
-  form_many fed e h =
-      let many : leb (batch_at b 0) most_parts ≡ false = lt-leb (batch_at b 0) most_parts (omega arith) in
-      rw (many, batch_form)
-
-  module _ (fed : ℕ) (is : fed ≡ batch_at b 0) (few : fed ≤ 100000) where
-    least : leb (batch_at b 0) most_parts ≡ true
-    least = le-leb (batch_at b 0) most_parts (omega arith)
-
-    pub form_uncounted : Counted ≡ false → false ≡ batch_form b
-    unfolding batch_form
-    form_uncounted e = rw (least, e, batch_form)
-
-    module _ (counted : Counted ≡ true) where
-      pub form_unnamed : edition_right b ≡ false → false ≡ batch_form b
-      unfolding batch_form
-      form_unnamed e = rw (least, counted, e, batch_form)
-
-      module _ (named : edition_right b ≡ true) where
-        pub form_rest : totals_right (batch_at b 7 * batch_at b 1) b ≡ batch_form b
-        unfolding batch_form
-        form_rest = rw (least, counted, named, batch_form)
-
-        pub form_totals : (batch_at b 7 ≤ 256) × (batch_at b 1 ≤ 100000)
-        form_totals = (named_lanes named, omega (arith, eqb-true (batch_at b 0) (batch_at b 1 + refused_below b 40) counted))
+  form_is t e = rw (← e)

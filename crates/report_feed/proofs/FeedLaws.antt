@@ -1,11 +1,11 @@
 -- A part of a batch that is not full: no word of the batch becomes too long, and what is stored is what a feeding says.
 -- Assumes nothing.
-use mathlib.Core.Path.{◌≡◌, refl, ap, subst, ◌∙◌}
-use mathlib.Core.List.{List, [], ◌∷◌}
+use mathlib.Core.Path.{◌≡◌, refl, sym, ap, subst, ◌∙◌}
+use mathlib.Core.List.{List, [], ◌∷◌, ◌++◌}
 use Prim.Native.Nat.{ℕ, ◌+◌, ◌^◌, ◌≤◌, ◌<◌}
 use native.Mathlib.Omega.{arith}
-use lib.ListN.{get_or, set}
-use lib.Seq.{sets}
+use lib.ListN.{length, get_or, set, drop}
+use lib.Seq.{sets-eq}
 use Rattle.words.specs.Answer.{Answer, good, refused}
 use Rattle.words.specs.Edition.{Known}
 use Rattle.words.specs.declared.refusals.Refusal.{Refusal}
@@ -18,11 +18,10 @@ use Rattle.report.specs.Report.{Part, part_given, part_outcome, Gain, gain_of}
 use Rattle.report.specs.Batch.{batch_at, good_fed, refused_fed, fed_with}
 use Rattle.report.proofs.PartLaws.{PartSound, part_sound, GainFits, gain_fits, KnownNumber, part_numbered}
 use Rattle.report.proofs.BatchLaws.{form_in, form_product, form_count}
-use Rattle.report_part.specs.declared.outcome.Outcome.TheVariants.{Placed, Refused}
 use Rattle.report_part.specs.declared.counts.Gained.{Gained}
 use Rattle.report_part.specs.PartOutcome.{outcome_of, gained_of, Gainable}
-use Rattle.report_feed.specs.declared.Fed.TheVariants.{Part as Told}
-use Rattle.report_feed.specs.FeedTold.{part_told, Feedable, GainFeedable}
+use Rattle.std.specs.Prelude.{Ok, Err}
+use Rattle.report_feed.specs.FeedTold.{part_fed, Feedable, GainFeedable}
 
 -- ---- how long the words are
 
@@ -53,24 +52,25 @@ feedable_short {n} {b} h =
 
 -- ---- what is stored
 
-pub good_is : (n : ℕ) (g : Gain) (b : List ℕ)
-    → sets b 0 ((batch_at b 0 + 1) ∷ (batch_at b 1 + 1) ∷ (batch_at b 2 + g.bits) ∷ (batch_at b 3 + g.lanes) ∷ (batch_at b 4 + g.rounds) ∷ (batch_at b 5 + g.empty) ∷ (batch_at b 6 + g.words) ∷ n ∷ []) ≡ good_fed n g b
+pub good_is : (n : ℕ) (g : Gain) (b : List ℕ) → 8 ≤ length b
+    → ((batch_at b 0 + 1) ∷ (batch_at b 1 + 1) ∷ (batch_at b 2 + g.bits) ∷ (batch_at b 3 + g.lanes) ∷ (batch_at b 4 + g.rounds) ∷ (batch_at b 5 + g.empty) ∷ (batch_at b 6 + g.words) ∷ n ∷ []) ++ drop 8 b ≡ good_fed n g b
 unfolding good_fed
-good_is n g b = refl
+good_is n g b h =
+    sym (sets-eq ((batch_at b 0 + 1) ∷ (batch_at b 1 + 1) ∷ (batch_at b 2 + g.bits) ∷ (batch_at b 3 + g.lanes) ∷ (batch_at b 4 + g.rounds) ∷ (batch_at b 5 + g.empty) ∷ (batch_at b 6 + g.words) ∷ n ∷ []) b 0 h)
 
-pub refused_is : (n k : ℕ) (b : List ℕ) → set (set (set b 0 (batch_at b 0 + 1)) 7 n) (8 + k) (batch_at b (8 + k) + 1) ≡ refused_fed n k b
+pub refused_added : (n k : ℕ) (b : List ℕ) → set (set (set b 0 (batch_at b 0 + 1)) 7 n) (8 + k) (batch_at b (8 + k) + 1) ≡ refused_fed n k b
 unfolding refused_fed
-refused_is n k b = refl
+refused_added n k b = refl
 
 -- ---- what became of the part
 
-pub is_refused_lem : (o : Answer Packed) (q : Refusal) → outcome_of o ≡ Refused q → o ≡ refused q
+pub is_refused_lem : (o : Answer Packed) (q : Refusal) → outcome_of o ≡ Err q → o ≡ refused q
 is_refused_lem (good x) q e =
     let z : ◌≡◌ {A = ℕ} 0 1 = cc in
     absurd (omega arith)
 is_refused_lem (refused p) q e = let s : p ≡ q = cc in ap refused s
 
-pub is_good : (o : Answer Packed) → outcome_of o ≡ Placed → (x : Packed) × (o ≡ good x)
+pub is_good : (o : Answer Packed) → outcome_of o ≡ Ok tt → (x : Packed) × (o ≡ good x)
 is_good (good x) e = (x, refl)
 is_good (refused q) e =
     let z : ◌≡◌ {A = ℕ} 0 1 = cc in
@@ -80,7 +80,7 @@ pub number_low : (n : ℕ) (p : Part) (q : Refusal) → part_outcome n p ≡ ref
 number_low n p q e = subst KnownNumber e (part_numbered n p)
 
 pub refused_fed_lem : (n : ℕ) (p : Part) (q : Refusal) (b new : List ℕ) → part_outcome n p ≡ refused q → new ≡ refused_fed n q.number b
-    → (Told q.number q.item ≡ part_told (part_outcome n p)) × (new ≡ fed_with n p (part_outcome n p) b)
+    → (record { part = Err q } ≡ part_fed (part_outcome n p)) × (new ≡ fed_with n p (part_outcome n p) b)
 unfolding fed_with
 refused_fed_lem n p q b new e eb = rw e (refl, eb)
 
@@ -107,7 +107,7 @@ module _ (n : ℕ) (edition : Known n) (set lanes : List ℕ) (stages : ℕ) (sm
         }
 
     pub good_fed_lem : (b new : List ℕ) (g : Gained) → gained_of g ≡ gain_of n (part_given set [] stages) (lanes_at set table n) → new ≡ good_fed n (gained_of g) b
-        → (Told 0 0 ≡ part_told (part_outcome n (part_given set lanes stages))) × (new ≡ fed_with n (part_given set lanes stages) (part_outcome n (part_given set lanes stages)) b)
+        → (record { part = Ok tt } ≡ part_fed (part_outcome n (part_given set lanes stages))) × (new ≡ fed_with n (part_given set lanes stages) (part_outcome n (part_given set lanes stages)) b)
     unfolding fed_with
     good_fed_lem b new g e eb =
         let same : gained_of g ≡ gain_of n (part_given set lanes stages) x.lanes = e ∙ ap (λ (ls : List Lane). gain_of n (part_given set lanes stages) ls) lie.1 in

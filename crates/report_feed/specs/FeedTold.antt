@@ -1,22 +1,24 @@
--- What the code that feeds answers and asks: the definitions of `report` as its structs and enums. n is the number of lanes.
+-- What the code that feeds answers and asks: the definitions of `report` in its terms. n is the number of lanes.
 -- Assumes nothing.
-use Rattle.std.specs.Prelude.{◌≡◌, true, List, ℕ, ◌≤◌, ◌<◌, length}
-use Rattle.words.specs.Answer.{Answer, good, refused}
+use Rattle.std.specs.Prelude.{◌≡◌, ⊤, true, List, ℕ, zero, suc, ◌≤◌, ◌<◌, length, Ok, Err}
+use Rattle.std.specs.declared.result.Result.{Result}
+use Rattle.words.specs.Answer.{Answer, nowhere}
+use Rattle.words.specs.declared.refusals.Refusal.{Refusal}
 use Rattle.words.specs.Edition.{Known}
 use Rattle.reads.specs.SetAnswer.{Packed}
 use Rattle.report.specs.Batch.{batch_at, most_parts, batch_form}
 use Rattle.report_feed.specs.declared.Fed.{Fed}
-use Rattle.report_feed.specs.declared.Fed.TheVariants.{Part as Told, Refused as CallRefused}
+use Rattle.report_part.specs.PartOutcome.{outcome_of}
 use Rattle.report_part.specs.declared.counts.Gained.{Gained}
 
--- the refusal of the call, or the part's own: 0 and 0 for a good part
-abbrev pub part_told : Answer Packed → Fed
-part_told (good x) = Told 0 0
-part_told (refused q) = Told q.number q.item
+-- what became of a part
+abbrev pub part_fed : Answer Packed → Fed
+part_fed o = record { part = outcome_of o }
 
-abbrev pub fed_of : Answer (Answer Packed) → Fed
-fed_of (good o) = part_told o
-fed_of (refused q) = CallRefused q
+-- the refusal of a call by its number; 0 is none
+abbrev pub call_told : ℕ → Result ⊤ Refusal
+call_told zero = Ok tt
+call_told (suc k) = Err (nowhere (suc k))
 
 -- what feeding asks of a batch: it is one, whole and not full
 pub record Feedable (n : ℕ) (b : List ℕ) : Type 0 where

@@ -2,82 +2,74 @@
 #![tactic(auto)]
 
 ghost use Rattle.std.specs.Prelude.{◌≡◌, ◌*◌, ◌≤◌, ◌<◌, length};
-ghost use Rattle.words.specs.Answer.{good};
+ghost use Rattle.words.specs.Answer.{result_of};
 ghost use Rattle.reads.specs.SetAnswer.{set_room_after};
 ghost use Rattle.report.specs.Report.{part_given, part_outcome};
 ghost use Rattle.report.specs.Batch.{same_edition, call_number, called, good_fed, refused_fed, fed_with, feed_answer, batch_after};
-ghost use Rattle.report_feed.specs.FeedTold.{fed_of, Feedable, GainFeedable};
+ghost use Rattle.report_feed.specs.FeedTold.{part_fed, call_told, Feedable, GainFeedable};
 ghost use Rattle.report_part.specs.PartOutcome.{gained_of};
 
-use report_batch::{BATCH_FULL, BATCH_WORDS, MOST_PARTS, REFUSALS, is_batch, word};
+use report_batch::{BATCH_WORDS, MOST_PARTS, REFUSALS, is_batch, word};
 use report_part::counts::{Gained, gain_of};
-use report_part::outcome::{Outcome, part_outcome};
+use report_part::outcome::part_outcome;
 use words::clear::clear;
 use words::edition::is_edition;
-use words::refusals;
+use words::refusals::{Reason, Refusal};
 
 // The working room of a part, in words: a row of 32 entries for each lane finds its place there.
 const ROOM_WORDS: usize = 16384;
 
-// A part was fed: its refusal's number and item, 0 and 0 for a good part; or the call was refused, and nothing was fed.
-#[derive(Drop)]
-pub enum Fed {
-    Part(u32, u64),
-    Refused(refusals::Refusal),
+// A part that was fed, good or not: what became of it.
+#[derive(Clone, Copy)]
+pub struct Fed {
+    pub part: Result<(), Refusal>,
 }
 
 // Whether the parts before are of this edition.
 fn is_same_edition(batch: &[u64], edition: u32) -> bool
     ensures { result ≡ same_edition edition batch.now }
 {
-    if word(batch, 0) == 0 {
-        return true;
-    }
-    word(batch, 7) == edition as u64
+    word(batch, 0) == 0 || word(batch, 7) == edition as u64
 }
 
-// The number that the call is refused with before its part is looked at, behind 32; 0 where it is not.
-fn call_number(batch: &[u64], edition: u32) -> u32
-    ensures { result ≡ call_number edition batch.now }
+// What the call is refused with before its part is looked at, behind 32.
+fn check_call(batch: &[u64], edition: u32) -> Result<(), Refusal>
+    ensures { result ≡ call_told (call_number edition batch.now) }
 {
     if !is_edition(edition) {
-        return refusals::NO_EDITION;
+        return Err(Refusal::nowhere(Reason::NoEdition));
     }
     if !is_batch(batch) {
-        return refusals::PLAN_FORM;
+        return Err(Refusal::nowhere(Reason::PlanForm));
     }
     if !is_same_edition(batch, edition) {
-        return refusals::PLAN_FORM;
+        return Err(Refusal::nowhere(Reason::PlanForm));
     }
     if MOST_PARTS <= word(batch, 0) {
-        return BATCH_FULL;
+        return Err(Refusal::nowhere(Reason::BatchFull));
     }
     if batch.len() < BATCH_WORDS {
-        return refusals::RESULT_SHORT;
+        return Err(Refusal::nowhere(Reason::ResultShort));
     }
-    0
+    Ok(())
 }
 
-// Adds a good part. Each word is read before the first is stored.
+// Adds a good part.
 fn add_good(batch: &mut [u64], gain: Gained, n: usize)
     requires { GainFeedable n batch.old gain }
     ensures { batch.new ≡ good_fed n (gained_of gain) batch.old }
 {
-    let fed = batch[0] + 1;
-    let parts = batch[1] + 1;
-    let bits = batch[2] + gain.bits;
-    let lanes = batch[3] + gain.lanes;
-    let rounds = batch[4] + gain.rounds;
-    let empty = batch[5] + gain.empty;
-    let script = batch[6] + gain.words;
-    batch[0] = fed;
-    batch[1] = parts;
-    batch[2] = bits;
-    batch[3] = lanes;
-    batch[4] = rounds;
-    batch[5] = empty;
-    batch[6] = script;
-    batch[7] = n as u64;
+    let totals = [
+        batch[0] + 1,
+        batch[1] + 1,
+        batch[2] + gain.bits,
+        batch[3] + gain.lanes,
+        batch[4] + gain.rounds,
+        batch[5] + gain.empty,
+        batch[6] + gain.words,
+        n as u64,
+    ];
+    batch[..8].copy_from_slice(&totals);
 }
 
 // Adds a part that is refused with a number.
@@ -103,30 +95,20 @@ fn feed_part(
     n: usize,
 ) -> Fed
     requires { Feedable n batch.old × (length table.old ≡ 32 * n) }
-    ensures value { result ≡ fed_of (good (part_outcome n (part_given set.now lanes.now stages))) }
+    ensures value { result ≡ part_fed (part_outcome n (part_given set.now lanes.now stages)) }
     ensures batch_after { batch.new ≡ fed_with n (part_given set.now lanes.now stages) (part_outcome n (part_given set.now lanes.now stages)) batch.old }
 {
     match part_outcome(set, lanes, table, stages, n) {
-        Outcome::Refused(q) => {
-            add_refused(batch, q.number, n);
-            Fed::Part(q.number, q.item)
-        }
-        Outcome::Placed => {
+        Ok(()) => {
             let gain = gain_of(set, table, stages, n);
             add_good(batch, gain, n);
-            Fed::Part(0, 0)
+            Fed { part: Ok(()) }
+        }
+        Err(refusal) => {
+            add_refused(batch, refusal.number, n);
+            Fed { part: Err(refusal) }
         }
     }
-}
-
-fn refused(number: u32) -> Fed
-    ensures { result ≡ Fed.Refused (record { number = number; part = 0; item = 0 }) }
-{
-    Fed::Refused(refusals::Refusal {
-        number: number,
-        part: 0,
-        item: 0,
-    })
 }
 
 // The same for any batch and any number in the place of an edition's. What the room holds afterwards is left open.
@@ -137,22 +119,19 @@ fn feed_in(
     batch: &mut [u64],
     stages: u32,
     edition: u32,
-) -> Fed
+) -> Result<Fed, Refusal>
     requires { 16384 ≤ length room.old }
-    ensures value { result ≡ fed_of (called (call_number edition batch.old) (part_outcome edition (part_given set.now lanes.now stages))) }
+    ensures value { result ≡ result_of part_fed (called (call_number edition batch.old) (part_outcome edition (part_given set.now lanes.now stages))) }
     ensures batch_after { batch.new ≡ batch_after edition (part_given set.now lanes.now stages) (called (call_number edition batch.old) (part_outcome edition (part_given set.now lanes.now stages))) batch.old }
 {
-    let number = call_number(batch, edition);
-    if 0 < number {
-        return refused(number);
-    }
+    check_call(batch, edition)?;
     let n = edition as usize;
     let rows = 32 * n;
-    feed_part(set, lanes, &mut room[..rows], batch, stages, n)
+    Ok(feed_part(set, lanes, &mut room[..rows], batch, stages, n))
 }
 
-// Feeds a part to a batch: its read set, the words of lanes handed in (none: our own search), its stages. The answer, the batch and the lent room
-// are as document 02 says.
+// Feeds a part to a batch: its read set, the words of lanes handed in (none: our own search), its stages. The answer (the refusal of a call feeds
+// nothing), the batch and the lent room are as document 02 says.
 pub fn feed(
     set: &[u32],
     lanes: &[u32],
@@ -160,13 +139,13 @@ pub fn feed(
     batch: &mut [u64],
     stages: u32,
     edition: u32,
-) -> Fed
-    ensures value { result ≡ fed_of (feed_answer (length room.old) edition (part_given set.now lanes.now stages) batch.old) }
+) -> Result<Fed, Refusal>
+    ensures value { result ≡ result_of part_fed (feed_answer (length room.old) edition (part_given set.now lanes.now stages) batch.old) }
     ensures batch_after { batch.new ≡ batch_after edition (part_given set.now lanes.now stages) (feed_answer (length room.old) edition (part_given set.now lanes.now stages) batch.old) batch.old }
     ensures room_after { room.new ≡ set_room_after room.old }
 {
     if room.len() < ROOM_WORDS {
-        return refused(refusals::ROOM_SHORT);
+        return Err(Refusal::nowhere(Reason::RoomShort));
     }
     let answer = feed_in(set, lanes, room, batch, stages, edition);
     clear(room);

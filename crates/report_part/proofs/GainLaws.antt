@@ -3,16 +3,18 @@
 use mathlib.Core.Path.{◌≡◌, refl, sym, ap, ◌∙◌}
 use mathlib.Core.Bool.{Bool, true, false}
 use mathlib.Core.List.{List, [], ◌∷◌}
-use Prim.Native.Nat.{ℕ, ◌+◌, ◌*◌, ◌/◌, ◌≤◌, ◌<◌}
+use Prim.Native.Nat.{ℕ, ◌+◌, ◌*◌, ◌/◌, ◌≤◌, ◌<◌, max}
 use native.Mathlib.Nat.{le_trans, mul-le-mul_left}
 use native.Mathlib.Numerals.{add-one}
 use native.Mathlib.Omega.{arith}
 use borrow.Author.Tests.{ltb-true, ltb-false}
 use lib.Dec.{ltb}
+use Rattle.std.proofs.Common.{nat_cmp}
+use Rattle.std.proofs.lemmas.Bool.Decides.{nat_tests}
+use Rattle.std.specs.Ordering.{ord_max}
 use lib.ListN.{length, get_or, drop, drop_of_length-le, get_or-eq_default}
 use lib.Seq.{drop-cons}
-use Rattle.words.specs.Edition.{Known, part_words}
-use Rattle.words.proofs.EditionLaws.{by_edition}
+use Rattle.words.specs.Edition.{part_words}
 use Rattle.reads.specs.ReadSet.{total, pairs_of}
 use Rattle.reads.specs.Search.{Lane, longest}
 use Rattle.reads.proofs.RoundCountLaws.{longest_le}
@@ -97,6 +99,10 @@ unfolding lane_used
 use_none [] k e h = refl
 use_none (p ∷ l) k e h = absurd (omega arith)
 
+-- the code's greater of two numbers
+pub max_is : (a b : ℕ) → ord_max nat_cmp a b ≡ max a b
+max_is a b = grind (arith, nat_tests)
+
 pub counted_is : (lanes : List Lane) (b l r : ℕ) → b ≡ contents lanes → l ≡ lanes_in_use lanes → r ≡ longest lanes → ◌≡◌ {A = Counted} (record { bits = b; lanes = l; rounds = r }) (counted_of lanes)
 counted_is lanes b l r eb el er = rw (eb, el, er)
 
@@ -104,13 +110,6 @@ counted_is lanes b l r eb el er = rw (eb, el, er)
 
 pub rounds_fit : (n r : ℕ) → n ≤ 256 → r ≤ 32 → n * r ≤ 8192
 rounds_fit n r h l = le_trans (mul-le-mul_left n l) (omega arith)
-
--- the words of a script, by edition
-pub part_words_small : (n r s w : ℕ) → n ≡ 128 → w ≡ part_words 128 r s → w ≡ part_words n r s
-part_words_small n r s w e h = rw e h
-
-pub words_full : (n : ℕ) → Known n → (r s w : ℕ) → (n ≡ 128 → ⊥) → w ≡ part_words 256 r s → w ≡ part_words n r s
-words_full = by_edition (λ n. (r s w : ℕ) → (n ≡ 128 → ⊥) → w ≡ part_words 256 r s → w ≡ part_words n r s) (λ r s w h e. e) (λ r s w h e. absurd (h refl))
 
 module _ {set table : List ℕ} {n : ℕ} (g : Gainable set table n) where
   -- the pairs of the set are among the lanes' rounds

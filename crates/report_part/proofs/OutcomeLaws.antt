@@ -2,10 +2,13 @@
 -- Assumes nothing.
 use mathlib.Core.Path.{◌≡◌, sym, ◌∙◌}
 use mathlib.Core.Bool.{true, false}
+use mathlib.Core.Logic.{◌⊎◌, ⊎_elim}
 use mathlib.Core.Option.{none, some}
 use mathlib.Core.List.{List}
 use Prim.Native.Nat.{ℕ, ◌≤◌, ◌<◌}
 use native.Mathlib.Omega.{arith}
+use Rattle.std.specs.Prelude.{⊤, Ok, Err}
+use Rattle.std.specs.declared.result.Result.{Result}
 use borrow.Author.Tests.{le-leb, lt-leb, lt-ltb, le-ltb}
 use lib.Dec.{leb}
 use lib.ListN.{length}
@@ -20,19 +23,17 @@ use Rattle.reads_section.specs.Readout.{TableReadable}
 use Rattle.handed_lanes.specs.Handed.{lanes_in, fault, told_item, judged, handed_packed, handed_set}
 use Rattle.handed.proofs.HandedLaws.{faultless_judged}
 use Rattle.report.specs.Report.{part_given, part_outcome}
-use Rattle.report_part.specs.declared.outcome.Outcome.{Outcome}
-use Rattle.report_part.specs.declared.outcome.Outcome.TheVariants.{Placed, Refused}
 use Rattle.report_part.specs.PartOutcome.{outcome_of, LanesLie}
 
 -- what is promised of a part with outcome o
-abbrev pub Became : ℕ → List ℕ → Answer Packed → Outcome → List ℕ → Type 0
+abbrev pub Became : ℕ → List ℕ → Answer Packed → Result ⊤ Refusal → List ℕ → Type 0
 Became n set o r table = (r ≡ outcome_of o) × LanesLie n set table o
 
-pub became_refused : (n : ℕ) (set : List ℕ) (o : Answer Packed) (q : Refusal) (table : List ℕ) → o ≡ refused q → Became n set o (Refused q) table
+pub became_refused : (n : ℕ) (set : List ℕ) (o : Answer Packed) (q : Refusal) (table : List ℕ) → o ≡ refused q → Became n set o (Err q) table
 became_refused n set o q table e = (rw e, λ x f. refused_good q x (sym e ∙ f))
 
 pub became_placed : (n : ℕ) (set : List ℕ) (o : Answer Packed) (x : Packed) (table : List ℕ) → o ≡ good x
-    → TableReadable set table n × (lanes_at set table n ≡ x.lanes) → Became n set o Placed table
+    → TableReadable set table n × (lanes_at set table n ≡ x.lanes) → Became n set o (Ok tt) table
 became_placed n set o x table e lie = (rw e, λ y f. let same : x ≡ y = cc (e, f) in rw (← same) lie)
 
 module _ (n : ℕ) (set : List ℕ) where
@@ -85,17 +86,20 @@ module _ (n : ℕ) (set : List ℕ) where
 
   -- ---- a part: 5, then one of the two
 
-  pub part_none : (lanes : List ℕ) (stages : ℕ) → stages ≡ 0 → part_outcome n (part_given set lanes stages) ≡ refused (nowhere 5)
+  part_none : (lanes : List ℕ) (stages : ℕ) → stages ≡ 0 → part_outcome n (part_given set lanes stages) ≡ refused (nowhere 5)
   unfolding part_outcome
   part_none lanes stages e =
       let low : leb 1 stages ≡ false = lt-leb 1 stages (omega arith) in
       rw (low, part_outcome)
 
-  pub part_many : (lanes : List ℕ) (stages : ℕ) → (stages ≡ 0 → ⊥) → 255 < stages → part_outcome n (part_given set lanes stages) ≡ refused (nowhere 5)
+  part_many : (lanes : List ℕ) (stages : ℕ) → (stages ≡ 0 → ⊥) → 255 < stages → part_outcome n (part_given set lanes stages) ≡ refused (nowhere 5)
   unfolding part_outcome
   part_many lanes stages h l =
       let some_stages : leb 1 stages ≡ true = le-leb 1 stages (omega arith) in
       rw (some_stages, lt-leb stages 255 l, part_outcome)
+
+  pub part_wrong : (lanes : List ℕ) (stages : ℕ) → (stages ≡ 0) ⊎ ((stages ≡ 0 → ⊥) × (255 < stages)) → part_outcome n (part_given set lanes stages) ≡ refused (nowhere 5)
+  part_wrong lanes stages e = ⊎_elim (λ z. part_none lanes stages z) (λ h. part_many lanes stages h.0 h.1) e
 
   module _ (lanes : List ℕ) (stages : ℕ) (some_stages : stages ≡ 0 → ⊥) (few : stages ≤ 255) where
     least : leb 1 stages ≡ true
@@ -109,5 +113,5 @@ module _ (n : ℕ) (set : List ℕ) where
     unfolding part_outcome
     part_handed h = rw (least, le-leb stages 255 few, lt-ltb 0 (length lanes) (omega arith), part_outcome)
 
-pub became_same : (n : ℕ) (set : List ℕ) (o d : Answer Packed) (r : Outcome) (table : List ℕ) → d ≡ o → Became n set o r table → Became n set d r table
+pub became_same : (n : ℕ) (set : List ℕ) (o d : Answer Packed) (r : Result ⊤ Refusal) (table : List ℕ) → d ≡ o → Became n set o r table → Became n set d r table
 became_same n set o d r table e b = rw e b

@@ -1,8 +1,10 @@
--- What becomes of a part, in the code's terms: an enum, and a table of its lanes. n is the number of lanes.
+-- What becomes of a part, in the code's terms: a result, and a table of its lanes. n is the number of lanes.
 -- Assumes nothing.
-use Rattle.std.specs.Prelude.{◌≡◌, List, ℕ}
+use Rattle.std.specs.Prelude.{◌≡◌, ⊤, List, ℕ}
+use Rattle.std.specs.declared.result.Result.{Result}
 use Rattle.std.proofs.Math.Option.{none}
-use Rattle.words.specs.Answer.{Answer, good, refused}
+use Rattle.words.specs.Answer.{Answer, good, result_of}
+use Rattle.words.specs.declared.refusals.Refusal.{Refusal}
 use Rattle.words.specs.Edition.{Known}
 use Rattle.reads.specs.ReadSet.{pairs_of, broken}
 use Rattle.reads.specs.Search.{Lane, longest}
@@ -11,14 +13,11 @@ use Rattle.reads.specs.SetAnswer.{Packed}
 use Rattle.reads_try.specs.TableLanes.{lanes_at}
 use Rattle.reads_section.specs.Readout.{TableReadable}
 use Rattle.report.specs.Report.{contents, lanes_in_use, Gain}
-use Rattle.report_part.specs.declared.outcome.Outcome.{Outcome}
-use Rattle.report_part.specs.declared.outcome.Outcome.TheVariants.{Placed, Refused}
 use Rattle.report_part.specs.declared.counts.Counted.{Counted}
 use Rattle.report_part.specs.declared.counts.Gained.{Gained}
 
-abbrev pub outcome_of : Answer Packed → Outcome
-outcome_of (good x) = Placed
-outcome_of (refused q) = Refused q
+abbrev pub outcome_of : Answer Packed → Result ⊤ Refusal
+outcome_of = result_of (λ x. tt)
 
 -- the table is that of a good part's lanes
 abbrev pub LanesLie : ℕ → List ℕ → List ℕ → Answer Packed → Type 0

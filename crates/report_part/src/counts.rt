@@ -1,12 +1,11 @@
 // What a good part adds, counted over the table of its lanes.
 ghost use Rattle.std.specs.Prelude.{◌≡◌, []};
-ghost use Rattle.words.specs.Edition.{Known, part_words};
 ghost use Rattle.reads_try.specs.TableLanes.{lanes_at};
 ghost use Rattle.reads_section.specs.Readout.{TableReadable};
 ghost use Rattle.report.specs.Report.{part_given, gain_of};
 ghost use Rattle.report_part.specs.PartOutcome.{counted_of, gained_of, Gainable};
 
-use words::edition::{Edition, SmallEdition};
+use words::edition::part_words;
 
 // The bits of lanes, those with a pair, and the pairs of the longest.
 #[derive(Drop)]
@@ -34,34 +33,19 @@ fn count_lanes(set: &[u32], table: &[u32], n: usize) -> Counted
     let mut bits = 0;
     let mut lanes = 0;
     let mut rounds = 0;
-    let mut j = 0;
-    while j < n {
+    for j in 0..n {
         let held = reads_try::lane_load(set, table, j);
         bits += held.bits as u64;
         if 0 < held.pairs {
             lanes += 1;
         }
-        if rounds < held.pairs {
-            rounds = held.pairs;
-        }
-        j += 1;
+        rounds = rounds.max(held.pairs);
     }
     Counted {
         bits,
         lanes,
         rounds: rounds as u32,
     }
-}
-
-// The words of a part's script with so many lanes.
-fn words_of(n: usize, rounds: u32, stages: u32) -> u64
-    requires { Known n }
-    ensures { result ≡ part_words n rounds stages }
-{
-    if n == SmallEdition::LANES {
-        return SmallEdition::part_words(rounds, stages);
-    }
-    Edition::part_words(rounds, stages)
 }
 
 // What a good part adds: the bits that were asked for are those that the lanes hold, and each lane and round without a pair is empty.
@@ -75,6 +59,6 @@ pub fn gain_of(set: &[u32], table: &[u32], stages: u32, n: usize) -> Gained
         lanes: held.lanes,
         rounds: held.rounds as u64,
         empty: (n * held.rounds as usize - set.len() / 2) as u64,
-        words: words_of(n, held.rounds, stages),
+        words: part_words(n as u16, held.rounds, stages),
     }
 }

@@ -1,4 +1,4 @@
-// What becomes of a part. Its lanes are left in the table, 32 words a lane.
+// What becomes of a part: it is good, or it is refused. Its lanes are left in the table, 32 words a lane.
 ghost use Rattle.std.specs.Prelude.{◌≡◌, ◌*◌, ◌≤◌, ◌<◌, length};
 ghost use Rattle.reads.specs.ReadSet.{pairs_of};
 ghost use Rattle.reads.specs.SetAnswer.{read_set};
@@ -8,9 +8,7 @@ ghost use Rattle.report.specs.Report.{part_given, part_outcome};
 ghost use Rattle.report_part.specs.PartOutcome.{outcome_of, LanesLie};
 
 use handed::fill::fill_lanes;
-use rounds::Searched;
-use words::found::Item;
-use words::refusals;
+use words::refusals::{Reason, Refusal};
 
 // The most words of a read set, and its pairs; a set of few pairs, whose search has shorter keys and scratch; a bit for each pair.
 const SET_WORDS: usize = 16384;
@@ -23,23 +21,6 @@ const MARKS: usize = 256;
 
 const STAGES: u32 = 255;
 
-// The part is good, or it is refused.
-#[derive(Drop)]
-pub enum Outcome {
-    Placed,
-    Refused(refusals::Refusal),
-}
-
-fn refused(number: u32, item: u64) -> Outcome
-    ensures { result ≡ Outcome.Refused (record { number = number; part = 0; item = item }) }
-{
-    Outcome::Refused(refusals::Refusal {
-        number,
-        part: 0,
-        item,
-    })
-}
-
 // A set by our own search, with keys and scratch lent.
 fn search_in(
     set: &[u32],
@@ -47,25 +28,23 @@ fn search_in(
     keys: &mut [u64],
     scratch: &mut [u64],
     n: usize,
-) -> Outcome
+) -> Result<(), Refusal>
     requires { RoundsReady (length set.now) (length table.old) (length keys.old) (length scratch.old) n }
     ensures value { result ≡ outcome_of (read_set n (pairs_of set.now)) }
     ensures lanes_lie { LanesLie n set.now table.new (read_set n (pairs_of set.now)) }
 {
     if SET_WORDS < set.len() {
-        return refused(refusals::MANY_PAIRS, 0);
+        return Err(Refusal::nowhere(Reason::ManyPairs));
     }
-    if let Item::At(i) = reads_section::check_form(set) {
-        return refused(refusals::PAIR_FORM, i as u64);
+    if let Some(i) = reads_section::check_form(set) {
+        return Err(Refusal::at_item(Reason::PairForm, i as u64));
     }
-    match rounds::search_sizes(set, table, keys, scratch, n) {
-        Searched::Lost(q) => Outcome::Refused(q),
-        Searched::Won(_) => Outcome::Placed,
-    }
+    rounds::search_sizes(set, table, keys, scratch, n)?;
+    Ok(())
 }
 
 // A set of few pairs by our own search.
-fn search_few(set: &[u32], table: &mut [u32], n: usize) -> Outcome
+fn search_few(set: &[u32], table: &mut [u32], n: usize) -> Result<(), Refusal>
     requires { (length set.now ≤ 2048) × (length table.old ≡ 32 * n) × (0 < n) × (n ≤ 256) }
     ensures value { result ≡ outcome_of (read_set n (pairs_of set.now)) }
     ensures lanes_lie { LanesLie n set.now table.new (read_set n (pairs_of set.now)) }
@@ -76,7 +55,7 @@ fn search_few(set: &[u32], table: &mut [u32], n: usize) -> Outcome
 }
 
 // Any set by our own search.
-fn search(set: &[u32], table: &mut [u32], n: usize) -> Outcome
+fn search(set: &[u32], table: &mut [u32], n: usize) -> Result<(), Refusal>
     requires { (length table.old ≡ 32 * n) × (0 < n) × (n ≤ 256) }
     ensures value { result ≡ outcome_of (read_set n (pairs_of set.now)) }
     ensures lanes_lie { LanesLie n set.now table.new (read_set n (pairs_of set.now)) }
@@ -90,41 +69,45 @@ fn search(set: &[u32], table: &mut [u32], n: usize) -> Outcome
 }
 
 // A set with lanes handed in.
-fn judge(set: &[u32], lanes: &[u32], table: &mut [u32], n: usize) -> Outcome
+fn judge(set: &[u32], lanes: &[u32], table: &mut [u32], n: usize) -> Result<(), Refusal>
     requires { (length table.old ≡ 32 * n) × (0 < n) × (n ≤ 256) }
     ensures value { result ≡ outcome_of (handed_set n (pairs_of set.now) lanes.now) }
     ensures lanes_lie { LanesLie n set.now table.new (handed_set n (pairs_of set.now) lanes.now) }
 {
     if SET_WORDS < set.len() {
-        return refused(refusals::MANY_PAIRS, 0);
+        return Err(Refusal::nowhere(Reason::ManyPairs));
     }
-    if let Item::At(i) = reads_section::check_form(set) {
-        return refused(refusals::PAIR_FORM, i as u64);
+    if let Some(i) = reads_section::check_form(set) {
+        return Err(Refusal::at_item(Reason::PairForm, i as u64));
     }
     if set.len() == 0 {
-        return refused(refusals::NOTHING_TO_READ, 0);
+        return Err(Refusal::nowhere(Reason::NothingToRead));
     }
     let mut seen = [0u32; MARKS];
-    if let Item::At(i) = fill_lanes(set, lanes, table, &mut seen, n) {
-        return refused(refusals::NO_PACKING, i as u64);
+    if let Some(i) = fill_lanes(set, lanes, table, &mut seen, n) {
+        return Err(Refusal::at_item(Reason::NoPacking, i as u64));
     }
-    Outcome::Placed
+    Ok(())
 }
 
 // What becomes of a part: 5 for its stages, then its set, by our own search where no lanes are handed in.
-pub fn part_outcome(set: &[u32], lanes: &[u32], table: &mut [u32], stages: u32, n: usize) -> Outcome
+pub fn part_outcome(
+    set: &[u32],
+    lanes: &[u32],
+    table: &mut [u32],
+    stages: u32,
+    n: usize,
+) -> Result<(), Refusal>
     requires { (length table.old ≡ 32 * n) × (0 < n) × (n ≤ 256) }
     ensures value { result ≡ outcome_of (part_outcome n (part_given set.now lanes.now stages)) }
     ensures lanes_lie { LanesLie n set.now table.new (part_outcome n (part_given set.now lanes.now stages)) }
 {
-    if stages == 0 {
-        return refused(refusals::PLAN_FORM, 0);
-    }
-    if STAGES < stages {
-        return refused(refusals::PLAN_FORM, 0);
+    if stages == 0 || STAGES < stages {
+        return Err(Refusal::nowhere(Reason::PlanForm));
     }
     if lanes.len() == 0 {
-        return search(set, table, n);
+        search(set, table, n)
+    } else {
+        judge(set, lanes, table, n)
     }
-    judge(set, lanes, table, n)
 }

@@ -16,8 +16,10 @@ use Rattle.reads.specs.SetAnswer.{searched}
 use Rattle.reads.proofs.SearchLaws.{win_none, win_all, win_stuck, win_fuel}
 use Rattle.reads_try.specs.LaneTable.{table_of}
 use Rattle.reads_try.specs.Tries.{ending_of, tried_lanes, tried_of, TryReady}
-use Rattle.reads_try.specs.declared.Ending.{Ending}
-use Rattle.reads_try.specs.declared.Ending.TheVariants.{All, Stuck}
+use Rattle.std.specs.Prelude.{⊤, Ok, Err}
+use Rattle.std.specs.declared.result.Result.{Result}
+use Rattle.reads_try.specs.declared.Stuck.{Stuck}
+use Rattle.words.specs.declared.refusals.Refusal.{Refusal}
 use Rattle.words.specs.Answer.{good, refused, at_item}
 use Rattle.words.proofs.TestLaws.{and_true}
 use Rattle.reads_try.specs.Late.{late_full}
@@ -27,8 +29,6 @@ use Rattle.reads_pieces.specs.Keys.{keys_of, piece_count, Orderable}
 use Rattle.reads_pieces.proofs.PieceKeyLaws.{piece_count_le}
 use Rattle.reads_pieces.proofs.PieceOrderLaws.{run_is}
 use Rattle.rounds.specs.Rounds.{searched_of, word_told, told_of, won_lanes, table_after, TrySet, SetSearchable}
-use Rattle.rounds.specs.declared.Searched.{Searched}
-use Rattle.rounds.specs.declared.Searched.TheVariants.{Won}
 
 pub zeros_length : {t : List ℕ} {n : ℕ} → t ≡ replicate n 0 → length t ≡ n
 zeros_length {t} {n} e = ap length e ∙ length-replicate n 0
@@ -95,13 +95,13 @@ module _ {ws : List ℕ} {n k : ℕ} (s : TrySet ws n k) where
     named = tried_is ws n k s.few s.some_pairs keys e
 
     -- all is placed: the table is that of the lanes
-    pub ordered_won : (r : Ending) → r ≡ ending_of (tried_of n k ws keys) → r ≡ All → (table table' : List ℕ) → table ≡ replicate (32 * n) 0
-        → table' ≡ table_of (tried_lanes (tried_of n k ws keys)) ++ drop (32 * n) table → (All ≡ told_of k T) × (table' ≡ table_after n (won_lanes T))
+    pub ordered_won : (r : Result ⊤ Stuck) → r ≡ ending_of (tried_of n k ws keys) → r ≡ Ok tt → (table table' : List ℕ) → table ≡ replicate (32 * n) 0
+        → table' ≡ table_of (tried_lanes (tried_of n k ws keys)) ++ drop (32 * n) table → (Ok tt ≡ told_of k T) × (table' ≡ table_after n (won_lanes T))
     ordered_won r er f table table' et et' = go T refl
       where
-        go : (U : Tried) → T ≡ U → (All ≡ told_of k T) × (table' ≡ table_after n (won_lanes T))
+        go : (U : Tried) → T ≡ U → (Ok tt ≡ told_of k T) × (table' ≡ table_after n (won_lanes T))
         go (stuck p lanes) u =
-            let q : Stuck p.word ≡ All = sym (rw (named, u) at er) ∙ f in
+            let q : ◌≡◌ {A = Result ⊤ Stuck} (Err (record { word = p.word })) (Ok tt) = sym (rw (named, u) at er) ∙ f in
             let z : ◌≡◌ {A = ℕ} 0 1 = cc in
             absurd (omega arith)
         go (all lanes) u =
@@ -109,29 +109,29 @@ module _ {ws : List ℕ} {n k : ℕ} (s : TrySet ws n k) where
             rw u (refl, (rw (named, u) at et') ∙ rw (drop_of_length-le table short, append-nil))
 
     -- a pair found no room: the table is cleared
-    pub ordered_lost : (r : Ending) → r ≡ ending_of (tried_of n k ws keys) → (w : ℕ) → r ≡ Stuck w → (r' : Ending) → r' ≡ Stuck (word_told k w) → (table : List ℕ)
-        → table ≡ replicate (32 * n) 0 → (r' ≡ told_of k T) × (table ≡ table_after n (won_lanes T))
-    ordered_lost r er w f r' er' table et = go T refl
+    pub ordered_lost : (r : Result ⊤ Stuck) → r ≡ ending_of (tried_of n k ws keys) → (w : Stuck) → r ≡ Err w → (w' : Stuck) → w'.word ≡ word_told k w.word → (table : List ℕ)
+        → table ≡ replicate (32 * n) 0 → (Err w' ≡ told_of k T) × (table ≡ table_after n (won_lanes T))
+    ordered_lost r er w f w' ew table et = go T refl
       where
-        go : (U : Tried) → T ≡ U → (r' ≡ told_of k T) × (table ≡ table_after n (won_lanes T))
+        go : (U : Tried) → T ≡ U → (Err w' ≡ told_of k T) × (table ≡ table_after n (won_lanes T))
         go (all lanes) u =
-            let q : All ≡ Stuck w = sym (rw (named, u) at er) ∙ f in
+            let q : ◌≡◌ {A = Result ⊤ Stuck} (Ok tt) (Err w) = sym (rw (named, u) at er) ∙ f in
             let z : ◌≡◌ {A = ℕ} 0 1 = cc in
             absurd (omega arith)
         go (stuck p lanes) u =
-            let q : Stuck p.word ≡ Stuck w = sym (rw (named, u) at er) ∙ f in
-            let is : p.word ≡ w = cc in
-            rw u (er' ∙ ap (λ (x : ℕ). Stuck (word_told k x)) (sym is), et)
+            let q : ◌≡◌ {A = Result ⊤ Stuck} (Err (record { word = p.word })) (Err w) = sym (rw (named, u) at er) ∙ f in
+            let is : p.word ≡ w.word = cc in
+            rw u (ap (λ (x : ℕ). Err (record { word = x })) (ew ∙ ap (λ (x : ℕ). word_told k x) (sym is)), et)
 
     -- a pair of 32 bits would find none, at another size than the last: nothing is placed
     pub passed_lost : (look : Bool) (r : Bool) → r ≡ (look && (ltb 1 k && late_full n k ws keys)) → r ≡ true → (table : List ℕ) → table ≡ replicate (32 * n) 0
-        → (Stuck 0 ≡ told_of k T) × (table ≡ table_after n (won_lanes T))
+        → (Err (record { word = 0 }) ≡ told_of k T) × (table ≡ table_after n (won_lanes T))
     passed_lost look r er f table et =
         let both = (and_true look (ltb 1 k && late_full n k ws keys) (sym er ∙ f)).1 in
         let late = and_true (ltb 1 k) (late_full n k ws keys) both in
         let end = late_tried ws s.whole s.masks n k keys s.some_lanes late.1 in
         let is : T ≡ stuck end.0 end.1 = sym named ∙ end.2 in
-        let none_told : Stuck 0 ≡ Stuck (word_told k end.0.word) = ap (λ (w : ℕ). Stuck w) (told_before k end.0.word (ltb-true 1 k late.0)) in
+        let none_told : ◌≡◌ {A = Result ⊤ Stuck} (Err (record { word = 0 })) (Err (record { word = word_told k end.0.word })) = ap (λ (w : ℕ). Err (record { word = w })) (told_before k end.0.word (ltb-true 1 k late.0)) in
         (none_told ∙ ap (λ (U : Tried). told_of k U) (sym is), et ∙ ap (λ (U : Tried). table_after n (won_lanes U)) (sym is))
 
 -- the look at the keys, test by test
@@ -180,39 +180,39 @@ module _ {ws : List ℕ} {t K S n : ℕ} (s : SetSearchable ws t K S n) where
       (omega (arith, same), ap (λ (k : ℕ). first_win n (pairs_of ws) 14 k) (sym same), λ z. absurd (omega arith))
 
 module _ (n : ℕ) (ps : List Pair) (few : length ps ≤ 8192) where
-  pub left_end : (k w : ℕ) → k ≤ 0 → Left n ps k w → (r : Searched) → r ≡ searched_of (refused (at_item 4 w)) → (table : List ℕ) → table ≡ replicate (32 * n) 0
-      → (r ≡ searched_of (searched n ps)) × (table ≡ table_after n (lanes_of n ps))
+  pub left_end : (k w : ℕ) → k ≤ 0 → Left n ps k w → (q : Refusal) → q ≡ at_item 4 w → (table : List ℕ) → table ≡ replicate (32 * n) 0
+      → (Err q ≡ searched_of (searched n ps)) × (table ≡ table_after n (lanes_of n ps))
   unfolding lanes_found searched
-  left_end k w h l r er table et =
+  left_end k w h l q eq table et =
       let z : k ≡ 0 = omega arith in
       let none-won : found_of n ps ≡ ended = sym l.1 ∙ rw z (win_none n ps 14) in
       let answer : searched n ps ≡ refused (at_item 4 w) = rw (none-won, l.2 z, searched) in
-      (er ∙ ap searched_of (sym answer), rw none-won et)
+      (ap Err eq ∙ ap searched_of (sym answer), rw none-won et)
 
   -- the table is empty again
-  pub left_empty : (k : ℕ) (r : Ending) → r ≡ told_of k (try n ps k) → (w : ℕ) → r ≡ Stuck w → (table : List ℕ) → table ≡ table_after n (won_lanes (try n ps k))
+  pub left_empty : (k : ℕ) (r : Result ⊤ Stuck) → r ≡ told_of k (try n ps k) → (w : Stuck) → r ≡ Err w → (table : List ℕ) → table ≡ table_after n (won_lanes (try n ps k))
       → table ≡ replicate (32 * n) 0
   left_empty k r e w f table et = go (try n ps k) refl
     where
       go : (T : Tried) → try n ps k ≡ T → table ≡ replicate (32 * n) 0
       go (all lanes) t =
-          let q : All ≡ Stuck w = sym (rw t at e) ∙ f in
+          let q : ◌≡◌ {A = Result ⊤ Stuck} (Ok tt) (Err w) = sym (rw t at e) ∙ f in
           let z : ◌≡◌ {A = ℕ} 0 1 = cc in
           absurd (omega arith)
       go (stuck p lanes) t = rw t at et
 
-  pub left_on : (k v : ℕ) → 0 < k → Left n ps k v → (r : Ending) → r ≡ told_of k (try n ps k) → (w : ℕ) → r ≡ Stuck w → Left n ps (k / 2) w
+  pub left_on : (k v : ℕ) → 0 < k → Left n ps k v → (r : Result ⊤ Stuck) → r ≡ told_of k (try n ps k) → (w : Stuck) → r ≡ Err w → Left n ps (k / 2) w.word
   unfolding stop_word
   left_on k v h l r e w f = go (try n ps k) refl
     where
-      go : (T : Tried) → try n ps k ≡ T → Left n ps (k / 2) w
+      go : (T : Tried) → try n ps k ≡ T → Left n ps (k / 2) w.word
       go (all lanes) t =
-          let q : All ≡ Stuck w = sym (rw t at e) ∙ f in
+          let q : ◌≡◌ {A = Result ⊤ Stuck} (Ok tt) (Err w) = sym (rw t at e) ∙ f in
           let z : ◌≡◌ {A = ℕ} 0 1 = cc in
           absurd (omega arith)
       go (stuck p lanes) t =
-          let q : Stuck (word_told k p.word) ≡ Stuck w = sym (rw t at e) ∙ f in
-          let is : word_told k p.word ≡ w = cc in
+          let q : ◌≡◌ {A = Result ⊤ Stuck} (Err (record { word = word_told k p.word })) (Err w) = sym (rw t at e) ∙ f in
+          let is : word_told k p.word ≡ w.word = cc in
           let few-left : k / 2 ≤ 4096 = omega arith in
           let same = win_fuel n ps 13 14 (k / 2) (lt_of_le_of_lt few-left (lit< tt)) (lt_of_le_of_lt few-left (lit< tt)) in
           (omega arith, sym (win_stuck n ps 13 k p lanes h t ∙ same) ∙ l.1, λ z. sym is ∙ sym (told_last k p.word (omega (arith, one z))) ∙ ap stop_word (sym t ∙ ap (λ (x : ℕ). try n ps x) (one z)))
@@ -220,14 +220,14 @@ module _ (n : ℕ) (ps : List Pair) (few : length ps ≤ 8192) where
           one : k / 2 ≡ 0 → k ≡ 1
           one z = omega arith
 
-  pub left_won : (k v : ℕ) → 0 < k → Left n ps k v → (r : Ending) → r ≡ told_of k (try n ps k) → r ≡ All → (table : List ℕ) → table ≡ table_after n (won_lanes (try n ps k))
-      → (Won k ≡ searched_of (searched n ps)) × (table ≡ table_after n (lanes_of n ps))
+  pub left_won : (k v : ℕ) → 0 < k → Left n ps k v → (r : Result ⊤ Stuck) → r ≡ told_of k (try n ps k) → r ≡ Ok tt → (table : List ℕ) → table ≡ table_after n (won_lanes (try n ps k))
+      → (Ok k ≡ searched_of (searched n ps)) × (table ≡ table_after n (lanes_of n ps))
   unfolding lanes_found searched
   left_won k v h l r e f table et = go (try n ps k) refl
     where
-      go : (T : Tried) → try n ps k ≡ T → (Won k ≡ searched_of (searched n ps)) × (table ≡ table_after n (lanes_of n ps))
+      go : (T : Tried) → try n ps k ≡ T → (Ok k ≡ searched_of (searched n ps)) × (table ≡ table_after n (lanes_of n ps))
       go (stuck p lanes) t =
-          let q : Stuck (word_told k p.word) ≡ All = sym (rw t at e) ∙ f in
+          let q : ◌≡◌ {A = Result ⊤ Stuck} (Err (record { word = word_told k p.word })) (Ok tt) = sym (rw t at e) ∙ f in
           let z : ◌≡◌ {A = ℕ} 0 1 = cc in
           absurd (omega arith)
       go (all lanes) t =

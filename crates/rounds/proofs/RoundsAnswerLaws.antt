@@ -19,7 +19,7 @@ use Rattle.words.specs.Edition.{known}
 use Rattle.words.specs.declared.refusals.Refusal.{Refusal}
 use Rattle.reads.specs.SetAnswer.{Packed, packed, read_set, set_fitted, result_after, set_room_after}
 use Rattle.reads.proofs.SearchLaws.{win_first, size_won}
-use Rattle.reads.proofs.SetAnswerLaws.{packed_placed}
+use Rattle.reads.proofs.SetAnswerLaws.{packed_placed, placed_lanes, placed_sound}
 use Rattle.reads_try.specs.LaneTable.{table_of}
 use Rattle.reads_try.specs.Tries.{tried_lanes, tried_of}
 use Rattle.reads_try.specs.TableLanes.{lanes_at, SoundLanes}
@@ -29,9 +29,9 @@ use Rattle.reads_try.proofs.TryLaws.{tried_kept}
 use Rattle.reads_pieces.specs.Keys.{keys_of}
 use Rattle.reads_section.specs.Readout.{TableReadable}
 use Rattle.reads_section.proofs.PairFormLaws.{form_whole, form_masks}
-use Rattle.rounds.specs.declared.Rounds.{Rounds}
-use Rattle.rounds.specs.declared.Rounds.TheVariants.{Placed}
-use Rattle.rounds.specs.declared.Searched.TheVariants.{Won, Lost}
+use Rattle.std.specs.Prelude.{Ok, Err}
+use Rattle.std.specs.declared.result.Result.{Result}
+use Rattle.rounds.specs.declared.Placed as code
 use Rattle.rounds.specs.RoundsAnswer.{edition_answer, rounds_answer}
 use Rattle.rounds.specs.Rounds.{rounds_of, searched_of, table_after, SetSearchable, Solvable, RoundsReady}
 use Rattle.rounds.proofs.PieceSizeLaws.{tried_is}
@@ -74,17 +74,17 @@ module _ (n : ℕ) (ws : List ℕ) (o : ℕ) where
 
 -- ---- the answer and the result, by the outcome
 
-module _ (D : Answer Packed) (r : Rounds) (out : List ℕ) where
-  pub refused_post : (q : Refusal) → D ≡ refused q → r ≡ rounds_of (refused q) → (r ≡ rounds_of D) × (out ≡ result_after D out)
+module _ (D : Answer Packed) (out : List ℕ) where
+  pub refused_post : (q q' : Refusal) → D ≡ refused q → q' ≡ q → (Err q' ≡ rounds_of D) × (out ≡ result_after D out)
   unfolding result_after
-  refused_post q e er = rw e (er, refl)
+  refused_post q q' e eq = rw e (ap Err eq, refl)
 
 pub placed_post : (D : Answer Packed) (x : Packed) (ls : List Lane) (n s : ℕ) (out out' : List ℕ) → D ≡ good x → ls ≡ x.lanes → n ≡ longest ls → x.size ≡ s
-    → out' ≡ sets out 0 (rounds_from ls n 0) → (Placed n s ≡ rounds_of D) × (out' ≡ result_after D out)
+    → out' ≡ sets out 0 (rounds_from ls n 0) → (Ok (record { rounds = n; size = s }) ≡ rounds_of D) × (out' ≡ result_after D out)
 unfolding result_after
 placed_post D x ls n s out out' e el en es eo =
     let q : n ≡ longest x.lanes = en ∙ ap longest el in
-    rw (e, ← es) (ap (λ (k : ℕ). Placed k x.size) q, rw (← q) (rw el at eo))
+    rw (e, ← es) (ap (λ (k : ℕ). Ok (record { rounds = k; size = x.size })) q, rw (← q) (rw el at eo))
 
 -- ---- a set that has the form is searched
 
@@ -116,13 +116,13 @@ searchable_set {ws} s few form small = record {
 
 -- ---- a size has won, or none
 
-pub lost_is : (D : Answer Packed) (q : Refusal) → searched_of D ≡ Lost q → D ≡ refused q
+pub lost_is : (D : Answer Packed) (q : Refusal) → searched_of D ≡ Err q → D ≡ refused q
 lost_is (good x) q e =
     let z : ◌≡◌ {A = ℕ} 0 1 = cc in
     absurd (omega arith)
 lost_is (refused p) q e = let s : p ≡ q = cc in ap refused s
 
-pub won_is : (D : Answer Packed) (k : ℕ) → searched_of D ≡ Won k → (x : Packed) × (D ≡ good x) × (x.size ≡ k)
+pub won_is : (D : Answer Packed) (k : ℕ) → searched_of D ≡ Ok k → (x : Packed) × (D ≡ good x) × (x.size ≡ k)
 won_is (good x) k e = (x, refl, cc)
 won_is (refused q) k e =
     let z : ◌≡◌ {A = ℕ} 0 1 = cc in
@@ -163,6 +163,36 @@ module _ {ws : List ℕ} {t K S n : ℕ} (s : SetSearchable ws t K S n) where
       let few : length (pairs_of ws) / 2 ^ w.i ≤ length (pairs_of ws) = div-le_self (length (pairs_of ws)) (2 ^ w.i) in
       omega (arith, few, w.is, pairs_length 0 ws, s.few)
 
+-- what a search that has won leaves for the rounds
+pub record SearchWon (ws table : List ℕ) (n k : ℕ) : Type 0 where
+  pub packing : Packed
+  pub packed_is : packed n (pairs_of ws) ≡ good packing
+  pub size : packing.size ≡ k
+  pub size_few : k ≤ 8192
+  pub readable : TableReadable ws table n
+  pub same : lanes_at ws table n ≡ packing.lanes
+  pub few_rounds : longest packing.lanes ≤ 32
+
+module _ {ws : List ℕ} {t K S n : ℕ} (ready : RoundsReady (length ws) t K S n) (few : length ws ≤ 16384) (form : broken (pairs_of ws) ≡ none)
+    (small : (x : ℕ) → get_or ws x 0 < 2 ^ 32) where
+  pub found : (r : Result ℕ Refusal) → r ≡ searched_of (packed n (pairs_of ws)) → (k : ℕ) → r ≡ Ok k → (table : List ℕ) → table ≡ table_after n (lanes_of n (pairs_of ws))
+      → length table ≡ t → SearchWon ws table n k
+  found r er k f table et long =
+      let s = searchable_set ready few form small in
+      let won = won_is (packed n (pairs_of ws)) k (sym er ∙ f) in
+      let x = won.0 in
+      let there = won_table s x.lanes table (placed_lanes n (pairs_of ws) x won.1) et (long ∙ ready.room) in
+      let sound = placed_sound n ws x ready.some_lanes small (is_read n ws 0 few form ∙ won.1) in
+      record {
+        packing = x;
+        packed_is = won.1;
+        size = won.2;
+        size_few = omega (arith, won_small s x won.1, won.2);
+        readable = there.0;
+        same = there.1;
+        few_rounds = sound.rounds.1;
+      }
+
 -- the words of 32 rounds of 256 lanes
 pub size_fits : (n r : ℕ) → n ≤ 256 → r ≤ 32 → 2 * n * r ≤ 16384
 size_fits n r h l = le_trans (mul-le-mul_left (2 * n) l) (omega arith)
@@ -179,17 +209,17 @@ module _ (n : ℕ) (ws : List ℕ) (o : ℕ) where
   is_known h = rw (h, edition_answer)
 
 -- what is promised of an answer, a result and a room
-abbrev pub Promised : (n : ℕ) (ws out room : List ℕ) → Rounds → (out' room' : List ℕ) → Type 0
+abbrev pub Promised : (n : ℕ) (ws out room : List ℕ) → Result code.Placed Refusal → (out' room' : List ℕ) → Type 0
 Promised n ws out room r out' room' =
     (r ≡ rounds_of (rounds_answer n ws (length out) (length room))) × ((out' ≡ result_after (rounds_answer n ws (length out) (length room)) out) × (room' ≡ set_room_after room))
 
-pub short_post : (n : ℕ) (ws out room : List ℕ) (r : Rounds) → length room < 16384 → r ≡ rounds_of (refused (nowhere 32)) → Promised n ws out room r out room
+pub short_post : (n : ℕ) (ws out room : List ℕ) (q : Refusal) → length room < 16384 → q ≡ nowhere 32 → Promised n ws out room (Err q) out room
 unfolding rounds_answer result_after set_room_after
-short_post n ws out room r h e =
+short_post n ws out room q h e =
     let t : leb 16384 (length room) ≡ false = lt-leb 16384 (length room) h in
-    (rw (t, rounds_answer) e, (rw (t, rounds_answer, result_after), rw (t, set_room_after)))
+    (rw (t, rounds_answer) (ap Err e), (rw (t, rounds_answer, result_after), rw (t, set_room_after)))
 
-pub long_post : (n : ℕ) (ws out room : List ℕ) (r : Rounds) (out' room' used : List ℕ) → 16384 ≤ length room → r ≡ rounds_of (edition_answer n ws (length out))
+pub long_post : (n : ℕ) (ws out room : List ℕ) (r : Result code.Placed Refusal) (out' room' used : List ℕ) → 16384 ≤ length room → r ≡ rounds_of (edition_answer n ws (length out))
     → out' ≡ result_after (edition_answer n ws (length out)) out → room' ≡ replicate (length used) 0 → length used ≡ length room → Promised n ws out room r out' room'
 unfolding rounds_answer set_room_after
 long_post n ws out room r out' room' used h er eo em long =

@@ -1,6 +1,6 @@
 -- The numbers of the answer, and what the search over the piece sizes asks and leaves. n is the number of lanes.
 -- Assumes nothing.
-use Rattle.std.specs.Prelude.{◌≡◌, true, false, List, ℕ, ◌+◌, ◌*◌, ◌/◌, ◌%◌, ◌≤◌, ◌<◌, leb, ltb, length, get_or, replicate}
+use Rattle.std.specs.Prelude.{◌≡◌, ⊤, Some, None, Ok, Err, true, false, List, ℕ, ◌+◌, ◌*◌, ◌/◌, ◌%◌, ◌≤◌, ◌<◌, leb, ltb, length, get_or, replicate}
 use Rattle.std.proofs.Math.Option.{Option, none, some}
 use Rattle.words.specs.Bit.{pop}
 use Rattle.reads.specs.ReadSet.{Pair, total}
@@ -9,38 +9,39 @@ use Rattle.reads.specs.Packing.{wide_pairs}
 use Rattle.words.specs.Answer.{Answer, good, refused}
 use Rattle.reads.specs.SetAnswer.{Packed}
 use Rattle.reads_try.specs.LaneTable.{table_of}
-use Rattle.reads_try.specs.declared.Ending.{Ending}
-use Rattle.reads_try.specs.declared.Ending.TheVariants.{All, Stuck}
-use Rattle.rounds.specs.declared.Rounds.{Rounds}
-use Rattle.rounds.specs.declared.Rounds.TheVariants.{Placed, Refused}
-use Rattle.rounds.specs.declared.Searched.{Searched}
-use Rattle.rounds.specs.declared.Searched.TheVariants.{Won, Lost}
+use Rattle.reads_try.specs.declared.Stuck.{Stuck}
+use Rattle.std.specs.declared.option.Option as given
+use Rattle.std.specs.declared.result.Result.{Result}
+use Rattle.words.specs.declared.refusals.Reason.{Reason}
+use Rattle.words.specs.declared.refusals.Reason.TheVariants as why
+use Rattle.words.specs.declared.refusals.Refusal.{Refusal}
+use Rattle.rounds.specs.declared.Placed as code
 
 -- the number of rounds and the piece size that won, or the refusal
-abbrev pub rounds_of : Answer Packed → Rounds
-rounds_of (good x) = Placed (longest x.lanes) x.size
-rounds_of (refused q) = Refused q
+abbrev pub rounds_of : Answer Packed → Result code.Placed Refusal
+rounds_of (good x) = Ok (record { rounds = longest x.lanes; size = x.size })
+rounds_of (refused q) = Err q
 
 -- the size that wins, or the refusal
-abbrev pub searched_of : Answer Packed → Searched
-searched_of (good x) = Won x.size
-searched_of (refused q) = Lost q
+abbrev pub searched_of : Answer Packed → Result ℕ Refusal
+searched_of (good x) = Ok x.size
+searched_of (refused q) = Err q
 
--- the refusal that a set gets before any search, or 0
-unfoldable pub number_before : ℕ → List Pair → ℕ
-number_before n ps =
+-- why a set is refused before any search: 3, 21 or 22
+unfoldable pub reason_before : ℕ → List Pair → given.Option Reason
+reason_before n ps =
     elim (ltb 0 (length ps)) [
-      | false ↦ 3
-      | true ↦ elim (leb (total ps) (32 * n)) [ false ↦ 21 | true ↦ elim (leb (wide_pairs ps) n) [ false ↦ 22 | true ↦ 0 ] ]
+      | false ↦ Some why.NothingToRead
+      | true ↦ elim (leb (total ps) (32 * n)) [ false ↦ Some why.ManyBits | true ↦ elim (leb (wide_pairs ps) n) [ false ↦ Some why.ManyWide | true ↦ None ] ]
     ]
 
 -- how a try at piece size k ended, as it is told: the word where it stopped for the last size alone, which is 1
 abbrev pub word_told : ℕ → ℕ → ℕ
 word_told k w = elim (ltb 1 k) [ true ↦ 0 | false ↦ w ]
 
-abbrev pub told_of : ℕ → Tried → Ending
-told_of k (all lanes) = All
-told_of k (stuck p lanes) = Stuck (word_told k p.word)
+abbrev pub told_of : ℕ → Tried → Result ⊤ Stuck
+told_of k (all lanes) = Ok tt
+told_of k (stuck p lanes) = Err (record { word = word_told k p.word })
 
 -- the lanes of a try that placed all
 abbrev pub won_lanes : Tried → Option (List Lane)

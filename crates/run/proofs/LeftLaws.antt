@@ -14,7 +14,8 @@ use Rattle.run_machine.specs.Turn.{Phase, to_read, to_stage, to_store, finished,
 use Rattle.run_machine.specs.Room.{part_of, phase_of, stage_of}
 use Rattle.run_machine.specs.Run.{turns_from, turns_after, turns_left, all_left}
 use Rattle.run_turns.specs.Block.{state_block}
-use Rattle.run_machine.proofs.PartWellLaws.{InForm}
+use Rattle.run_machine.specs.Well.{PartIn}
+use Rattle.run_machine.proofs.PartWellLaws.{InForm, parts_well}
 use Rattle.run.specs.States.{room_of, room_block, blocks_in}
 use Rattle.run.specs.LeftInForm.{Parts, PartsFrom, LeftInForm, RoomLeftInForm, AllLeftInForm}
 use Rattle.run.proofs.LeftInFormLaws.{parts_first, parts_rest, part_turns}
@@ -74,6 +75,9 @@ module _ (n : ℕ) (W : List ℕ) where
       let p = w.from in
       let first = parts_first n W p.s p.t p.e o p.parts in
       (omega (arith, part_turns n p.parts.lanes W o), omega (arith, first.header, p.within))
+
+  pub walk_part : (at o sum : ℕ) → Walking at o sum → PartIn n W o
+  walk_part at o sum w = let p = w.from in (parts_well n W p.s p.t p.e p.parts.lanes p.within p.parts.f o p.parts.form).part
 
   module _ (at o sum : ℕ) (w : Walking at o sum) (d : last_at W o ≡ 1 → ⊥) where
     -- where the next part begins

@@ -7,21 +7,21 @@ use mathlib.Core.List.{List}
 use Prim.Native.Nat.{ℕ, ◌+◌, ◌*◌, ◌-◌, ◌/◌, ◌≤◌, ◌<◌}
 use native.Mathlib.Omega.{arith}
 use borrow.Author.Tests.{le-leb, lt-leb, ltb-true}
-use lib.Dec.{leb}
+use lib.Dec.{leb, ltb}
 use lib.ListN.{length, get_or, replicate}
-use Rattle.words.specs.Answer.{refused, at_item, nowhere}
+use Rattle.words.specs.Answer.{result_of, at_item, nowhere}
 use Rattle.words.specs.Edition.{known, levels_for}
 use Rattle.words.specs.Tests.{first_not}
 use Rattle.words.proofs.TestLaws.{not_none}
 use Rattle.words.proofs.EditionLaws.{known_number}
 use Rattle.run_machine.specs.Turn.{Block}
 use Rattle.run_machine.specs.Room.{block_room}
-use Rattle.run_machine.specs.Run.{Running, blocks_from, run_from, run_turns, all_left, bad_block, bad_turn, block_form, run_answer, new_after, run_room_after}
+use Rattle.run_machine.specs.Run.{Running, blocks_from, run_from, run_turns, all_left, bad_block, bad_turn, block_form, Ran, run_answer, new_after, run_room_after}
 use Rattle.run_machine.proofs.PartWellLaws.{lanes_of_lem}
-use Rattle.run_form.proofs.RefuseLaws.{block_good, turn_good}
-use Rattle.run.specs.declared.Ran.{Ran}
-use Rattle.run.specs.declared.Ran.TheVariants.{Left}
-use Rattle.run.specs.RanAnswer.{ran_of}
+use Rattle.run_form.proofs.RefuseLaws.{block_good}
+use Rattle.std.specs.declared.result.Result.{Result}
+use Rattle.std.specs.Prelude.{Ok, Err}
+use Rattle.words.specs.declared.refusals.Refusal.{Refusal}
 use Rattle.run.specs.States.{blocks_in, running}
 use Rattle.run.specs.LeftInForm.{LeftInForm, AllLeftInForm, RunAccepted, Beginnings}
 use Rattle.run.proofs.StateLaws.{begun_at}
@@ -75,12 +75,12 @@ blocks_good n W starts s t h b l = not_none (block_good n W starts s t) (length 
 
 module _ (n : ℕ) (W starts turns old new room : List ℕ) where
   -- the answer, the new state and the room
-  abbrev pub Told : Ran → List ℕ → List ℕ → Type 0
+  abbrev pub Told : Result ℕ Refusal → List ℕ → List ℕ → Type 0
   Told r new' room' =
-      (r ≡ ran_of (run_answer n (levels_for n) W starts turns old new (length room)))
+      (r ≡ result_of (λ (x : Ran). x.left) (run_answer n (levels_for n) W starts turns old new (length room)))
       × ((new' ≡ new_after (run_answer n (levels_for n) W starts turns old new (length room)) new) × (room' ≡ run_room_after starts room))
 
-  pub told_short : (m : ℕ) → m ≡ length starts - 1 → length room / block_room < m → (r : Ran) → r ≡ ran_of (refused (nowhere 32)) → Told r new room
+  pub told_short : (m : ℕ) → m ≡ length starts - 1 → length room / block_room < m → (r : Result ℕ Refusal) → r ≡ Err (nowhere 32) → Told r new room
   unfolding run_answer new_after run_room_after
   told_short m few h r e =
       let short : leb (block_room * (length starts - 1)) (length room) ≡ false = lt-leb (block_room * (length starts - 1)) (length room) (omega arith) in
@@ -94,25 +94,25 @@ module _ (n : ℕ) (W starts turns old new room : List ℕ) where
     unfolding run_room_after
     clear = zeros ∙ rw (fits, run_room_after)
 
-    pub told_edition : known n ≡ false → (r : Ran) → r ≡ ran_of (refused (nowhere 29)) → Told r new room'
+    pub told_edition : known n ≡ false → (r : Result ℕ Refusal) → r ≡ Err (nowhere 29) → Told r new room'
     unfolding run_answer new_after
     told_edition k r e = (e ∙ rw (fits, k, run_answer), (rw (fits, k, run_answer), clear))
 
     module _ (k : known n ≡ true) where
-      pub told_block : (i : ℕ) → bad_block n W starts (length old) (length new) ≡ some i → (r : Ran) → r ≡ ran_of (refused (at_item 15 i)) → Told r new room'
+      pub told_block : (i : ℕ) → bad_block n W starts (length old) (length new) ≡ some i → (r : Result ℕ Refusal) → r ≡ Err (at_item 15 i) → Told r new room'
       unfolding run_answer new_after
       told_block i b r e = (e ∙ rw (fits, k, b, run_answer), (rw (fits, k, b, run_answer), clear))
 
       module _ (b : bad_block n W starts (length old) (length new) ≡ none) where
-        pub told_turn : (i : ℕ) → bad_turn starts turns ≡ some i → (r : Ran) → r ≡ ran_of (refused (at_item 16 i)) → Told r new room'
+        pub told_turn : (i : ℕ) → bad_turn starts turns ≡ some i → (r : Result ℕ Refusal) → r ≡ Err (at_item 16 i) → Told r new room'
         unfolding run_answer new_after
         told_turn i t r e = (e ∙ rw (fits, k, b, t, run_answer), (rw (fits, k, b, t, run_answer), clear))
 
         module _ (named : bad_turn starts turns ≡ none) where
-          pub told_run : (x : ℕ) (new' : List ℕ) → x ≡ all_left n W (run_turns n (levels_for n) W starts turns old new).blocks → new' ≡ (run_turns n (levels_for n) W starts turns old new).new → Told (Left x) new' room'
+          pub told_run : (x : ℕ) (new' : List ℕ) → x ≡ all_left n W (run_turns n (levels_for n) W starts turns old new).blocks → new' ≡ (run_turns n (levels_for n) W starts turns old new).new → Told (Ok x) new' room'
           unfolding run_answer new_after
-          told_run x new' e f = (ap Left e ∙ rw (fits, k, b, named, run_answer), (f ∙ rw (fits, k, b, named, run_answer), clear))
+          told_run x new' e f = (ap Ok e ∙ rw (fits, k, b, named, run_answer), (f ∙ rw (fits, k, b, named, run_answer), clear))
 
           pub accepted : (room₁ : List ℕ) → length room₁ ≡ length room → RunAccepted n W starts turns (length old) (length new) room₁
           unfolding bad_turn
-          accepted room₁ long = record { lanes = lanes_of_lem n (known_number n k); wide = omega arith; blocks = blocks_good n W starts (length old) (length new) b; named = λ i l. ltb-true _ _ (not_none (turn_good starts turns) (length turns) named i l) }
+          accepted room₁ long = record { lanes = lanes_of_lem n (known_number n k); wide = omega arith; blocks = blocks_good n W starts (length old) (length new) b; named = λ i l. ltb-true _ _ (not_none (λ i. ltb (get_or turns i 0) (length starts - 1)) (length turns) named i l) }

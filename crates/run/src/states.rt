@@ -11,13 +11,11 @@ pub fn begin_blocks(words: &[u32], starts: &[u64], blocks: usize, room: &mut [u3
     requires { Beginnings words.now starts.now blocks room.old }
     ensures { (n : ℕ) → blocks_in n words.now room.new blocks 0 ≡ blocks_from words.now starts.now blocks 0 }
 {
-    let mut b = 0;
-    while b < blocks {
+    for b in 0..blocks {
         let state = BlockState::begins(words, starts[b] as usize);
         store_state(
             &mut room[BLOCK_ROOM * b..BLOCK_ROOM * b + BLOCK_ROOM],
             state,
         );
-        b += 1;
     }
 }

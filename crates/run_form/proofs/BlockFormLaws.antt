@@ -60,31 +60,13 @@ module _ (n : ℕ) (W : List ℕ) (e o : ℕ) where
       let (h₂, few) = and_true (c₁ && c₂) c₃ h₃ in
       (leb-true _ _ (and_true c₁ c₂ h₂).0, leb-true _ _ ends)
 
--- ---- what follows from the numbers
+-- ---- `&&` as the code goes through it: the second test is asked where the first passes
 
-module _ (n : ℕ) (W : List ℕ) (s t o : ℕ) where
-  pub body_stores : stores_form n W s t o ≡ false → false ≡ body_form n W s t o
-  unfolding body_form
-  body_stores a = rw (a, body_form)
+pub and_then : (x a b v : Bool) → x ≡ a → x ≡ true → v ≡ b → v ≡ (a && b)
+and_then x a b v e t q = rw (← e, t) q
 
-  module _ (a : stores_form n W s t o ≡ true) where
-    pub body_locations : locations_form n W o ≡ false → false ≡ body_form n W s t o
-    unfolding body_form
-    body_locations b = rw (a, b, body_form)
-
-    module _ (b : locations_form n W o ≡ true) where
-      pub body_lanes : lanes_form n W o ≡ false → false ≡ body_form n W s t o
-      unfolding body_form
-      body_lanes c = rw (a, b, c, body_form)
-
-      module _ (c : lanes_form n W o ≡ true) where
-        pub body_reads : reads_form n W s t o ≡ false → false ≡ body_form n W s t o
-        unfolding body_form
-        body_reads d = rw (a, b, c, d, body_form)
-
-        pub body_entries : (r : Bool) → reads_form n W s t o ≡ true → r ≡ entries_form n W o → r ≡ body_form n W s t o
-        unfolding body_form
-        body_entries r d q = q ∙ rw (a, b, c, d, body_form)
+pub and_else : (x a b v : Bool) → x ≡ a → x ≡ false → v ≡ x → v ≡ (a && b)
+and_else x a b v e f q = rw (← e, f) (q ∙ f)
 
 -- ---- a part
 

@@ -1,36 +1,19 @@
--- Tests as the code goes through them: `&&` and `||` look at their second part only where the first leaves it open.
+-- The bits of a mask, and the test of a part's stores as the code goes through it: `&&` and `||` look at their second part only where the first leaves it
+-- open.
 -- Assumes nothing.
 use mathlib.Core.Path.{◌≡◌}
-use mathlib.Core.Bool.{Bool, true, false, ◌&&◌, ◌||◌}
+use mathlib.Core.Bool.{Bool, false, ◌&&◌, ◌||◌}
 use mathlib.Core.List.{List}
-use Prim.Native.Nat.{ℕ, ◌+◌, ◌-◌, ◌/◌, ◌%◌, ◌^◌, ◌≤◌, ◌<◌}
-use borrow.Author.Tests.{le-leb, lt-leb, lt-ltb, le-ltb, eq-eqb, ne_eqb}
-use lib.Dec.{leb, ltb, eqb}
+use Prim.Native.Nat.{ℕ, ◌+◌, ◌-◌, ◌≤◌, ◌<◌}
+use borrow.Author.Tests.{le-leb, lt-leb, eq-eqb, ne_eqb}
+use lib.Dec.{leb, eqb}
 use Rattle.words.specs.Bit.{pop}
 use Rattle.words.proofs.PopLaws.{pop_le}
 use Rattle.run_machine.specs.Part.{write_outs_at, start_at, srams_at, duplicates_at, normal_at}
 use Rattle.run_machine.specs.Run.{stores_form}
-use Rattle.run_form.specs.PartForm.{read_form}
 
-pub or_then : (a b : Bool) → a ≡ true → a ≡ (a || b)
-or_then a b h = rw h
-
--- a location of an existing stage, and of none
-pub location_good : (n x y p q : ℕ) → x ≡ p → y ≡ q → x / 256 < y → ltb (x % 256) n ≡ (ltb (p / 256) q && ltb (p % 256) n)
-location_good n x y p q e f h = rw (← e, ← f, lt-ltb (x / 256) y h)
-
-pub location_bad : (n x y p q : ℕ) → x ≡ p → y ≡ q → y ≤ x / 256 → ltb (x / 256) y ≡ (ltb (p / 256) q && ltb (p % 256) n)
-location_bad n x y p q e f h = rw (← e, ← f, le-ltb (x / 256) y h)
-
--- a pair that reads inside the old state, and outside
-pub read_inside : (w m s t x : ℕ) → (m ≡ 0 → ⊥) → x ≡ w % 2 ^ 31 → x < s → ltb x t ≡ read_form w m s t
-read_inside w m s t x d e h = rw (ne_eqb m 0 d, ← e, lt-ltb x s h)
-
-pub read_outside : (w m s t x : ℕ) → (m ≡ 0 → ⊥) → x ≡ w % 2 ^ 31 → s ≤ x → ltb x s ≡ read_form w m s t
-read_outside w m s t x d e h = rw (ne_eqb m 0 d, ← e, le-ltb x s h)
-
-pub mask_count_small : (r x m : ℕ) → r ≡ x → x ≡ pop m → r ≤ 32
-mask_count_small r x m e f = rw (e, f) (pop_le m)
+pub mask_count_small : (x m : ℕ) → x ≡ pop m → x ≤ 32
+mask_count_small x m e = rw e (pop_le m)
 
 -- ---- the stores, of the numbers that the code has
 

@@ -1,19 +1,42 @@
-// The form of a part of a script of n lanes: document 01, "Form for 15".
+// The form of a part of a script: document 01, "Form for 15".
 ghost use Rattle.std.specs.Prelude.{◌≡◌, true, false, ◌&&◌, ◌+◌, ◌*◌, ◌%◌, ◌/◌, ◌<◌, ◌≤◌, ltb, eqb, length, get_or};
 ghost use Rattle.words.specs.Sum.{sum_to};
 ghost use Rattle.words.specs.Bit.{pop};
 ghost use Rattle.words.specs.Tests.{all_below};
 ghost use Rattle.run_machine.specs.Part.{stages_at, rounds_at, location_in, read_word_at, read_mask_at, entry_at};
 ghost use Rattle.run_machine.specs.Run.{entries_form, locations_form, lanes_form, reads_form, stores_form, part_form, parts_form, empty_block, block_form};
-ghost use Rattle.run_machine.specs.Well.{Lanes, PartIn, NormalRange};
+ghost use Rattle.run_machine.specs.Well.{Lanes, NormalRange};
+ghost use Rattle.run_machine.proofs.KnownFactLaws.{known_props};
 ghost use Rattle.run_form.specs.PartForm.{halves_form, read_form, part_numbers_form, body_form};
 
-use crate::part;
+use crate::part::{self, Pair, Part, Script};
 use words::bits;
 use words::edition::Edition;
+use words::found::all_below;
 
 // The positions of the full edition, as a word is compared with them.
 const SLOTS: u32 = Edition::SLOTS as u32;
+
+// The most stages of a part.
+const MOST_STAGES: usize = 255;
+
+// How many words the old state has, and the new one.
+#[derive(Clone, Copy)]
+pub struct States {
+    pub old: usize,
+    pub new: usize,
+}
+
+// What is left of a block: words `at` to `end` of a script.
+#[derive(Clone, Copy)]
+struct Rest<'a> {
+    script: Script<'a>,
+    at: usize,
+    end: usize,
+    ghost edition: { Lanes script.lanes } by { Prim.hlevel known_props },
+    ghost order: { at ≤ end },
+    ghost within: { end ≤ length script.words.now },
+}
 
 // Both halves of a word of a permutation are positions, of which there are `slots`.
 fn halves_form(x: u32, slots: u32) -> bool
@@ -27,149 +50,108 @@ fn words_form(words: &[u32], from: usize, m: usize, slots: u32) -> bool
     requires { from + m ≤ length words.now }
     ensures { result ≡ all_below (λ w. halves_form slots (get_or words.now (from + w) 0)) m }
 {
-    let mut w = 0;
-    while w < m {
-        if !halves_form(words[from + w], slots) {
-            return false;
-        }
-        w += 1;
-    }
-    true
+    all_below(m, |w| halves_form(words[from + w], slots))
 }
 
 // Every entry of section k is a position. The full edition's numbers stand here as constants: a word is then tested by one mask.
-fn section_form(words: &[u32], n: usize, at: usize, k: usize) -> bool
-    requires { PartIn n words.now at × (k < stages_at words.now at + 2) }
-    ensures { result ≡ all_below (λ i. ltb (entry_at n words.now at k i) (32 * n)) (32 * n) }
+fn section_form(part: &Part, k: usize) -> bool
+    requires { k < stages_at part.now.script.words.now part.now.at + 2 }
+    ensures { let n = part.now.script.lanes in result ≡ all_below (λ i. ltb (entry_at n part.now.script.words.now part.now.at k i) (32 * n)) (32 * n) }
 {
-    let from = part::section(words, n, at, k);
+    let n = part.script.lanes;
+    let from = part.section(k);
     if n == Edition::LANES {
-        return words_form(words, from, Edition::SLOTS / 2, SLOTS);
+        return words_form(part.script.words, from, Edition::SLOTS / 2, SLOTS);
     }
-    words_form(words, from, part::ENTRY_WORDS * n, (32 * n) as u32)
+    words_form(
+        part.script.words,
+        from,
+        part::ENTRY_WORDS * n,
+        (32 * n) as u32,
+    )
 }
 
 // Every entry of every section.
-pub fn entries_form(words: &[u32], n: usize, at: usize) -> bool
-    requires { PartIn n words.now at }
-    ensures { result ≡ entries_form n words.now at }
+pub fn entries_form(part: &Part) -> bool
+    ensures { result ≡ entries_form part.now.script.lanes part.now.script.words.now part.now.at }
 {
-    let sections = part::stages(words, at) + 2;
-    let mut k = 0;
-    while k < sections {
-        if !section_form(words, n, at, k) {
-            return false;
-        }
-        k += 1;
-    }
-    true
+    all_below(part.stages() + 2, |k| section_form(part, k))
 }
 
 // Location l is one of an existing stage.
-fn location_form(words: &[u32], n: usize, at: usize, l: usize) -> bool
-    requires { PartIn n words.now at × (l < n) }
-    ensures { result ≡ (ltb (location_in n words.now at l / 256) (stages_at words.now at) && ltb (location_in n words.now at l % 256) n) }
+fn location_form(part: &Part, l: usize) -> bool
+    requires { l < part.now.script.lanes }
+    ensures { let n = part.now.script.lanes in let W = part.now.script.words.now in
+        result ≡ (ltb (location_in n W part.now.at l / 256) (stages_at W part.now.at) && ltb (location_in n W part.now.at l % 256) n) }
 {
-    let place = part::location(words, n, at, l) as usize;
-    place / 256 < part::stages(words, at) && place % 256 < n
+    let place = part.location(l);
+    (place.stage as usize) < part.stages() && (place.word as usize) < part.script.lanes
 }
 
 // Every normal location.
-pub fn locations_form(words: &[u32], n: usize, at: usize) -> bool
-    requires { PartIn n words.now at × NormalRange n words.now at }
-    ensures { result ≡ locations_form n words.now at }
+pub fn locations_form(part: &Part) -> bool
+    requires { NormalRange part.now.script.lanes part.now.script.words.now part.now.at }
+    ensures { result ≡ locations_form part.now.script.lanes part.now.script.words.now part.now.at }
 {
-    let normal = part::normal(words, at);
-    let mut l = 0;
-    while l < normal {
-        if !location_form(words, n, at, l) {
-            return false;
-        }
-        l += 1;
-    }
-    true
+    all_below(part.normal(), |l| location_form(part, l))
 }
 
 // The bits that lane i reads.
-fn lane_bits(words: &[u32], n: usize, at: usize, i: usize) -> usize
-    requires { PartIn n words.now at × (i < n) }
-    ensures { result ≡ sum_to (λ r. pop (read_mask_at n words.now at r i)) (rounds_at words.now at) }
+fn lane_bits(part: &Part, i: usize) -> usize
+    requires { i < part.now.script.lanes }
+    ensures { let W = part.now.script.words.now in result ≡ sum_to (λ r. pop (read_mask_at part.now.script.lanes W part.now.at r i)) (rounds_at W part.now.at) }
 {
     let mut sum: usize = 0;
-    for r in 0..part::rounds(words, at) {
-        sum += part::wide(bits::count(words[part::pair(words, n, at, r, i) + 1]));
+    for r in 0..part.rounds() {
+        sum += bits::count(part.pair(r, i).mask) as usize;
     }
     sum
 }
 
 // Every lane reads at most 32.
-pub fn lanes_form(words: &[u32], n: usize, at: usize) -> bool
-    requires { PartIn n words.now at }
-    ensures { result ≡ lanes_form n words.now at }
+pub fn lanes_form(part: &Part) -> bool
+    ensures { result ≡ lanes_form part.now.script.lanes part.now.script.words.now part.now.at }
 {
-    let mut i = 0;
-    while i < n {
-        if 32 < lane_bits(words, n, at, i) {
-            return false;
-        }
-        i += 1;
-    }
-    true
+    all_below(part.script.lanes, |i| lane_bits(part, i) <= 32)
 }
 
-// The pair at word `pair` reads nothing, or a word inside both states.
-fn pair_form(words: &[u32], pair: usize, s: usize, t: usize) -> bool
-    requires { pair + 1 < length words.now }
-    ensures { result ≡ read_form (get_or words.now pair 0) (get_or words.now (pair + 1) 0) s t }
+// A pair reads nothing, or a word inside both states.
+fn pair_form(pair: Pair, states: States) -> bool
+    ensures { result ≡ read_form pair.word pair.mask states.old states.new }
 {
-    let word = part::wide(words[pair] % 0x8000_0000);
-    words[pair + 1] == 0 || (word < s && word < t)
+    let word = (pair.word % 0x8000_0000) as usize;
+    pair.mask == 0 || (word < states.old && word < states.new)
 }
 
 // Every pair of round r.
-fn round_form(words: &[u32], n: usize, at: usize, r: usize, s: usize, t: usize) -> bool
-    requires { PartIn n words.now at × (r < rounds_at words.now at) }
-    ensures { result ≡ all_below (λ i. read_form (read_word_at n words.now at r i) (read_mask_at n words.now at r i) s t) n }
+fn round_form(part: &Part, r: usize, states: States) -> bool
+    requires { r < rounds_at part.now.script.words.now part.now.at }
+    ensures { let n = part.now.script.lanes in let W = part.now.script.words.now in
+        result ≡ all_below (λ i. read_form (read_word_at n W part.now.at r i) (read_mask_at n W part.now.at r i) states.old states.new) n }
 {
-    let mut i = 0;
-    while i < n {
-        if !pair_form(words, part::pair(words, n, at, r, i), s, t) {
-            return false;
-        }
-        i += 1;
-    }
-    true
+    all_below(part.script.lanes, |i| pair_form(part.pair(r, i), states))
 }
 
-// Every pair of every round; the states have s and t words.
-pub fn reads_form(words: &[u32], n: usize, at: usize, s: usize, t: usize) -> bool
-    requires { PartIn n words.now at }
-    ensures { result ≡ reads_form n words.now s t at }
+// Every pair of every round.
+pub fn reads_form(part: &Part, states: States) -> bool
+    ensures { result ≡ reads_form part.now.script.lanes part.now.script.words.now states.old states.new part.now.at }
 {
-    let rounds = part::rounds(words, at);
-    let mut r = 0;
-    while r < rounds {
-        if !round_form(words, n, at, r, s, t) {
-            return false;
-        }
-        r += 1;
-    }
-    true
+    all_below(part.rounds(), |r| round_form(part, r, states))
 }
 
-// The normal words, and where they are stored; the states have s and t words.
-pub fn stores_form(words: &[u32], n: usize, at: usize, s: usize, t: usize) -> bool
-    requires { PartIn n words.now at }
-    ensures { result ≡ stores_form n words.now s t at }
+// The normal words, and where they are stored.
+pub fn stores_form(part: &Part, states: States) -> bool
+    ensures { result ≡ stores_form part.now.script.lanes part.now.script.words.now states.old states.new part.now.at }
 {
-    let all = part::wide(words[at + 2]);
-    let other = part::wide(words[at + 4]) + part::wide(words[at + 7]);
+    let words = part.script.words;
+    let all = words[part.at + 2] as usize;
+    let other = words[part.at + 4] as usize + words[part.at + 7] as usize;
     if all < other {
         return false;
     }
     let normal = all - other;
-    let end = part::start(words, at) + normal;
-    normal <= n && (normal == 0 || (end <= s && end <= t))
+    let end = part.start() + normal;
+    normal <= part.script.lanes && (normal == 0 || (end <= states.old && end <= states.new))
 }
 
 // Word 1 of a part that ends at word `end` of a block that ends at word e.
@@ -179,102 +161,104 @@ fn last_mark(end: usize, e: usize) -> u32
     if end == e { 1 } else { 0 }
 }
 
-// The numbers of the part at word `at`, which ends by word e.
-fn head_form(words: &[u32], n: usize, at: usize, e: usize) -> bool
-    requires { Lanes n × (at ≤ e) × (e ≤ length words.now) }
-    ensures { result ≡ part_numbers_form n words.now e at }
+// The numbers of the next part of a block.
+fn head_form(rest: &Rest) -> bool
+    ensures { result ≡ part_numbers_form rest.now.script.lanes rest.now.script.words.now rest.now.end rest.now.at }
 {
-    if e - at < n {
+    let script = rest.script;
+    let at = rest.at;
+    if rest.end - at < script.lanes {
         return false;
     }
-    let stages = part::stages(words, at);
-    let end = part::part_end(words, n, at);
+    let stages = part::stages(script.words, at);
+    let end = script.part_end(at);
     if stages < 1 {
         return false;
     }
-    if 255 < stages {
+    if MOST_STAGES < stages {
         return false;
     }
-    end <= e && words[at + 1] == last_mark(end, e)
+    end <= rest.end && script.words[at + 1] == last_mark(end, rest.end)
 }
 
-// What follows from the numbers; the states have s and t words.
-fn body_form(words: &[u32], n: usize, at: usize, s: usize, t: usize) -> bool
-    requires { PartIn n words.now at }
-    ensures { result ≡ body_form n words.now s t at }
+// What follows from the numbers.
+fn body_form(part: &Part, states: States) -> bool
+    ensures { result ≡ body_form part.now.script.lanes part.now.script.words.now states.old states.new part.now.at }
 {
-    if !stores_form(words, n, at, s, t) {
-        return false;
-    }
-    if !locations_form(words, n, at) {
-        return false;
-    }
-    if !lanes_form(words, n, at) {
-        return false;
-    }
-    if !reads_form(words, n, at, s, t) {
-        return false;
-    }
-    entries_form(words, n, at)
+    stores_form(part, states)
+        && locations_form(part)
+        && lanes_form(part)
+        && reads_form(part, states)
+        && entries_form(part)
 }
 
-// A part that ends by word e.
-fn part_form(words: &[u32], n: usize, at: usize, e: usize, s: usize, t: usize) -> bool
-    requires { Lanes n × (at ≤ e) × (e ≤ length words.now) }
-    ensures { result ≡ part_form n words.now s t e at }
+// The next part of a block.
+fn part_form(rest: &Rest, states: States) -> bool
+    ensures { result ≡ part_form rest.now.script.lanes rest.now.script.words.now states.old states.new rest.now.end rest.now.at }
 {
-    if !head_form(words, n, at, e) {
+    if !head_form(rest) {
         return false;
     }
-    body_form(words, n, at, s, t)
+    let part = Part {
+        script: rest.script,
+        at: rest.at,
+    };
+    body_form(&part, states)
 }
 
-// Parts end to end, from word `at` to word e.
-fn parts_form(words: &[u32], n: usize, at: usize, e: usize, s: usize, t: usize) -> bool
-    requires { Lanes n × (at ≤ e) × (e ≤ length words.now) }
-    ensures { result ≡ parts_form n words.now s t e (length words.now) at }
+// Parts end to end.
+fn parts_form(block: &Rest, states: States) -> bool
+    ensures { let W = block.now.script.words.now in result ≡ parts_form block.now.script.lanes W states.old states.new block.now.end (length W) block.now.at }
 {
-    let mut o = at;
-    while part_form(words, n, o, e, s, t) {
-        o = part::part_end(words, n, o);
-        if o == e {
+    let script = block.script;
+    let end = block.end;
+    let mut at = block.at;
+    while part_form(&Rest { script, at, end }, states) {
+        at = script.part_end(at);
+        if at == end {
             return true;
         }
     }
     false
 }
 
-// An empty block: n words, zero but word 1.
-fn empty_form(words: &[u32], n: usize, at: usize, e: usize) -> bool
-    requires { (at ≤ e) × (e ≤ length words.now) }
-    ensures { result ≡ empty_block n words.now at e }
+// A word of an empty block: zero but word 1.
+fn empty_word(words: &[u32], at: usize, i: usize) -> bool
+    requires { at + i < length words.now }
+    ensures { result ≡ eqb (get_or words.now (at + i) 0) (elim (eqb i 1) [ true ↦ 1 | false ↦ 0 ]) }
 {
-    if e - at != n {
-        return false;
-    }
-    let mut i = 0;
-    while i < n {
-        if words[at + i] != last_mark(i, 1) {
-            return false;
-        }
-        i += 1;
-    }
-    true
+    words[at + i] == last_mark(i, 1)
 }
 
-// A block from word `at` to word e; the states have s and t words.
-pub fn block_form(words: &[u32], n: usize, at: usize, e: usize, s: usize, t: usize) -> bool
-    requires { Lanes n }
-    ensures { result ≡ block_form n words.now s t at e }
+// An empty block: such a word for each lane.
+fn empty_form(block: &Rest) -> bool
+    ensures { result ≡ empty_block block.now.script.lanes block.now.script.words.now block.now.at block.now.end }
 {
-    if e <= at {
+    let n = block.script.lanes;
+    if block.end - block.at != n {
         return false;
     }
-    if words.len() < e {
+    all_below(n, |i| empty_word(block.script.words, block.at, i))
+}
+
+// A block from word `at` to word `end`.
+pub fn block_form(script: &Script, at: usize, end: usize, states: States) -> bool
+    requires { Lanes script.now.lanes }
+    ensures { result ≡ block_form script.now.lanes script.now.words.now states.old states.new at end }
+{
+    if end <= at {
         return false;
     }
-    if empty_form(words, n, at, e) {
+    if script.words.len() < end {
+        return false;
+    }
+    let block = Rest {
+        script: *script,
+        at,
+        end,
+    };
+    if empty_form(&block) {
         return true;
     }
-    parts_form(words, n, at, e, s, t)
+    parts_form(&block, states)
 }

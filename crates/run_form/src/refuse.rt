@@ -4,49 +4,34 @@ ghost use Rattle.run_machine.specs.Run.{bad_block, bad_turn};
 ghost use Rattle.run_machine.specs.Well.{Lanes};
 ghost use Rattle.words.specs.Found.{item_of};
 
-use crate::form;
-use words::found::Item;
+use crate::form::{self, States};
+use crate::part::Script;
+use words::found::first_not;
 
 // How many blocks the starts tell.
 pub fn blocks_of(starts: &[u64]) -> usize
     ensures { result ≡ length starts.now - 1 }
 {
-    if starts.len() < 1 {
-        return 0;
-    }
-    starts.len() - 1
+    starts.len().saturating_sub(1)
 }
 
-// The lowest block that is not well formed; the states have s and t words.
-pub fn bad_block(words: &[u32], n: usize, starts: &[u64], s: usize, t: usize) -> Item
-    requires { Lanes n }
-    ensures { result ≡ item_of (bad_block n words.now starts.now s t) }
+// The lowest block that is not well formed.
+pub fn bad_block(script: &Script, starts: &[u64], states: States) -> Option<usize>
+    requires { Lanes script.now.lanes }
+    ensures { result ≡ item_of (bad_block script.now.lanes script.now.words.now starts.now states.old states.new) }
 {
     if starts.len() < 2 {
-        return Item::At(0);
+        return Some(0);
     }
-    let blocks = starts.len() - 1;
-    let mut i = 0;
-    while i < blocks {
-        if !form::block_form(words, n, starts[i] as usize, starts[i + 1] as usize, s, t) {
-            return Item::At(i);
-        }
-        i += 1;
-    }
-    Item::Fine
+    first_not(blocks_of(starts), |i| {
+        form::block_form(script, starts[i] as usize, starts[i + 1] as usize, states)
+    })
 }
 
 // The lowest turn that names no block.
-pub fn bad_turn(starts: &[u64], turns: &[u32]) -> Item
+pub fn bad_turn(starts: &[u64], turns: &[u32]) -> Option<usize>
     ensures { result ≡ item_of (bad_turn starts.now turns.now) }
 {
     let blocks = blocks_of(starts);
-    let mut i = 0;
-    while i < turns.len() {
-        if blocks <= turns[i] as usize {
-            return Item::At(i);
-        }
-        i += 1;
-    }
-    Item::Fine
+    first_not(turns.len(), |i| (turns[i] as usize) < blocks)
 }

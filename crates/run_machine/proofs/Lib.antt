@@ -4,3 +4,4 @@ pub mod TurnLaws
 pub mod BlockRoomLaws
 pub mod PartWellLaws
 pub mod BlockInLaws
+pub mod KnownFactLaws

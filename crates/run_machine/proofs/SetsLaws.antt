@@ -6,10 +6,10 @@ use Prim.Native.Nat.{ℕ, suc, ◌+◌, ◌≤◌, ◌<◌}
 use native.Mathlib.Numerals.{add-one}
 use native.Mathlib.Omega.{arith}
 use lib.ListN.{length, get_or, take, drop, set}
-use lib.Seq.{sets, sets-eq, get_or-set_other, get_or-take, length-take-le, take_at, drop_at, take-set-le, take-take}
+use lib.Seq.{sets, sets-eq, get_or-set_other, length-take-le, take_at, drop_at, take-set-le, take-take}
 use Rattle.words.specs.Section.{list_of}
 use Rattle.words.proofs.ListLaws.{sets_append}
-use Rattle.words.proofs.SectionLaws.{length_list_of, list_of-is}
+use Rattle.words.proofs.SectionLaws.{length_list_of}
 
 -- one value more
 pub sets_more : (l : List ℕ) (a : ℕ) (f : ℕ → ℕ) (b : ℕ) → set (sets l a (list_of f b)) (a + b) (f b) ≡ sets l a (list_of f (b + 1))
@@ -24,10 +24,6 @@ sets-under l a (v ∷ vs) i h = sets-under (set l a v) (suc a) vs i (omega arith
 pub sets_over : (l : List ℕ) (a : ℕ) (vs : List ℕ) (i : ℕ) → a + length vs ≤ i → get_or (sets l a vs) i 0 ≡ get_or l i 0
 sets_over l a [] i h = refl
 sets_over l a (v ∷ vs) i h = sets_over (set l a v) (suc a) vs i (omega arith) ∙ get_or-set_other l a i v 0 (omega arith)
-
--- the first m words of a list, as a list from a function
-pub take-is : (l : List ℕ) (m : ℕ) → m ≤ length l → take m l ≡ list_of (λ i. get_or l i 0) m
-take-is l m h = list_of-is _ m (take m l) (length-take-le m l h) (λ i k. get_or-take m l i 0 k)
 
 pub stored_more : (l₀ l : List ℕ) (a : ℕ) (f : ℕ → ℕ) (b : ℕ) → l ≡ sets l₀ a (list_of f b) → set l (a + b) (f b) ≡ sets l₀ a (list_of f (b + 1))
 stored_more l₀ l a f b e = ap (λ (s : List ℕ). set s (a + b) (f b)) e ∙ sets_more l₀ a f b

@@ -1,15 +1,24 @@
 // The read turn: document 01, "In the read turn the one-word window comes from the old state or the new, by bit 31. Unused lane bits are 0."
 #![tactic(auto)]
 
-ghost use Rattle.std.specs.Prelude.{◌≡◌, ◌+◌, ◌*◌, ◌^◌, ◌<◌, ◌≤◌, length, get_or};
+ghost use Rattle.std.specs.Prelude.{◌≡◌, ◌+◌, ◌*◌, ◌^◌, ◌<◌, ◌≤◌, length};
 ghost use Rattle.words.specs.Bit.{pop};
 ghost use Rattle.reads.specs.ReadTurn.{appended, lane_word};
 ghost use Rattle.run_machine.specs.Part.{rounds_at, read_word_at, read_mask_at};
 ghost use Rattle.run_machine.specs.Turn.{state_word, read_row};
-ghost use Rattle.run_machine.specs.Well.{PartIn, Reads};
+ghost use Rattle.run_machine.specs.Well.{Reads};
 ghost use Rattle.run_read.specs.Window.{window_of, WordReadable};
 
-use run_form::part;
+use run_form::part::{Pair, Part};
+
+// A part and the two states, which have every word that its lanes read.
+#[derive(Clone, Copy)]
+pub struct Reading<'a, 'b, 'c> {
+    pub part: Part<'a>,
+    pub old: &'b [u32],
+    pub new: &'c [u32],
+    ghost readable: { Reads part.script.lanes part.script.words.now part.at (length old.now) (length new.now) },
+}
 
 // The one word that a read names, of the old state or the new by bit 31.
 pub fn window<'a>(old: &'a [u32], new: &'a [u32], w: u32) -> &'a [u32]
@@ -46,54 +55,38 @@ fn append(acc: u32, word: u32, mask: u32) -> u32
     a
 }
 
-// One round: the pair at word `pair`.
-fn read_round<'a>(acc: u32, words: &[u32], pair: usize, old: &'a [u32], new: &'a [u32]) -> u32
-    requires { (pair + 1 < length words.now)
-        × (0 < get_or words.now (pair + 1) 0 → WordReadable old.now new.now (get_or words.now pair 0))
-        × ((acc + 1) * 2 ^ pop (get_or words.now (pair + 1) 0) ≤ 2 ^ 32) }
-    ensures { result ≡ appended 32 (state_word old.now new.now (get_or words.now pair 0)) (get_or words.now (pair + 1) 0) acc }
+// One round.
+fn read_round(acc: u32, pair: Pair, old: &[u32], new: &[u32]) -> u32
+    requires { (0 < pair.mask → WordReadable old.now new.now pair.word) × ((acc + 1) * 2 ^ pop pair.mask ≤ 2 ^ 32) }
+    ensures { result ≡ appended 32 (state_word old.now new.now pair.word) pair.mask acc }
 {
-    let mask = words[pair + 1];
-    if 0 < mask {
-        let seen = window(old, new, words[pair]);
-        append(acc, seen[0], mask)
+    if 0 < pair.mask {
+        let seen = window(old, new, pair.word);
+        append(acc, seen[0], pair.mask)
     } else {
         acc
     }
 }
 
 // Lane i over all rounds.
-pub fn read_lane<'a>(
-    words: &[u32],
-    n: usize,
-    at: usize,
-    old: &'a [u32],
-    new: &'a [u32],
-    i: usize,
-) -> u32
-    requires { PartIn n words.now at × Reads n words.now at (length old.now) (length new.now) × (i < n) }
-    ensures { result ≡ lane_word (λ r. state_word old.now new.now (read_word_at n words.now at r i)) (λ r. read_mask_at n words.now at r i) (rounds_at words.now at) }
+pub fn read_lane(turn: &Reading, i: usize) -> u32
+    requires { i < turn.now.part.script.lanes }
+    ensures { let n = turn.now.part.script.lanes in let W = turn.now.part.script.words.now in let o = turn.now.part.at in
+        result ≡ lane_word (λ r. state_word turn.now.old.now turn.now.new.now (read_word_at n W o r i)) (λ r. read_mask_at n W o r i) (rounds_at W o) }
 {
     let mut acc = 0;
-    for r in 0..part::rounds(words, at) {
-        acc = read_round(acc, words, part::pair(words, n, at, r, i), old, new);
+    for r in 0..turn.part.rounds() {
+        acc = read_round(acc, turn.part.pair(r, i), turn.old, turn.new);
     }
     acc
 }
 
-// All n lanes.
-pub fn read_turn<'a>(
-    words: &[u32],
-    n: usize,
-    at: usize,
-    old: &'a [u32],
-    new: &'a [u32],
-    row: &mut [u32],
-)
-    requires { PartIn n words.now at × Reads n words.now at (length old.now) (length new.now) × (length row.old ≡ n) }
-    ensures { row.new ≡ read_row n words.now at old.now new.now }
+// All lanes.
+pub fn read_turn(turn: &Reading, row: &mut [u32])
+    requires { length row.old ≡ turn.now.part.script.lanes }
+    ensures { row.new ≡ read_row turn.now.part.script.lanes turn.now.part.script.words.now turn.now.part.at turn.now.old.now turn.now.new.now }
 {
-    for i in 0..n {
-        row[i] = read_lane(words, n, at, old, new, i);
+    for i in 0..turn.part.script.lanes {
+        row[i] = read_lane(turn, i);
     }
 }

@@ -8,12 +8,22 @@ ghost use Rattle.words.specs.Edition.{levels_for};
 ghost use Rattle.words.specs.Section.{half_at};
 ghost use Rattle.run_machine.specs.Part.{stages_at, entry_at};
 ghost use Rattle.run_machine.specs.Turn.{stage_row};
-ghost use Rattle.run_machine.specs.Well.{PartIn, Entries, EntriesIn};
+ghost use Rattle.run_machine.specs.Well.{Entries};
 ghost use Rattle.run_stage.specs.Gather.{Gathered, GatherBits, gathered_row};
 ghost use Rattle.run_stage.specs.Level.{gate_word, level_word, LevelIn, Stepped, Low, Staged};
 
-use run_form::part;
+use run_form::part::{ENTRY_WORDS, PartEntries, SECTION_WORDS};
 use words::bits;
+
+// A section's permutation: the entries of so many lanes, two to a word.
+#[derive(Clone, Copy)]
+struct Permutation<'a> {
+    words: &'a [u32],
+    lanes: usize,
+    ghost few: { lanes ≤ 65536 },
+    ghost whole: { 16 * lanes ≤ length words.now },
+    ghost entries: { Entries lanes words.now },
+}
 
 // The two bits that a word of the permutation names.
 fn picked(l: &[u32], x: u32) -> u32
@@ -26,42 +36,48 @@ fn picked(l: &[u32], x: u32) -> u32
 }
 
 // The word of the permutation that has entries 32j + 2h and 32j + 2h + 1.
-fn pair_of(p: &[u32], n: usize, j: usize, h: usize) -> u32
-    requires { (j < n) × (h < 16) × (n ≤ 65536) × (16 * n ≤ length p.now) }
-    ensures { (result % 2 ^ 16 ≡ half_at n p.now (32 * j + 2 * h)) × (result / 2 ^ 16 ≡ half_at n p.now (32 * j + 2 * h + 1)) }
+fn pair_of(p: &Permutation, j: usize, h: usize) -> u32
+    requires { (j < p.now.lanes) × (h < 16) }
+    ensures { (result % 2 ^ 16 ≡ half_at p.now.lanes p.now.words.now (32 * j + 2 * h)) × (result / 2 ^ 16 ≡ half_at p.now.lanes p.now.words.now (32 * j + 2 * h + 1)) }
 {
-    p[h / 4 * (4 * n) + (4 * j + h % 4)]
+    p.words[h / 4 * (4 * p.lanes) + (4 * j + h % 4)]
 }
 
 // Word j of the gathered bits.
-fn gather_word(l: &[u32], p: &[u32], n: usize, j: usize) -> u32
-    requires { (j < n) × (n ≤ 65536) × (16 * n ≤ length p.now) × (n ≤ length l.now) × Entries n p.now }
-    ensures { GatherBits n p.now l.now j 16 result }
+fn gather_word(l: &[u32], p: &Permutation, j: usize) -> u32
+    requires { (j < p.now.lanes) × (p.now.lanes ≤ length l.now) }
+    ensures { GatherBits p.now.lanes p.now.words.now l.now j 16 result }
 {
     let mut x = 0;
     for h in 0..16 {
-        x |= picked(l, pair_of(p, n, j, h)) << (2 * h);
+        x |= picked(l, pair_of(p, j, h)) << (2 * h);
     }
     x
 }
 
 // Word w of the bits that section k gathers from the words l.
-pub fn section_word(words: &[u32], n: usize, at: usize, k: usize, l: &[u32], w: usize) -> u32
-    requires { PartIn n words.now at × (k < stages_at words.now at + 2) × EntriesIn n words.now at × (n ≤ length l.now) × (w < n) }
-    ensures { (b : ℕ) → b < 32 → bit result b ≡ bit_at l.now (entry_at n words.now at k (32 * w + b)) }
+pub fn section_word(part: &PartEntries, k: usize, l: &[u32], w: usize) -> u32
+    requires { (k < stages_at part.now.part.script.words.now part.now.part.at + 2) × (part.now.part.script.lanes ≤ length l.now) × (w < part.now.part.script.lanes) }
+    ensures { (b : ℕ) → b < 32 → bit result b ≡ bit_at l.now (entry_at part.now.part.script.lanes part.now.part.script.words.now part.now.part.at k (32 * w + b)) }
 {
-    let from = part::section(words, n, at, k);
-    let to = from + part::ENTRY_WORDS * n;
-    gather_word(l, &words[from..to], n, w)
+    let lanes = part.part.script.lanes;
+    let from = part.part.section(k);
+    let to = from + ENTRY_WORDS * lanes;
+    let p = Permutation {
+        words: &part.part.script.words[from..to],
+        lanes,
+    };
+    gather_word(l, &p, w)
 }
 
-// Gathers n words.
-fn gather(l: &mut [u32], p: &[u32], n: usize)
-    requires { (n ≤ 65536) × (16 * n ≤ length p.now) × (2 * n ≤ length l.old) × Entries n p.now }
-    ensures { Gathered n p.now l.old l.new n }
+// Gathers a word for each lane.
+fn gather(l: &mut [u32], p: &Permutation)
+    requires { 2 * p.now.lanes ≤ length l.old }
+    ensures { Gathered p.now.lanes p.now.words.now l.old l.new p.now.lanes }
 {
+    let n = p.lanes;
     for j in 0..n {
-        l[n + j] = gather_word(l, p, n, j);
+        l[n + j] = gather_word(l, p, j);
     }
 }
 
@@ -85,10 +101,8 @@ fn level(l: &mut [u32], t: &[u32], m: usize)
     requires { (4 * m ≤ length l.old) × (8 * m ≤ length t.now) }
     ensures { LevelIn t.now l.old l.new m (2 * m) }
 {
-    let mut w = m;
-    while w < 2 * m {
+    for w in m..2 * m {
         l[w] = gate_at(l, t, m, w);
-        w += 1;
     }
 }
 
@@ -130,13 +144,20 @@ fn levels(l: &mut [u32], t: &[u32], n: usize)
 }
 
 // Stage k of the part: 2n words of bits.
-pub fn stage_turn(words: &[u32], n: usize, at: usize, k: usize, l: &mut [u32])
-    requires { PartIn n words.now at × (k < stages_at words.now at) × EntriesIn n words.now at × (length l.old ≡ 2 * n) }
-    ensures { l.new ≡ stage_row n (levels_for n) words.now at k (take n l.old) ++ gathered_row n words.now at k (take n l.old) }
+pub fn stage_turn(part: &PartEntries, k: usize, l: &mut [u32])
+    requires { (k < stages_at part.now.part.script.words.now part.now.part.at) × (length l.old ≡ 2 * part.now.part.script.lanes) }
+    ensures { let n = part.now.part.script.lanes in let W = part.now.part.script.words.now in
+        l.new ≡ stage_row n (levels_for n) W part.now.part.at k (take n l.old) ++ gathered_row n W part.now.part.at k (take n l.old) }
 {
-    let from = part::section(words, n, at, k);
-    let lanes = from + part::ENTRY_WORDS * n;
-    let to = from + part::SECTION_WORDS * n;
-    gather(l, &words[from..lanes], n);
-    levels(l, &words[lanes..to], n);
+    let words = part.part.script.words;
+    let lanes = part.part.script.lanes;
+    let from = part.part.section(k);
+    let gates = from + ENTRY_WORDS * lanes;
+    let to = from + SECTION_WORDS * lanes;
+    let p = Permutation {
+        words: &words[from..gates],
+        lanes,
+    };
+    gather(l, &p);
+    levels(l, &words[gates..to], lanes);
 }

@@ -6,18 +6,17 @@ use mathlib.Core.Logic.{⊎_elim}
 use Prim.Native.Nat.{ℕ, zero, suc, ◌+◌, ◌*◌, ◌-◌, ◌/◌, ◌%◌, ◌^◌, ◌≤◌, ◌<◌, min}
 use native.Mathlib.Omega.{arith}
 use lib.Bits.{bit_and, bit_xor, differ}
-use lib.ListN.{length, get_or, take, replicate, get_or-replicate, length-replicate, get_or-eq_default}
-use lib.Seq.{sets, length-sets, get_or-take}
+use mathlib.Core.List.{◌++◌}
+use lib.ListN.{length, get_or, take, drop, replicate, get_or-append, get_or-replicate, length-replicate, get_or-eq_default, length-take}
+use Rattle.std.proofs.lemmas.List.{get_or-append_right}
+use lib.Seq.{get_or-drop, length-take-le}
 use Rattle.words.specs.Bit.{bit, bit_at, word_of}
-use Rattle.words.specs.Section.{list_of}
 use Rattle.words.proofs.BitLaws.{lt_or_ge, bit_lt, bit_ext, bit_and_lem, bit_xor_lem, bit_word_of, differ_lt}
-use Rattle.words.proofs.SectionLaws.{length_list_of, list_of_ext}
 use Rattle.run_machine.specs.Part.{stages_at, start_at, section_at, entry_at, lane_word_at}
 use Rattle.run_machine.specs.Turn.{taken, gathered_bit, chosen, chosen_bits, stored_bit, stored_word}
 use Rattle.run_machine.proofs.StageBitLaws.{at_word_lem}
 use Rattle.run_machine.proofs.TurnLaws.{taken_lt, stored_word_lt, stored_word_bit}
 use Rattle.run_store.specs.Store.{chosen_word}
-use Rattle.run_machine.proofs.SetsLaws.{sets_in, sets_over, take-is}
 
 -- ---- on bits
 
@@ -137,35 +136,19 @@ stored_code n W o old caps l k s a g r stages section start small e each =
 
 -- ---- the first m words, and zeros behind them
 
-padded : (caps : List ℕ) (m : ℕ) → m ≤ 256 → m ≤ length caps → (i : ℕ) → get_or (sets (replicate 256 0) 0 (list_of (λ i. get_or caps i 0) m)) i 0 ≡ get_or (take m caps) i 0
-padded caps m few long i = ⊎_elim
-    (λ l. sym (get_or-take (length vs) (sets zeros 0 vs) i 0 (omega (arith, many))) ∙ ap (λ (x : List ℕ). get_or x i 0) (sets_in zeros 0 vs (omega (arith, many, wide))) ∙ is)
+padded : (caps front : List ℕ) (m i : ℕ) → m ≤ length caps → front ≡ take m caps → get_or (front ++ drop m (replicate 256 0)) i 0 ≡ get_or (take m caps) i 0
+padded caps front m i long e = ⊎_elim
+    (λ l. get_or-append front _ 0 i (omega (arith, wide)) ∙ ap (λ (x : List ℕ). get_or x i 0) e)
     (λ l.
-    sets_over zeros 0 vs i (omega (arith, many))
-    ∙ ⊎_elim (λ k. get_or-replicate 256 i 0 0 k) (λ k. get_or-eq_default zeros 0 {n = i} (omega (arith, wide))) (lt_or_ge i 256)
-    ∙ sym (get_or-eq_default vs 0 {n = i} (omega (arith, many)))
-    ∙ is)
+    get_or-append_right front _ m i 0 wide l
+    ∙ get_or-drop m (replicate 256 0) (i - m) 0
+    ∙ ⊎_elim (λ k. get_or-replicate 256 _ 0 0 k) (λ k. get_or-eq_default (replicate 256 0) 0 {n = m + (i - m)} (omega (arith, length-replicate {A = ℕ} 256 0))) (lt_or_ge (m + (i - m)) 256)
+    ∙ sym (get_or-eq_default (take m caps) 0 {n = i} (omega (arith, length-take m caps))))
     (lt_or_ge i m)
   where
-    zeros : List ℕ
-    zeros = replicate 256 0
+    wide : length front ≡ m
+    wide = ap length e ∙ length-take-le m caps long
 
-    vs : List ℕ
-    vs = list_of (λ i. get_or caps i 0) m
-
-    many : length vs ≡ m
-    many = length_list_of _ m
-
-    wide : length zeros ≡ 256
-    wide = length-replicate {A = ℕ} 256 0
-
-    is : get_or vs i 0 ≡ get_or (take m caps) i 0
-    is = ap (λ (x : List ℕ). get_or x i 0) (sym (take-is caps m long))
-
-pub padded_length : (normal vs : List ℕ) → normal ≡ sets (replicate 256 0) 0 vs → length normal ≡ 256
-padded_length normal vs e = ap length e ∙ length-sets (replicate 256 0) 0 vs ∙ length-replicate {A = ℕ} 256 0
-
-pub stored_padded : (n : ℕ) (W : List ℕ) (o : ℕ) (old caps normal : List ℕ) (m : ℕ) → m ≤ 256 → m ≤ length caps → normal ≡ sets (replicate 256 0) 0 (list_of (λ i. get_or caps i 0) m)
-    → list_of (stored_word n W o old normal) m ≡ list_of (stored_word n W o old (take m caps)) m
-stored_padded n W o old caps normal m few long e =
-    list_of_ext _ _ m (λ l h. stored_ext n W o old normal (take m caps) l (λ i. ap (λ (x : List ℕ). get_or x i 0) e ∙ padded caps m few long i))
+pub stored_padded : (n : ℕ) (W : List ℕ) (o : ℕ) (old caps front : List ℕ) (m l : ℕ) → m ≤ length caps → front ≡ take m caps
+    → stored_word n W o old (front ++ drop m (replicate 256 0)) l ≡ stored_word n W o old (take m caps) l
+stored_padded n W o old caps front m l long e = stored_ext n W o old _ (take m caps) l (λ i. padded caps front m i long e)

@@ -19,13 +19,13 @@ use Rattle.run_machine.proofs.SetsLaws.{sets_more, sets-under, sets_over}
 
 module _ (n : ℕ) (W : List ℕ) (o k : ℕ) where
   -- as the code tests it
-  pub word_here : (room caps : List ℕ) (l x : ℕ) → x ≡ location_in n W o l → x / 256 ≡ k → get_or room (x % 256) 0 ≡ captured_word n W o k room caps l
+  pub word_here : (room caps : List ℕ) (l s w : ℕ) → s ≡ location_in n W o l / 256 → w ≡ location_in n W o l % 256 → s ≡ k → get_or room w 0 ≡ captured_word n W o k room caps l
   unfolding captured_word
-  word_here room caps l x e h = rw (← e, eq-eqb (x / 256) k h, captured_word) (ap (λ (y : ℕ). get_or room (y % 256) 0) e)
+  word_here room caps l s w e f h = rw (← e, eq-eqb s k h, captured_word) (ap (λ (y : ℕ). get_or room y 0) f)
 
-  pub word_kept : (room : List ℕ) (l x : ℕ) → x ≡ location_in n W o l → (x / 256 ≡ k → ⊥) → get_or room (captured_from + l) 0 ≡ captured_word n W o k room (drop captured_from room) l
+  pub word_kept : (room : List ℕ) (l s : ℕ) → s ≡ location_in n W o l / 256 → (s ≡ k → ⊥) → get_or room (captured_from + l) 0 ≡ captured_word n W o k room (drop captured_from room) l
   unfolding captured_word
-  word_kept room l x e h = rw (← e, ne_eqb (x / 256) k h, captured_word) (sym (get_or-drop captured_from room l 0))
+  word_kept room l s e h = rw (← e, ne_eqb s k h, captured_word) (sym (get_or-drop captured_from room l 0))
 
   word_same : (row row' caps caps' : List ℕ) (l : ℕ) → get_or row (location_in n W o l % 256) 0 ≡ get_or row' (location_in n W o l % 256) 0 → get_or caps l 0 ≡ get_or caps' l 0
       → captured_word n W o k row caps l ≡ captured_word n W o k row' caps' l

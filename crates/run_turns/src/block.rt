@@ -7,7 +7,9 @@ ghost use Rattle.run_turns.specs.Phases.{phase_is};
 ghost use Rattle.run_turns.specs.Block.{state_block, room_turned, BlockWell};
 
 use crate::room::{read_room, stage_room, store_room};
-use run_form::part;
+use run_form::part::{self, Part, PartInForm, Script};
+use run_read::Reading;
+use run_store::Storing;
 
 // What a block's next turn does: document 01, "read, each stage, store", and nothing once it is finished.
 #[derive(Clone, Copy)]
@@ -32,16 +34,14 @@ impl BlockState {
         requires { at < length words.now }
         ensures { (result.part ≡ at) × (phase_is result.phase ≡ (begins words.now at).phase) × (result.stage ≡ 0) }
     {
-        if part::stages(words, at) == 0 {
-            return BlockState {
-                part: at,
-                phase: Phase::Finished,
-                stage: 0,
-            };
-        }
+        let phase = if part::stages(words, at) == 0 {
+            Phase::Finished
+        } else {
+            Phase::Read
+        };
         BlockState {
             part: at,
-            phase: Phase::Read,
+            phase,
             stage: 0,
         }
     }
@@ -49,33 +49,35 @@ impl BlockState {
     // One turn. A turn of a finished block does nothing.
     pub fn turn(
         mut self,
-        words: &[u32],
-        n: usize,
+        script: &Script,
         old: &[u32],
         new: &mut [u32],
         room: &mut [u32],
     ) -> BlockState
-        requires { BlockWell n words.now (length old.now) (length new.old) self.part (phase_is self.phase) self.stage × (length room.old ≡ block_room) }
-        ensures block { state_block n words.now result.part (phase_is result.phase) result.stage room.new
-            ≡ turned n (levels_for n) words.now old.now (phase_is self.phase) (state_block n words.now self.part (phase_is self.phase) self.stage room.old) new.old }
-        ensures state { new.new ≡ written n words.now old.now (phase_is self.phase) (state_block n words.now self.part (phase_is self.phase) self.stage room.old) new.old }
-        ensures room { room.new ≡ room_turned n (levels_for n) words.now self.part self.stage old.now new.old (phase_is self.phase) room.old }
+        requires { BlockWell script.now.lanes script.now.words.now (length old.now) (length new.old) self.part (phase_is self.phase) self.stage × (length room.old ≡ block_room) }
+        ensures block { state_block script.now.lanes script.now.words.now result.part (phase_is result.phase) result.stage room.new
+            ≡ turned script.now.lanes (levels_for script.now.lanes) script.now.words.now old.now (phase_is self.phase) (state_block script.now.lanes script.now.words.now self.part (phase_is self.phase) self.stage room.old) new.old }
+        ensures state { new.new ≡ written script.now.lanes script.now.words.now old.now (phase_is self.phase) (state_block script.now.lanes script.now.words.now self.part (phase_is self.phase) self.stage room.old) new.old }
+        ensures room { room.new ≡ room_turned script.now.lanes (levels_for script.now.lanes) script.now.words.now self.part self.stage old.now new.old (phase_is self.phase) room.old }
     {
+        let script = *script;
         let at = self.part;
-        let phase = self.phase;
         let k = self.stage;
-        match phase {
+        match self.phase {
             Phase::Read => {
-                read_room(words, n, at, old, new, room);
-                BlockState {
-                    part: at,
-                    phase: Phase::Stage,
-                    stage: 0,
-                }
+                let part = Part { script, at };
+                let reading = Reading { part, old, new };
+                read_room(&reading, room);
+                self.phase = Phase::Stage;
+                self.stage = 0;
+                self
             }
             Phase::Stage => {
-                stage_room(words, n, at, k, room);
-                if k + 1 == part::stages(words, at) {
+                let part = Part { script, at };
+                let part = PartInForm { part };
+                stage_room(&part, k, room);
+                let stages = part.part.stages();
+                if k + 1 == stages {
                     return BlockState {
                         part: at,
                         phase: Phase::Store,
@@ -86,15 +88,16 @@ impl BlockState {
                 self
             }
             Phase::Store => {
-                store_room(words, n, at, room, old, new);
-                if part::last(words, at) == 1 {
-                    return BlockState {
-                        part: at,
-                        phase: Phase::Finished,
-                        stage: 0,
-                    };
+                let part = Part { script, at };
+                let formed = PartInForm { part };
+                let storing = Storing { part: formed, old };
+                store_room(&storing, room, new);
+                if part.last() == 1 {
+                    self.phase = Phase::Finished;
+                    self.stage = 0;
+                    return self;
                 }
-                BlockState::begins(words, part::part_end(words, n, at))
+                BlockState::begins(script.words, part.end())
             }
             Phase::Finished => self,
         }

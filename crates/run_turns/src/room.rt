@@ -6,18 +6,18 @@ ghost use Rattle.words.specs.Section.{list_of};
 ghost use Rattle.run_machine.specs.Part.{stages_at, start_at, normal_at};
 ghost use Rattle.run_machine.specs.Turn.{stored_word};
 ghost use Rattle.run_machine.specs.Room.{block_room, captured_from, part_low, phase_code, phase_from, part_of, phase_of, stage_of, block_state_words};
-ghost use Rattle.run_machine.specs.Well.{PartIn, Reads, EntriesIn, Captures};
 ghost use Rattle.run_turns.specs.Phases.{phase_is};
 ghost use Rattle.run_turns.specs.Block.{room_read, room_staged};
 
 use crate::block::{BlockState, Phase};
 use crate::capture::capture;
-use run_read::read_turn;
+use run_form::part::{PartEntries, PartInForm};
+use run_read::{Reading, read_turn};
 use run_stage::stage_turn;
-use run_store::store;
-use words::clear::clear;
+use run_store::{Storing, store};
 
 // The words of a block's room: document 01, "1024 a block for a run".
+// stays: each function asks that a room has so many words. As an array it would be a chunk of the slice that a run is lent, and the definitions of a run speak of that slice.
 pub const BLOCK_ROOM: usize = 1024;
 // From word 0 on the n words of the positions, from word n on those of the bits that a stage gathers; from here on the captured words.
 pub const CAPTURED: usize = 512;
@@ -34,27 +34,18 @@ const STAGE: usize = 771;
 fn phase_word(phase: Phase) -> u32
     ensures { result ≡ phase_code (phase_is phase) }
 {
-    match phase {
-        Phase::Read => 0,
-        Phase::Stage => 1,
-        Phase::Store => 2,
-        Phase::Finished => 3,
-    }
+    phase as u32
 }
 
 fn phase_from(word: u32) -> Phase
     ensures { phase_is result ≡ phase_from word }
 {
-    if word == 0 {
-        return Phase::Read;
+    match word {
+        0 => Phase::Read,
+        1 => Phase::Stage,
+        2 => Phase::Store,
+        _ => Phase::Finished,
     }
-    if word == 1 {
-        return Phase::Stage;
-    }
-    if word == 2 {
-        return Phase::Store;
-    }
-    Phase::Finished
 }
 
 // The state that a block's room holds.
@@ -83,36 +74,32 @@ pub fn store_state(room: &mut [u32], state: BlockState)
     room[STAGE] = state.stage as u32;
 }
 
-// The read turn of the part at word `at`: it is lent the positions, and no word is captured yet.
-pub fn read_room<'a>(
-    words: &[u32],
-    n: usize,
-    at: usize,
-    old: &'a [u32],
-    new: &'a [u32],
-    room: &mut [u32],
-)
-    requires { PartIn n words.now at × Reads n words.now at (length old.now) (length new.now) × (length room.old ≡ block_room) }
-    ensures { room.new ≡ room_read n words.now at old.now new.now room.old }
+// The read turn: it is lent the positions, and no word is captured yet.
+pub fn read_room(turn: &Reading, room: &mut [u32])
+    requires { length room.old ≡ block_room }
+    ensures { room.new ≡ room_read turn.now.part.script.lanes turn.now.part.script.words.now turn.now.part.at turn.now.old.now turn.now.new.now room.old }
 {
-    read_turn(words, n, at, old, new, &mut room[..n]);
-    clear(&mut room[CAPTURED..PART_LOW]);
+    let n = turn.part.script.lanes;
+    read_turn(turn, &mut room[..n]);
+    room[CAPTURED..PART_LOW].fill(0);
 }
 
 // Stage k: it is lent the positions and the gathered bits; then words are captured.
-pub fn stage_room(words: &[u32], n: usize, at: usize, k: usize, room: &mut [u32])
-    requires { PartIn n words.now at × EntriesIn n words.now at × Captures n words.now at × (k < stages_at words.now at) × (length room.old ≡ block_room) }
-    ensures { room.new ≡ room_staged n (levels_for n) words.now at k room.old }
+pub fn stage_room(part: &PartInForm, k: usize, room: &mut [u32])
+    requires { (k < stages_at part.now.part.script.words.now part.now.part.at) × (length room.old ≡ block_room) }
+    ensures { let n = part.now.part.script.lanes in room.new ≡ room_staged n (levels_for n) part.now.part.script.words.now part.now.part.at k room.old }
 {
-    let bits = 2 * n;
-    stage_turn(words, n, at, k, &mut room[..bits]);
-    capture(words, n, at, k, room);
+    let bits = 2 * part.part.script.lanes;
+    stage_turn(&PartEntries { part: part.part }, k, &mut room[..bits]);
+    capture(part, k, room);
 }
 
 // The store turn: it is lent the captured words.
-pub fn store_room(words: &[u32], n: usize, at: usize, room: &[u32], old: &[u32], new: &mut [u32])
-    requires { PartIn n words.now at × Captures n words.now at × EntriesIn n words.now at × (length room.now ≡ block_room) × (0 < normal_at words.now at → (start_at words.now at + normal_at words.now at ≤ length old.now) × (start_at words.now at + normal_at words.now at ≤ length new.old)) }
-    ensures { new.new ≡ sets new.old (start_at words.now at) (list_of (stored_word n words.now at old.now (take (normal_at words.now at) (drop captured_from room.now))) (normal_at words.now at)) }
+pub fn store_room(turn: &Storing, room: &[u32], new: &mut [u32])
+    requires { let W = turn.now.part.part.script.words.now in let o = turn.now.part.part.at in
+        (length room.now ≡ block_room) × (0 < normal_at W o → start_at W o + normal_at W o ≤ length new.old) }
+    ensures { let W = turn.now.part.part.script.words.now in let o = turn.now.part.part.at in
+        new.new ≡ sets new.old (start_at W o) (list_of (stored_word turn.now.part.part.script.lanes W o turn.now.old.now (take (normal_at W o) (drop captured_from room.now))) (normal_at W o)) }
 {
-    store(words, n, at, &room[CAPTURED..PART_LOW], old, new);
+    store(turn, &room[CAPTURED..PART_LOW], new);
 }

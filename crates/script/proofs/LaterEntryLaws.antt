@@ -8,13 +8,14 @@ use native.Mathlib.Decide.{ℕ_discrete}
 use native.Mathlib.Numerals.{add-one}
 use native.Mathlib.Omega.{arith}
 use borrow.Author.Tests.{eq-eqb, ne_eqb}
-use Rattle.pinmap.specs.PinMap.{look, look_answer}
-use Rattle.pinmap.specs.declared.Found.{Found}
-use Rattle.pinmap.specs.declared.Found.TheVariants as Known-as
+use Rattle.std.specs.Prelude.{Some, None}
+use Rattle.std.specs.declared.option.Option as code
+use Rattle.words.specs.Found.{item_of}
+use Rattle.words.proofs.FoundLaws.{item_some, item_none}
+use Rattle.pinmap.specs.PinMap.{look}
 use Rattle.plan_record.specs.Record.{plan_lanes, slots_of, level_at}
 use Rattle.plan_record.proofs.RecordLaws.{lanes_range}
 use Rattle.words.specs.Pins.{empty}
-use Rattle.plan_gates.proofs.ValueCodeLaws.{known_some, known_none}
 use Rattle.plan_slots.specs.Slots.{highest}
 use Rattle.plan_slots.specs.Puts.{position_puts, FilledWith, found_at}
 use Rattle.plan_slots.proofs.PutLaws.{positions_found, highest_is}
@@ -44,12 +45,12 @@ module _ (d : List ℕ) (p s i x : ℕ) (pin : x ≡ level_at d p (s + 1) i) whe
     pub entry_is : stage_entry (plan_lanes d) d p (s + 1) i ≡ highest d p s x
     entry_is = ap (λ (t : ℕ). stage_entry (plan_lanes d) d p t i) (add-one s) ∙ (entry_next ∙ ap (highest d p s) at_next)
 
-    module _ (t : List ℕ) (held : FilledWith (position_puts d p s) t) (r : Found) (found : r ≡ look_answer (look t x)) where
-      pub entry_found : (v : ℕ) → r ≡ Known-as.Value v → v ≡ stage_entry (plan_lanes d) d p (s + 1) i
-      entry_found v e = found_at_lem (highest d p s x) v (sym (positions_found d t p s x held there) ∙ known_some (look t x) r v found e) ∙ sym entry_is
+    module _ (t : List ℕ) (held : FilledWith (position_puts d p s) t) (r : code.Option ℕ) (found : r ≡ item_of (look t x)) where
+      pub entry_found : (v : ℕ) → r ≡ Some v → v ≡ stage_entry (plan_lanes d) d p (s + 1) i
+      entry_found v e = found_at_lem (highest d p s x) v (sym (positions_found d t p s x held there) ∙ item_some (look t x) v (sym found ∙ e)) ∙ sym entry_is
 
-      pub entry_missing : r ≡ Known-as.Missing → 0 ≡ stage_entry (plan_lanes d) d p (s + 1) i
-      entry_missing e = found_not (highest d p s x) (sym (positions_found d t p s x held there) ∙ known_none (look t x) r found e) ∙ sym entry_is
+      pub entry_missing : r ≡ None → 0 ≡ stage_entry (plan_lanes d) d p (s + 1) i
+      entry_missing e = found_not (highest d p s x) (sym (positions_found d t p s x held there) ∙ item_none (look t x) (sym found ∙ e)) ∙ sym entry_is
 
 -- an entry is a position
 pub entry_small : (d : List ℕ) (p s i : ℕ) → stage_entry (plan_lanes d) d p (s + 1) i < slots_of d

@@ -17,10 +17,10 @@ use Rattle.words.proofs.BitLaws.{word_of_lt}
 use Rattle.plan_record.specs.Record.{slot_at, gate_first, gate_second}
 use Rattle.words.specs.Pins.{empty}
 use Rattle.plan_gates.specs.Gates.{gate_of}
-use Rattle.plan_gates.specs.GateValues.{gate_found_of}
-use Rattle.plan_gates.specs.declared.GateFound.{GateFound}
-use Rattle.plan_gates.specs.declared.GateFound.TheVariants as found_as
-use Rattle.plan_gates.proofs.ValueCodeLaws.{gate_there, gate_missing}
+use Rattle.std.specs.Prelude.{Some, None}
+use Rattle.std.specs.declared.option.Option as code
+use Rattle.words.specs.Found.{item_of}
+use Rattle.words.proofs.FoundLaws.{item_some, item_none}
 use Rattle.plan_slots.specs.Slots.{top, slot_a}
 use Rattle.script.specs.Script.{first_inversion, second_inversion, no_slot, orb_bit, xora_bit, xorb_bit}
 use Rattle.script.specs.Writers.{MaskBits}
@@ -55,7 +55,7 @@ module _ (d : List ℕ) (p s q : ℕ) where
           let e : eqb (slot_at d p s q) (slot_a d p s q) ≡ true = eq-eqb _ _ (sym pin ∙ (h ∙ is-a)) in
           record { xora = rw (full, e, xora_bit); xorb = rw (full, e, xorb_bit); orb = rw (full, e, orb_bit) }
 
-      module _ (other : x ≡ a → ⊥) (r : GateFound) (found : r ≡ gate_found_of (gate_of d x)) where
+      module _ (other : x ≡ a → ⊥) (r : code.Option ℕ) (found : r ≡ item_of (gate_of d x)) where
         gate-bits : (o : Option ℕ) → gate_of d x ≡ o → MaskBits d p s q (record { xora = first_inversion d o; xorb = second_inversion d o; orb = 0 })
         unfolding xora_bit xorb_bit orb_bit
         gate-bits o h =
@@ -63,15 +63,15 @@ module _ (d : List ℕ) (p s q : ℕ) where
             let i : gate_of d (slot_at d p s q) ≡ o = ap (gate_of d) (sym pin) ∙ h in
             record { xora = rw (full, e, i, xora_bit); xorb = rw (full, e, i, xorb_bit); orb = rw (full, e, orb_bit) }
 
-        pub bits_missing : r ≡ found_as.Missing → MaskBits d p s q (record { xora = 0; xorb = 0; orb = 0 })
+        pub bits_missing : r ≡ None → MaskBits d p s q (record { xora = 0; xorb = 0; orb = 0 })
         unfolding first_inversion second_inversion
-        bits_missing e = gate-bits none (gate_missing (gate_of d x) r found e)
+        bits_missing e = gate-bits none (item_none (gate_of d x) (sym found ∙ e))
 
-        pub bits_gate : (g f h u v : ℕ) → r ≡ found_as.Gate g → f ≡ gate_first d g → u ≡ f % 2 → h ≡ gate_second d g → v ≡ h % 2
+        pub bits_gate : (g f h u v : ℕ) → r ≡ Some g → f ≡ gate_first d g → u ≡ f % 2 → h ≡ gate_second d g → v ≡ h % 2
             → MaskBits d p s q (record { xora = u; xorb = v; orb = 0 })
         unfolding first_inversion second_inversion
         bits_gate g f h u v e ef eu eh ev =
-            let b = gate-bits (some g) (gate_there (gate_of d x) r g found e) in
+            let b = gate-bits (some g) (item_some (gate_of d x) g (sym found ∙ e)) in
             record {
               xora = eu ∙ (ap (λ (n : ℕ). n % 2) ef ∙ b.xora);
               xorb = ev ∙ (ap (λ (n : ℕ). n % 2) eh ∙ b.xorb);

@@ -1,6 +1,6 @@
 -- What the writers of a part's script ask and answer, where a definition of Script.antt is not said word for word.
 -- Assumes nothing.
-use Rattle.std.specs.Prelude.{◌≡◌, true, false, List, ◌∷◌, ℕ, ◌+◌, ◌*◌, ◌-◌, ◌^◌, ◌≤◌, ◌<◌, leb, length, get_or, take, drop, replicate}
+use Rattle.std.specs.Prelude.{◌≡◌, true, false, List, [], ◌∷◌, ℕ, ◌+◌, ◌*◌, ◌-◌, ◌^◌, ◌≤◌, ◌<◌, leb, length, get_or, take, drop, replicate}
 use Rattle.std.proofs.Math.Option.{none}
 use Rattle.words.specs.Edition.{part_words}
 use Rattle.words.specs.Section.{list_of}
@@ -37,43 +37,26 @@ ends_by e l = elim (leb e l) [ true ↦ 1 | false ↦ 0 ]
 abbrev pub words_in : List ℕ → ℕ → ℕ
 words_in l i = get_or l i 0
 
--- three words for each lane, and room for four
-pub record LanesRoom (a b c out : List ℕ) : Type 0 where
-  pub second : length b ≡ length a
-  pub third : length c ≡ length a
-  pub room : length out ≡ 4 * length a
-
--- the entries and the words of n lanes of a section, and its room
-pub record SectionRoom (n : ℕ) (entries a b c out : List ℕ) : Type 0 where
+-- the entries of n lanes of a section, and its room
+pub record SectionRoom (n : ℕ) (entries out : List ℕ) : Type 0 where
   pub lanes : n ≤ 256
   pub many : length entries ≡ 32 * n
   pub small : (i : ℕ) → i < 32 * n → get_or entries i 0 < 2 ^ 16
-  pub first : length a ≡ n
-  pub second : length b ≡ n
-  pub third : length c ≡ n
   pub room : length out ≡ 20 * n
 
--- the three mask bits of a position, the three mask words of a lane, and those of all lanes
+-- what is answered for lane w of n holds its four words, the last of them 0
+abbrev pub FourOf : (ℕ → ℕ) → (ℕ → ℕ) → (ℕ → ℕ) → ℕ → List ℕ → Type 0
+FourOf a b c w x = x ≡ a w ∷ b w ∷ c w ∷ 0 ∷ []
+
+-- the three mask bits of a position
 pub record MaskBits (d : List ℕ) (p s q : ℕ) (m : Masks) : Type 0 where
   pub xora : m.xora ≡ xora_bit d p s q
   pub xorb : m.xorb ≡ xorb_bit d p s q
   pub orb : m.orb ≡ orb_bit d p s q
 
-pub record LaneMasks (d : List ℕ) (p s w : ℕ) (m : Masks) : Type 0 where
-  pub xora : m.xora ≡ mask_word (xora_bit d p s) w
-  pub xorb : m.xorb ≡ mask_word (xorb_bit d p s) w
-  pub orb : m.orb ≡ mask_word (orb_bit d p s) w
-
-pub record MaskLists (d : List ℕ) (p s : ℕ) (a b c : List ℕ) : Type 0 where
-  pub xora : a ≡ list_of (mask_word (xora_bit d p s)) (plan_lanes d)
-  pub xorb : b ≡ list_of (mask_word (xorb_bit d p s)) (plan_lanes d)
-  pub orb : c ≡ list_of (mask_word (orb_bit d p s)) (plan_lanes d)
-
--- and room for those of n lanes
-pub record MasksRoom (n : ℕ) (a b c : List ℕ) : Type 0 where
-  pub first : length a ≡ n
-  pub second : length b ≡ n
-  pub third : length c ≡ n
+-- the three mask words of lane w, and 0
+abbrev pub LaneMasks : List ℕ → (p s w : ℕ) → List ℕ → Type 0
+LaneMasks d p s w x = FourOf (mask_word (xora_bit d p s)) (mask_word (xorb_bit d p s)) (mask_word (orb_bit d p s)) w x
 
 -- the entries of stage s, each a position
 pub record EntriesOf (d : List ℕ) (p s : ℕ) (entries : List ℕ) : Type 0 where

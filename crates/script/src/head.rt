@@ -4,7 +4,7 @@ ghost use Rattle.plan_record.specs.Record.{plan_lanes};
 ghost use Rattle.script.specs.Script.{location_stage, location_half, location_words};
 ghost use Rattle.script.specs.Writers.{AcceptedPart, number_words, ends_by};
 
-use plan_record::bodies::{Body, location, stage_locations};
+use plan_record::bodies::Part;
 use words::clear::clear;
 
 // Words 0..7, in this order.
@@ -44,52 +44,47 @@ fn ends_by(end: usize, l: usize) -> usize
 }
 
 // The stage of location l: how many stages end at or before it.
-fn location_stage(d: &[u8], p: usize, body: Body, l: usize) -> u32
-    requires { AcceptedPart d.now p body }
-    ensures { (result ≡ location_stage d.now p l) × (result ≤ 255) }
+fn location_stage(part: &Part, l: usize) -> u32
+    requires { AcceptedPart part.now.d.now part.now.p part.now.body }
+    ensures { (result ≡ location_stage part.now.d.now part.now.p l) × (result ≤ 255) }
 {
-    let stages = body.stages;
     let mut end = 0;
     let mut ended = 0;
-    let mut s = 0;
-    while s < stages {
-        end += stage_locations(d, p, body, s) as usize;
+    for s in 0..part.body.stages {
+        end += part.stage_locations(s) as usize;
         ended += ends_by(end, l);
-        s += 1;
     }
     ended as u32
 }
 
 // The half of location l: stage and location, or ones past the last.
-fn location_half(d: &[u8], p: usize, body: Body, l: usize) -> u32
-    requires { AcceptedPart d.now p body }
-    ensures { (result ≡ location_half d.now p l) × (result < 2 ^ 16) }
+fn location_half(part: &Part, l: usize) -> u32
+    requires { AcceptedPart part.now.d.now part.now.p part.now.body }
+    ensures { (result ≡ location_half part.now.d.now part.now.p l) × (result < 2 ^ 16) }
 {
-    if l < body.locations {
-        256 * location_stage(d, p, body, l) + location(d, p, body, l)
+    if l < part.body.locations {
+        256 * location_stage(part, l) + part.location(l)
     } else {
         0xffff
     }
 }
 
 // Word j of the locations: two halves, the first one low.
-fn location_word(d: &[u8], p: usize, body: Body, j: usize) -> u32
-    requires { AcceptedPart d.now p body × (2 * j < body.lanes) }
-    ensures { result ≡ location_half d.now p (2 * j + 1) * 2 ^ 16 + location_half d.now p (2 * j) }
+fn location_word(part: &Part, j: usize) -> u32
+    requires { AcceptedPart part.now.d.now part.now.p part.now.body × (2 * j < part.now.body.lanes) }
+    ensures { result ≡ location_half part.now.d.now part.now.p (2 * j + 1) * 2 ^ 16 + location_half part.now.d.now part.now.p (2 * j) }
 {
-    let low = location_half(d, p, body, 2 * j);
-    let high = location_half(d, p, body, 2 * j + 1);
+    let low = location_half(part, 2 * j);
+    let high = location_half(part, 2 * j + 1);
     low | (high << 16)
 }
 
 // Writes the locations.
-pub fn write_locations(d: &[u8], p: usize, body: Body, out: &mut [u32])
-    requires { AcceptedPart d.now p body × (length out.old ≡ body.lanes / 2) }
-    ensures { out.new ≡ location_words (plan_lanes d.now) d.now p }
+pub fn write_locations(part: &Part, out: &mut [u32])
+    requires { AcceptedPart part.now.d.now part.now.p part.now.body × (length out.old ≡ part.now.body.lanes / 2) }
+    ensures { out.new ≡ location_words (plan_lanes part.now.d.now) part.now.d.now part.now.p }
 {
-    let mut j = 0;
-    while j < out.len() {
-        out[j] = location_word(d, p, body, j);
-        j += 1;
+    for (j, word) in out.iter_mut().enumerate() {
+        *word = location_word(part, j);
     }
 }

@@ -1,14 +1,14 @@
 // The masks of a stage.
 ghost use Rattle.std.specs.Prelude.{◌*◌, ◌<◌};
-ghost use Rattle.script.specs.Writers.{AcceptedPart, MaskBits, LaneMasks, MaskLists, MasksRoom};
+ghost use Rattle.script.specs.Writers.{AcceptedPart, MaskBits, LaneMasks};
 
-use plan_gates::{GateFound, find_gate};
-use plan_record::bodies::{Body, slot};
+use plan_gates::find_gate;
+use plan_record::bodies::Part;
 use plan_record::numbers::{gate_first, gate_second};
 use plan_slots::tables::top_power;
 use words::units::EMPTY_PIN;
 
-// Mask bits of a position, or mask words of a lane.
+// Mask bits of a position.
 #[derive(Drop)]
 pub struct Masks {
     pub xora: u32,
@@ -17,9 +17,9 @@ pub struct Masks {
 }
 
 // The mask bits at position q: a slot that equals slot a has orb, a gate the inversions of its fan-ins.
-fn masks_at(d: &[u8], p: usize, body: Body, s: usize, q: usize) -> Masks
-    requires { AcceptedPart d.now p body × (s < body.stages) × (q < 32 * body.lanes) }
-    ensures { MaskBits d.now p s q result }
+fn masks_at(part: &Part, s: usize, q: usize) -> Masks
+    requires { AcceptedPart part.now.d.now part.now.p part.now.body × (s < part.now.body.stages) × (q < 32 * part.now.body.lanes) }
+    ensures { MaskBits part.now.d.now part.now.p s q result }
 {
     if q == 0 {
         return Masks {
@@ -28,7 +28,7 @@ fn masks_at(d: &[u8], p: usize, body: Body, s: usize, q: usize) -> Masks
             orb: 0,
         };
     }
-    let pin = slot(d, p, body, s, q);
+    let pin = part.slot(s, q);
     if pin.0 == EMPTY_PIN {
         return Masks {
             xora: 0,
@@ -36,20 +36,20 @@ fn masks_at(d: &[u8], p: usize, body: Body, s: usize, q: usize) -> Masks
             orb: 0,
         };
     }
-    if pin.0 == slot(d, p, body, s, q + top_power(q)).0 {
+    if pin.0 == part.slot(s, q + top_power(q)).0 {
         return Masks {
             xora: 0,
             xorb: 0,
             orb: 1,
         };
     }
-    match find_gate(d, pin) {
-        GateFound::Gate(g) => {
-            let xora = gate_first(d, g).inversion();
-            let xorb = gate_second(d, g).inversion();
+    match find_gate(part.d, pin) {
+        Some(g) => {
+            let xora = gate_first(part.d, g).inversion();
+            let xorb = gate_second(part.d, g).inversion();
             Masks { xora, xorb, orb: 0 }
         }
-        GateFound::Missing => Masks {
+        None => Masks {
             xora: 0,
             xorb: 0,
             orb: 0,
@@ -57,45 +57,19 @@ fn masks_at(d: &[u8], p: usize, body: Body, s: usize, q: usize) -> Masks
     }
 }
 
-// The mask words of lane w, from its 32 positions.
-fn lane_masks(d: &[u8], p: usize, body: Body, s: usize, w: usize) -> Masks
-    requires { AcceptedPart d.now p body × (s < body.stages) × (w < body.lanes) }
-    ensures { LaneMasks d.now p s w result }
+// The four words of lane w: its masks, from its 32 positions, and 0.
+pub fn lane_masks(part: &Part, s: usize, w: usize) -> [u32; 4]
+    requires { AcceptedPart part.now.d.now part.now.p part.now.body × (s < part.now.body.stages) × (w < part.now.body.lanes) }
+    ensures { LaneMasks part.now.d.now part.now.p s w result }
 {
     let mut xora = 0;
     let mut xorb = 0;
     let mut orb = 0;
-    let mut k = 0;
-    while k < 32 {
-        let bits = masks_at(d, p, body, s, 32 * w + k);
-        xora = xora | (bits.xora << k);
-        xorb = xorb | (bits.xorb << k);
-        orb = orb | (bits.orb << k);
-        k += 1;
+    for k in 0..32 {
+        let bits = masks_at(part, s, 32 * w + k);
+        xora |= bits.xora << k;
+        xorb |= bits.xorb << k;
+        orb |= bits.orb << k;
     }
-    Masks { xora, xorb, orb }
-}
-
-// The mask words of all lanes.
-pub fn fill_masks(
-    d: &[u8],
-    p: usize,
-    body: Body,
-    s: usize,
-    xora: &mut [u32],
-    xorb: &mut [u32],
-    orb: &mut [u32],
-)
-    requires { AcceptedPart d.now p body × (s < body.stages) × MasksRoom body.lanes xora.old xorb.old orb.old }
-    ensures { MaskLists d.now p s xora.new xorb.new orb.new }
-{
-    let lanes = body.lanes;
-    let mut w = 0;
-    while w < lanes {
-        let lane = lane_masks(d, p, body, s, w);
-        xora[w] = lane.xora;
-        xorb[w] = lane.xorb;
-        orb[w] = lane.orb;
-        w += 1;
-    }
+    [xora, xorb, orb, 0]
 }

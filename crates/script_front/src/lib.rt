@@ -18,7 +18,7 @@ use plan_positions::planned::PIN_TABLE;
 use plan_reads::asked::part_set;
 use plan_reads::entries::first_entries;
 use plan_reads::searched::search_set;
-use plan_record::bodies::Body;
+use plan_record::bodies::Part;
 use reads_local::fill_bases;
 use reads_section::write_rounds;
 use script_sections::stages::write_stage;
@@ -29,23 +29,22 @@ pub const ROUND_WORDS: usize = 2;
 // The part's read set, from the start of `set`, and how many words it has. The room then has the winners of the part's pins, and behind them its
 // lanes. What keys and scratch hold afterwards is left open.
 fn find_reads(
-    d: &[u8],
-    p: usize,
-    body: Body,
+    part: &Part,
     room: &mut [u32],
     keys: &mut [u64],
     scratch: &mut [u64],
     set: &mut [u32],
 ) -> usize
-    requires { Buildable d.now p body × SetRoom (length keys.old) (length scratch.old) (length set.old) × (length room.old ≡ 32768 + 32 * body.lanes) }
-    ensures value { (result ≡ length (read_words d.now p)) × (result ≤ 16384) }
-    ensures found_room { FoundRoom d.now p room.new }
-    ensures set_after { set.new ≡ sets set.old 0 (read_words d.now p) }
-    ensures all_narrow { AllNarrow (asked_to d.now p (slots_of d.now)) }
+    requires { Buildable part.now.d.now part.now.p part.now.body × SetRoom (length keys.old) (length scratch.old) (length set.old) × (length room.old ≡ 32768 + 32 * part.now.body.lanes) }
+    ensures value { (result ≡ length (read_words part.now.d.now part.now.p)) × (result ≤ 16384) }
+    ensures found_room { FoundRoom part.now.d.now part.now.p room.new }
+    ensures set_after { set.new ≡ sets set.old 0 (read_words part.now.d.now part.now.p) }
+    ensures all_narrow { AllNarrow (asked_to part.now.d.now part.now.p (slots_of part.now.d.now)) }
 {
-    let lanes = body.lanes;
-    let n = part_set(d, p, body, &mut room[..PIN_TABLE], keys, scratch, set);
-    search_set(&set[..n], &mut room[PIN_TABLE..], keys, scratch, lanes);
+    let lanes = part.body.lanes;
+    let n = part_set(part, &mut room[..PIN_TABLE], keys, scratch, set);
+    // Of an accepted plan the search finds room; what it answers stands in the part's row already.
+    let _ = search_set(&set[..n], &mut room[PIN_TABLE..], keys, scratch, lanes);
     n
 }
 
@@ -71,19 +70,15 @@ fn put_entries(list: &[u64], entries: &mut [u32])
     requires { (length entries.old ≡ length list.now) × ((i : ℕ) → i < length list.now → get_or list.now i 0 < 2 ^ 32) }
     ensures { entries.new ≡ list.now }
 {
-    let mut i = 0;
-    while i < entries.len() {
-        entries[i] = list[i] as u32;
-        i += 1;
+    for (i, entry) in entries.iter_mut().enumerate() {
+        *entry = list[i] as u32;
     }
 }
 
 // Writes the section of the first stage. The entries are made beside the set, whose first n words are the part's, and then put over it. What the
 // list and the set hold afterwards is left open.
 fn write_first(
-    d: &[u8],
-    p: usize,
-    body: Body,
+    part: &Part,
     pins: &[u32],
     n: usize,
     out: &mut [u32],
@@ -91,21 +86,19 @@ fn write_first(
     list: &mut [u64],
     set: &mut [u32],
 )
-    requires { Buildable d.now p body × AllWon d.now p pins.now × AllNumbered (plan_lanes d.now) d.now p (take n set.old) bases.now × FirstRoom body.lanes n (length out.old) (length list.old) (length set.old) }
-    ensures { out.new ≡ stage_section (plan_lanes d.now) d.now p 0 }
+    requires { Buildable part.now.d.now part.now.p part.now.body × AllWon part.now.d.now part.now.p pins.now × AllNumbered (plan_lanes part.now.d.now) part.now.d.now part.now.p (take n set.old) bases.now × FirstRoom part.now.body.lanes n (length out.old) (length list.old) (length set.old) }
+    ensures { out.new ≡ stage_section (plan_lanes part.now.d.now) part.now.d.now part.now.p 0 }
 {
-    let slots = 32 * body.lanes;
-    first_entries(d, p, body, pins, &set[..n], bases, &mut list[..slots]);
+    let slots = 32 * part.body.lanes;
+    first_entries(part, pins, &set[..n], bases, &mut list[..slots]);
     put_entries(&list[..slots], &mut set[..slots]);
-    write_stage(d, p, body, 0, &set[..slots], out);
+    write_stage(part, 0, &set[..slots], out);
 }
 
 // Writes the read section and the section of the first stage. Where the pairs' bits begin is kept in the keys, which are free by then. What the
 // other lent slices hold afterwards is left open.
 pub fn write_front(
-    d: &[u8],
-    p: usize,
-    body: Body,
+    part: &Part,
     rounds: usize,
     room: &mut [u32],
     out: &mut [u32],
@@ -113,12 +106,12 @@ pub fn write_front(
     scratch: &mut [u64],
     set: &mut [u32],
 )
-    requires { Buildable d.now p body × (rounds ≡ longest (part_lanes (plan_lanes d.now) d.now p)) × FrontRoom body.lanes rounds (length room.old) (length out.old) (length keys.old) (length scratch.old) (length set.old) }
-    ensures out_after { out.new ≡ read_section (part_lanes (plan_lanes d.now) d.now p) ++ stage_section (plan_lanes d.now) d.now p 0 }
+    requires { Buildable part.now.d.now part.now.p part.now.body × (rounds ≡ longest (part_lanes (plan_lanes part.now.d.now) part.now.d.now part.now.p)) × FrontRoom part.now.body.lanes rounds (length room.old) (length out.old) (length keys.old) (length scratch.old) (length set.old) }
+    ensures out_after { out.new ≡ read_section (part_lanes (plan_lanes part.now.d.now) part.now.d.now part.now.p) ++ stage_section (plan_lanes part.now.d.now) part.now.d.now part.now.p 0 }
     ensures rounds_bound { rounds ≤ 32 }
 {
-    let lanes = body.lanes;
-    let n = find_reads(d, p, body, room, keys, scratch, set);
+    let lanes = part.body.lanes;
+    let n = find_reads(part, room, keys, scratch, set);
     let reads = ROUND_WORDS * (lanes * rounds);
     write_reads(
         &set[..n],
@@ -129,9 +122,7 @@ pub fn write_front(
         &mut out[..reads],
     );
     write_first(
-        d,
-        p,
-        body,
+        part,
         &room[..PIN_TABLE],
         n,
         &mut out[reads..],

@@ -21,7 +21,11 @@ use Rattle.script.specs.Writers.{NumbersOf}
 use Rattle.script_front.specs.Build.{Buildable}
 use Rattle.plan_refusals.proofs.PassedLaws.{Passed, passed, placed_reads}
 use Rattle.script_assembly.specs.WrittenSoFar.{length_of}
-use Rattle.script_layout.specs.Layout.{AcceptedTabled, row_script}
+use Rattle.script_layout.specs.Layout.{AcceptedTabled, PartRoom, row_script}
+
+-- the room of a part that stands for part p
+pub room_of_part : {e d room : List ℕ} {q p at m : ℕ} → e ≡ d → q ≡ p → PartRoom d room p at m → PartRoom e room q at m
+room_of_part x y r = rw (x, y) r
 
 module _ (d room : List ℕ) (h : AcceptedTabled d room) where
   pub plan_passed : Passed d

@@ -40,11 +40,9 @@ fn write_stage(
 {
     let blocks = blocks_of(d) as usize;
     let mut next = at;
-    let mut b = 0;
-    while b < blocks {
+    for b in 0..blocks {
         starts[first + b] = next.at as u64;
         next = write_block(d, room, s, b, next.rank, next.at, words, keys, scratch, set);
-        b += 1;
     }
     next
 }
@@ -68,8 +66,7 @@ fn write_stages(
     let blocks = blocks_of(d) as usize;
     let majors = majors_of(d) as usize;
     let mut next = Next { rank: 0, at: 0 };
-    let mut s = 0;
-    while s < majors {
+    for s in 0..majors {
         next = write_stage(
             d,
             room,
@@ -82,7 +79,6 @@ fn write_stages(
             scratch,
             set,
         );
-        s += 1;
     }
     next.at
 }

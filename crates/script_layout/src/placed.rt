@@ -13,7 +13,7 @@ use plan_rows::{Column, cell_at};
 use words::clear::clear;
 
 // The rank of the next part, and where the next words begin.
-#[derive(Drop)]
+#[derive(Clone, Copy)]
 pub struct Next {
     pub rank: usize,
     pub at: usize,
@@ -25,15 +25,13 @@ fn block_end(d: &[u8], room: &[u32], s: usize, b: usize, from: usize) -> usize
     ensures { result ≡ first_rank d.now s (b + 1) }
 {
     let end = parts_before(d, s + 1);
-    let mut k = from;
-    while k < end {
+    for k in from..end {
         let p = cell_at(room, k, Column::RANKED) as usize;
         if cell_at(room, p, Column::BLOCK) as usize != b {
             return k;
         }
-        k += 1;
     }
-    k
+    end
 }
 
 // 1 on the last part of a block whose ranks end at `to`.
@@ -64,9 +62,8 @@ fn write_parts(
     ensures room_unchanged { room.new ≡ room.old }
     ensures words_after { words.new ≡ sets words.old at (block_words (plan_lanes d.now) d.now s (parts_in d.now s b)) }
 {
-    let mut k = from;
     let mut next = at;
-    while k < to {
+    for k in from..to {
         let p = cell_at(room, k, Column::RANKED) as usize;
         next = write_part(
             d,
@@ -79,7 +76,6 @@ fn write_parts(
             scratch,
             set,
         );
-        k += 1;
     }
     next
 }

@@ -10,7 +10,7 @@ ghost use Rattle.script.specs.Writers.{NumbersOf};
 ghost use Rattle.script_front.specs.Build.{Buildable};
 
 use plan_positions::planned::PIN_TABLE;
-use plan_record::bodies::Body;
+use plan_record::bodies::Part;
 use script::head::Numbers;
 use script_front::{ROUND_WORDS, write_front};
 use script_sections::parts::write_script;
@@ -24,9 +24,7 @@ const CLEAR_ROOM: usize = 8 * Edition::SLOTS;
 // Writes the script of part p, with the table of its pins and the table of its lanes in the room. What the room and the lists hold afterwards is
 // left open.
 fn write_words(
-    d: &[u8],
-    p: usize,
-    body: Body,
+    part: &Part,
     x: Numbers,
     room: &mut [u32],
     out: &mut [u32],
@@ -34,41 +32,21 @@ fn write_words(
     scratch: &mut [u64],
     set: &mut [u32],
 )
-    requires { Buildable d.now p body × NumbersOf d.now p x × (length room.old ≡ 32768 + 32 * body.lanes) × (length out.old ≡ part_words (plan_lanes d.now) x.rounds x.stages) × SetRoom (length keys.old) (length scratch.old) (length set.old) }
-    ensures { out.new ≡ part_script (plan_lanes d.now) d.now p x.last x.state x.sram }
+    requires { Buildable part.now.d.now part.now.p part.now.body × NumbersOf part.now.d.now part.now.p x × (length room.old ≡ 32768 + 32 * part.now.body.lanes) × (length out.old ≡ part_words (plan_lanes part.now.d.now) x.rounds x.stages) × SetRoom (length keys.old) (length scratch.old) (length set.old) }
+    ensures { out.new ≡ part_script (plan_lanes part.now.d.now) part.now.d.now part.now.p x.last x.state x.sram }
 {
-    let lanes = body.lanes;
+    let lanes = part.body.lanes;
     let slots = 32 * lanes;
     let rounds = x.rounds as usize;
     let to = lanes + ROUND_WORDS * (lanes * rounds) + SECTION_WORDS * lanes;
-    write_front(
-        d,
-        p,
-        body,
-        rounds,
-        room,
-        &mut out[lanes..to],
-        keys,
-        scratch,
-        set,
-    );
-    write_script(
-        d,
-        p,
-        body,
-        x,
-        &mut room[..PIN_TABLE],
-        out,
-        &mut set[..slots],
-    );
+    write_front(part, rounds, room, &mut out[lanes..to], keys, scratch, set);
+    write_script(part, x, &mut room[..PIN_TABLE], out, &mut set[..slots]);
 }
 
 // Writes the script of part p. The first 65536 words of the room are zero afterwards, the others as they were. What the lent lists hold is left
 // open.
 pub fn build_script(
-    d: &[u8],
-    p: usize,
-    body: Body,
+    part: &Part,
     x: Numbers,
     room: &mut [u32],
     out: &mut [u32],
@@ -76,11 +54,11 @@ pub fn build_script(
     scratch: &mut [u64],
     set: &mut [u32],
 )
-    requires { Buildable d.now p body × NumbersOf d.now p x × (65536 ≤ length room.old) × (length out.old ≡ part_words (plan_lanes d.now) x.rounds x.stages) × SetRoom (length keys.old) (length scratch.old) (length set.old) }
-    ensures out_after { out.new ≡ part_script (plan_lanes d.now) d.now p x.last x.state x.sram }
+    requires { Buildable part.now.d.now part.now.p part.now.body × NumbersOf part.now.d.now part.now.p x × (65536 ≤ length room.old) × (length out.old ≡ part_words (plan_lanes part.now.d.now) x.rounds x.stages) × SetRoom (length keys.old) (length scratch.old) (length set.old) }
+    ensures out_after { out.new ≡ part_script (plan_lanes part.now.d.now) part.now.d.now part.now.p x.last x.state x.sram }
     ensures room_after { room.new ≡ replicate 65536 0 ++ drop 65536 room.old }
 {
-    let tables = PIN_TABLE + 32 * body.lanes;
-    write_words(d, p, body, x, &mut room[..tables], out, keys, scratch, set);
+    let tables = PIN_TABLE + 32 * part.body.lanes;
+    write_words(part, x, &mut room[..tables], out, keys, scratch, set);
     clear(&mut room[..CLEAR_ROOM]);
 }

@@ -8,7 +8,7 @@ use native.Mathlib.Numerals.{add-one}
 use native.Mathlib.Omega.{arith}
 use borrow.Rule.Slice.PartMut.{put_mid, mid_len}
 use lib.ListN.{length, take, drop, length-append, length-drop}
-use lib.Seq.{length-take-le, take_all, take-take, drop-drop, take-append-add, drop-append-add}
+use lib.Seq.{take_all, take-take, drop-drop, take-append-add, drop-append-add}
 use Rattle.words.proofs.EditionLaws.{runs_in}
 use Rattle.plan_record.specs.Record.{plan_lanes, stages_of}
 use Rattle.plan_record.specs.declared.bodies.Body.{Body}
@@ -19,10 +19,6 @@ use Rattle.script.specs.Script.{numbers, location_words, stage_section, stage_se
 use Rattle.script.specs.Writers.{number_words, NumbersOf, StagesRoom, ScriptRoom}
 use Rattle.script.proofs.PartLengthLaws.{stage_length, stages_length}
 use Rattle.script.proofs.PutMidLaws.{put_rest, put_next, put_mid_length}
-
--- n words, lent of an array of m
-pub lent_long : (n : ℕ) (l : List ℕ) (m : ℕ) → m ≡ length l → n ≤ m → length (take n l) ≡ n
-lent_long n l m e h = length-take-le n l (omega arith)
 
 -- ---- the stages
 

@@ -1,13 +1,11 @@
 // Sections of 20 words a lane, a permutation of 32 entries a lane and four words a lane: those of the two tables.
-ghost use Rattle.std.specs.Prelude.{◌≡◌, ◌++◌, ◌+◌, ◌*◌, ◌≤◌, length};
+ghost use Rattle.std.specs.Prelude.{◌≡◌, List, ◌++◌, ℕ, ◌+◌, ◌*◌, ◌≤◌, ◌<◌, length};
 ghost use Rattle.words.specs.Section.{list_of, section_of};
 ghost use Rattle.plan_record.specs.Record.{plan_lanes, slots_of, table_words, table_at};
 ghost use Rattle.script.specs.Script.{lane_list, sram_section, enable_section};
-ghost use Rattle.script.specs.Writers.{AcceptedPart, words_in, LanesRoom, SectionRoom, MasksRoom};
+ghost use Rattle.script.specs.Writers.{AcceptedPart, words_in, SectionRoom, FourOf};
 
-use plan_record::bodies::{Body, table_word};
-use words::clear::clear;
-use words::edition::Edition;
+use plan_record::bodies::Part;
 use words::halves::pack;
 
 // Words a lane: a section's entries, two to a word, and the whole of it, with four words more.
@@ -31,131 +29,100 @@ const ENABLE_SET0: usize = ENABLE_INV + 1;
 const ENABLE_DATA_INV: usize = ENABLE_SET0 + 1;
 
 // Reads words of the tables, from this one on.
-fn read_table(d: &[u8], p: usize, body: Body, from: usize, out: &mut [u32])
-    requires { AcceptedPart d.now p body × (from + length out.old ≤ table_words body.lanes) }
-    ensures { out.new ≡ list_of (λ i. table_at d.now p (from + i)) (length out.old) }
+fn read_table(part: &Part, from: usize, out: &mut [u32])
+    requires { AcceptedPart part.now.d.now part.now.p part.now.body × (from + length out.old ≤ table_words part.now.body.lanes) }
+    ensures { out.new ≡ list_of (λ i. table_at part.now.d.now part.now.p (from + i)) (length out.old) }
 {
-    let mut i = 0;
-    while i < out.len() {
-        out[i] = table_word(d, p, body, from + i);
-        i += 1;
+    for (i, word) in out.iter_mut().enumerate() {
+        *word = part.table_word(from + i);
     }
 }
 
-// Writes four words a lane: one of each list, and 0.
-fn write_lanes(a: &[u32], b: &[u32], c: &[u32], out: &mut [u32])
-    requires { LanesRoom a.now b.now c.now out.old }
-    ensures { out.new ≡ lane_list (words_in a.now) (words_in b.now) (words_in c.now) (length a.now) }
+// Writes four words a lane: those that `words` answers for it.
+fn write_lanes<F: Fn(usize) -> [u32; 4]>(lanes: usize, words: F, out: &mut [u32])
+    requires room { (lanes ≤ 256) × (length out.old ≡ 4 * lanes) }
+    requires askable { (w : ℕ) → w < lanes → F.pre words w }
+    ensures { (a b c : ℕ → ℕ) → ((w : ℕ) → w < lanes → (x : List ℕ) → F.post words w x → FourOf a b c w x) → out.new ≡ lane_list a b c lanes }
 {
-    let mut w = 0;
-    while w < a.len() {
-        out[4 * w] = a[w];
-        out[4 * w + 1] = b[w];
-        out[4 * w + 2] = c[w];
-        out[4 * w + 3] = 0;
-        w += 1;
+    for w in 0..lanes {
+        out[4 * w..4 * w + 4].copy_from_slice(&words(w));
     }
 }
 
 // Writes a section: the entries, two to a word, then the lanes.
-pub fn write_section(
+pub fn write_section<F: Fn(usize) -> [u32; 4]>(
     lanes: usize,
     entries: &[u32],
-    a: &[u32],
-    b: &[u32],
-    c: &[u32],
+    words: F,
     out: &mut [u32],
 )
-    requires { SectionRoom lanes entries.now a.now b.now c.now out.old }
-    ensures { out.new ≡ section_of lanes (words_in entries.now) ++ lane_list (words_in a.now) (words_in b.now) (words_in c.now) lanes }
+    requires room { SectionRoom lanes entries.now out.old }
+    requires askable { (w : ℕ) → w < lanes → F.pre words w }
+    ensures { (a b c : ℕ → ℕ) → ((w : ℕ) → w < lanes → (x : List ℕ) → F.post words w x → FourOf a b c w x) → out.new ≡ section_of lanes (words_in entries.now) ++ lane_list a b c lanes }
 {
     let packed = ENTRY_WORDS * lanes;
     pack(&mut out[..packed], entries, lanes);
-    write_lanes(a, b, c, &mut out[packed..]);
+    write_lanes(lanes, words, &mut out[packed..]);
 }
 
-// Writes the section of SRAMs and duplicates, with lent room for three words a lane. What the lent lists hold afterwards is left open, here and below.
-fn put_sram(
-    d: &[u8],
-    p: usize,
-    body: Body,
-    inv: &mut [u32],
-    set0: &mut [u32],
-    zeros: &mut [u32],
-    out: &mut [u32],
-    entries: &mut [u32],
-)
-    requires { AcceptedPart d.now p body × MasksRoom body.lanes inv.old set0.old zeros.old × (length out.old ≡ 20 * plan_lanes d.now) × (length entries.old ≡ slots_of d.now) }
-    ensures { out.new ≡ sram_section (plan_lanes d.now) d.now p }
+// The words of lane w beside the entries of SRAMs and duplicates.
+fn sram_words(part: &Part, w: usize) -> [u32; 4]
+    requires { AcceptedPart part.now.d.now part.now.p part.now.body × (w < part.now.body.lanes) }
+    ensures { FourOf (λ i. table_at part.now.d.now part.now.p (32 * plan_lanes part.now.d.now + i)) (λ i. table_at part.now.d.now part.now.p (33 * plan_lanes part.now.d.now + i)) (λ i. 0) w result }
 {
-    let lanes = body.lanes;
-    read_table(d, p, body, SRAM_ENTRIES, entries);
-    read_table(d, p, body, SRAM_INV * lanes, inv);
-    read_table(d, p, body, SRAM_SET0 * lanes, set0);
-    clear(zeros);
-    write_section(lanes, entries, inv, set0, zeros, out);
+    let lanes = part.body.lanes;
+    [
+        part.table_word(SRAM_INV * lanes + w),
+        part.table_word(SRAM_SET0 * lanes + w),
+        0,
+        0,
+    ]
 }
 
-// Writes the section of SRAMs and duplicates.
-pub fn write_sram(d: &[u8], p: usize, body: Body, out: &mut [u32], entries: &mut [u32])
-    requires { AcceptedPart d.now p body × (length out.old ≡ 20 * plan_lanes d.now) × (length entries.old ≡ slots_of d.now) }
-    ensures { out.new ≡ sram_section (plan_lanes d.now) d.now p }
+// Writes the section of SRAMs and duplicates. What the lent entries hold afterwards is left open, here and below.
+pub fn write_sram(part: &Part, out: &mut [u32], entries: &mut [u32])
+    requires { AcceptedPart part.now.d.now part.now.p part.now.body × (length out.old ≡ 20 * plan_lanes part.now.d.now) × (length entries.old ≡ slots_of part.now.d.now) }
+    ensures { out.new ≡ sram_section (plan_lanes part.now.d.now) part.now.d.now part.now.p }
 {
-    let mut inv = [0u32; Edition::LANES];
-    let mut set0 = [0u32; Edition::LANES];
-    let mut zeros = [0u32; Edition::LANES];
-    let lanes = body.lanes;
-    put_sram(
-        d,
-        p,
-        body,
-        &mut inv[..lanes],
-        &mut set0[..lanes],
-        &mut zeros[..lanes],
-        out,
+    read_table(part, SRAM_ENTRIES, entries);
+    write_section(
+        part.body.lanes,
         entries,
+        |w|
+            requires { AcceptedPart part.now.d.now part.now.p part.now.body × (w < part.now.body.lanes) }
+            ensures { FourOf (λ i. table_at part.entry.now.d.now part.entry.now.p (32 * plan_lanes part.entry.now.d.now + i)) (λ i. table_at part.entry.now.d.now part.entry.now.p (33 * plan_lanes part.entry.now.d.now + i)) (λ i. 0) w result }
+        { sram_words(part, w) },
+        out,
     );
 }
 
-// Writes the section of clock enables, with lent room for three words a lane.
-fn put_enables(
-    d: &[u8],
-    p: usize,
-    body: Body,
-    inv: &mut [u32],
-    set0: &mut [u32],
-    data_inv: &mut [u32],
-    out: &mut [u32],
-    entries: &mut [u32],
-)
-    requires { AcceptedPart d.now p body × MasksRoom body.lanes inv.old set0.old data_inv.old × (length out.old ≡ 20 * plan_lanes d.now) × (length entries.old ≡ slots_of d.now) }
-    ensures { out.new ≡ enable_section (plan_lanes d.now) d.now p }
+// The words of lane w beside the entries of clock enables.
+fn enable_words(part: &Part, w: usize) -> [u32; 4]
+    requires { AcceptedPart part.now.d.now part.now.p part.now.body × (w < part.now.body.lanes) }
+    ensures { FourOf (λ i. table_at part.now.d.now part.now.p (66 * plan_lanes part.now.d.now + i)) (λ i. table_at part.now.d.now part.now.p (67 * plan_lanes part.now.d.now + i)) (λ i. table_at part.now.d.now part.now.p (68 * plan_lanes part.now.d.now + i)) w result }
 {
-    let lanes = body.lanes;
-    read_table(d, p, body, ENABLE_ENTRIES * lanes, entries);
-    read_table(d, p, body, ENABLE_INV * lanes, inv);
-    read_table(d, p, body, ENABLE_SET0 * lanes, set0);
-    read_table(d, p, body, ENABLE_DATA_INV * lanes, data_inv);
-    write_section(lanes, entries, inv, set0, data_inv, out);
+    let lanes = part.body.lanes;
+    [
+        part.table_word(ENABLE_INV * lanes + w),
+        part.table_word(ENABLE_SET0 * lanes + w),
+        part.table_word(ENABLE_DATA_INV * lanes + w),
+        0,
+    ]
 }
 
 // Writes the section of clock enables.
-pub fn write_enables(d: &[u8], p: usize, body: Body, out: &mut [u32], entries: &mut [u32])
-    requires { AcceptedPart d.now p body × (length out.old ≡ 20 * plan_lanes d.now) × (length entries.old ≡ slots_of d.now) }
-    ensures { out.new ≡ enable_section (plan_lanes d.now) d.now p }
+pub fn write_enables(part: &Part, out: &mut [u32], entries: &mut [u32])
+    requires { AcceptedPart part.now.d.now part.now.p part.now.body × (length out.old ≡ 20 * plan_lanes part.now.d.now) × (length entries.old ≡ slots_of part.now.d.now) }
+    ensures { out.new ≡ enable_section (plan_lanes part.now.d.now) part.now.d.now part.now.p }
 {
-    let mut inv = [0u32; Edition::LANES];
-    let mut set0 = [0u32; Edition::LANES];
-    let mut data_inv = [0u32; Edition::LANES];
-    let lanes = body.lanes;
-    put_enables(
-        d,
-        p,
-        body,
-        &mut inv[..lanes],
-        &mut set0[..lanes],
-        &mut data_inv[..lanes],
-        out,
+    read_table(part, ENABLE_ENTRIES * part.body.lanes, entries);
+    write_section(
+        part.body.lanes,
         entries,
+        |w|
+            requires { AcceptedPart part.now.d.now part.now.p part.now.body × (w < part.now.body.lanes) }
+            ensures { FourOf (λ i. table_at part.entry.now.d.now part.entry.now.p (66 * plan_lanes part.entry.now.d.now + i)) (λ i. table_at part.entry.now.d.now part.entry.now.p (67 * plan_lanes part.entry.now.d.now + i)) (λ i. table_at part.entry.now.d.now part.entry.now.p (68 * plan_lanes part.entry.now.d.now + i)) w result }
+        { enable_words(part, w) },
+        out,
     );
 }

@@ -1,6 +1,3 @@
-pub mod CopyLaws
-pub mod InsertionLaws
-pub mod MergeLaws
 pub mod SortEndLaws
 pub mod HalfSearchLaws
 pub mod SortLaws

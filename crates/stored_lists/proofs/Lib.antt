@@ -1,2 +1,1 @@
-pub mod SameLaws
 pub mod StoredListLaws

@@ -1,28 +1,26 @@
 -- A list put run by run: what is put, and what the file still has, is the list.
 -- Assumes nothing.
 use mathlib.Core.Path.{◌≡◌, sym, ap, ◌∙◌}
-use mathlib.Core.List.{List, [], ◌∷◌, ◌++◌, append_assoc, append-nil}
+use mathlib.Core.List.{List, [], ◌++◌, append_assoc, append-nil}
 use Prim.Native.Nat.{ℕ, suc, ◌+◌, ◌*◌, ◌-◌, ◌≤◌, ◌<◌}
 use native.Mathlib.Omega.{arith}
-use lib.ListN.{length, take, set, replicate, replicate-append-replicate}
-use lib.Seq.{take-suc-set}
+use borrow.Rule.Slice.PartMut.{put_mid}
+use lib.ListN.{length, take, drop, replicate, length-append, length-drop, length-replicate}
+use lib.Seq.{length-take-le, take_at}
 use Rattle.plan_record.specs.Record.{word_at}
 use Rattle.stored_lists.specs.Stored.{runs_from, list_at}
 
-pub fill_none : (l : List ℕ) (f v : ℕ) → take (f + 0) l ≡ take f l ++ replicate 0 v
-fill_none l f v =
-    let e : f + 0 ≡ f = omega arith in
-    ap (λ (n : ℕ). take n l) e ∙ sym (append-nil (take f l))
-
-pub run_fill_more : (b l : List ℕ) (f k v : ℕ) → f + k < length l → take (f + k) l ≡ take f b ++ replicate k v
-    → take (f + (k + 1)) (set l (f + k) v) ≡ take f b ++ replicate (k + 1) v
-run_fill_more b l f k v h e =
-    let g : f + (k + 1) ≡ suc (f + k) = omega arith in
-    ap (λ (n : ℕ). take n (set l (f + k) v)) g
-    ∙ take-suc-set l (f + k) v h
-    ∙ ap (λ (x : List ℕ). x ++ (v ∷ [])) e
-    ∙ append_assoc (take f b) (replicate k v) (v ∷ [])
-    ∙ ap (λ (x : List ℕ). take f b ++ x) (replicate-append-replicate k 1 v)
+-- a run of n words v, put from index f on
+pub run_filled : (l m : List ℕ) (f n v : ℕ) → f + n ≤ length l → m ≡ replicate (length (take (f + n - f) (drop f l))) v
+    → take (f + n) (put_mid f (f + n - f) l m) ≡ take f l ++ replicate n v
+run_filled l m f n v h e =
+    let z : f + n - f ≡ n = omega arith in
+    let long : length (take f l) ≡ f = length-take-le f l (omega arith) in
+    let part : length (take (f + n - f) (drop f l)) ≡ n = rw z (length-take-le n (drop f l) (simp length-drop (omega arith))) in
+    let is : m ≡ replicate n v = e ∙ ap (λ (i : ℕ). replicate i v) part in
+    let all : length (take f l ++ m) ≡ f + n = rw (length-append, is, length-replicate, long) in
+    let rest = drop (f + n - f) (drop f l) in
+    ap (take (f + n)) (sym (append_assoc (take f l) m rest)) ∙ take_at (take f l ++ m) rest (f + n) all ∙ ap (λ (x : List ℕ). take f l ++ x) is
 
 runs_more : (d : List ℕ) (j j' n m : ℕ) → n ≡ suc m → j' ≡ j + 2 → runs_from d j n ≡ replicate (word_at d j) (word_at d (j + 1)) ++ runs_from d j' m
 unfolding runs_from

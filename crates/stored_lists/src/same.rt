@@ -6,17 +6,7 @@ ghost use Rattle.stored_lists.specs.Stored.{Halves};
 pub fn same_words(a: &[u32], b: &[u32]) -> bool
     ensures { (result ≡ true → a.now ≡ b.now) × (a.now ≡ b.now → result ≡ true) }
 {
-    if a.len() != b.len() {
-        return false;
-    }
-    let mut i = 0;
-    while i < a.len() {
-        if a[i] != b[i] {
-            return false;
-        }
-        i += 1;
-    }
-    true
+    a == b
 }
 
 // A number of its low and its high word.
@@ -30,18 +20,13 @@ fn joined(low: u32, high: u32) -> u64
 pub fn same_halves(numbers: &[u64], words: &[u32]) -> bool
     ensures { (result ≡ true → Halves numbers.now words.now) × (Halves numbers.now words.now → result ≡ true) }
 {
-    if words.len() % 2 != 0 {
+    if words.len() % 2 != 0 || numbers.len() != words.len() / 2 {
         return false;
     }
-    if numbers.len() != words.len() / 2 {
-        return false;
-    }
-    let mut i = 0;
-    while i < numbers.len() {
+    for i in 0..numbers.len() {
         if numbers[i] != joined(words[2 * i], words[2 * i + 1]) {
             return false;
         }
-        i += 1;
     }
     true
 }

@@ -2,14 +2,13 @@
 // comes on standard input; host/README.md says its form, and `make_answers plans` of host/ makes it.
 #![tactic(auto)]
 
-ghost use Rattle.std.specs.Prelude.{◌≡◌, true, ◌+◌, ◌≤◌, ◌<◌, ◌^◌, length, take, IfOk};
+ghost use Rattle.std.specs.Prelude.{◌≡◌, true, ◌+◌, ◌<◌, ◌^◌, take};
 ghost use Rattle.stored_lists.specs.Stored.{list_at, Halves, RefusalAt, SizesAt, ListsAt};
 
+use flatten::build_flattened_script_v1;
 use flatten::sizes::Sizes;
-use flatten::{Flattened, build_flattened_script_v1};
 use plan_record::places::word_at;
 use std::io;
-use std::io::Read;
 use stored_lists::list::{expand, list_words, put_words};
 use stored_lists::same::{same_halves, same_words};
 use words::refusals::Refusal;
@@ -19,16 +18,9 @@ fn refusal_agrees(file: &[u8], at: usize, refusal: Refusal) -> bool
     requires { at < 2 ^ 63 }
     ensures { result ≡ true → RefusalAt file.now at refusal.number refusal.part refusal.item }
 {
-    if refusal.number != word_at(file, at) {
-        return false;
-    }
-    if refusal.part != word_at(file, at + 1) {
-        return false;
-    }
-    if refusal.item != word_at(file, at + 2) as u64 {
-        return false;
-    }
-    true
+    refusal.number == word_at(file, at)
+        && refusal.part == word_at(file, at + 1)
+        && refusal.item == word_at(file, at + 2) as u64
 }
 
 // Whether the sizes are those from word `at` on.
@@ -36,19 +28,10 @@ fn sizes_agree(file: &[u8], at: usize, sizes: Sizes) -> bool
     requires { at < 2 ^ 63 }
     ensures { result ≡ true → SizesAt file.now at sizes.starts sizes.words sizes.state sizes.sram }
 {
-    if sizes.starts != word_at(file, at) as u64 {
-        return false;
-    }
-    if sizes.words != word_at(file, at + 1) as u64 {
-        return false;
-    }
-    if sizes.state != word_at(file, at + 2) as u64 {
-        return false;
-    }
-    if sizes.sram != word_at(file, at + 3) as u64 {
-        return false;
-    }
-    true
+    sizes.starts == word_at(file, at) as u64
+        && sizes.words == word_at(file, at + 1) as u64
+        && sizes.state == word_at(file, at + 2) as u64
+        && sizes.sram == word_at(file, at + 3) as u64
 }
 
 // Whether the starts are those of the list at word `at`. The list goes into `list`.
@@ -56,11 +39,10 @@ fn starts_agree(file: &[u8], at: usize, starts: &[u64], list: &mut [u32]) -> boo
     requires { at < 2 ^ 63 }
     ensures { result ≡ true → Halves starts.now (list_at file.now at) }
 {
-    let n = expand(file, at, list);
-    if list.len() < n {
-        return false;
+    match expand(file, at, list) {
+        Some(n) => same_halves(starts, &list[..n]),
+        None => false,
     }
-    same_halves(starts, &list[..n])
 }
 
 // Whether the words are those of the list at word `at`. The list goes into `list`.
@@ -68,11 +50,10 @@ fn words_agree(file: &[u8], at: usize, words: &[u32], list: &mut [u32]) -> bool
     requires { at < 2 ^ 63 }
     ensures { result ≡ true → words.now ≡ list_at file.now at }
 {
-    let n = expand(file, at, list);
-    if list.len() < n {
-        return false;
+    match expand(file, at, list) {
+        Some(n) => same_words(words, &list[..n]),
+        None => false,
     }
-    same_words(words, &list[..n])
 }
 
 // Whether a script is the stored one: sizes, starts and words from word `at` on.
@@ -87,13 +68,10 @@ fn script_agrees(
     requires { at < 2 ^ 62 }
     ensures { result ≡ true → SizesAt file.now at sizes.starts sizes.words sizes.state sizes.sram × ListsAt file.now (at + 4) (take sizes.starts starts.now) (take sizes.words words.now) }
 {
-    if !sizes_agree(file, at, sizes) {
-        return false;
-    }
-    if (starts.len() as u64) < sizes.starts {
-        return false;
-    }
-    if (words.len() as u64) < sizes.words {
+    if !sizes_agree(file, at, sizes)
+        || (starts.len() as u64) < sizes.starts
+        || (words.len() as u64) < sizes.words
+    {
         return false;
     }
     if !starts_agree(file, at + 4, &starts[..sizes.starts as usize], list) {
@@ -122,13 +100,10 @@ fn agrees(
 {
     let mut pieces = [0u32; 64];
     match build_flattened_script_v1(plan, room, starts, words, &mut pieces) {
-        Flattened::Built(sizes) => {
-            if word_at(file, at) != 0 {
-                return false;
-            }
-            script_agrees(file, at + 1, sizes, starts, words, list)
+        Ok(sizes) => {
+            word_at(file, at) == 0 && script_agrees(file, at + 1, sizes, starts, words, list)
         }
-        Flattened::Refused(refusal) => refusal_agrees(file, at, refusal),
+        Err(refusal) => refusal_agrees(file, at, refusal),
     }
 }
 
@@ -144,10 +119,9 @@ fn case_agrees(
 ) -> bool
     requires { at < 2 ^ 60 }
 {
-    let n = expand(file, at, list);
-    if list.len() < n {
+    let Some(n) = expand(file, at, list) else {
         return false;
-    }
+    };
     if plan.len() / 4 < n {
         return false;
     }
@@ -196,16 +170,11 @@ fn agreeing(
     words: &mut [u32],
 ) -> u32 {
     let mut at: usize = 1;
-    let mut i = 0;
-    while i < cases {
-        if 0x1000_0000 < at {
-            return i;
-        }
-        if !case_agrees(file, at, list, plan, room, starts, words) {
+    for i in 0..cases {
+        if 0x1000_0000 < at || !case_agrees(file, at, list, plan, room, starts, words) {
             return i;
         }
         at += case_words(file, at);
-        i += 1;
     }
     cases
 }
@@ -223,23 +192,6 @@ fn tell(
     let cases = word_at(file, 0);
     let agree = agreeing(file, cases, list, plan, room, starts, words);
     println!(rt; "{cases} plans, {agree} agree")
-}
-
-// Fills `to` from its front with what a reader has left: how many bytes came.
-fn read_full<R: Read>(mut from: R, to: &mut [u8]) -> io::Result<usize>
-where
-    R: Drop,
-    ensures { IfOk result (λ n. n ≤ length to.new) }
-{
-    let mut n = 0;
-    while n < to.len() {
-        let came = from.read(&mut to[n..])?;
-        if came == 0 {
-            break;
-        }
-        n += came;
-    }
-    Ok(n)
 }
 
 // Places for the file, a list, a plan, the working room and a script. A function's result is an array that the prover does not compute.
@@ -270,7 +222,7 @@ fn main(rt: HostRuntime) -> io::Result<()> {
     let mut room = room_place();
     let mut starts = [0u64; 64];
     let mut words = words_place();
-    let length = read_full(rt.reader(), &mut file)?;
+    let length = input::read_full(rt.reader(), &mut file)?;
     tell(
         &rt,
         &file[..length],

@@ -1,4 +1,4 @@
--- Laws of numbers as text, in the writers' terms.
+-- Laws of numbers as text, and of what a writer wrote of them.
 -- Assumes nothing.
 use mathlib.Core.Path.{◌≡◌, refl, sym, ap, ◌∙◌}
 use mathlib.Core.Bool.{Bool, true, false}
@@ -10,8 +10,9 @@ use borrow.Author.Tests.{ltb-true, ltb-false, lt-ltb, le-ltb}
 use lib.Dec.{ltb}
 use lib.ListN.{length, length-append}
 use Rattle.text.specs.Text.{decimal_in, decimal}
-use Rattle.text.specs.TextPut.{Put}
-use Rattle.text.proofs.WritingLaws.{put_then, put_as}
+use Rattle.text.specs.Wrote.{Wrote}
+use Rattle.text.specs.declared.Writer.{Writer}
+use Rattle.text.proofs.WritingLaws.{wrote_then, wrote_as}
 
 pub decimal_one : (f n : ℕ) → n < 10 → decimal_in (suc f) n ≡ (48 + n) ∷ []
 unfolding decimal_in
@@ -42,12 +43,12 @@ decimal_short (suc f) n = go (ltb n 10) refl (decimal_short f (n / 10))
     go true e r = rw (e, decimal_in) (omega arith)
     go false e r = rw (e, decimal_in, length-append) (omega arith)
 
-pub put_first : (n d : ℕ) {a b : List ℕ} {p q : ℕ} → n < 10 → d ≡ 48 + n → Put 1 (d ∷ []) a p b q → Put 20 (decimal n) a p b q
-put_first n d h e f = put_as (d ∷ []) (decimal n) (ap (λ (x : ℕ). x ∷ []) e ∙ sym (decimal_one 19 n h)) (decimal_short 20 n) f
+-- the last digit, behind those before it
+pub wrote_last : (n : ℕ) {a b c : Writer} → 10 ≤ n → n < 2 ^ 64 → Wrote 20 (decimal (n / 10)) a b → Wrote 1 ((48 + n % 10) ∷ []) b c → Wrote 20 (decimal n) a c
+wrote_last n h k f g =
+    wrote_as (decimal (n / 10) ++ ((48 + n % 10) ∷ [])) (decimal n) (sym (decimal_rest n h k)) (decimal_short 20 n) (wrote_then (decimal (n / 10)) ((48 + n % 10) ∷ []) f g)
 
-pub put_last : (n d : ℕ) {a b c : List ℕ} {p q r : ℕ} → 10 ≤ n → n < 2 ^ 64 → d ≡ 48 + n % 10
-    → Put 20 (decimal (n / 10)) a p b q → Put 1 (d ∷ []) b q c r → Put 20 (decimal n) a p c r
-put_last n d h k e f g =
-    put_as (decimal (n / 10) ++ (d ∷ [])) (decimal n)
-    (ap (λ (x : ℕ). decimal (n / 10) ++ (x ∷ [])) e ∙ sym (decimal_rest n h k)) (decimal_short 20 n)
-    (put_then (decimal (n / 10)) (d ∷ []) f g)
+pub wrote_only : (n : ℕ) {a b : Writer} → n < 10 → Wrote 1 ((48 + n % 10) ∷ []) a b → Wrote 20 (decimal n) a b
+wrote_only n h f =
+    let same : n % 10 ≡ n = omega arith in
+    wrote_as ((48 + n % 10) ∷ []) (decimal n) (rw same (sym (decimal_one 19 n h))) (decimal_short 20 n) f

@@ -7,14 +7,14 @@ use Rattle.std.proofs.lemmas.List.Edits.{sets}
 use Rattle.words.specs.Edition.{known}
 use Rattle.plan_record.specs.Record.{gates_of, edition_of}
 use Rattle.words.specs.Pins.{empty}
-use Rattle.words.specs.Answer.{Answer, good, refused, at_item, nowhere}
+use Rattle.std.specs.declared.result.Result.{Result}
+use Rattle.words.specs.declared.refusals.Refusal.{Refusal}
+use Rattle.words.specs.Answer.{Answer, good, refused, at_item, nowhere, result_of}
 use Rattle.plan_record.specs.Form.{plan_room_words, plan_form}
 use Rattle.plan_gates.specs.Gates.{bad_gate, value}
 use Rattle.plan_gates.specs.GateValues.{gate_words}
 use Rattle.plan_positions.specs.Input.{input}
 use Rattle.plan_known.specs.Known.{Clear}
-use Rattle.values.specs.declared.Valued.{Valued}
-use Rattle.values.specs.declared.Valued.TheVariants.{Bit, Refused}
 
 -- a pin's value, and the words with every gate's
 pub record Bits : Type 0 where
@@ -56,9 +56,8 @@ value_answer d p old new r b x =
     ]
 
 -- the code tells the pin's value
-abbrev pub valued_of : Answer Bits → Valued
-valued_of (good x) = Bit x.own
-valued_of (refused q) = Refused q
+abbrev pub valued_of : Answer Bits → Result ℕ Refusal
+valued_of o = result_of (λ (x : Bits). x.own) o
 
 -- the lent result then begins with the gates' values; what lies behind them, and all of it at a refusal, is what it held
 unfoldable pub bits_after : Answer Bits → List ℕ → List ℕ

@@ -2,7 +2,6 @@
 #![tactic(auto)]
 
 ghost use Rattle.std.specs.Prelude.{◌≡◌, length, replicate};
-ghost use Rattle.words.specs.Answer.{refused, at_item};
 ghost use Rattle.values.specs.Values.{ValueAsked, bit_words, pin_value, gate_values, lent_bits, value_answer, valued_of, bits_after, value_room_after};
 
 use plan_form::plan_form;
@@ -13,16 +12,8 @@ use plan_record::numbers::{edition_of, gates_of};
 use plan_record::places::room_words;
 use words::clear::clear;
 use words::edition::is_edition;
-use words::found::Item;
-use words::refusals::{GATE_ORDER, NO_EDITION, PLAN_FORM, RESULT_SHORT, ROOM_SHORT, Refusal};
+use words::refusals::{Reason, Refusal};
 use words::units::{EMPTY_PIN, Pin};
-
-// A pin's value, or the refusal.
-#[derive(Drop)]
-pub enum Valued {
-    Bit(u32),
-    Refused(Refusal),
-}
 
 // How many words have one bit a gate.
 fn bit_words(d: &[u8]) -> usize
@@ -56,17 +47,6 @@ fn fill_bits(
     bit
 }
 
-// A refusal, which no part is told with.
-fn refuse(number: u32, item: usize) -> Valued
-    ensures { result ≡ valued_of (refused (at_item number item)) }
-{
-    Valued::Refused(Refusal {
-        number,
-        part: 0,
-        item: item as u64,
-    })
-}
-
 // The answer of a plan that 32, 29, 5 and 6 let pass.
 fn value_lent(
     plan: &[u8],
@@ -76,7 +56,7 @@ fn value_lent(
     room: &mut [u32],
     bits: &mut [u32],
     pin: Pin,
-) -> Valued
+) -> Result<u32, Refusal>
     requires { ValueAsked plan.now room.old }
     ensures value { result ≡ valued_of (lent_bits plan.now part old.now new.now (length bits.old) pin.0) }
     ensures room_after { room.new ≡ replicate (length room.old) 0 }
@@ -84,9 +64,9 @@ fn value_lent(
 {
     let words = bit_words(plan);
     if bits.len() < words {
-        return refuse(RESULT_SHORT, 0);
+        return Err(Refusal::nowhere(Reason::ResultShort));
     }
-    Valued::Bit(fill_bits(plan, part, old, new, room, &mut bits[..words], pin))
+    Ok(fill_bits(plan, part, old, new, room, &mut bits[..words], pin))
 }
 
 // The value of a pin in a part, between the old state and the new. `bits` then begins with one bit a gate: the value of its pin.
@@ -98,23 +78,23 @@ pub fn value(
     room: &mut [u32],
     bits: &mut [u32],
     pin: Pin,
-) -> Valued
+) -> Result<u32, Refusal>
     ensures value { result ≡ valued_of (value_answer plan.now part old.now new.now (length room.old) (length bits.old) pin.0) }
     ensures room_after { room.new ≡ value_room_after plan.now room.old }
     ensures bits_after { bits.new ≡ bits_after (value_answer plan.now part old.now new.now (length room.old) (length bits.old) pin.0) bits.old }
 {
     if room.len() < room_words(plan) {
-        return refuse(ROOM_SHORT, 0);
+        return Err(Refusal::nowhere(Reason::RoomShort));
     }
     clear(room);
     if !is_edition(edition_of(plan)) {
-        return refuse(NO_EDITION, 0);
+        return Err(Refusal::nowhere(Reason::NoEdition));
     }
     if !plan_form(plan) {
-        return refuse(PLAN_FORM, 0);
+        return Err(Refusal::nowhere(Reason::PlanForm));
     }
     match check_gates(plan) {
-        Item::At(g) => refuse(GATE_ORDER, g),
-        Item::Fine => value_lent(plan, part as usize, old, new, room, bits, pin),
+        Some(g) => Err(Refusal::at_item(Reason::GateOrder, g as u64)),
+        None => value_lent(plan, part as usize, old, new, room, bits, pin),
     }
 }

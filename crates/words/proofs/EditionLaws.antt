@@ -7,7 +7,7 @@ use mathlib.Core.Logic.{inl, inr, ⊎_elim}
 use Prim.Native.Nat.{ℕ, ◌+◌, ◌*◌, ◌^◌, ◌≤◌, ◌<◌}
 use native.Mathlib.Nat.{mul-le-mul_left}
 use native.Mathlib.Omega.{arith}
-use borrow.Author.Tests.{eq-eqb, ne_eqb, eqb-true}
+use borrow.Author.Tests.{eqb-true}
 use lib.Dec.{eqb}
 use Rattle.words.specs.Edition.{Known, known, levels_for, lanes_for}
 use Rattle.words.proofs.TestLaws.{or_cases}
@@ -45,18 +45,6 @@ known_number x h = ⊎_elim (λ e. inl (eqb-true x 256 e)) (λ e. inr (eqb-true 
 pub known_passes : (x : ℕ) → Known x → known x ≡ true
 unfolding known
 known_passes = by_edition (λ x. known x ≡ true) refl refl
-
-pub known_other : (x : ℕ) → (x ≡ 256 → ⊥) → eqb x 128 ≡ known x
-unfolding known
-known_other x h = rw (ne_eqb x 256 h, known)
-
-pub levels_small : (n : ℕ) → n ≡ 128 → 12 ≡ levels_for n
-unfolding levels_for
-levels_small n e = rw (eq-eqb n 128 e, levels_for)
-
-pub levels_other : (n : ℕ) → (n ≡ 128 → ⊥) → 13 ≡ levels_for n
-unfolding levels_for
-levels_other n h = rw (ne_eqb n 128 h, levels_for)
 
 -- s whole runs of k words, and one more, are inside m of them
 pub runs_in : (k s m : ℕ) → s < m → k * s + k ≤ k * m

@@ -1,7 +1,8 @@
 -- What is answered: something good, or a refusal with its place; and the numbers that an exported function hands out of it. Document 01, "Numbered
 -- refusals": each returns number and place, part and item; (0, 0) where there is none.
 -- Assumes nothing.
-use Rattle.std.specs.Prelude.{List, [], ◌∷◌, ℕ, zero, suc}
+use Rattle.std.specs.Prelude.{List, [], ◌∷◌, ℕ, zero, suc, Ok, Err}
+use Rattle.std.specs.declared.result.Result.{Result}
 use Rattle.words.specs.Tests.{Place}
 use Rattle.words.specs.declared.refusals.Refusal.{Refusal}
 
@@ -18,6 +19,11 @@ at_item n i = record { number = n; part = 0; item = i }
 
 abbrev pub nowhere : ℕ → Refusal
 nowhere n = at_item n 0
+
+-- what the code answers: f of something good, else the refusal
+abbrev pub result_of : {A B : Type 0} → (A → B) → Answer A → Result B Refusal
+result_of f (good x) = Ok (f x)
+result_of f (refused q) = Err q
 
 -- what is told of a refusal
 abbrev pub refusal_numbers : Refusal → List ℕ

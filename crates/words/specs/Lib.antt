@@ -8,3 +8,4 @@ pub mod Count
 pub mod Tests
 pub mod Found
 pub mod Answer
+pub mod Reasons

@@ -15,14 +15,14 @@ pub fn set_bit(s: &mut [u32], p: usize)
     requires { p / 32 < length s.old }
     ensures { s.new ≡ set_bit s.old p }
 {
-    s[p / 32] = s[p / 32] | (1 << (p % 32));
+    s[p / 32] |= 1 << (p % 32);
 }
 
 // How many bits are set.
 pub fn count(m: u32) -> u32
     ensures { result ≡ pop m }
 {
-    u32::count_ones(m)
+    m.count_ones()
 }
 
 // How many bits above bit k are set. Shifted twice, since one shift by 32 is none.

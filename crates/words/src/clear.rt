@@ -5,9 +5,5 @@ ghost use Rattle.std.specs.Prelude.{◌≡◌, length, replicate};
 pub fn clear(l: &mut [u32])
     ensures { l.new ≡ replicate (length l.old) 0 }
 {
-    let mut i = 0;
-    while i < l.len() {
-        l[i] = 0;
-        i += 1;
-    }
+    l.fill(0);
 }

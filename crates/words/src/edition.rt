@@ -3,7 +3,16 @@
 ghost use Rattle.std.specs.Prelude.{◌≡◌};
 ghost use Rattle.words.specs.Edition.{known, levels_for, part_words};
 
+// The length of a part's script in words, of an edition of so many lanes, for any numbers of rounds and stages.
+pub fn part_words(lanes: u16, rounds: u32, stages: u32) -> u64
+    ensures { result ≡ part_words lanes rounds stages }
+{
+    let n = lanes as u64;
+    n + 2 * n * rounds as u64 + 20 * n * stages as u64 + 40 * n
+}
+
 // The full edition. Its numbers are associated constants.
+// stays: two types and no generic one, since of a generic type's constant a proof learns nothing: `is_edition` and `levels_for` did not close.
 #[derive(Drop)]
 pub struct Edition;
 
@@ -15,12 +24,11 @@ impl Edition {
     // Levels above level 0: 2 to this power is the number of slots.
     pub const LEVELS: u32 = 13;
 
-    // The length of a part's script in words, for any numbers of rounds and stages.
+    // The length of a part's script in words.
     pub fn part_words(rounds: u32, stages: u32) -> u64
         ensures { result ≡ part_words 256 rounds stages }
     {
-        let n = Edition::LANES as u64;
-        n + 2 * n * rounds as u64 + 20 * n * stages as u64 + 40 * n
+        part_words(Edition::LANES as u16, rounds, stages)
     }
 }
 
@@ -38,27 +46,26 @@ impl SmallEdition {
     pub fn part_words(rounds: u32, stages: u32) -> u64
         ensures { result ≡ part_words 128 rounds stages }
     {
-        let n = SmallEdition::LANES as u64;
-        n + 2 * n * rounds as u64 + 20 * n * stages as u64 + 40 * n
+        part_words(SmallEdition::LANES as u16, rounds, stages)
     }
 }
 
 // Whether a number names an edition: refusal 29 where not.
+#[tactic(auto, unfolding(crate::specs::Edition::known))]
 pub fn is_edition(number: u32) -> bool
     ensures { result ≡ known number }
 {
-    if number == Edition::LANES as u32 {
-        return true;
-    }
-    number == SmallEdition::LANES as u32
+    number == Edition::LANES as u32 || number == SmallEdition::LANES as u32
 }
 
 // The levels above level 0 with so many lanes.
+#[tactic(auto, unfolding(crate::specs::Edition::levels_for))]
 pub fn levels_for(lanes: usize) -> u32
     ensures { result ≡ levels_for lanes }
 {
     if lanes == SmallEdition::LANES {
-        return SmallEdition::LEVELS;
+        SmallEdition::LEVELS
+    } else {
+        Edition::LEVELS
     }
-    Edition::LEVELS
 }

@@ -1,63 +1,53 @@
-// The numbers of the refusals: document 01, "Numbered refusals", and those that 1/13, 4/13, 7/13, 8/13 and 10/13 of document 02 add.
-pub const MANY_PAIRS: u32 = 1;
+// The reasons of the refusals: document 01, "Numbered refusals", and those that 1/13, 4/13, 7/13, 8/13, 9/13 and 10/13 of document 02 add.
+ghost use Rattle.std.specs.Prelude.{◌≡◌, ◌^◌, ◌<◌};
+ghost use Rattle.words.specs.Answer.{at, at_item, nowhere};
+ghost use Rattle.words.specs.Reasons.{number_of};
 
-pub const PAIR_FORM: u32 = 2;
+use crate::found::Place;
 
-pub const NOTHING_TO_READ: u32 = 3;
+// Why something is refused: each has the number that the documents give it.
+#[derive(Clone, Copy, PartialEq, Eq)]
+pub enum Reason {
+    ManyPairs = 1,
+    PairForm = 2,
+    NothingToRead = 3,
+    NoRoomFound = 4,
+    PlanForm = 5,
+    GateOrder = 6,
+    WriteOuts = 7,
+    Totals = 8,
+    Slot = 9,
+    NotInStageBefore = 10,
+    ReadAndComputed = 11,
+    NoPosition = 12,
+    TableEntry = 13,
+    ResultShort = 14,
+    ScriptForm = 15,
+    Turn = 16,
+    Record = 17,
+    BeforeGates = 18,
+    Difference = 19,
+    CutGates = 20,
+    ManyBits = 21,
+    ManyWide = 22,
+    NotEmpty = 24,
+    Level = 25,
+    NoGate = 26,
+    NoPacking = 27,
+    BatchFull = 28,
+    NoEdition = 29,
+    RoomShort = 32,
+    NotWritable = 33,
+    CountShort = 34,
+}
 
-pub const NO_ROOM_FOUND: u32 = 4;
-
-pub const PLAN_FORM: u32 = 5;
-
-pub const GATE_ORDER: u32 = 6;
-
-pub const WRITE_OUTS: u32 = 7;
-
-pub const TOTALS: u32 = 8;
-
-pub const SLOT: u32 = 9;
-
-pub const NOT_IN_STAGE_BEFORE: u32 = 10;
-
-pub const READ_AND_COMPUTED: u32 = 11;
-
-pub const NO_POSITION: u32 = 12;
-
-pub const TABLE_ENTRY: u32 = 13;
-
-pub const RESULT_SHORT: u32 = 14;
-
-pub const SCRIPT_FORM: u32 = 15;
-
-pub const TURN: u32 = 16;
-
-pub const RECORD: u32 = 17;
-
-pub const BEFORE_GATES: u32 = 18;
-
-pub const DIFFERENCE: u32 = 19;
-
-pub const CUT_GATES: u32 = 20;
-
-pub const MANY_BITS: u32 = 21;
-
-pub const MANY_WIDE: u32 = 22;
-
-pub const NOT_EMPTY: u32 = 24;
-
-pub const LEVEL: u32 = 25;
-
-pub const NO_GATE: u32 = 26;
-
-pub const NO_PACKING: u32 = 27;
-
-pub const NO_EDITION: u32 = 29;
-
-pub const ROOM_SHORT: u32 = 32;
-
-pub const NOT_WRITABLE: u32 = 33;
-
-pub const COUNT_SHORT: u32 = 34;
+impl Reason {
+    pub fn number(self) -> u32
+        ensures { result ≡ number_of self }
+    {
+        self as u32
+    }
+}
 
 // A refusal: its number, and the place it is told at.
 #[derive(Clone, Copy)]
@@ -65,4 +55,36 @@ pub struct Refusal {
     pub number: u32,
     pub part: u32,
     pub item: u64,
+}
+
+impl Refusal {
+    // At a place of a plan.
+    pub fn at(reason: Reason, place: Place) -> Refusal
+        requires { place.part < 2 ^ 32 }
+        ensures { result ≡ at (number_of reason) (record { part = place.part; item = place.item }) }
+    {
+        Refusal {
+            number: reason.number(),
+            part: place.part as u32,
+            item: place.item as u64,
+        }
+    }
+
+    // At an item of what has no parts.
+    pub fn at_item(reason: Reason, item: u64) -> Refusal
+        ensures { result ≡ at_item (number_of reason) item }
+    {
+        Refusal {
+            number: reason.number(),
+            part: 0,
+            item,
+        }
+    }
+
+    // At no place.
+    pub fn nowhere(reason: Reason) -> Refusal
+        ensures { result ≡ nowhere (number_of reason) }
+    {
+        Refusal::at_item(reason, 0)
+    }
 }

@@ -12,5 +12,5 @@ pub returns : goal.returns
 unfolding after_local_position
 returns c =
     let o = local_answer c.args.edition c.args.set.now (length c.args.room.now) c.args.word c.args.bit in
-    let numbers = c.tell_brought.ensures ∙ (ap brought_numbers c.local_position.ensures.value ∙ brought_told o) in
+    let numbers = c.tell_position.ensures ∙ (ap brought_numbers c.local_position.ensures.value ∙ brought_told o) in
     also numbers (also c.local_position.ensures.room_after refl)

@@ -13,5 +13,5 @@ pub returns : goal.returns
 unfolding after_plan_sizes
 returns c =
     let o = sizing (plan_lanes c.args.plan.now) c.args.plan.now (length c.args.room.now) in
-    let numbers = c.tell_flattened.ensures ∙ (ap flattened_numbers c.plan_sizes.ensures.value ∙ flattened_told o) in
+    let numbers = c.tell_sizes.ensures ∙ (ap flattened_numbers c.plan_sizes.ensures.value ∙ flattened_told o) in
     also numbers (also c.plan_sizes.ensures.room_after refl)

@@ -13,5 +13,5 @@ pub returns : goal.returns
 unfolding after_read_aiger
 returns c =
     let o = fitting (length c.args.out.now) (read_aiger c.args.bytes.now) in
-    let numbers = c.tell_gates.ensures ∙ (ap gates_numbers c.read_gates.ensures.value ∙ gates_told o) in
+    let numbers = c.tell_header.ensures ∙ (ap gates_numbers c.read_gates.ensures.value ∙ gates_told o) in
     also numbers (also c.read_gates.ensures.out_after refl)

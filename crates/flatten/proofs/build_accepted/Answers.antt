@@ -6,7 +6,7 @@ use lib.ListN.{length, replicate}
 use Rattle.plan_record.specs.Record.{plan_lanes}
 use Rattle.words.specs.Answer.{nowhere}
 use Rattle.script_assembly.specs.Assembly.{script_starts, script_words}
-use Rattle.flatten.specs.declared.Flattened.TheVariants.{Built}
+use Rattle.std.specs.Prelude.{Ok, Err}
 use Rattle.flatten.specs.Flatten.{sizes_of, piece_sizes}
 use Rattle.flatten.specs.FlattenedAnswer.{flattened_of}
 use Rattle.flatten.proofs.ScriptSizeLaws.{majors_few}
@@ -58,7 +58,7 @@ returns-then-enough c =
     let e =
     long_enough c.args.plan.now (length c.args.starts.now) (length c.args.words.now) (length c.args.pieces.now) c.sizes_of-sizes.result c.sizes_of-sizes.ensures _ c.parts_of-parts.ensures.0 c.enough.result c.enough.ensures c.if-enough.true in
     record {
-      value = ap Built c.sizes_of-sizes.ensures ∙ sym (ap flattened_of e);
+      value = ap Ok c.sizes_of-sizes.ensures ∙ sym (ap flattened_of e);
       room_after = c.clear.ensures ∙ ap (λ (n : ℕ). replicate n 0) c.write_plan.auto.room;
       starts_after = laid_built _ (sizes_of (plan_lanes c.args.plan.now) c.args.plan.now) e (script_starts (plan_lanes c.args.plan.now) c.args.plan.now) c.args.starts.now _ c.write_plan.ensures.starts_after;
       words_after = laid_built _ (sizes_of (plan_lanes c.args.plan.now) c.args.plan.now) e (script_words (plan_lanes c.args.plan.now) c.args.plan.now) c.args.words.now _ c.write_plan.ensures.words_after;
@@ -74,7 +74,7 @@ returns c =
     let e =
     too_short c.args.plan.now (length c.args.starts.now) (length c.args.words.now) (length c.args.pieces.now) c.sizes_of-sizes.result c.sizes_of-sizes.ensures _ c.parts_of-parts.ensures.0 c.enough.result c.enough.ensures c.if-enough.false in
     record {
-      value = sym (ap flattened_of e);
+      value = ap Err c.nowhere.ensures ∙ sym (ap flattened_of e);
       room_after = c.clear-2.ensures;
       starts_after = laid_refused _ (nowhere 14) e (script_starts (plan_lanes c.args.plan.now) c.args.plan.now) c.args.starts.now;
       words_after = laid_refused _ (nowhere 14) e (script_words (plan_lanes c.args.plan.now) c.args.plan.now) c.args.words.now;

@@ -1,26 +1,27 @@
-use Rattle.std.proofs.Common.{sym, ◌∙◌, arith}
-use Rattle.gatelist.specs.ListWords.{list_pin}
-use Rattle.gatelist.proofs.GateListLaws.{before_first, before_next}
-use Rattle.gatelist.proofs.ListWordLaws.{list_from, list_fault, list_next, list_cut, list_good}
+-- Its whole gates, then one that is cut.
+-- Assumes nothing.
+use Rattle.std.proofs.Common.{rules, ◌≡◌, sym, ap, ◌∙◌, arith}
+use Rattle.words.specs.Found.{item_of}
+use Rattle.words.proofs.FoundLaws.{item_some, item_none}
+use Rattle.gatelist.specs.GateList.{bad_over}
+use Rattle.gatelist.specs.ListWords.{list_pin, list_first, list_second, whole_gates}
+use Rattle.gatelist.proofs.ListWordLaws.{wrong_whole, wrong_cut, none_wrong}
 use Rattle.gatelist.proofs.check_list.Goals as goal
 
-pub loop-g-init : goal.loop-g-init
-loop-g-init c = (omega arith, sym (before_first _), list_from _)
-
-pub loop-g-preserved : goal.loop-g-preserved
-loop-g-preserved c =
-    let e = sym c.gate_right.ensures ∙ c.if-gate_right.true in
-    (omega arith, c.pin_of-before.ensures ∙ sym (before_next (list_pin c.args.l.now) c.loop-g.g), list_next c.args.l.now c.loop-g.g (omega arith) c.loop-g.invariant.2 e)
-
-pub returns-else-gate_right : goal.returns-else-gate_right
-returns-else-gate_right c =
-    let e = sym c.gate_right.ensures ∙ c.if-gate_right.false in
-    list_fault c.args.l.now c.loop-g.g (omega arith) c.loop-g.invariant.2 e
+pub returns-in-Some : goal.returns-in-Some
+returns-in-Some c =
+    let told : c.first_wrong-wrong.result ≡ item_of (bad_over (list_pin c.args.l.now) (list_first c.args.l.now) (list_second c.args.l.now) (whole_gates c.args.l.now)) =
+    c.first_wrong-wrong.ensures (list_pin c.args.l.now) (list_first c.args.l.now) (list_second c.args.l.now) (λ i h x e. search rules) in
+    sym (ap item_of (wrong_whole c.args.l.now _ (item_some _ _ (sym told ∙ c.in-Some.is))))
 
 pub returns-then-l-gt0 : goal.returns-then-l-gt0
 returns-then-l-gt0 c =
-    list_cut c.args.l.now c.loop-g.g (omega arith) (omega arith) c.loop-g.invariant.2
+    let told : c.first_wrong-wrong.result ≡ item_of (bad_over (list_pin c.args.l.now) (list_first c.args.l.now) (list_second c.args.l.now) (whole_gates c.args.l.now)) =
+    c.first_wrong-wrong.ensures (list_pin c.args.l.now) (list_first c.args.l.now) (list_second c.args.l.now) (λ i h x e. search rules) in
+    sym (ap item_of (wrong_cut c.args.l.now (item_none _ (sym told ∙ c.in_default.is)) (omega arith)))
 
 pub returns : goal.returns
 returns c =
-    list_good c.args.l.now c.loop-g.g (omega arith) (omega arith) c.loop-g.invariant.2
+    let told : c.first_wrong-wrong.result ≡ item_of (bad_over (list_pin c.args.l.now) (list_first c.args.l.now) (list_second c.args.l.now) (whole_gates c.args.l.now)) =
+    c.first_wrong-wrong.ensures (list_pin c.args.l.now) (list_first c.args.l.now) (list_second c.args.l.now) (λ i h x e. search rules) in
+    sym (ap item_of (none_wrong c.args.l.now (item_none _ (sym told ∙ c.in_default.is)) (omega arith)))

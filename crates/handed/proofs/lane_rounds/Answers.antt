@@ -11,24 +11,24 @@ use Rattle.rounds.proofs.RoundsAnswerLaws.{part_length}
 use Rattle.handed.proofs.HandedAnswerLaws.{handed_short, handed_long}
 use Rattle.handed.proofs.lane_rounds.Goals as goal
 
-pub returns-then-room-lt16384 : goal.returns-then-room-lt16384
-returns-then-room-lt16384 c =
-    let told = handed_short 256 c.args.set.now c.args.lanes.now _ _ _ c.if-room-lt16384.true c.refused.ensures in
+pub returns-then-room-lt-ROOM_WORDS : goal.returns-then-room-lt-ROOM_WORDS
+returns-then-room-lt-ROOM_WORDS c =
+    let told = handed_short 256 c.args.set.now c.args.lanes.now _ _ _ c.if-room-lt-ROOM_WORDS.true c.nowhere.ensures in
     record { value = told.0; out_after = told.1.0; room_after = told.1.1 }
 
 pub slice_bounds-lanes_over-end-2 : goal.slice_bounds-lanes_over-end-2
 slice_bounds-lanes_over-end-2 c =
-    let h : 8192 ≤ length c.args.room.now = omega (arith, c.if-room-lt16384.false) in
+    let h : 8192 ≤ length c.args.room.now = omega (arith, c.if-room-lt-ROOM_WORDS.false) in
     sym (length-take-le 8192 c.args.room.now h)
 
 pub lanes_over-answer-requires : goal.lanes_over-answer-requires
 lanes_over-answer-requires c =
-    let h : 8192 ≤ length c.args.room.now = omega (arith, c.if-room-lt16384.false) in
+    let h : 8192 ≤ length c.args.room.now = omega (arith, c.if-room-lt-ROOM_WORDS.false) in
     record { room = length-take-le 8192 c.args.room.now h; some_lanes = search rules; few-lanes = search rules; marks = search rules }
 
 pub returns : goal.returns
 returns c =
-    let h : 8192 ≤ length c.args.room.now = omega (arith, c.if-room-lt16384.false) in
-    let told = handed_long 256 c.args.set.now c.args.lanes.now c.args.out.now c.args.room.now _ _ _ (c.lanes_over-answer.new.table ++ drop 8192 c.args.room.now) c.if-room-lt16384.false c.lanes_over-answer.ensures.value c.lanes_over-answer.ensures.out_after
+    let h : 8192 ≤ length c.args.room.now = omega (arith, c.if-room-lt-ROOM_WORDS.false) in
+    let told = handed_long 256 c.args.set.now c.args.lanes.now c.args.out.now c.args.room.now _ _ _ (c.lanes_over-answer.new.table ++ drop 8192 c.args.room.now) c.if-room-lt-ROOM_WORDS.false c.lanes_over-answer.ensures.value c.lanes_over-answer.ensures.out_after
     c.clear.ensures (part_length 8192 c.args.room.now c.lanes_over-answer.new.table h c.lanes_over-answer.auto.table) in
     record { value = told.0; out_after = told.1.0; room_after = told.1.1 }

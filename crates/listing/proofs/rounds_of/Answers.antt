@@ -27,10 +27,10 @@ rounds_over-requires c =
       scratch-room = λ l. omega (arith, c.requires.2);
     }
 
-pub returns-in-Placed : goal.returns-in-Placed
-returns-in-Placed c =
-    record { value = of_rounds c.args.lanes c.args.set.now _ c.requires.0 _ _ (sym c.in-Placed.is ∙ c.rounds_over.ensures.value); section_after = of_section c.args.lanes c.args.set.now _ c.requires.0 _ _ c.rounds_over.ensures.out_after }
+pub returns-in-Ok : goal.returns-in-Ok
+returns-in-Ok c =
+    record { value = of_rounds c.args.lanes c.args.set.now _ c.requires.0 _ (sym c.in-Ok.is ∙ c.rounds_over.ensures.value); section_after = of_section c.args.lanes c.args.set.now _ c.requires.0 _ _ c.rounds_over.ensures.out_after }
 
-pub returns-in-Refused : goal.returns-in-Refused
-returns-in-Refused c =
-    record { value = of_refused c.args.lanes c.args.set.now _ c.requires.0 _ (sym c.in-Refused.is ∙ c.rounds_over.ensures.value); section_after = of_section c.args.lanes c.args.set.now _ c.requires.0 _ _ c.rounds_over.ensures.out_after }
+pub returns-in-Err : goal.returns-in-Err
+returns-in-Err c =
+    record { value = of_refused c.args.lanes c.args.set.now _ c.requires.0 _ (sym c.in-Err.is ∙ c.rounds_over.ensures.value); section_after = of_section c.args.lanes c.args.set.now _ c.requires.0 _ _ c.rounds_over.ensures.out_after }

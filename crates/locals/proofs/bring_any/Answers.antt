@@ -1,6 +1,7 @@
 -- `locals::bring_any` meets its contract: 1, then 2, then what a set in form gets.
 -- Assumes nothing.
 use mathlib.Core.Path.{sym, ap, ◌∙◌}
+use Rattle.std.specs.Prelude.{Err}
 use Rattle.words.specs.Answer.{Answer}
 use Rattle.words.proofs.FoundLaws.{item_some, item_none}
 use Rattle.reads.specs.ReadSet.{pairs_of}
@@ -13,12 +14,12 @@ use Rattle.locals.proofs.bring_any.Goals as goal
 
 pub returns-then-set-gt-SET_WORDS : goal.returns-then-set-gt-SET_WORDS
 returns-then-set-gt-SET_WORDS c =
-    c.refused.ensures ∙ lost_told c.args.set.now c.args.w c.args.k _ _ (read_many c.args.lanes c.args.set.now c.if-set-gt-SET_WORDS.true)
+    ap Err c.nowhere.ensures ∙ lost_told c.args.set.now c.args.w c.args.k _ _ (read_many c.args.lanes c.args.set.now c.if-set-gt-SET_WORDS.true)
 
-pub returns-in-At : goal.returns-in-At
-returns-in-At c =
-    let bad = item_some _ _ (sym c.check_form.ensures ∙ c.in-At.is) in
-    c.refused-in-At.ensures ∙ lost_told c.args.set.now c.args.w c.args.k _ _ (read_bad c.args.lanes c.args.set.now _ c.if-set-gt-SET_WORDS.false bad)
+pub returns-in-Some : goal.returns-in-Some
+returns-in-Some c =
+    let bad = item_some _ _ (sym c.check_form.ensures ∙ c.in-Some.is) in
+    ap Err c.at_item.ensures ∙ lost_told c.args.set.now c.args.w c.args.k _ _ (read_bad c.args.lanes c.args.set.now _ c.if-set-gt-SET_WORDS.false bad)
 
 pub bring-requires : goal.bring-requires
 bring-requires c =

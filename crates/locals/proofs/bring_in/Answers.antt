@@ -14,7 +14,7 @@ use Rattle.locals.proofs.bring_in.Goals as goal
 pub returns-then-not-is_edition : goal.returns-then-not-is_edition
 returns-then-not-is_edition c =
     let unknown = sym c.is_edition.ensures ∙ c.if-not-is_edition.true in
-    told_unknown c.args.edition c.args.set.now c.args.w c.args.k unknown _ c.refused.ensures
+    told_unknown c.args.edition c.args.set.now c.args.w c.args.k unknown _ c.nowhere.ensures
 
 pub slice_bounds-bring_any-end : goal.slice_bounds-bring_any-end
 slice_bounds-bring_any-end c =

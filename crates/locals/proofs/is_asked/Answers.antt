@@ -17,7 +17,7 @@ returns-then-set-e-2 c =
 
 pub returns-then-k-gt31 : goal.returns-then-k-gt31
 returns-then-k-gt31 c =
-    too_high c.args.set.now c.args.w c.args.k (λ i. (c.shared_slice_known-1.given i).fits) c.if-k-gt31.true
+    too_high c.args.set.now c.args.w c.args.k (λ i. (c.type_inv.set i).fits) c.if-k-gt31.true
 
 pub returns : goal.returns
 returns c =

@@ -5,7 +5,7 @@ use Rattle.locals.proofs.local_position.Goals as goal
 
 pub returns-then-room-lt-ROOM_WORDS : goal.returns-then-room-lt-ROOM_WORDS
 returns-then-room-lt-ROOM_WORDS c =
-    let told = short_room c.args.edition c.args.set.now c.args.room.now c.args.w c.args.k _ c.if-room-lt-ROOM_WORDS.true c.refused.ensures in
+    let told = short_room c.args.edition c.args.set.now c.args.room.now c.args.w c.args.k _ c.if-room-lt-ROOM_WORDS.true c.nowhere.ensures in
     record { value = told.0; room_after = told.1 }
 
 pub returns : goal.returns

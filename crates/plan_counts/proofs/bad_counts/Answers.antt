@@ -4,13 +4,13 @@ use native.Mathlib.Omega.{arith}
 use Rattle.plan_counts.proofs.PartCountLaws.{counts_location, counts_fine, counts_many}
 use Rattle.plan_counts.proofs.bad_counts.Goals as goal
 
-pub returns-in-At : goal.returns-in-At
-returns-in-At c = counts_location _ _ _ c.first_bad_location.ensures _ c.in-At.is
+pub returns-in-Some : goal.returns-in-Some
+returns-in-Some c = counts_location _ _ _ c.first_bad_location.ensures _ c.in-Some.is
 
-pub returns-then-counts-body : goal.returns-then-counts-body
-returns-then-counts-body c =
-    counts_fine _ _ _ c.first_bad_location.ensures c.in_default.is (omega (arith, c.counts_of-counts.ensures.words_are, c.requires.0.body.lanes, c.if-counts-body.true))
+pub returns-then-counts-part : goal.returns-then-counts-part
+returns-then-counts-part c =
+    counts_fine _ _ _ c.first_bad_location.ensures c.in_default.is (omega (arith, c.counts_of-counts.ensures.words_are, c.args.part.now.of.lanes, c.if-counts-part.true))
 
 pub returns : goal.returns
 returns c =
-    counts_many _ _ _ c.first_bad_location.ensures c.in_default.is _ c.requires.0.body.locations (omega (arith, c.counts_of-counts.ensures.words_are, c.requires.0.body.lanes, c.if-counts-body.false))
+    counts_many _ _ _ c.first_bad_location.ensures c.in_default.is _ c.args.part.now.of.locations (omega (arith, c.counts_of-counts.ensures.words_are, c.args.part.now.of.lanes, c.if-counts-part.false))

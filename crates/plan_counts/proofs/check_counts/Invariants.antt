@@ -1,16 +1,10 @@
 -- The lowest place from this part on is that of the plan; the bodies are walked from one's end to the next.
 -- Assumes nothing.
-use mathlib.Core.Path.{◌≡◌}
-use Prim.Native.Nat.{◌-◌, ◌≤◌}
-use lib.ListN.{length}
+use Rattle.std.proofs.Common.{◌≡◌, ◌-◌}
 use Rattle.plan_record.specs.Record.{parts_of, body_at}
 use Rattle.words.specs.Tests.{lowest_from}
 use Rattle.plan_counts.specs.Counts.{bad_counts, refusal7}
 use Rattle.plan_counts.proofs.check_counts.Given as goal
 
 abbrev pub invariant-loop-p : goal.invariant-loop-p
-invariant-loop-p l =
-    (l.p ≤ l.parts) × (l.at ≡ body_at l.d l.p) × (lowest_from (bad_counts l.d) (parts_of l.d - l.p) l.p ≡ refusal7 l.d) × (length l.keys ≡ length l.initial.keys) × (length l.scratch ≡ length l.initial.scratch)
-
-abbrev pub decreases-loop-p : goal.decreases-loop-p
-decreases-loop-p l = l.parts - l.p
+invariant-loop-p l = (l.at ≡ body_at l.d l.p) × (lowest_from (bad_counts l.d) (parts_of l.d - l.p) l.p ≡ refusal7 l.d)

@@ -10,11 +10,11 @@ use Rattle.plan_counts.proofs.counts_of.Goals as goal
 pub returns : goal.returns
 unfolding write_outs
 returns c =
-    let few : endpoints_of c.args.d.now c.args.p ≤ 8192 = omega (arith, c.requires.0.body.endpoints, c.requires.0.body.laid.endpoints) in
+    let few : endpoints_of c.args.part.now.d.now c.args.part.now.p ≤ 8192 = omega (arith, c.args.part.now.of.endpoints, c.args.part.now.of.laid.endpoints) in
     record {
       srams-are = c.srams_of-srams.ensures.0;
       duplicates-are = c.duplicates_of-duplicates.ensures;
-      words_are = omega (arith, c.requires.0.body.locations, c.srams_of-srams.ensures.0, c.duplicates_of-duplicates.ensures);
+      words_are = omega (arith, c.args.part.now.of.locations, c.srams_of-srams.ensures.0, c.duplicates_of-duplicates.ensures);
       few-srams = c.srams_of-srams.ensures.1;
       few-duplicates = omega (arith, c.duplicates_of-duplicates.ensures, duplicates_few _ _ (few));
     }

@@ -10,12 +10,12 @@ use Rattle.plan_entries.proofs.entry_right.Goals as goal
 
 pub returns-then-i-slots : goal.returns-then-i-slots
 returns-then-i-slots c =
-    let slots : 32 * c.args.body.lanes ≡ slots_of c.args.d.now = omega (arith, c.requires.0.lanes) in
-    ap₂ ltb c.table_word.ensures slots ∙ entry_low c.args.d.now c.args.p c.args.i (omega (arith, c.if-i-slots.true))
+    let slots : 32 * c.args.part.now.body.lanes ≡ slots_of c.args.part.now.d.now = omega (arith, c.args.part.now.of.lanes) in
+    ap₂ ltb c.table_word.ensures slots ∙ entry_low c.args.part.now.d.now c.args.part.now.p c.args.i (omega (arith, c.if-i-slots.true))
 
 pub returns : goal.returns
 returns c =
-    let slots : 32 * c.args.body.lanes ≡ slots_of c.args.d.now = omega (arith, c.requires.0.lanes) in
-    let at : c.args.i + 2 * c.args.body.lanes ≡ c.args.i + 2 * plan_lanes c.args.d.now = omega (arith, c.requires.0.lanes) in
-    let read = c.table_word-2.ensures ∙ ap (table_at c.args.d.now c.args.p) at in
-    ap₂ ltb read slots ∙ entry_high c.args.d.now c.args.p c.args.i (omega (arith, c.if-i-slots.false))
+    let slots : 32 * c.args.part.now.body.lanes ≡ slots_of c.args.part.now.d.now = omega (arith, c.args.part.now.of.lanes) in
+    let at : c.args.i + 2 * c.args.part.now.body.lanes ≡ c.args.i + 2 * plan_lanes c.args.part.now.d.now = omega (arith, c.args.part.now.of.lanes) in
+    let read = c.table_word-2.ensures ∙ ap (table_at c.args.part.now.d.now c.args.part.now.p) at in
+    ap₂ ltb read slots ∙ entry_high c.args.part.now.d.now c.args.part.now.p c.args.i (omega (arith, c.if-i-slots.false))

@@ -12,7 +12,7 @@ use Rattle.plan_form.proofs.FormTestLaws.{length-past}
 use Rattle.plan_form.proofs.length_form.Goals as goal
 
 pub loop-p-init : goal.loop-p-init
-loop-p-init c = (omega arith, c.first_body-at.ensures.0, omega arith)
+loop-p-init c = (c.first_body-at.ensures.0, omega arith)
 
 pub returns-then-words-at : goal.returns-then-words-at
 returns-then-words-at c =
@@ -30,8 +30,7 @@ body_words-at-requires c =
 
 pub loop-p-preserved : goal.loop-p-preserved
 loop-p-preserved c = (
-  omega arith,
-  body_step c.args.d.now c.loop-p.p _ _ _ _ c.loop-p.invariant.1 (c.word_at-stages.ensures ∙ stages_at_lem c.args.d.now _ c.loop-p.p c.head_base-heads.ensures.0) (c.word_at-endpoints.ensures ∙ endpoints_at c.args.d.now _ c.loop-p.p c.head_base-heads.ensures.0) c.body_words-at.ensures.0,
+  body_step c.args.d.now c.loop-p.p _ _ _ _ c.loop-p.invariant.0 (c.word_at-stages.ensures ∙ stages_at_lem c.args.d.now _ c.loop-p.p c.head_base-heads.ensures.0) (c.word_at-endpoints.ensures ∙ endpoints_at c.args.d.now _ c.loop-p.p c.head_base-heads.ensures.0) c.body_words-at.ensures.0,
   omega arith,
 )
 
@@ -39,4 +38,4 @@ pub returns : goal.returns
 unfolding length_form
 returns c =
     let e : c.loop-p.p ≡ parts_of c.args.d.now = omega arith in
-    c.both.ensures ∙ ap (λ (x : ℕ). eqb (length c.args.d.now % 4) 0 && eqb x (length c.args.d.now / 4)) (c.loop-p.invariant.1 ∙ ap (body_at c.args.d.now) e)
+    ap (λ (x : ℕ). eqb (length c.args.d.now % 4) 0 && eqb x (length c.args.d.now / 4)) (c.loop-p.invariant.0 ∙ ap (body_at c.args.d.now) e)

@@ -12,7 +12,7 @@ returns-in-Staged c = c.is_pin.ensures ∙ numbers_staged _ _ c.in-Staged.is
 
 pub returns-in-Register : goal.returns-in-Register
 returns-in-Register c =
-    c.both.ensures ∙ numbers_register _ _ _ _ _ c.in-Register.is c.is_pin_iv-in-Register.ensures c.is_pin_iv-in-Register-2.ensures
+    numbers_register _ _ _ _ _ c.in-Register.is c.is_pin_iv-in-Register.ensures c.is_pin_iv-in-Register-2.ensures
 
 pub returns-in-Sram : goal.returns-in-Sram
 returns-in-Sram c = numbers_sram _ c.in-Sram.is

@@ -10,11 +10,15 @@ parts_of-requires c = (formed _ c.requires.0).head.majors
 
 pub fill_part-requires : goal.fill_part-requires
 fill_part-requires c =
-    (c.requires.0, c.part_body.ensures, omega (arith, c.part_body.ensures.stages, ((formed _ c.requires.0).part c.args.p (omega (arith, c.if-p-parts_of.true, c.parts_of.ensures.0))).some_stages), c.requires.1)
+    let body = rw (c.part_of.ensures.0, c.part_of.ensures.1) at c.part_of.result.of in (
+      rw c.part_of.ensures.0 c.requires.0,
+      omega (arith, body.stages, ((formed _ c.requires.0).part c.args.p (omega (arith, c.if-p-parts_of.true, c.parts_of.ensures.0))).some_stages),
+      c.requires.1,
+    )
 
 pub returns-then-p-parts_of : goal.returns-then-p-parts_of
 returns-then-p-parts_of c =
-    fill_read c.args.d.now c.args.p c.args.old.now c.args.new.now _ (omega (arith, c.if-p-parts_of.true, c.parts_of.ensures.0)) c.fill_part.ensures
+    fill_read c.args.d.now c.args.p c.args.old.now c.args.new.now _ (omega (arith, c.if-p-parts_of.true, c.parts_of.ensures.0)) (rw (c.part_of.ensures.0, c.part_of.ensures.1) at c.fill_part.ensures)
 
 pub returns-else-p-parts_of : goal.returns-else-p-parts_of
 returns-else-p-parts_of c =

@@ -9,27 +9,21 @@ use Rattle.plan_known.specs.Known.{bit_puts}
 use Rattle.plan_known.proofs.fill_part.Goals as goal
 
 pub fill_planned-requires : goal.fill_planned-requires
-fill_planned-requires c = (listed _ c.requires.0, c.requires.1, c.requires.2)
+fill_planned-requires c = (listed _ c.requires.0, c.requires.1)
 
 pub loop-j-init : goal.loop-j-init
 loop-j-init c =
-    let (n, t) = fill_first c.args.d.now c.args.p c.args.body c.args.old.now c.args.new.now c.args.room.now _ c.requires.1 c.requires.2 c.requires.3 c.fill_planned.ensures in (omega arith, refl, n, t)
-
-pub overflow_add-j : goal.overflow_add-j
-overflow_add-j c = omega arith
-
-pub loop-j-smaller : goal.loop-j-smaller
-loop-j-smaller c = omega arith
+    let (n, t) = fill_first c.args.part.now.d.now c.args.part.now.p c.args.part.now.body c.args.old.now c.args.new.now c.args.room.now _ c.args.part.now.of c.requires.1 c.requires.2 c.fill_planned.ensures in (refl, n, t)
 
 pub loop-j-preserved : goal.loop-j-preserved
 loop-j-preserved c =
-    let (e, n, t) = fill_next c.args.d.now c.args.p c.args.body c.args.old.now c.args.new.now c.loop-j.room _ c.loop-j.j c.loop-j.invariant.2 c.loop-j.invariant.3 c.put_slot_bit.ensures in (omega arith, e ∙ c.loop-j.invariant.1, n, t)
+    let (e, n, t) = fill_next c.args.part.now.d.now c.args.part.now.p c.args.part.now.body c.args.old.now c.args.new.now c.loop-j.room _ c.loop-j.j c.loop-j.invariant.1 c.loop-j.invariant.2 c.put_slot_bit.ensures in (e ∙ c.loop-j.invariant.0, n, t)
 
 pub shape_of-room : goal.shape_of-room
 shape_of-room c =
-    c.loop-j.invariant.1 ∙ fill_kept c.args.d.now c.args.p c.args.room.now _ c.requires.3 c.fill_planned.ensures
+    c.loop-j.invariant.0 ∙ fill_kept c.args.part.now.d.now c.args.part.now.p c.args.room.now _ c.requires.2 c.fill_planned.ensures
 
 pub returns : goal.returns
 returns c =
-    let all : c.loop-j.j ≡ slots_of c.args.d.now = omega (arith, c.requires.1.lanes) in
-    c.loop-j.invariant.3 ∙ ap (λ (j : ℕ). filled 32768 (bit_puts c.args.d.now c.args.p c.args.old.now c.args.new.now j)) all
+    let all : c.loop-j.j ≡ slots_of c.args.part.now.d.now = omega (arith, c.args.part.now.of.lanes) in
+    c.loop-j.invariant.2 ∙ ap (λ (j : ℕ). filled 32768 (bit_puts c.args.part.now.d.now c.args.part.now.p c.args.old.now c.args.new.now j)) all

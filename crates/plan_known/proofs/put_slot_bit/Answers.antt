@@ -8,18 +8,19 @@ use Rattle.plan_known.proofs.put_slot_bit.Goals as goal
 
 pub returns-then-pin : goal.returns-then-pin
 returns-then-pin c =
-    bit_empty c.args.d.now c.args.p c.args.body c.args.old.now c.args.new.now c.args.room.now c.requires.0 c.args.j _ (omega (arith, c.requires.1, c.requires.0.body.lanes)) c.level_slot-pin.ensures c.if-pin.true
+    bit_empty c.args.part.now.d.now c.args.part.now.p c.args.part.now.body c.args.old.now c.args.new.now c.args.room.now c.requires.0 c.args.j _ (omega (arith, c.requires.1, c.requires.0.body.lanes)) c.level_slot-pin.ensures c.if-pin.true
 
-pub slice_bounds-put_planned-end-in-Value : goal.slice_bounds-put_planned-end-in-Value
-slice_bounds-put_planned-end-in-Value c =
+pub slice_bounds-put_planned-end-in-Some : goal.slice_bounds-put_planned-end-in-Some
+slice_bounds-put_planned-end-in-Some c =
     sym (length-take-le 32768 c.args.room.now (omega (arith, c.requires.0.wide)))
 
-pub returns-in-Value : goal.returns-in-Value
-returns-in-Value c =
-    bit_value c.args.d.now c.args.p c.args.body c.args.old.now c.args.new.now c.args.room.now c.requires.0 c.args.j _ (omega (arith, c.requires.1, c.requires.0.body.lanes))
-    c.level_slot-pin.ensures c.if-pin.false _ (rest_is c.args.room.now 32768) _ _ _ c.look_up.ensures c.in-Value.is
+pub returns-in-Some : goal.returns-in-Some
+returns-in-Some c =
+    bit_value c.args.part.now.d.now c.args.part.now.p c.args.part.now.body c.args.old.now c.args.new.now c.args.room.now c.requires.0 c.args.j _ (omega (arith, c.requires.1, c.requires.0.body.lanes))
+    c.level_slot-pin.ensures c.if-pin.false _ (rest_is c.args.room.now 32768) _ _ _ c.look_up.ensures c.in-Some.is
     c.put_planned.ensures
 
-pub returns-in-Missing : goal.returns-in-Missing
-returns-in-Missing c =
-    absurd (bit_missing c.args.d.now c.args.p c.args.body c.args.old.now c.args.new.now c.args.room.now c.requires.0 c.args.j _ (omega (arith, c.requires.1, c.requires.0.body.lanes)) c.level_slot-pin.ensures c.if-pin.false _ (rest_is c.args.room.now 32768) _ c.look_up.ensures c.in-Missing.is)
+pub returns-in_default : goal.returns-in_default
+returns-in_default c =
+    absurd (bit_missing c.args.part.now.d.now c.args.part.now.p c.args.part.now.body c.args.old.now c.args.new.now c.args.room.now c.requires.0 c.args.j _ (omega (arith, c.requires.1, c.requires.0.body.lanes))
+    c.level_slot-pin.ensures c.if-pin.false _ (rest_is c.args.room.now 32768) _ c.look_up.ensures c.in_default.is)

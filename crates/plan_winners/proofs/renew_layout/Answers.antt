@@ -3,9 +3,9 @@
 use Rattle.plan_winners.proofs.WinnerLaws.{layout_empty, layout_put}
 use Rattle.plan_winners.proofs.renew_layout.Goals as goal
 
-pub returns-then-pin : goal.returns-then-pin
-returns-then-pin c = layout_empty c.args.d.now c.args.table.now c.args.i _ c.layout_pin-pin.ensures c.if-pin.true
+pub returns-else-pin : goal.returns-else-pin
+returns-else-pin c = layout_empty c.args.d.now c.args.table.now c.args.i _ c.layout_pin-pin.ensures c.if-pin.false
 
-pub returns : goal.returns
-returns c =
-    layout_put c.args.d.now c.args.table.now c.args.i _ c.layout_pin-pin.ensures _ c.if-pin.false c.put_where_there.ensures
+pub returns-then-pin : goal.returns-then-pin
+returns-then-pin c =
+    layout_put c.args.d.now c.args.table.now c.args.i _ c.layout_pin-pin.ensures _ c.if-pin.true c.put_where_there.ensures

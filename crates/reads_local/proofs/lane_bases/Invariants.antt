@@ -5,6 +5,3 @@ use Rattle.reads_local.proofs.lane_bases.Given as goal
 
 abbrev pub invariant-loop-r : goal.invariant-loop-r
 invariant-loop-r l = Walked l.set l.table l.j l.initial.bases l.bases l.r l.sum
-
-abbrev pub decreases-loop-r : goal.decreases-loop-r
-decreases-loop-r l = l.r

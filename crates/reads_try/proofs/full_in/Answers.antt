@@ -1,4 +1,5 @@
 use mathlib.Core.Path.{sym, ◌∙◌}
+use native.Mathlib.Omega.{arith}
 use Rattle.reads_try.proofs.LateLaws.{look_here, look_on, look_end}
 use Rattle.reads_try.proofs.full_in.Goals as goal
 
@@ -12,4 +13,4 @@ loop-p-preserved c =
 
 pub returns : goal.returns
 returns c =
-    sym (look_end c.args.set.now c.loop-p.p c.args.e c.loop-p-test.false) ∙ c.loop-p.invariant
+    sym (look_end c.args.set.now c.loop-p.p c.args.e (omega arith)) ∙ c.loop-p.invariant

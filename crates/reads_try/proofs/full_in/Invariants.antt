@@ -1,7 +1,6 @@
 -- `full_in`: a pair of 32 bits is among those that are left as it is among all.
 -- Assumes nothing.
 use mathlib.Core.Path.{◌≡◌}
-use Prim.Native.Nat.{◌-◌}
 use lib.Seq.{slice}
 use Rattle.reads.specs.ReadSet.{pairs_of}
 use Rattle.reads_try.specs.Late.{any_full}
@@ -9,6 +8,3 @@ use Rattle.reads_try.proofs.full_in.Given as goal
 
 abbrev pub invariant-loop-p : goal.invariant-loop-p
 invariant-loop-p l = any_full (slice l.p l.e (pairs_of l.set)) ≡ any_full (slice l.a l.e (pairs_of l.set))
-
-abbrev pub decreases-loop-p : goal.decreases-loop-p
-decreases-loop-p l = l.e - l.p

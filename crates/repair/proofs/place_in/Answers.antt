@@ -10,7 +10,7 @@ use Rattle.repair.proofs.place_in.Goals as goal
 pub returns-then-not-is_edition : goal.returns-then-not-is_edition
 returns-then-not-is_edition c =
     let unknown = sym c.is_edition.ensures ∙ c.if-not-is_edition.true in
-    refused_end _ _ c.args.slots.now c.args.after.now 29 0 (place_29 c.args.edition c.args.gates.now c.args.levels.now c.args.counts.now c.args.slots.now (length c.args.after.now) c.args.level c.args.slot c.args.node.0 (length c.args.map.now) c.requires.1 unknown) c.refused.ensures
+    refused_end _ _ _ c.args.slots.now c.args.after.now (place_29 c.args.edition c.args.gates.now c.args.levels.now c.args.counts.now c.args.slots.now (length c.args.after.now) c.args.level c.args.slot c.args.node.0 (length c.args.map.now) c.requires.1 unknown) c.nowhere.ensures
 
 pub place_over-requires : goal.place_over-requires
 place_over-requires c =

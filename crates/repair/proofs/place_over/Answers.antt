@@ -16,48 +16,48 @@ use Rattle.repair.proofs.place_over.Goals as goal
 
 pub returns-then-node-gt1073741824 : goal.returns-then-node-gt1073741824
 returns-then-node-gt1073741824 c =
-    refused_end _ _ c.args.slots.now c.args.after.now 5 0 (place_5 c.args.height c.args.gates.now c.args.levels.now c.args.counts.now c.args.slots.now (length c.args.after.now) c.args.level c.args.slot c.args.node.0
-    (form_pin (place_right c.args.height c.args.level c.args.slot) (counts_right c.args.counts.now) c.args.node.0 (omega arith))) c.refused.ensures
+    refused_end _ _ _ c.args.slots.now c.args.after.now (place_5 c.args.height c.args.gates.now c.args.levels.now c.args.counts.now c.args.slots.now (length c.args.after.now) c.args.level c.args.slot c.args.node.0
+    (form_pin (place_right c.args.height c.args.level c.args.slot) (counts_right c.args.counts.now) c.args.node.0 (omega arith))) c.nowhere.ensures
 
 pub place_at-requires : goal.place_at-requires
 place_at-requires c =
-    let p = sym c.place_form.ensures ∙ c.if-place_form.true in
-    let w = told_true _ _ _ c.check_counts.ensures c.if-check_counts.true in
+    let p = sym c.place_form.ensures ∙ c.if-not-place_form.false in
+    let w = told_true _ _ _ c.check_counts.ensures c.if-not-check_counts.false in
     let e = entered_true c.args.counts.now c.args.map.now c.requires.0 c.requires.1 c.check_counts.new.map c.check_counts.auto.map (λ i. (c.type_inv.counts i).fits) w in
     let n : c.args.node.0 ≤ 2 ^ 30 = omega (arith, c.if-node-gt1073741824.false) in
     let (h, j) = place_parts c.args.height c.args.level c.args.slot p in
-    (item_none _ (sym c.check_list.ensures ∙ c.in-Fine.is), c.requires.2, h, j, n, e.1)
+    (item_none _ (sym c.check_list.ensures ∙ c.in_default.is), c.requires.2, h, j, n, e.1)
 
-pub returns-in-At : goal.returns-in-At
-returns-in-At c =
-    let p = sym c.place_form.ensures ∙ c.if-place_form.true in
-    let w = told_true _ _ _ c.check_counts.ensures c.if-check_counts.true in
+pub returns-in-Some : goal.returns-in-Some
+returns-in-Some c =
+    let p = sym c.place_form.ensures ∙ c.if-not-place_form.false in
+    let w = told_true _ _ _ c.check_counts.ensures c.if-not-check_counts.false in
     let e = entered_true c.args.counts.now c.args.map.now c.requires.0 c.requires.1 c.check_counts.new.map c.check_counts.auto.map (λ i. (c.type_inv.counts i).fits) w in
     let n : c.args.node.0 ≤ 2 ^ 30 = omega (arith, c.if-node-gt1073741824.false) in
-    let b = item_some _ _ (sym c.check_list.ensures ∙ c.in-At.is) in
-    refused_end _ _ c.args.slots.now c.args.after.now 6 c.in-At.g
-    (place_6 c.args.height c.args.gates.now c.args.levels.now c.args.counts.now c.args.slots.now (length c.args.after.now) c.args.level c.args.slot c.args.node.0 (form_right (place_right c.args.height c.args.level c.args.slot) (counts_right c.args.counts.now) c.args.node.0 p n e.0) c.in-At.g b)
-    c.refused-in-At.ensures
-
-pub returns-in-Fine : goal.returns-in-Fine
-returns-in-Fine c =
-    let p = sym c.place_form.ensures ∙ c.if-place_form.true in
-    let w = told_true _ _ _ c.check_counts.ensures c.if-check_counts.true in
-    let e = entered_true c.args.counts.now c.args.map.now c.requires.0 c.requires.1 c.check_counts.new.map c.check_counts.auto.map (λ i. (c.type_inv.counts i).fits) w in
-    let n : c.args.node.0 ≤ 2 ^ 30 = omega (arith, c.if-node-gt1073741824.false) in
-    let b = item_none _ (sym c.check_list.ensures ∙ c.in-Fine.is) in
-    rw (place_on c.args.height c.args.gates.now c.args.levels.now c.args.counts.now c.args.slots.now (length c.args.after.now) c.args.level c.args.slot c.args.node.0
-    (form_right (place_right c.args.height c.args.level c.args.slot) (counts_right c.args.counts.now) c.args.node.0 p n e.0) b) c.place_at.ensures
-
-pub returns-then-place_form : goal.returns-then-place_form
-returns-then-place_form c =
-    let w = told_false _ _ _ c.check_counts.ensures c.if-check_counts.false in
-    let e = entered_false c.args.counts.now c.args.map.now c.requires.0 c.requires.1 w in
-    refused_end _ _ c.args.slots.now c.args.after.now 5 0 (place_5 c.args.height c.args.gates.now c.args.levels.now c.args.counts.now c.args.slots.now (length c.args.after.now) c.args.level c.args.slot c.args.node.0
-    (form_counts (place_right c.args.height c.args.level c.args.slot) (counts_right c.args.counts.now) c.args.node.0 e)) c.refused-then-place_form.ensures
+    let b = item_some _ _ (sym c.check_list.ensures ∙ c.in-Some.is) in
+    refused_end _ _ _ c.args.slots.now c.args.after.now
+    (place_6 c.args.height c.args.gates.now c.args.levels.now c.args.counts.now c.args.slots.now (length c.args.after.now) c.args.level c.args.slot c.args.node.0 (form_right (place_right c.args.height c.args.level c.args.slot) (counts_right c.args.counts.now) c.args.node.0 p n e.0) c.in-Some.g b)
+    c.at_item.ensures
 
 pub returns : goal.returns
 returns c =
-    let p = sym c.place_form.ensures ∙ c.if-place_form.false in
-    refused_end _ _ c.args.slots.now c.args.after.now 5 0 (place_5 c.args.height c.args.gates.now c.args.levels.now c.args.counts.now c.args.slots.now (length c.args.after.now) c.args.level c.args.slot c.args.node.0
-    (form_place (place_right c.args.height c.args.level c.args.slot) (counts_right c.args.counts.now) c.args.node.0 p)) c.refused-2.ensures
+    let p = sym c.place_form.ensures ∙ c.if-not-place_form.false in
+    let w = told_true _ _ _ c.check_counts.ensures c.if-not-check_counts.false in
+    let e = entered_true c.args.counts.now c.args.map.now c.requires.0 c.requires.1 c.check_counts.new.map c.check_counts.auto.map (λ i. (c.type_inv.counts i).fits) w in
+    let n : c.args.node.0 ≤ 2 ^ 30 = omega (arith, c.if-node-gt1073741824.false) in
+    let b = item_none _ (sym c.check_list.ensures ∙ c.in_default.is) in
+    rw (place_on c.args.height c.args.gates.now c.args.levels.now c.args.counts.now c.args.slots.now (length c.args.after.now) c.args.level c.args.slot c.args.node.0
+    (form_right (place_right c.args.height c.args.level c.args.slot) (counts_right c.args.counts.now) c.args.node.0 p n e.0) b) c.place_at.ensures
+
+pub returns-then-not-check_counts : goal.returns-then-not-check_counts
+returns-then-not-check_counts c =
+    let w = told_false _ _ _ c.check_counts.ensures c.if-not-check_counts.true in
+    let e = entered_false c.args.counts.now c.args.map.now c.requires.0 c.requires.1 w in
+    refused_end _ _ _ c.args.slots.now c.args.after.now (place_5 c.args.height c.args.gates.now c.args.levels.now c.args.counts.now c.args.slots.now (length c.args.after.now) c.args.level c.args.slot c.args.node.0
+    (form_counts (place_right c.args.height c.args.level c.args.slot) (counts_right c.args.counts.now) c.args.node.0 e)) c.nowhere-then-not-check_counts.ensures
+
+pub returns-then-not-place_form : goal.returns-then-not-place_form
+returns-then-not-place_form c =
+    let p = sym c.place_form.ensures ∙ c.if-not-place_form.true in
+    refused_end _ _ _ c.args.slots.now c.args.after.now (place_5 c.args.height c.args.gates.now c.args.levels.now c.args.counts.now c.args.slots.now (length c.args.after.now) c.args.level c.args.slot c.args.node.0
+    (form_place (place_right c.args.height c.args.level c.args.slot) (counts_right c.args.counts.now) c.args.node.0 p)) c.nowhere-then-not-place_form.ensures

@@ -8,7 +8,7 @@ use lib.ListN.{replicate, length-replicate}
 use lib.Seq.{length-take-le}
 use Rattle.repair_nodes.specs.Clearing.{clearing}
 use Rattle.repair_settle.proofs.SpotLaws.{clearing_sound}
-use Rattle.repair.proofs.RepairCodeLaws.{rooted_full, clearing_few, list_size, list_spots, list_spotted, small_default, at_cleared}
+use Rattle.repair.proofs.RepairCodeLaws.{clearing_few, list_size, list_spots, list_spotted, small_default, at_cleared}
 use Rattle.repair.proofs.purge_at.Goals as goal
 
 pub list_reached-n-requires : goal.list_reached-n-requires
@@ -16,7 +16,7 @@ list_reached-n-requires c =
     let h : c.place_of.result.level ≤ 13 = omega (arith, c.place_of.ensures.level, c.requires.0, c.requires.1) in
     let k = clearing_few c.args.slots.now c.place_of.result.level c.place_of.result.width c.place_of.result.index h in
     let e = length-replicate {A = ℕ} 32768 0 in
-    record { rooted = rooted_full c.args.height _ _ _ c.requires.0 c.place_of.ensures.rooted; room = omega arith }
+    record { room = omega arith }
 
 pub overflow_mul-list : goal.overflow_mul-list
 overflow_mul-list c =

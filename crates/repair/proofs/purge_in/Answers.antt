@@ -10,7 +10,7 @@ use Rattle.repair.proofs.purge_in.Goals as goal
 pub returns-then-not-is_edition : goal.returns-then-not-is_edition
 returns-then-not-is_edition c =
     let unknown = sym c.is_edition.ensures ∙ c.if-not-is_edition.true in
-    refused_end _ _ c.args.slots.now c.args.after.now 29 0 (clear_29 c.args.edition c.args.counts.now c.args.slots.now (length c.args.after.now) c.args.level c.args.slot (length c.args.map.now) c.requires.1 unknown) c.refused.ensures
+    refused_end _ _ _ c.args.slots.now c.args.after.now (clear_29 c.args.edition c.args.counts.now c.args.slots.now (length c.args.after.now) c.args.level c.args.slot (length c.args.map.now) c.requires.1 unknown) c.nowhere.ensures
 
 pub purge_over-requires : goal.purge_over-requires
 purge_over-requires c =

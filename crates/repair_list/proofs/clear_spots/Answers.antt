@@ -5,7 +5,7 @@ use Rattle.repair_list.proofs.clear_spots.Goals as goal
 
 pub loop-k-init : goal.loop-k-init
 loop-k-init c =
-    (omega arith, refl, refl)
+    (refl, refl)
 
 pub put_slot-requires : goal.put_slot-requires
 put_slot-requires c =
@@ -14,8 +14,8 @@ put_slot-requires c =
 
 pub loop-k-preserved : goal.loop-k-preserved
 loop-k-preserved c =
-    (omega arith, omega arith, rw c.put_slot.ensures (clear_on c.args.spots.now c.loop-k.slots c.loop-k.k (omega arith) ∙ c.loop-k.invariant.2))
+    (omega arith, rw c.put_slot.ensures (clear_on c.args.spots.now c.loop-k.slots c.loop-k.k (omega arith) ∙ c.loop-k.invariant.1))
 
 pub returns : goal.returns
 returns c =
-    sym (clear_end c.args.spots.now c.loop-k.slots c.loop-k.k (omega arith)) ∙ c.loop-k.invariant.2
+    sym (clear_end c.args.spots.now c.loop-k.slots c.loop-k.k (omega arith)) ∙ c.loop-k.invariant.1

@@ -1,7 +1,7 @@
 -- `repair_list::left_count` meets its contract. The loop's invariant: those counted, and those left from entry i on, are all.
 -- Assumes nothing.
 use mathlib.Core.Path.{◌≡◌}
-use Prim.Native.Nat.{◌+◌, ◌-◌, ◌/◌, ◌≤◌}
+use Prim.Native.Nat.{◌+◌, ◌≤◌}
 use lib.ListN.{length}
 use Rattle.repair_nodes.specs.CountList.{nonzero}
 use Rattle.repair_list.specs.Relist.{entries_in}
@@ -10,7 +10,4 @@ use Rattle.repair_list.proofs.left_count.Given as goal
 
 abbrev pub invariant-loop-i : goal.invariant-loop-i
 invariant-loop-i l =
-    (l.i ≤ length l.counts / 2) × (l.n ≤ l.i) × (l.n + length (left_from l.map l.counts l.i) ≡ length (nonzero (entries_in l.map l.counts)))
-
-abbrev pub decreases-loop-i : goal.decreases-loop-i
-decreases-loop-i l = l.entries - l.i
+    (l.n ≤ l.i) × (l.n + length (left_from l.map l.counts l.i) ≡ length (nonzero (entries_in l.map l.counts)))

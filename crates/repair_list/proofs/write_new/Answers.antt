@@ -10,7 +10,7 @@ use Rattle.repair_list.proofs.write_new.Goals as goal
 pub loop-k-init : goal.loop-k-init
 loop-k-init c =
     let e : c.args.at + 0 ≡ c.args.at = omega arith in
-    (omega arith, refl, ap (λ (n : ℕ). sets c.args.after.now (2 * n) (count_words (entries_of c.args.map.now c.args.news.now))) e)
+    (refl, ap (λ (n : ℕ). sets c.args.after.now (2 * n) (count_words (entries_of c.args.map.now c.args.news.now))) e)
 
 pub overflow_add-at : goal.overflow_add-at
 overflow_add-at c =
@@ -22,8 +22,8 @@ write_entry-requires c =
 
 pub loop-k-preserved : goal.loop-k-preserved
 loop-k-preserved c =
-    (omega arith, omega arith, new_on c.args.map.now c.args.news.now c.loop-k.after _ c.args.at c.loop-k.k (omega arith) c.write_entry.ensures ∙ c.loop-k.invariant.2)
+    (omega arith, new_on c.args.map.now c.args.news.now c.loop-k.after _ c.args.at c.loop-k.k (omega arith) c.write_entry.ensures ∙ c.loop-k.invariant.1)
 
 pub returns : goal.returns
 returns c =
-    sym (new_end c.args.map.now c.args.news.now c.loop-k.after c.args.at c.loop-k.k (omega arith)) ∙ c.loop-k.invariant.2
+    sym (new_end c.args.map.now c.args.news.now c.loop-k.after c.args.at c.loop-k.k (omega arith)) ∙ c.loop-k.invariant.1

@@ -5,7 +5,7 @@ use Rattle.repair_list.proofs.write_old.Goals as goal
 
 pub loop-i-init : goal.loop-i-init
 loop-i-init c =
-    (omega arith, refl, refl)
+    (refl, refl)
 
 pub write_entry-requires : goal.write_entry-requires
 write_entry-requires c =
@@ -13,8 +13,8 @@ write_entry-requires c =
 
 pub loop-i-preserved : goal.loop-i-preserved
 loop-i-preserved c =
-    (omega arith, omega arith, write_on c.args.map.now c.args.counts.now c.loop-i.after _ c.loop-i.i (omega arith) c.write_entry.ensures ∙ c.loop-i.invariant.2)
+    (omega arith, write_on c.args.map.now c.args.counts.now c.loop-i.after _ c.loop-i.i (omega arith) c.write_entry.ensures ∙ c.loop-i.invariant.1)
 
 pub returns : goal.returns
 returns c =
-    sym (write_end c.args.map.now c.args.counts.now c.loop-i.after c.loop-i.i (omega arith)) ∙ c.loop-i.invariant.2
+    sym (write_end c.args.map.now c.args.counts.now c.loop-i.after c.loop-i.i (omega arith)) ∙ c.loop-i.invariant.1

@@ -1,7 +1,7 @@
 -- `repair_list::write_old` meets its contract. The loop's invariant: what is written from entry i on comes to the whole.
 -- Assumes nothing.
 use mathlib.Core.Path.{◌≡◌}
-use Prim.Native.Nat.{◌*◌, ◌-◌, ◌/◌, ◌≤◌}
+use Prim.Native.Nat.{◌*◌}
 use lib.ListN.{length}
 use lib.Seq.{sets}
 use Rattle.repair_nodes.specs.CountList.{count_words}
@@ -11,8 +11,5 @@ use Rattle.repair_list.proofs.write_old.Given as goal
 
 abbrev pub invariant-loop-i : goal.invariant-loop-i
 invariant-loop-i l =
-    (l.i ≤ length l.counts / 2) × (length l.after ≡ length l.initial.after)
+    (length l.after ≡ length l.initial.after)
     × (sets l.after (2 * l.i) (count_words (entries_from l.map l.counts l.i)) ≡ sets l.initial.after 0 (count_words (entries_in l.map l.counts)))
-
-abbrev pub decreases-loop-i : goal.decreases-loop-i
-decreases-loop-i l = l.entries - l.i

@@ -12,18 +12,18 @@ use Rattle.repair_settle.proofs.place_spots.Goals as goal
 
 pub returns-then-slots-stage_slots : goal.returns-then-slots-stage_slots
 returns-then-slots-stage_slots c =
-    refused_end _ _ c.args.slots.now c.args.after.now 14 0 (short_slots c.args.height c.args.slots.now _ _ _ (omega arith)) c.refused.ensures
+    refused_end _ _ _ c.args.slots.now c.args.after.now (short_slots c.args.height c.args.slots.now _ _ _ (omega arith)) c.nowhere-then-slots-stage_slots.ensures
 
 pub overflow_add-old : goal.overflow_add-old
 overflow_add-old c =
-    let k = told_new _ _ _ _ _ c.tally_up.ensures c.in-New.is in
+    let k = told_new _ _ _ _ _ c.tally_up.ensures c.in-Some.is in
     omega (arith, k.1, c.tally_up.auto.fresh)
 
 pub returns-then-after-old : goal.returns-then-after-old
 returns-then-after-old c =
-    let k = told_new _ _ _ _ _ c.tally_up.ensures c.in-New.is in
-    refused_end _ _ c.args.slots.now c.args.after.now 14 0 (place_short c.args.height c.args.counts.now c.args.map.now c.requires.0 c.args.spots.now c.requires.1.few c.args.slots.now c.args.after.now c.tally_up.new.map c.tally_up.new.fresh
-    c.in-New.n k.0 k.1 (omega arith)) c.refused-then-after-old.ensures
+    let k = told_new _ _ _ _ _ c.tally_up.ensures c.in-Some.is in
+    refused_end _ _ _ c.args.slots.now c.args.after.now (place_short c.args.height c.args.counts.now c.args.map.now c.requires.0 c.args.spots.now c.requires.1.few c.args.slots.now c.args.after.now c.tally_up.new.map c.tally_up.new.fresh
+    c.in-Some.n k.0 k.1 (omega arith)) c.nowhere-then-after-old.ensures
 
 pub write_old-requires : goal.write_old-requires
 write_old-requires c =
@@ -31,19 +31,19 @@ write_old-requires c =
 
 pub slice_bounds-fresh-end : goal.slice_bounds-fresh-end
 slice_bounds-fresh-end c =
-    let k = told_new _ _ _ _ _ c.tally_up.ensures c.in-New.is in
+    let k = told_new _ _ _ _ _ c.tally_up.ensures c.in-Some.is in
     k.1
 
 pub slice_bounds-write_new-end : goal.slice_bounds-write_new-end
 slice_bounds-write_new-end c =
-    let k = told_new _ _ _ _ _ c.tally_up.ensures c.in-New.is in
-    sym (length-take-le c.in-New.n c.tally_up.new.fresh k.1)
+    let k = told_new _ _ _ _ _ c.tally_up.ensures c.in-Some.is in
+    sym (length-take-le c.in-Some.n c.tally_up.new.fresh k.1)
 
 pub write_new-requires : goal.write_new-requires
 write_new-requires c =
-    let k = told_new _ _ _ _ _ c.tally_up.ensures c.in-New.is in
-    let m = length-take-le c.in-New.n c.tally_up.new.fresh k.1 in
-    (new_askable c.args.height (nodes_of (counts_of c.args.counts.now)) c.args.spots.now _ c.requires.1.askable (up_new c.args.height c.args.counts.now c.args.map.now c.requires.0 c.args.spots.now c.requires.1.few c.tally_up.new.map c.tally_up.new.fresh c.in-New.n k.0 k.1), omega arith)
+    let k = told_new _ _ _ _ _ c.tally_up.ensures c.in-Some.is in
+    let m = length-take-le c.in-Some.n c.tally_up.new.fresh k.1 in
+    (new_askable c.args.height (nodes_of (counts_of c.args.counts.now)) c.args.spots.now _ c.requires.1.askable (up_new c.args.height c.args.counts.now c.args.map.now c.requires.0 c.args.spots.now c.requires.1.few c.tally_up.new.map c.tally_up.new.fresh c.in-Some.n k.0 k.1), omega arith)
 
 pub store_spots-requires : goal.store_spots-requires
 store_spots-requires c =
@@ -51,15 +51,15 @@ store_spots-requires c =
 
 pub overflow_add-result : goal.overflow_add-result
 overflow_add-result c =
-    let k = told_new _ _ _ _ _ c.tally_up.ensures c.in-New.is in
+    let k = told_new _ _ _ _ _ c.tally_up.ensures c.in-Some.is in
     omega (arith, k.1, c.tally_up.auto.fresh)
 
-pub returns-else-after-old : goal.returns-else-after-old
-returns-else-after-old c =
-    let k = told_new _ _ _ _ _ c.tally_up.ensures c.in-New.is in
-    place_end c.args.height c.args.counts.now c.args.map.now c.requires.0 c.args.spots.now c.requires.1.few c.args.slots.now c.args.after.now c.tally_up.new.map c.tally_up.new.fresh c.in-New.n k.0 k.1
+pub returns : goal.returns
+returns c =
+    let k = told_new _ _ _ _ _ c.tally_up.ensures c.in-Some.is in
+    place_end c.args.height c.args.counts.now c.args.map.now c.requires.0 c.args.spots.now c.requires.1.few c.args.slots.now c.args.after.now c.tally_up.new.map c.tally_up.new.fresh c.in-Some.n k.0 k.1
     c.store_spots.new.slots c.write_old.new.after c.write_new.new.after (omega (arith, c.if-slots-stage_slots.false)) (omega (arith, c.if-after-old.false)) c.write_old.ensures c.write_new.ensures c.store_spots.ensures
 
-pub returns-in-Over : goal.returns-in-Over
-returns-in-Over c =
-    refused_end _ _ c.args.slots.now c.args.after.now 14 0 (place_over c.args.height c.args.counts.now c.args.map.now c.requires.0 c.args.spots.now c.requires.1.few c.args.slots.now c.args.after.now (told_over _ _ _ _ c.tally_up.ensures c.in-Over.is)) c.refused-in-Over.ensures
+pub returns-in_default : goal.returns-in_default
+returns-in_default c =
+    refused_end _ _ _ c.args.slots.now c.args.after.now (place_over c.args.height c.args.counts.now c.args.map.now c.requires.0 c.args.spots.now c.requires.1.few c.args.slots.now c.args.after.now (told_over _ _ _ _ c.tally_up.ensures c.in_default.is)) c.nowhere.ensures

@@ -17,7 +17,7 @@ returns-then-node t c =
 pub put_spot-k-requires : goal.put_spot-k-requires
 put_spot-k-requires t c =
     let a = c.args in
-    reach_puttable a.slots.now a.list.now a.n a.at.level a.at.width a.at.index c.slot_at-node.result.0 c.requires c.slot_at-node.ensures c.if-node.false
+    reach_puttable a.slots.now a.list.now a.n a.at.level a.at.width a.at.index c.slot_at-node.result.0 c.requires c.slot_at-node.ensures c.if-node.false a.at.rooted
 
 pub returns-then-at-eq0 : goal.returns-then-at-eq0
 returns-then-at-eq0 t c =

@@ -17,10 +17,10 @@ returns-then-at-eq0 t c =
     sym (empty_last c.args.slots.now c.args.at.level c.args.at.width c.args.at.index (omega arith) e)
 
 pub subtree_empty-requires : goal.subtree_empty-requires
-subtree_empty-requires t c = (omega (arith, c.first.ensures.level), c.first.ensures.rooted)
+subtree_empty-requires t c = omega (arith, c.first.ensures.level)
 
 pub subtree_empty-requires-then-subtree_empty : goal.subtree_empty-requires-then-subtree_empty
-subtree_empty-requires-then-subtree_empty t c = (omega (arith, c.second.ensures.level), c.second.ensures.rooted)
+subtree_empty-requires-then-subtree_empty t c = omega (arith, c.second.ensures.level)
 
 pub returns-then-subtree_empty : goal.returns-then-subtree_empty
 returns-then-subtree_empty t c =

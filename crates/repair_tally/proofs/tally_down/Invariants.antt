@@ -1,7 +1,6 @@
 -- `repair_tally::tally_down` meets its contract. The loop's invariant: the way from slot k on ends as the whole way does.
 -- Assumes nothing.
 use mathlib.Core.Path.{◌≡◌}
-use Prim.Native.Nat.{◌-◌, ◌/◌, ◌≤◌}
 use lib.ListN.{length}
 use Rattle.repair_tally.specs.Tally.{through, lowering, nodes_in}
 use Rattle.repair_tally.proofs.TallyStepLaws.{nodes_from}
@@ -9,7 +8,4 @@ use Rattle.repair_tally.proofs.tally_down.Given as goal
 
 abbrev pub invariant-loop-k : goal.invariant-loop-k
 invariant-loop-k l =
-    (l.k ≤ length l.spots / 2) × (length l.map ≡ length l.initial.map) × (through lowering l.map (nodes_from l.height l.spots l.k) ≡ through lowering l.initial.map (nodes_in l.height l.spots))
-
-abbrev pub decreases-loop-k : goal.decreases-loop-k
-decreases-loop-k l = l.count - l.k
+    (length l.map ≡ length l.initial.map) × (through lowering l.map (nodes_from l.height l.spots l.k) ≡ through lowering l.initial.map (nodes_in l.height l.spots))

@@ -2,7 +2,7 @@
 -- Assumes nothing.
 use mathlib.Core.Path.{◌≡◌}
 use mathlib.Core.List.{[]}
-use Prim.Native.Nat.{◌-◌, ◌/◌, ◌≤◌}
+use Prim.Native.Nat.{◌≤◌}
 use lib.ListN.{length, take}
 use Rattle.repair_tally.specs.Tally.{through, raised, raising, nodes_in}
 use Rattle.repair_tally.proofs.TallyStepLaws.{nodes_from}
@@ -10,8 +10,5 @@ use Rattle.repair_tally.proofs.tally_up.Given as goal
 
 abbrev pub invariant-loop-k : goal.invariant-loop-k
 invariant-loop-k l =
-    (l.k ≤ length l.spots / 2) × (l.n ≤ l.k) × (l.n ≤ length l.fresh) × (length l.map ≡ length l.initial.map) × (length l.fresh ≡ length l.initial.fresh)
+    (l.n ≤ l.k) × (l.n ≤ length l.fresh) × (length l.map ≡ length l.initial.map) × (length l.fresh ≡ length l.initial.fresh)
     × (through raising (raised l.map (take l.n l.fresh)) (nodes_from l.height l.spots l.k) ≡ through raising (raised l.initial.map []) (nodes_in l.height l.spots))
-
-abbrev pub decreases-loop-k : goal.decreases-loop-k
-decreases-loop-k l = l.count - l.k

@@ -1,10 +1,6 @@
 -- `report_batch::is_counted` meets its contract: what is left to count, with what was counted, is what was fed. Assumes nothing.
-use Prim.Native.Nat.{◌-◌}
 use Rattle.report_batch.proofs.BatchFormLaws.{Left}
 use Rattle.report_batch.proofs.is_counted.Given as goal
 
 abbrev pub invariant-loop-k : goal.invariant-loop-k
 invariant-loop-k l = Left l.batch l.left l.k
-
-abbrev pub decreases-loop-k : goal.decreases-loop-k
-decreases-loop-k l = 40 - l.k

@@ -1,7 +1,7 @@
 -- `report_feed::add_refused` meets its contract: no word becomes too long, and three words are stored. Assumes nothing.
 use native.Mathlib.Omega.{arith}
 use lib.ListN.{length-set}
-use Rattle.report_feed.proofs.FeedLaws.{feedable_short, refused_is}
+use Rattle.report_feed.proofs.FeedLaws.{feedable_short, refused_added}
 use Rattle.report_feed.proofs.add_refused.Goals as goal
 
 pub overflow_add-count : goal.overflow_add-count
@@ -14,4 +14,4 @@ pub bounds-batch-at-2 : goal.bounds-batch-at-2
 bounds-batch-at-2 c = simp length-set (omega (arith, c.requires.0.whole, c.requires.1))
 
 pub returns : goal.returns
-returns c = refused_is c.args.n c.args.number c.args.batch.now
+returns c = refused_added c.args.n c.args.number c.args.batch.now

@@ -5,7 +5,7 @@ use Rattle.rounds.proofs.map_global_read_to_rounds.Goals as goal
 
 pub returns-then-room-lt-ROOM_WORDS : goal.returns-then-room-lt-ROOM_WORDS
 returns-then-room-lt-ROOM_WORDS c =
-    let told = short_post c.args.edition c.args.set.now c.args.out.now c.args.room.now _ c.if-room-lt-ROOM_WORDS.true c.refused.ensures in
+    let told = short_post c.args.edition c.args.set.now c.args.out.now c.args.room.now _ c.if-room-lt-ROOM_WORDS.true c.nowhere.ensures in
     record { value = told.0; out_after = told.1.0; room_after = told.1.1 }
 
 pub returns : goal.returns

@@ -16,7 +16,7 @@ use Rattle.rounds.proofs.rounds_in.Goals as goal
 pub returns-then-not-is_edition : goal.returns-then-not-is_edition
 returns-then-not-is_edition c =
     let unknown = sym c.is_edition.ensures ∙ c.if-not-is_edition.true in
-    let told = refused_post (edition_answer c.args.edition c.args.set.now (length c.args.out.now)) _ c.args.out.now (nowhere 29) (is_unknown c.args.edition c.args.set.now (length c.args.out.now) unknown) c.refused.ensures in
+    let told = refused_post (edition_answer c.args.edition c.args.set.now (length c.args.out.now)) c.args.out.now (nowhere 29) _ (is_unknown c.args.edition c.args.set.now (length c.args.out.now) unknown) c.nowhere.ensures in
     record { value = told.0; out_after = told.1 }
 
 pub slice_bounds-rounds_of_any-end : goal.slice_bounds-rounds_of_any-end

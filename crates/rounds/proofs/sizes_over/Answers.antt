@@ -19,18 +19,18 @@ try_pieces-requires c =
       c.loop-k.invariant.5,
     )
 
-pub returns-in-All : goal.returns-in-All
-returns-in-All c =
+pub returns-in-Ok : goal.returns-in-Ok
+returns-in-Ok c =
     let (value, table) = left_won _ _ (search_few c.requires.0) c.loop-k.k c.loop-k.word c.loop-k-test.true c.loop-k.invariant.3 _
-    c.try_pieces.ensures.value c.in-All.is _ c.try_pieces.ensures.table_after in
+    c.try_pieces.ensures.value c.in-Ok.is _ c.try_pieces.ensures.table_after in
     record { value = value; table_after = table }
 
 pub loop-k-preserved : goal.loop-k-preserved
 loop-k-preserved c = (
   c.try_pieces.auto.keys ∙ c.loop-k.invariant.0,
   c.try_pieces.auto.scratch ∙ c.loop-k.invariant.1,
-  left_empty c.args.lanes (pairs_of c.args.set.now) (search_few c.requires.0) c.loop-k.k _ c.try_pieces.ensures.value _ c.in-Stuck.is _ c.try_pieces.ensures.table_after,
-  left_on _ _ (search_few c.requires.0) c.loop-k.k c.loop-k.word c.loop-k-test.true c.loop-k.invariant.3 _ c.try_pieces.ensures.value _ c.in-Stuck.is,
+  left_empty c.args.lanes (pairs_of c.args.set.now) (search_few c.requires.0) c.loop-k.k _ c.try_pieces.ensures.value _ c.in-Err.is _ c.try_pieces.ensures.table_after,
+  left_on _ _ (search_few c.requires.0) c.loop-k.k c.loop-k.word c.loop-k-test.true c.loop-k.invariant.3 _ c.try_pieces.ensures.value _ c.in-Err.is,
   c.try_pieces.auto.used ∙ c.loop-k.invariant.4,
   c.try_pieces.auto.held ∙ c.loop-k.invariant.5,
 )
@@ -38,5 +38,5 @@ loop-k-preserved c = (
 pub returns : goal.returns
 returns c =
     let (value, table) = left_end _ _ (search_few c.requires.0) c.loop-k.k c.loop-k.word c.loop-k-test.false c.loop-k.invariant.3 _
-    c.lost.ensures _ c.loop-k.invariant.2 in
+    c.at_item.ensures _ c.loop-k.invariant.2 in
     record { value = value; table_after = table }

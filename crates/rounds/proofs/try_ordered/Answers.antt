@@ -11,14 +11,14 @@ try_size-requires c =
     let no_pairs = table_cleared c.args.held.now _ c.clear-2.ensures c.requires.4 in
     ready c.requires.0 _ _ _ c.requires.2 no_bits no_pairs
 
-pub returns-in-All : goal.returns-in-All
-returns-in-All c =
-    let told = ordered_won c.requires.0 _ c.requires.1 _ c.try_size.ensures.value c.in-All.is _ _ c.requires.2 c.try_size.ensures.room_after in
+pub returns : goal.returns
+returns c =
+    let told = ordered_won c.requires.0 _ c.requires.1 _ c.try_size.ensures.value c.in_default.is _ _ c.requires.2 c.try_size.ensures.room_after in
     record { value = told.0; table_after = told.1 }
 
-pub returns-in-Stuck : goal.returns-in-Stuck
-returns-in-Stuck c =
+pub returns-in-Err : goal.returns-in-Err
+returns-in-Err c =
     let long = c.try_size.auto.room ∙ zeros_length c.requires.2 in
-    let empty = table_cleared c.try_size.new.room (32 * c.args.lanes) c.clear-in-Stuck.ensures long in
-    let told = ordered_lost c.requires.0 _ c.requires.1 _ c.try_size.ensures.value _ c.in-Stuck.is _ c.told.ensures _ empty in
+    let empty = table_cleared c.try_size.new.room (32 * c.args.lanes) c.clear-in-Err.ensures long in
+    let told = ordered_lost c.requires.0 _ c.requires.1 _ c.try_size.ensures.value _ c.in-Err.is _ c.told.ensures _ empty in
     record { value = told.0; table_after = told.1 }

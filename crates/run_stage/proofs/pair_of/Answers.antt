@@ -6,22 +6,22 @@ use Rattle.run_stage.proofs.pair_of.Goals as goal
 
 pub overflow_mul-result-2 : goal.overflow_mul-result-2
 overflow_mul-result-2 c =
-    let lt = pair_in c.args.n c.args.j c.args.h c.requires.1 c.requires.0 in
+    let lt = pair_in c.args.p.now.lanes c.args.j c.args.h c.requires.1 c.requires.0 in
     omega arith
 
 pub overflow_add-result-2 : goal.overflow_add-result-2
 overflow_add-result-2 c =
-    let lt = pair_in c.args.n c.args.j c.args.h c.requires.1 c.requires.0 in
+    let lt = pair_in c.args.p.now.lanes c.args.j c.args.h c.requires.1 c.requires.0 in
     omega arith
 
 pub offset_bounds-p-h : goal.offset_bounds-p-h
 offset_bounds-p-h c =
-    let lt = pair_in c.args.n c.args.j c.args.h c.requires.1 c.requires.0 in
+    let lt = pair_in c.args.p.now.lanes c.args.j c.args.h c.requires.1 c.requires.0 in
     omega arith
 
 pub bounds-p-h : goal.bounds-p-h
 bounds-p-h c =
-    let lt = pair_in c.args.n c.args.j c.args.h c.requires.1 c.requires.0 in
+    let lt = pair_in c.args.p.now.lanes c.args.j c.args.h c.requires.1 c.requires.0 in
     omega arith
 
 pub returns : goal.returns

@@ -20,108 +20,108 @@ find_reads-n-requires c =
 
 pub overflow_mul-reads : goal.overflow_mul-reads
 overflow_mul-reads c =
-    let reads_found : ReadsFound c.args.d.now c.args.p c.args.body c.find_reads-n.new.room c.find_reads-n.new.set c.find_reads-n.result = record {
+    let reads_found : ReadsFound c.args.part.now.d.now c.args.part.now.p c.args.part.now.body c.find_reads-n.new.room c.find_reads-n.new.set c.find_reads-n.result = record {
       part = c.requires.0;
       narrow = c.find_reads-n.ensures.all_narrow;
       found = c.find_reads-n.ensures.found_room;
       wide = c.find_reads-n.auto.room ∙ c.requires.2.found;
       count = c.find_reads-n.ensures.value.0;
       few = c.find_reads-n.ensures.value.1;
-      front = set_front c.args.d.now c.args.p c.args.set.now _ _ c.find_reads-n.ensures.value c.find_reads-n.ensures.set_after c.requires.2.reads.set_room;
+      front = set_front c.args.part.now.d.now c.args.part.now.p c.args.set.now _ _ c.find_reads-n.ensures.value c.find_reads-n.ensures.set_after c.requires.2.reads.set_room;
     } in
-    let words-few : c.args.body.lanes * c.args.rounds ≤ 8192 = round_words_lem (reads_found) _ c.requires.1 in
+    let words-few : c.args.part.now.body.lanes * c.args.rounds ≤ 8192 = round_words_lem (reads_found) _ c.requires.1 in
     omega (arith, words-few)
 
 pub overflow_mul-reads-2 : goal.overflow_mul-reads-2
 overflow_mul-reads-2 c =
-    let reads_found : ReadsFound c.args.d.now c.args.p c.args.body c.find_reads-n.new.room c.find_reads-n.new.set c.find_reads-n.result = record {
+    let reads_found : ReadsFound c.args.part.now.d.now c.args.part.now.p c.args.part.now.body c.find_reads-n.new.room c.find_reads-n.new.set c.find_reads-n.result = record {
       part = c.requires.0;
       narrow = c.find_reads-n.ensures.all_narrow;
       found = c.find_reads-n.ensures.found_room;
       wide = c.find_reads-n.auto.room ∙ c.requires.2.found;
       count = c.find_reads-n.ensures.value.0;
       few = c.find_reads-n.ensures.value.1;
-      front = set_front c.args.d.now c.args.p c.args.set.now _ _ c.find_reads-n.ensures.value c.find_reads-n.ensures.set_after c.requires.2.reads.set_room;
+      front = set_front c.args.part.now.d.now c.args.part.now.p c.args.set.now _ _ c.find_reads-n.ensures.value c.find_reads-n.ensures.set_after c.requires.2.reads.set_room;
     } in
-    let words-few : c.args.body.lanes * c.args.rounds ≤ 8192 = round_words_lem (reads_found) _ c.requires.1 in
+    let words-few : c.args.part.now.body.lanes * c.args.rounds ≤ 8192 = round_words_lem (reads_found) _ c.requires.1 in
     omega (arith, words-few)
 
 pub slice_bounds-write_reads-end-2 : goal.slice_bounds-write_reads-end-2
 slice_bounds-write_reads-end-2 c =
-    let reads_found : ReadsFound c.args.d.now c.args.p c.args.body c.find_reads-n.new.room c.find_reads-n.new.set c.find_reads-n.result = record {
+    let reads_found : ReadsFound c.args.part.now.d.now c.args.part.now.p c.args.part.now.body c.find_reads-n.new.room c.find_reads-n.new.set c.find_reads-n.result = record {
       part = c.requires.0;
       narrow = c.find_reads-n.ensures.all_narrow;
       found = c.find_reads-n.ensures.found_room;
       wide = c.find_reads-n.auto.room ∙ c.requires.2.found;
       count = c.find_reads-n.ensures.value.0;
       few = c.find_reads-n.ensures.value.1;
-      front = set_front c.args.d.now c.args.p c.args.set.now _ _ c.find_reads-n.ensures.value c.find_reads-n.ensures.set_after c.requires.2.reads.set_room;
+      front = set_front c.args.part.now.d.now c.args.part.now.p c.args.set.now _ _ c.find_reads-n.ensures.value c.find_reads-n.ensures.set_after c.requires.2.reads.set_room;
     } in
     set_long (reads_found)
 
 pub slice_bounds-write_reads-end-5 : goal.slice_bounds-write_reads-end-5
 slice_bounds-write_reads-end-5 c =
-    sym (length-take-le (2 * (c.args.body.lanes * c.args.rounds)) c.args.out.now (omega (arith, c.requires.2.sections)))
+    sym (length-take-le (2 * (c.args.part.now.body.lanes * c.args.rounds)) c.args.out.now (omega (arith, c.requires.2.sections)))
 
 pub write_reads-requires : goal.write_reads-requires
 write_reads-requires c =
-    let reads_found : ReadsFound c.args.d.now c.args.p c.args.body c.find_reads-n.new.room c.find_reads-n.new.set c.find_reads-n.result = record {
+    let reads_found : ReadsFound c.args.part.now.d.now c.args.part.now.p c.args.part.now.body c.find_reads-n.new.room c.find_reads-n.new.set c.find_reads-n.result = record {
       part = c.requires.0;
       narrow = c.find_reads-n.ensures.all_narrow;
       found = c.find_reads-n.ensures.found_room;
       wide = c.find_reads-n.auto.room ∙ c.requires.2.found;
       count = c.find_reads-n.ensures.value.0;
       few = c.find_reads-n.ensures.value.1;
-      front = set_front c.args.d.now c.args.p c.args.set.now _ _ c.find_reads-n.ensures.value c.find_reads-n.ensures.set_after c.requires.2.reads.set_room;
+      front = set_front c.args.part.now.d.now c.args.part.now.p c.args.set.now _ _ c.find_reads-n.ensures.value c.find_reads-n.ensures.set_after c.requires.2.reads.set_room;
     } in
     let pairs-in : 8192 ≤ length c.find_reads-n.new.keys = omega (arith, c.find_reads-n.auto.keys, c.requires.2.reads.keys-room) in
     reads_room (reads_found) c.args.rounds c.requires.1 c.find_reads-n.new.keys c.args.out.now (pairs-in) c.requires.2.sections
 
 pub slice_bounds-write_first-end-2 : goal.slice_bounds-write_first-end-2
 slice_bounds-write_first-end-2 c =
-    let reads_found : ReadsFound c.args.d.now c.args.p c.args.body c.find_reads-n.new.room c.find_reads-n.new.set c.find_reads-n.result = record {
+    let reads_found : ReadsFound c.args.part.now.d.now c.args.part.now.p c.args.part.now.body c.find_reads-n.new.room c.find_reads-n.new.set c.find_reads-n.result = record {
       part = c.requires.0;
       narrow = c.find_reads-n.ensures.all_narrow;
       found = c.find_reads-n.ensures.found_room;
       wide = c.find_reads-n.auto.room ∙ c.requires.2.found;
       count = c.find_reads-n.ensures.value.0;
       few = c.find_reads-n.ensures.value.1;
-      front = set_front c.args.d.now c.args.p c.args.set.now _ _ c.find_reads-n.ensures.value c.find_reads-n.ensures.set_after c.requires.2.reads.set_room;
+      front = set_front c.args.part.now.d.now c.args.part.now.p c.args.set.now _ _ c.find_reads-n.ensures.value c.find_reads-n.ensures.set_after c.requires.2.reads.set_room;
     } in
     sym (length-take-le 32768 c.find_reads-n.new.room (omega (arith, (reads_found).wide)))
 
 pub offset_bounds-out-reads : goal.offset_bounds-out-reads
 offset_bounds-out-reads c =
-    let reads_found : ReadsFound c.args.d.now c.args.p c.args.body c.find_reads-n.new.room c.find_reads-n.new.set c.find_reads-n.result = record {
+    let reads_found : ReadsFound c.args.part.now.d.now c.args.part.now.p c.args.part.now.body c.find_reads-n.new.room c.find_reads-n.new.set c.find_reads-n.result = record {
       part = c.requires.0;
       narrow = c.find_reads-n.ensures.all_narrow;
       found = c.find_reads-n.ensures.found_room;
       wide = c.find_reads-n.auto.room ∙ c.requires.2.found;
       count = c.find_reads-n.ensures.value.0;
       few = c.find_reads-n.ensures.value.1;
-      front = set_front c.args.d.now c.args.p c.args.set.now _ _ c.find_reads-n.ensures.value c.find_reads-n.ensures.set_after c.requires.2.reads.set_room;
+      front = set_front c.args.part.now.d.now c.args.part.now.p c.args.set.now _ _ c.find_reads-n.ensures.value c.find_reads-n.ensures.set_after c.requires.2.reads.set_room;
     } in
-    let words-few : c.args.body.lanes * c.args.rounds ≤ 8192 = round_words_lem (reads_found) _ c.requires.1 in
+    let words-few : c.args.part.now.body.lanes * c.args.rounds ≤ 8192 = round_words_lem (reads_found) _ c.requires.1 in
     omega (arith, words-few)
 
 pub slice_bounds-write_first-count : goal.slice_bounds-write_first-count
 slice_bounds-write_first-count c =
-    omega (arith, front_length (2 * (c.args.body.lanes * c.args.rounds)) (20 * c.args.body.lanes) c.args.out.now c.requires.2.sections c.write_reads.new.out c.write_reads.auto.out)
+    omega (arith, front_length (2 * (c.args.part.now.body.lanes * c.args.rounds)) (20 * c.args.part.now.body.lanes) c.args.out.now c.requires.2.sections c.write_reads.new.out c.write_reads.auto.out)
 
 pub slice_bounds-write_first-start : goal.slice_bounds-write_first-start
 slice_bounds-write_first-start c =
-    omega (arith, front_length (2 * (c.args.body.lanes * c.args.rounds)) (20 * c.args.body.lanes) c.args.out.now c.requires.2.sections c.write_reads.new.out c.write_reads.auto.out)
+    omega (arith, front_length (2 * (c.args.part.now.body.lanes * c.args.rounds)) (20 * c.args.part.now.body.lanes) c.args.out.now c.requires.2.sections c.write_reads.new.out c.write_reads.auto.out)
 
 pub write_first-requires : goal.write_first-requires
 write_first-requires c =
-    let reads_found : ReadsFound c.args.d.now c.args.p c.args.body c.find_reads-n.new.room c.find_reads-n.new.set c.find_reads-n.result = record {
+    let reads_found : ReadsFound c.args.part.now.d.now c.args.part.now.p c.args.part.now.body c.find_reads-n.new.room c.find_reads-n.new.set c.find_reads-n.result = record {
       part = c.requires.0;
       narrow = c.find_reads-n.ensures.all_narrow;
       found = c.find_reads-n.ensures.found_room;
       wide = c.find_reads-n.auto.room ∙ c.requires.2.found;
       count = c.find_reads-n.ensures.value.0;
       few = c.find_reads-n.ensures.value.1;
-      front = set_front c.args.d.now c.args.p c.args.set.now _ _ c.find_reads-n.ensures.value c.find_reads-n.ensures.set_after c.requires.2.reads.set_room;
+      front = set_front c.args.part.now.d.now c.args.part.now.p c.args.set.now _ _ c.find_reads-n.ensures.value c.find_reads-n.ensures.set_after c.requires.2.reads.set_room;
     } in
     let pairs-in : 8192 ≤ length c.find_reads-n.new.keys = omega (arith, c.find_reads-n.auto.keys, c.requires.2.reads.keys-room) in
     let reads = reads_found in (
@@ -130,7 +130,7 @@ write_first-requires c =
       pairs_numbered reads c.find_reads-n.new.keys _ (pairs-in) c.write_reads.ensures.bases_after,
       record {
         words = omega (arith, c.find_reads-n.ensures.value, c.find_reads-n.auto.set, c.requires.2.reads.set_room);
-        section = first_length (2 * (c.args.body.lanes * c.args.rounds)) (20 * c.args.body.lanes) c.args.out.now c.requires.2.sections c.write_reads.new.out c.write_reads.auto.out;
+        section = first_length (2 * (c.args.part.now.body.lanes * c.args.rounds)) (20 * c.args.part.now.body.lanes) c.args.out.now c.requires.2.sections c.write_reads.new.out c.write_reads.auto.out;
         slots = omega (arith, c.find_reads-n.auto.scratch, c.requires.2.reads.scratch-room, c.requires.0.body.laid.lanes);
         entries = omega (arith, c.find_reads-n.auto.set, c.requires.2.reads.set_room, c.requires.0.body.laid.lanes);
       },
@@ -153,17 +153,17 @@ shape_of-set c =
 
 pub returns : goal.returns
 returns c =
-    let reads_found : ReadsFound c.args.d.now c.args.p c.args.body c.find_reads-n.new.room c.find_reads-n.new.set c.find_reads-n.result = record {
+    let reads_found : ReadsFound c.args.part.now.d.now c.args.part.now.p c.args.part.now.body c.find_reads-n.new.room c.find_reads-n.new.set c.find_reads-n.result = record {
       part = c.requires.0;
       narrow = c.find_reads-n.ensures.all_narrow;
       found = c.find_reads-n.ensures.found_room;
       wide = c.find_reads-n.auto.room ∙ c.requires.2.found;
       count = c.find_reads-n.ensures.value.0;
       few = c.find_reads-n.ensures.value.1;
-      front = set_front c.args.d.now c.args.p c.args.set.now _ _ c.find_reads-n.ensures.value c.find_reads-n.ensures.set_after c.requires.2.reads.set_room;
+      front = set_front c.args.part.now.d.now c.args.part.now.p c.args.set.now _ _ c.find_reads-n.ensures.value c.find_reads-n.ensures.set_after c.requires.2.reads.set_room;
     } in
     let reads = reads_found in
-    let words = 2 * (c.args.body.lanes * c.args.rounds) in
+    let words = 2 * (c.args.part.now.body.lanes * c.args.rounds) in
     let size = c.write_reads.auto.out ∙ length-take-le words c.args.out.now (omega (arith, c.requires.2.sections)) in
     record {
       out_after = two_parts words c.args.out.now c.write_reads.new.out _ size ∙ ap₂ ◌++◌ (c.write_reads.ensures.out_after ∙ ap read_section (lanes_are reads)) c.write_first.ensures;

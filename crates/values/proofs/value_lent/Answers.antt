@@ -6,7 +6,7 @@ use Prim.Native.Nat.{ℕ}
 use native.Mathlib.Omega.{arith}
 use lib.ListN.{length, drop}
 use lib.Seq.{length-take-le}
-use Rattle.values.specs.declared.Valued.TheVariants.{Bit}
+use Rattle.std.specs.Prelude.{Ok, Err}
 use Rattle.values.specs.Values.{gate_values, valued_of}
 use Rattle.values.proofs.ValueAnswerLaws.{lent_short, lent_enough, bits_kept, bits_held, values_length}
 use Rattle.values.proofs.value_lent.Goals as goal
@@ -14,7 +14,7 @@ use Rattle.values.proofs.value_lent.Goals as goal
 pub returns-then-bits-words : goal.returns-then-bits-words
 returns-then-bits-words c =
     let e = lent_short c.args.plan.now c.args.part c.args.old.now c.args.new.now (length c.args.bits.now) c.args.pin.0 (omega arith) in
-    record { value = c.refuse.ensures ∙ ap valued_of (sym e); room_after = c.requires.clear.is; bits_after = bits_kept _ 14 0 c.args.bits.now e }
+    record { value = ap Err c.nowhere.ensures ∙ ap valued_of (sym e); room_after = c.requires.clear.is; bits_after = bits_kept _ 14 0 c.args.bits.now e }
 
 pub slice_bounds-fill_bits-end-2 : goal.slice_bounds-fill_bits-end-2
 slice_bounds-fill_bits-end-2 c =
@@ -31,4 +31,4 @@ returns c =
     let size = values_length c.args.plan.now c.args.part c.args.old.now c.args.new.now ∙ sym c.bit_words-words.ensures in
     let held = ap (λ (a : List ℕ). a ++ drop c.bit_words-words.result c.args.bits.now) c.fill_bits.ensures.bits_after
     ∙ bits_held _ _ c.bit_words-words.result values c.args.bits.now e size (omega arith) in
-    record { value = ap Bit c.fill_bits.ensures.value ∙ ap valued_of (sym e); room_after = c.fill_bits.ensures.room_after; bits_after = held }
+    record { value = ap Ok c.fill_bits.ensures.value ∙ ap valued_of (sym e); room_after = c.fill_bits.ensures.room_after; bits_after = held }

@@ -1,9 +1,11 @@
 -- `aiger_read::differences::difference_at` meets its contract: nothing there, one byte, or groups. Assumes nothing.
+use mathlib.Core.Path.{ap, ◌∙◌}
+use Rattle.std.specs.Prelude.{Err}
 use Rattle.aiger_read.proofs.GroupLaws.{difference_cut, difference_byte, difference_groups}
 use Rattle.aiger_read.proofs.differences.difference_at.Goals as goal
 
 pub returns-then-bytes-at : goal.returns-then-bytes-at
-returns-then-bytes-at c = difference_cut c.args.bytes.now _ c.if-bytes-at.true
+returns-then-bytes-at c = ap Err c.nowhere.ensures ∙ difference_cut c.args.bytes.now _ c.if-bytes-at.true
 
 pub returns-then-b-lt128 : goal.returns-then-b-lt128
 returns-then-b-lt128 c =

@@ -1,17 +1,21 @@
 -- `aiger_read::differences::gate_at` meets its contract: its first literal, then its second. Assumes nothing.
+use mathlib.Core.Path.{sym, ◌∙◌}
+use Rattle.std.proofs.lemmas.Result.{err_from_is_err_and}
 use Rattle.aiger_read.proofs.GroupLaws.{gate_first_lem, gate_second_lem, gate_both}
 use Rattle.aiger_read.proofs.differences.gate_at.Goals as goal
 
-pub returns-in-Refused : goal.returns-in-Refused
-returns-in-Refused c =
-    gate_first_lem c.args.bytes.now c.args.pin.0 _ _ c.inverted.ensures _ _ c.literal_at.ensures c.in-Refused.is
+pub returns-in_err-first : goal.returns-in_err-first
+returns-in_err-first c =
+    let p = err_from_is_err_and c.from_residual.result c.from_residual.ensures.1 in
+    rw (p.1, p.2) (gate_first_lem c.args.bytes.now c.args.pin.0 _ _ c.inverted.ensures _ (sym c.literal_at.ensures ∙ c.in_err-first.was))
 
-pub returns-in-Refused-literal_at : goal.returns-in-Refused-literal_at
-returns-in-Refused-literal_at c =
-    gate_second_lem c.args.bytes.now c.args.pin.0 _ _ c.inverted.ensures _ c.in-At.first.0 _ c.literal_at.ensures c.in-At.is
-    _ _ c.literal_at-in-At.ensures c.in-Refused-literal_at.is
+pub returns-in_err-second : goal.returns-in_err-second
+returns-in_err-second c =
+    let p = err_from_is_err_and c.from_residual-in_err-second.result c.from_residual-in_err-second.ensures.1 in
+    rw (p.1, p.2)
+    (gate_second_lem c.args.bytes.now c.args.pin.0 _ _ c.inverted.ensures _ (sym c.literal_at.ensures ∙ c.in_ok-first.was) _
+    (sym c.literal_at-2.ensures ∙ c.in_err-second.was))
 
-pub returns-in-At-literal_at : goal.returns-in-At-literal_at
-returns-in-At-literal_at c =
-    gate_both c.args.bytes.now c.args.pin.0 _ _ c.inverted.ensures _ c.in-At.first.0 _ c.literal_at.ensures c.in-At.is
-    _ c.in-At-literal_at.second.0 _ c.literal_at-in-At.ensures c.in-At-literal_at.is
+pub returns : goal.returns
+returns c =
+    gate_both c.args.bytes.now c.args.pin.0 _ _ c.inverted.ensures _ (sym c.literal_at.ensures ∙ c.in_ok-first.was) _ (sym c.literal_at-2.ensures ∙ c.in_ok-second.was)

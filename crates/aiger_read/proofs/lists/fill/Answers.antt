@@ -1,30 +1,21 @@
+use mathlib.Core.Path.{◌≡◌, sym, ◌∙◌}
+use Prim.Native.Nat.{◌+◌, ◌-◌}
 use native.Mathlib.Omega.{arith}
-use lib.ListN.{length-set}
-use Rattle.aiger_read.proofs.ReadPassLaws.{filling_start, filling_next, filling_bad, filling_end}
+use Rattle.aiger_read.proofs.ReadPassLaws.{filling_start, filling_next, filling_good, filling_end}
 use Rattle.aiger_read.proofs.lists.fill.Goals as goal
 
-pub loop-left-init : goal.loop-left-init
-loop-left-init c = filling_start _ _ _ _ _ c.requires
+pub loop-k-init : goal.loop-k-init
+loop-k-init c =
+    let e : c.args.first.0 + 0 ≡ c.args.first.0 = omega arith in
+    let z : c.args.gates - 0 ≡ c.args.gates = omega arith in
+    rw (e, z) (filling_start _ _ _ _ _ c.requires)
 
-pub bounds-out-j-in-At : goal.bounds-out-j-in-At
-bounds-out-j-in-At c = simp length-set (omega arith)
+pub unwrap-gate-requires : goal.unwrap-gate-requires
+unwrap-gate-requires c = rw c.gate_at.ensures (filling_good c.loop-k.invariant (omega arith))
 
-pub bounds-out-j-in-At-2 : goal.bounds-out-j-in-At-2
-bounds-out-j-in-At-2 c = simp length-set (omega arith)
-
-pub loop-left-preserved : goal.loop-left-preserved
-loop-left-preserved c =
-    filling_next c.loop-left.invariant _ _ _ _ c.loop-left-test.true c.gate_at.ensures c.in-At.is
-
-pub shape_of-out-in-Refused : goal.shape_of-out-in-Refused
-shape_of-out-in-Refused c = c.loop-left.invariant.long
-
-pub returns-in-Refused : goal.returns-in-Refused
-returns-in-Refused c =
-    absurd (filling_bad c.loop-left.invariant _ _ c.loop-left-test.true c.gate_at.ensures c.in-Refused.is)
-
-pub shape_of-out : goal.shape_of-out
-shape_of-out c = c.loop-left.invariant.long
+pub loop-k-preserved : goal.loop-k-preserved
+loop-k-preserved c =
+    filling_next c.loop-k.invariant _ _ _ _ (omega arith) (omega arith) (omega arith) (omega arith) (sym c.gate_at.ensures ∙ c.unwrap-gate.ensures)
 
 pub returns : goal.returns
-returns c = filling_end c.loop-left.invariant (omega (arith, c.loop-left-test.false))
+returns c = filling_end c.loop-k.invariant (omega arith)

@@ -3,7 +3,7 @@ use Rattle.aiger_write.proofs.ByteLaws.{Putting}
 use Rattle.aiger_write.proofs.bytes.put_difference.Given as goal
 
 abbrev pub invariant-loop-rest : goal.invariant-loop-rest
-invariant-loop-rest l = Putting l.x l.initial.out l.at l.out l.end l.rest
+invariant-loop-rest l = Putting l.x l.initial.out l.out l.rest
 
 abbrev pub decreases-loop-rest : goal.decreases-loop-rest
 decreases-loop-rest l = l.rest

@@ -3,8 +3,8 @@ use native.Mathlib.Omega.{arith}
 use Rattle.aiger_write.proofs.WritePassLaws.{judged_cut, judged_large}
 use Rattle.aiger_write.proofs.lists.judge.Goals as goal
 
-pub returns-then-cut-ne0 : goal.returns-then-cut-ne0
-returns-then-cut-ne0 c = judged_cut _ c.if-cut-ne0.true
+pub returns-then-gates-ne0 : goal.returns-then-gates-ne0
+returns-then-gates-ne0 c = judged_cut _ c.if-gates-ne0.true
 
-pub returns-then-last-gt1073741824 : goal.returns-then-last-gt1073741824
-returns-then-last-gt1073741824 c = judged_large _ (omega (arith, c.inputs_of-inputs.ensures, c.if-last-gt1073741824.true))
+pub returns-then-inputs-gates-gt1073741824 : goal.returns-then-inputs-gates-gt1073741824
+returns-then-inputs-gates-gt1073741824 c = judged_large _ (omega (arith, c.inputs_of-inputs.ensures, c.if-inputs-gates-gt1073741824.true))

@@ -1,10 +1,6 @@
 -- `aiger_write::lists::judge_gates` meets its contract. The invariant: the gates before g are right, and their bytes with those from g on make the text. Assumes nothing.
-use Prim.Native.Nat.{◌-◌}
 use Rattle.aiger_write.proofs.WritePassLaws.{Judging}
 use Rattle.aiger_write.proofs.lists.judge_gates.Given as goal
 
 abbrev pub invariant-loop-g : goal.invariant-loop-g
-invariant-loop-g l = Judging l.gates l.bytes l.pin l.g
-
-abbrev pub decreases-loop-g : goal.decreases-loop-g
-decreases-loop-g l = l.count - l.g
+invariant-loop-g l = Judging l.gates l.bytes l.g

@@ -1,7 +1,9 @@
 -- `aiger_write::lists::put_text` meets its contract: the header, then the gates. Assumes nothing.
-use Rattle.aiger_write.proofs.WritePassLaws.{text_put}
+use borrow.Author.Rules.{rules}
+use Rattle.aiger_write.proofs.WritePassLaws.{text_wrote}
 use Rattle.aiger_write.proofs.lists.put_text.Goals as goal
 
 pub returns : goal.returns
 returns c =
-    text_put c.args.gates.now _ c.inputs_of-inputs.ensures c.put_header-end.ensures c.put_gates.ensures
+    let whole = text_wrote c.args.gates.now _ c.inputs_of-inputs.ensures c.new-text.ensures.begun c.put_header.ensures c.put_gates.ensures in
+    search rules

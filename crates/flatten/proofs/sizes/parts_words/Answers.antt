@@ -13,7 +13,7 @@ parts_of-parts-requires c = majors_few c.args.d.now c.args.room.now c.requires
 
 pub loop-p-init : goal.loop-p-init
 loop-p-init c =
-    (omega arith, parts_none c.args.d.now c.args.room.now c.requires, omega arith)
+    (parts_none c.args.d.now c.args.room.now c.requires, omega arith)
 
 pub cell_at-rounds-requires : goal.cell_at-rounds-requires
 cell_at-rounds-requires c =
@@ -32,17 +32,16 @@ part_words-sum-requires c =
 pub overflow_add-sum : goal.overflow_add-sum
 overflow_add-sum c =
     let inside : c.loop-p.p < parts_of c.args.d.now = omega (arith, c.parts_of-parts.ensures.0) in
-    omega (arith, c.part_words-sum.ensures.1, c.loop-p.invariant.2, inside, parts_few _ _ c.requires)
+    omega (arith, c.part_words-sum.ensures.1, c.loop-p.invariant.1, inside, parts_few _ _ c.requires)
 
 pub loop-p-preserved : goal.loop-p-preserved
 loop-p-preserved c =
     let inside : c.loop-p.p < parts_of c.args.d.now = omega (arith, c.parts_of-parts.ensures.0) in (
-      omega arith,
-      parts_next _ _ c.requires _ c.loop-p.p c.loop-p.sum _ _ _ c.lanes_of-lanes.ensures.0 (inside) c.loop-p.invariant.1 c.cell_at-rounds.ensures c.stages_at.ensures c.part_words-sum.ensures.0,
-      omega (arith, c.part_words-sum.ensures.1, c.loop-p.invariant.2),
+      parts_next _ _ c.requires _ c.loop-p.p c.loop-p.sum _ _ _ c.lanes_of-lanes.ensures.0 (inside) c.loop-p.invariant.0 c.cell_at-rounds.ensures c.stages_at.ensures c.part_words-sum.ensures.0,
+      omega (arith, c.part_words-sum.ensures.1, c.loop-p.invariant.1),
     )
 
 pub returns : goal.returns
 returns c =
     let e : c.loop-p.p ≡ parts_of c.args.d.now = omega (arith, c.parts_of-parts.ensures.0) in
-    (c.loop-p.invariant.1 ∙ ap (sum_to (length_of (plan_lanes c.args.d.now) c.args.d.now)) e, omega (arith, c.loop-p.invariant.2, parts_few _ _ c.requires))
+    (c.loop-p.invariant.0 ∙ ap (sum_to (length_of (plan_lanes c.args.d.now) c.args.d.now)) e, omega (arith, c.loop-p.invariant.1, parts_few _ _ c.requires))

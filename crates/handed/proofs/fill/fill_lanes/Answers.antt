@@ -43,37 +43,37 @@ shape_of-seen-then-is_whole c =
 
 pub returns-then-is_whole : goal.returns-then-is_whole
 returns-then-is_whole c =
-    let told = fine_post c.args.n c.args.set.now c.args.lanes.now c.requires.formed.form _ _ _ (sym c.in-Lanes.is ∙ c.judge_pairs.ensures.value) c.judge_pairs.ensures.pairs_filled
+    let told = fine_post c.args.n c.args.set.now c.args.lanes.now c.requires.formed.form _ _ _ (sym c.in-Ok.is ∙ c.judge_pairs.ensures.value) c.judge_pairs.ensures.pairs_filled
     (sym c.is_whole.ensures ∙ c.if-is_whole.true) in
     record { value = told.0; table_after = told.1 }
 
-pub shape_of-table-in-Bad : goal.shape_of-table-in-Bad
-shape_of-table-in-Bad c =
+pub shape_of-table-in-Err : goal.shape_of-table-in-Err
+shape_of-table-in-Err c =
     let no_table : length c.clear.new.l ≡ 32 * c.args.n = zeros_length (table_cleared c.args.table.now _ c.clear.ensures c.requires.room) in
     let table_kept : length c.judge_pairs.new.table ≡ 32 * c.args.n = c.judge_pairs.auto.table ∙ no_table in
-    let bad-table : let n = c.args.n in c.clear-in-Bad.new.l ≡ replicate (32 * n) 0 = table_cleared c.judge_pairs.new.table _ c.clear-in-Bad.ensures (table_kept) in
+    let bad-table : let n = c.args.n in c.clear-in-Err.new.l ≡ replicate (32 * n) 0 = table_cleared c.judge_pairs.new.table _ c.clear-in-Err.ensures (table_kept) in
     zeros_length (bad-table) ∙ sym c.requires.room
 
-pub shape_of-seen-in-Bad : goal.shape_of-seen-in-Bad
-shape_of-seen-in-Bad c =
+pub shape_of-seen-in-Err : goal.shape_of-seen-in-Err
+shape_of-seen-in-Err c =
     let no-marks : length c.clear-2.new.l ≡ 256 = zeros_length (table_cleared c.args.seen.now _ c.clear-2.ensures c.requires.marks) in
     let marks-kept : length c.judge_pairs.new.seen ≡ 256 = c.judge_pairs.auto.seen ∙ no-marks in
     marks-kept ∙ sym c.requires.marks
 
-pub returns-in-Bad : goal.returns-in-Bad
-returns-in-Bad c =
+pub returns-in-Err : goal.returns-in-Err
+returns-in-Err c =
     let no_table : length c.clear.new.l ≡ 32 * c.args.n = zeros_length (table_cleared c.args.table.now _ c.clear.ensures c.requires.room) in
     let table_kept : length c.judge_pairs.new.table ≡ 32 * c.args.n = c.judge_pairs.auto.table ∙ no_table in
-    let bad-table : let n = c.args.n in c.clear-in-Bad.new.l ≡ replicate (32 * n) 0 = table_cleared c.judge_pairs.new.table _ c.clear-in-Bad.ensures (table_kept) in
+    let bad-table : let n = c.args.n in c.clear-in-Err.new.l ≡ replicate (32 * n) 0 = table_cleared c.judge_pairs.new.table _ c.clear-in-Err.ensures (table_kept) in
     let a = c.args in
-    let told = bad_post a.n a.set.now a.lanes.now _ _ (sym c.in-Bad.is ∙ c.judge_pairs.ensures.value) (bad-table) in
+    let told = bad_post a.n a.set.now a.lanes.now _ _ (sym c.in-Err.is ∙ c.judge_pairs.ensures.value) (bad-table) in
     record { value = told.0; table_after = told.1 }
 
 pub shape_of-table-else-is_whole : goal.shape_of-table-else-is_whole
 shape_of-table-else-is_whole c =
     let no_table : length c.clear.new.l ≡ 32 * c.args.n = zeros_length (table_cleared c.args.table.now _ c.clear.ensures c.requires.room) in
     let table_kept : length c.judge_pairs.new.table ≡ 32 * c.args.n = c.judge_pairs.auto.table ∙ no_table in
-    let count-table : let n = c.args.n in c.clear-in-Lanes.new.l ≡ replicate (32 * n) 0 = table_cleared c.judge_pairs.new.table _ c.clear-in-Lanes.ensures (table_kept) in
+    let count-table : let n = c.args.n in c.clear-in-Ok.new.l ≡ replicate (32 * n) 0 = table_cleared c.judge_pairs.new.table _ c.clear-in-Ok.ensures (table_kept) in
     zeros_length (count-table) ∙ sym c.requires.room
 
 pub shape_of-seen-else-is_whole : goal.shape_of-seen-else-is_whole
@@ -86,8 +86,8 @@ pub returns-else-is_whole : goal.returns-else-is_whole
 returns-else-is_whole c =
     let no_table : length c.clear.new.l ≡ 32 * c.args.n = zeros_length (table_cleared c.args.table.now _ c.clear.ensures c.requires.room) in
     let table_kept : length c.judge_pairs.new.table ≡ 32 * c.args.n = c.judge_pairs.auto.table ∙ no_table in
-    let count-table : let n = c.args.n in c.clear-in-Lanes.new.l ≡ replicate (32 * n) 0 = table_cleared c.judge_pairs.new.table _ c.clear-in-Lanes.ensures (table_kept) in
+    let count-table : let n = c.args.n in c.clear-in-Ok.new.l ≡ replicate (32 * n) 0 = table_cleared c.judge_pairs.new.table _ c.clear-in-Ok.ensures (table_kept) in
     let no = sym c.is_whole.ensures ∙ c.if-is_whole.false in
-    let told = count_post c.args.n c.args.set.now c.args.lanes.now c.requires.formed.form _ _ _ (sym c.in-Lanes.is ∙ c.judge_pairs.ensures.value) c.judge_pairs.ensures.pairs_filled
+    let told = count_post c.args.n c.args.set.now c.args.lanes.now c.requires.formed.form _ _ _ (sym c.in-Ok.is ∙ c.judge_pairs.ensures.value) c.judge_pairs.ensures.pairs_filled
     no _ c.item.ensures _ (count-table) in
     record { value = told.0; table_after = told.1 }

@@ -8,5 +8,5 @@ use Rattle.plan_blocks.proofs.costs.block_for.Goals as goal
 pub returns-then-i-n : goal.returns-then-i-n
 returns-then-i-n c = (sym (for_early _ _ _ c.if-i-n.true), omega arith)
 
-pub returns : goal.returns
-returns c = (c.least_block.ensures.0 ∙ sym (for_later _ _ _ c.if-i-n.false), omega (arith, c.least_block.ensures.1))
+pub returns-else-i-n : goal.returns-else-i-n
+returns-else-i-n c = (c.least_block.ensures.0 ∙ sym (for_later _ _ _ c.if-i-n.false), omega (arith, c.least_block.ensures.1))

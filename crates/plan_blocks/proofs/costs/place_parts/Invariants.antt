@@ -1,12 +1,9 @@
--- `plan_blocks::costs::place_parts` meets its contract. The loop's invariant: the first i parts are in their blocks.
+-- The first i parts are in their blocks.
 -- Assumes nothing.
-use Prim.Native.Nat.{◌+◌, ◌-◌, ◌≤◌}
+use Rattle.std.proofs.Common.{◌+◌}
 use Rattle.plan_record.specs.Record.{stages_of}
 use Rattle.plan_blocks.proofs.OnePartMoreLaws.{PartsPlaced}
 use Rattle.plan_blocks.proofs.costs.place_parts.Given as goal
 
 abbrev pub invariant-loop-i : goal.invariant-loop-i
-invariant-loop-i l = (l.i ≤ l.count) × PartsPlaced l.n (λ j. stages_of l.d (l.base + j)) (λ j. l.base + j) l.initial.room l.room l.placed l.i
-
-abbrev pub decreases-loop-i : goal.decreases-loop-i
-decreases-loop-i l = l.count - l.i
+invariant-loop-i l = PartsPlaced l.n (λ j. stages_of l.d (l.base + j)) (λ j. l.base + j) l.initial.room l.room l.placed l.i

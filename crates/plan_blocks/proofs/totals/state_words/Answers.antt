@@ -1,6 +1,6 @@
 -- The words of the input layout, and a column of the part table, summed.
 -- Assumes nothing.
-use native.Mathlib.Omega.{arith}
+use Rattle.std.proofs.Common.{◌≡◌, ◌+◌, ◌/◌, arith}
 use Rattle.plan_blocks.proofs.TallyLaws.{majors_few, column_in, state_sum}
 use Rattle.plan_blocks.proofs.totals.state_words.Goals as goal
 
@@ -11,4 +11,6 @@ pub column_sum-requires : goal.column_sum-requires
 column_sum-requires c = column_in _ _ c.requires _ c.parts_of.ensures.0 _ (omega arith)
 
 pub returns : goal.returns
-returns c = state_sum _ _ c.requires _ c.parts_of.ensures.0 _ _ c.layout_of.ensures c.column_sum.ensures.0
+returns c =
+    let words : c.div_ceil.result ≡ (c.layout_of.result + 31) / 32 = omega arith in
+    rw words (state_sum _ _ c.requires _ c.parts_of.ensures.0 _ _ c.layout_of.ensures c.column_sum.ensures.0)

@@ -1,11 +1,8 @@
--- `plan_checks::tell::of_lowest` meets its contract.
+-- The place is a place's of the definitions.
 -- Assumes nothing.
-use mathlib.Core.Path.{ap}
+use Rattle.std.proofs.Common.{ap}
 use Rattle.plan_checks.specs.Verdicts.{lowest_place}
 use Rattle.plan_checks.proofs.tell.of_lowest.Goals as goal
 
-pub refuse-requires : goal.refuse-requires
-refuse-requires c = c.requires _ (ap lowest_place c.in-At.is)
-
-pub returns-in-At : goal.returns-in-At
-returns-in-At c = rw c.in-At.is c.refuse.ensures
+pub at-requires : goal.at-requires
+at-requires c = c.requires _ (ap lowest_place c.in-Some.is)

@@ -1,19 +1,17 @@
-use mathlib.Core.Path.{sym, ◌∙◌}
+-- The slots of level 0 are the edition's.
+-- Assumes nothing.
+use mathlib.Core.Path.{◌≡◌, ap, ◌∙◌}
+use Prim.Native.Nat.{ℕ, ◌*◌}
 use native.Mathlib.Omega.{arith}
-use Rattle.words.proofs.FoundLaws.{look_start, look_fault, look_next, look_end}
+use borrow.Author.Rules.{rules}
+use Rattle.plan_record.specs.Record.{slots_of}
+use Rattle.words.specs.Found.{item_of}
+use Rattle.words.specs.Tests.{first_not}
+use Rattle.plan_positions.specs.Positions.{twelve_right}
 use Rattle.plan_positions.proofs.planned.bad_slot.Goals as goal
-
-pub loop-j-init : goal.loop-j-init
-loop-j-init c = (omega arith, look_start _ _)
-
-pub returns-then-not-slot_right : goal.returns-then-not-slot_right
-returns-then-not-slot_right c =
-    look_fault _ _ _ _ c.loop-j.invariant.1 (omega (arith, c.requires.body.lanes)) (sym c.slot_right.ensures ∙ c.if-not-slot_right.true)
-
-pub loop-j-preserved : goal.loop-j-preserved
-loop-j-preserved c =
-    (omega arith, look_next _ _ _ _ c.loop-j.invariant.1 (omega (arith, c.requires.body.lanes)) (sym c.slot_right.ensures ∙ c.if-not-slot_right.false))
 
 pub returns : goal.returns
 returns c =
-    look_end _ _ _ _ c.loop-j.invariant.1 (omega (arith, c.requires.body.lanes))
+    let slots : 32 * c.args.part.now.body.lanes ≡ slots_of c.args.part.now.d.now = omega (arith, c.args.part.now.of.lanes) in
+    let right = twelve_right c.args.part.now.d.now c.args.part.now.p in
+    c.first_not.ensures right (λ i h b e. search rules) ∙ ap (λ (n : ℕ). item_of (first_not right n)) slots

@@ -9,4 +9,4 @@ use Rattle.plan_positions.proofs.planned.fill_planned.Goals as goal
 
 pub returns : goal.returns
 returns c =
-    c.fill_winners.ensures ∙ ap (λ (t : List ℕ). after_renewals t (winner_puts c.args.d.now)) c.fill_reads.ensures
+    c.fill_winners.ensures ∙ ap (λ (t : List ℕ). after_renewals t (winner_puts c.args.part.now.d.now)) c.fill_reads.ensures

@@ -12,8 +12,8 @@ use Rattle.plan_positions.proofs.planned.list_planned.Goals as goal
 pub returns : goal.returns
 returns c =
     record {
-      value = (c.list_reads-n.ensures.value.0, omega (arith, c.list_reads-n.ensures.value.1, lanes_range c.args.d.now));
-      table_after = c.fill_winners.ensures ∙ ap (λ (t : List ℕ). after_renewals t (winner_puts c.args.d.now)) c.list_reads-n.ensures.table_after;
+      value = (c.list_reads-n.ensures.value.0, omega (arith, c.list_reads-n.ensures.value.1, lanes_range c.args.part.now.d.now));
+      table_after = c.fill_winners.ensures ∙ ap (λ (t : List ℕ). after_renewals t (winner_puts c.args.part.now.d.now)) c.list_reads-n.ensures.table_after;
       list_after = c.list_reads-n.ensures.list_after;
       all_pins = c.list_reads-n.ensures.all_pins;
     }

@@ -11,10 +11,10 @@ slice_bounds-look_up-end c = sym (length-take-le 32768 c.args.room.now c.require
 pub look_up-requires : goal.look_up-requires
 look_up-requires c = c.requires.2.small
 
-pub returns-in-Value : goal.returns-in-Value
-returns-in-Value c =
-    pin_value_lem c.args.d.now c.args.room.now c.args.n c.args.pin.0 c.requires.2 _ _ _ c.look_up.ensures c.in-Value.is c.place_right.ensures
+pub returns-in-Some : goal.returns-in-Some
+returns-in-Some c =
+    pin_value_lem c.args.d.now c.args.room.now c.args.n c.args.pin.0 c.requires.2 _ _ _ c.look_up.ensures c.in-Some.is c.place_right.ensures
 
-pub returns-in-Missing : goal.returns-in-Missing
-returns-in-Missing c =
-    absurd (pin_missing c.args.d.now c.args.room.now c.args.n c.args.pin.0 c.requires.2 _ c.look_up.ensures c.in-Missing.is)
+pub returns-in-None : goal.returns-in-None
+returns-in-None c =
+    absurd (pin_missing c.args.d.now c.args.room.now c.args.n c.args.pin.0 c.requires.2 _ c.look_up.ensures c.in-None.is)

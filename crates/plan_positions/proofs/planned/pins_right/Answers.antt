@@ -1,31 +1,17 @@
-use mathlib.Core.Path.{refl, sym, ◌∙◌}
+-- The table has the entry of each listed pin.
+-- Assumes nothing.
+use Prim.Native.Nat.{◌^◌, ◌<◌}
 use native.Mathlib.Omega.{arith}
-use lib.ListN.{length}
-use Rattle.words.specs.Tests.{all_below}
-use Rattle.words.proofs.TestLaws.{all_on, all_less, all_fault}
+use borrow.Author.Rules.{rules}
+use lib.ListN.{get_or}
 use Rattle.plan_positions.specs.Places.{listed_pin_right}
 use Rattle.plan_positions.proofs.planned.pins_right.Goals as goal
 
-pub loop-i-init : goal.loop-i-init
-unfolding all_below
-loop-i-init c = (omega arith, refl)
-
-pub overflow_cast-pin : goal.overflow_cast-pin
-overflow_cast-pin c =
-    omega (arith, (c.requires.2 c.loop-i.i c.loop-i-test.true).small)
-
-pub pin_right-requires : goal.pin_right-requires
-pin_right-requires c =
-    (c.requires.0, c.requires.1, c.requires.2 c.loop-i.i c.loop-i-test.true)
-
-pub returns-then-not-pin_right : goal.returns-then-not-pin_right
-returns-then-not-pin_right c =
-    sym (all_fault (listed_pin_right c.args.d.now c.args.n c.args.list.now) (length c.args.list.now) c.loop-i.i c.loop-i-test.true (sym c.pin_right.ensures ∙ c.if-not-pin_right.true))
-
-pub loop-i-preserved : goal.loop-i-preserved
-loop-i-preserved c =
-    (omega (arith, c.loop-i-test.true), all_on (listed_pin_right c.args.d.now c.args.n c.args.list.now) c.loop-i.i c.loop-i.invariant.1 (sym c.pin_right.ensures ∙ c.if-not-pin_right.false))
+pub all_below-requires : goal.all_below-requires
+all_below-requires c = λ i h.
+    let held = c.requires.2 i h in
+    let small : get_or c.args.list.now i 0 < 2 ^ 32 = omega (arith, held.small) in
+    search (rules, held, c.requires)
 
 pub returns : goal.returns
-returns c =
-    sym (all_less (listed_pin_right c.args.d.now c.args.n c.args.list.now) (length c.args.list.now) c.loop-i.i (omega arith) c.loop-i.invariant.1)
+returns c = c.all_below.ensures (listed_pin_right c.args.d.now c.args.n c.args.list.now) (λ i h b e. search rules)

@@ -2,7 +2,6 @@
 -- rows of those before them have their rounds and piece sizes.
 -- Assumes nothing.
 use mathlib.Core.Path.{◌≡◌}
-use Prim.Native.Nat.{◌-◌}
 use lib.ListN.{length}
 use Rattle.plan_reads.specs.PartReadAnswers.{read_rows}
 use Rattle.plan_reads.proofs.CheckLaws.{Passing}
@@ -10,7 +9,4 @@ use Rattle.plan_reads.proofs.check.check_reads.Given as goal
 
 abbrev pub invariant-loop-p : goal.invariant-loop-p
 invariant-loop-p l =
-    Passing l.d l.parts l.at l.found l.p × (l.room ≡ read_rows l.d l.initial.room l.p) × (length l.keys ≡ length l.initial.keys) × (length l.scratch ≡ length l.initial.scratch) × (length l.set ≡ length l.initial.set)
-
-abbrev pub decreases-loop-p : goal.decreases-loop-p
-decreases-loop-p l = l.parts - l.p
+    Passing l.d l.at l.found l.p × (l.room ≡ read_rows l.d l.initial.room l.p) × (length l.keys ≡ length l.initial.keys) × (length l.scratch ≡ length l.initial.scratch) × (length l.set ≡ length l.initial.set)

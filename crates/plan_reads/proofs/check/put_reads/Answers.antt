@@ -14,4 +14,4 @@ put_cell-requires-2 c =
 
 pub returns : goal.returns
 returns c =
-    c.put_cell-2.ensures ∙ rw (c.size_of.ensures, c.put_cell.ensures, c.rounds_of.ensures)
+    c.put_cell-2.ensures ∙ rw (c.kept-placed.ensures.1, c.put_cell.ensures, c.kept-placed.ensures.0)

@@ -1,7 +1,7 @@
 -- `plan_reads::entries::first_entries` meets its contract. The loop's invariant: the first i entries are right, and below the slots.
 -- Assumes nothing.
 use mathlib.Core.Path.{◌≡◌}
-use Prim.Native.Nat.{ℕ, ◌-◌, ◌≤◌, ◌<◌}
+use Prim.Native.Nat.{ℕ, ◌<◌}
 use lib.ListN.{length, get_or}
 use Rattle.plan_record.specs.Record.{plan_lanes, slots_of}
 use Rattle.plan_reads.specs.Entries.{first_entry}
@@ -9,7 +9,4 @@ use Rattle.plan_reads.proofs.entries.first_entries.Given as goal
 
 abbrev pub invariant-loop-i : goal.invariant-loop-i
 invariant-loop-i l =
-    (l.i ≤ l.slots) × (length l.entries ≡ slots_of l.d) × ((k : ℕ) → k < l.i → (get_or l.entries k 0 ≡ first_entry (plan_lanes l.d) l.d l.p k) × (first_entry (plan_lanes l.d) l.d l.p k < slots_of l.d))
-
-abbrev pub decreases-loop-i : goal.decreases-loop-i
-decreases-loop-i l = l.slots - l.i
+    (length l.entries ≡ slots_of l.part.d.now) × ((k : ℕ) → k < l.i → (get_or l.entries k 0 ≡ first_entry (plan_lanes l.part.d.now) l.part.d.now l.part.p k) × (first_entry (plan_lanes l.part.d.now) l.part.d.now l.part.p k < slots_of l.part.d.now))

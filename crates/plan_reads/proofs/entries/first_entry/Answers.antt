@@ -12,15 +12,15 @@ returns-then-pin c = entry_empty _ _ _ (sym c.level_slot-pin.ensures ∙ c.if-pi
 
 pub bit_of_pin-requires : goal.bit_of_pin-requires
 bit_of_pin-requires c =
-    let slot-in : c.args.i < slots_of c.args.d.now = omega (arith, c.requires.2, c.requires.0.lanes) in
-    (omega arith, rw c.level_slot-pin.ensures (c.requires.3 c.args.i (slot-in) (λ z. c.if-pin.false (c.level_slot-pin.ensures ∙ z))))
+    let slot-in : c.args.i < slots_of c.args.part.now.d.now = omega (arith, c.requires.1, c.args.part.now.of.lanes) in
+    (omega arith, rw c.level_slot-pin.ensures (c.requires.2 c.args.i (slot-in) (λ z. c.if-pin.false (c.level_slot-pin.ensures ∙ z))))
 
 pub local_position-requires : goal.local_position-requires
 local_position-requires c =
-    let slot-in : c.args.i < slots_of c.args.d.now = omega (arith, c.requires.2, c.requires.0.lanes) in
-    rw (c.bit_of_pin.ensures.0, c.level_slot-pin.ensures) (c.requires.4 c.args.i (slot-in) (λ z. c.if-pin.false (c.level_slot-pin.ensures ∙ z))).placeable
+    let slot-in : c.args.i < slots_of c.args.part.now.d.now = omega (arith, c.requires.1, c.args.part.now.of.lanes) in
+    rw (c.bit_of_pin.ensures.0, c.level_slot-pin.ensures) (c.requires.3 c.args.i (slot-in) (λ z. c.if-pin.false (c.level_slot-pin.ensures ∙ z))).placeable
 
 pub returns : goal.returns
 returns c =
-    let slot-in : c.args.i < slots_of c.args.d.now = omega (arith, c.requires.2, c.requires.0.lanes) in
-    entry_local c.args.d.now c.args.set.now c.args.bases.now c.args.p c.args.i _ _ _ c.level_slot-pin.ensures c.if-pin.false (c.requires.4 c.args.i (slot-in) (λ z. c.if-pin.false (c.level_slot-pin.ensures ∙ z))) c.bit_of_pin.ensures.0 c.local_position.ensures
+    let slot-in : c.args.i < slots_of c.args.part.now.d.now = omega (arith, c.requires.1, c.args.part.now.of.lanes) in
+    entry_local c.args.part.now.d.now c.args.set.now c.args.bases.now c.args.part.now.p c.args.i _ _ _ c.level_slot-pin.ensures c.if-pin.false (c.requires.3 c.args.i (slot-in) (λ z. c.if-pin.false (c.level_slot-pin.ensures ∙ z))) c.bit_of_pin.ensures.0 c.local_position.ensures

@@ -8,16 +8,15 @@ use Rattle.plan_record.proofs.places.locations_in.Goals as goal
 
 pub loop-s-init : goal.loop-s-init
 unfolding locations_in sum_to
-loop-s-init c = (omega arith, refl, omega arith)
+loop-s-init c = (refl, omega arith)
 
 pub loop-s-preserved : goal.loop-s-preserved
 loop-s-preserved c = (
-  omega arith,
-  ap₂ ◌+◌ c.loop-s.invariant.1 c.word_at.ensures ∙ sym (locations_more c.args.d.now c.args.b c.loop-s.s c.args.e),
+  ap₂ ◌+◌ c.loop-s.invariant.0 c.word_at.ensures ∙ sym (locations_more c.args.d.now c.args.b c.loop-s.s c.args.e),
   omega arith,
 )
 
 pub returns : goal.returns
 returns c =
     let all : c.loop-s.s ≡ c.args.m = omega arith in
-    (c.loop-s.invariant.1 ∙ ap (λ (m : ℕ). locations_in c.args.d.now c.args.b m c.args.e) all, omega arith)
+    (c.loop-s.invariant.0 ∙ ap (λ (m : ℕ). locations_in c.args.d.now c.args.b m c.args.e) all, omega arith)

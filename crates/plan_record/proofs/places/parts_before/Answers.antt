@@ -8,16 +8,15 @@ use Rattle.plan_record.proofs.places.parts_before.Goals as goal
 
 pub loop-i-init : goal.loop-i-init
 unfolding parts_before sum_to
-loop-i-init c = (omega arith, refl, omega arith)
+loop-i-init c = (refl, omega arith)
 
 pub loop-i-preserved : goal.loop-i-preserved
 loop-i-preserved c = (
-  omega arith,
-  ap₂ ◌+◌ c.loop-i.invariant.1 c.word_at.ensures ∙ sym (parts_more c.args.d.now c.loop-i.i),
+  ap₂ ◌+◌ c.loop-i.invariant.0 c.word_at.ensures ∙ sym (parts_more c.args.d.now c.loop-i.i),
   omega arith,
 )
 
 pub returns : goal.returns
 returns c =
     let e : c.loop-i.i ≡ c.args.s = omega arith in
-    (c.loop-i.invariant.1 ∙ ap (parts_before c.args.d.now) e, omega arith)
+    (c.loop-i.invariant.0 ∙ ap (parts_before c.args.d.now) e, omega arith)

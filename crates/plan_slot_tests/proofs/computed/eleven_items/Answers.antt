@@ -1,38 +1,24 @@
-use mathlib.Core.Path.{sym, ap, ◌∙◌}
-use native.Mathlib.Omega.{arith}
-use Rattle.plan_record.proofs.RecordLaws.{lanes_range}
+-- Item 0 has no position. Another is passed with seven others where their positions are empty, and these are right.
+-- Assumes nothing.
+use mathlib.Core.Path.{ap, ◌∙◌}
+use Prim.Native.Nat.{ℕ, ◌+◌, ◌*◌, ◌-◌}
+use borrow.Author.Rules.{rules}
 use Rattle.plan_record.specs.Record.{plan_lanes}
-use Rattle.plan_slots.specs.Slots.{eleven_right}
+use Rattle.plan_record.proofs.RecordLaws.{lanes_range}
 use Rattle.words.specs.Found.{item_of}
-use Rattle.plan_slot_tests.proofs.ItemLaws.{item_is, zero_right, stage_next, stage_eight, stage_fault, stage_end}
+use Rattle.words.specs.Tests.{first_from}
+use Rattle.plan_slots.specs.Slots.{eleven_right, over_items}
+use Rattle.plan_slot_tests.specs.EmptyRuns.{eighth_empty}
+use Rattle.plan_slot_tests.proofs.ItemLaws.{zero_right}
 use Rattle.plan_slot_tests.proofs.SlotTestLaws.{eleven_zero}
 use Rattle.plan_slot_tests.proofs.EmptyRunLaws.{eleven_eight}
 use Rattle.plan_slot_tests.proofs.computed.eleven_items.Goals as goal
 
-pub loop-q-init : goal.loop-q-init
-loop-q-init c =
-    let from = zero_right (plan_lanes c.args.d.now) (eleven_right c.args.d.now c.args.p) c.args.s (lanes_range c.args.d.now).0 (eleven_zero c.args.d.now c.args.p c.args.s) in
-    (omega arith, omega arith, from)
-
-pub loop-q-preserved-then-eighth_empty : goal.loop-q-preserved-then-eighth_empty
-loop-q-preserved-then-eighth_empty c =
-    let n = plan_lanes c.args.d.now in
-    let eight = eleven_eight c.args.d.now c.args.p c.args.s c.loop-q.q c.loop-q.invariant.0 (sym c.eighth_empty.ensures ∙ c.if-eighth_empty.true) in
-    let (fits, on) = stage_eight n (eleven_right c.args.d.now c.args.p) c.args.s c.loop-q.q _ c.loop-q.invariant.2 (omega (arith, c.loop-q-test.true, c.requires.0.lanes)) eight in
-    (omega arith, omega (arith, fits, c.requires.0.lanes), on)
-
-pub loop-q-preserved : goal.loop-q-preserved
-loop-q-preserved c =
-    let n = plan_lanes c.args.d.now in
-    (omega arith, omega arith, stage_next n (eleven_right c.args.d.now c.args.p) c.args.s c.loop-q.q _ c.loop-q.invariant.2 (omega (arith, c.loop-q-test.true, c.requires.0.lanes)) (sym c.eleven_right.ensures ∙ c.if-eleven_right.true))
-
-pub returns-else-eleven_right : goal.returns-else-eleven_right
-returns-else-eleven_right c =
-    let n = plan_lanes c.args.d.now in
-    let item = item_is c.args.d.now c.args.p c.args.body c.args.s c.loop-q.q _ c.requires.0 c.item_at.ensures in
-    ap item_of (stage_fault n (eleven_right c.args.d.now c.args.p) c.args.s c.loop-q.q _ c.loop-q.invariant.2 c.item_at.result item (omega (arith, c.loop-q-test.true, c.requires.0.lanes)) (sym c.eleven_right.ensures ∙ c.if-eleven_right.false))
-
 pub returns : goal.returns
 returns c =
-    let n = plan_lanes c.args.d.now in
-    ap item_of (stage_end n (eleven_right c.args.d.now c.args.p) c.args.s c.loop-q.q _ c.loop-q.invariant.2 (omega (arith, c.requires.0.lanes)))
+    let d = c.args.part.now.d.now in
+    let p = c.args.part.now.p in
+    let right = eleven_right d p in
+    c.first_wrong.ensures right (eighth_empty d p c.args.s) (λ q h l b e. search rules) (λ q h l b e. search rules) (λ q h e. eleven_eight d p c.args.s q h e)
+    ∙ ap (λ (n : ℕ). item_of (first_from (over_items n right) (32 * n - 1) (32 * n * c.args.s + 1))) c.args.part.now.of.lanes
+    ∙ ap item_of (zero_right (plan_lanes d) right c.args.s (lanes_range d).0 (eleven_zero d p c.args.s))

@@ -6,4 +6,4 @@ use Rattle.plan_slot_tests.proofs.computed.eleven_part.Goals as goal
 
 pub eleven_stages-requires : goal.eleven_stages-requires
 eleven_stages-requires c =
-    (c.requires.0, filled_with c.args.table.now _ (read_puts c.args.d.now c.args.p) c.requires.2 c.fill_reads.ensures)
+    (filled_with c.args.table.now _ (read_puts c.args.part.now.d.now c.args.part.now.p) c.requires.1 c.fill_reads.ensures)

@@ -1,27 +1,16 @@
-use mathlib.Core.Path.{ap, sym, ◌∙◌}
-use native.Mathlib.Omega.{arith}
+-- The stages of the part, one run of items after the other.
+-- Assumes nothing.
+use mathlib.Core.Path.{ap, ◌∙◌}
+use borrow.Author.Rules.{rules}
 use Rattle.plan_record.specs.Record.{plan_lanes}
-use Rattle.plan_slots.specs.Slots.{eleven_right, over_items}
 use Rattle.words.specs.Found.{item_of}
-use Rattle.words.proofs.FoundLaws.{item_some, item_none}
-use Rattle.plan_slot_tests.proofs.ItemLaws.{stages_all, stages_next, stages_fault, stages_end}
+use Rattle.plan_slots.specs.Slots.{eleven_right, over_items}
+use Rattle.plan_slot_tests.proofs.ItemLaws.{stages_all}
 use Rattle.plan_slot_tests.proofs.computed.eleven_stages.Goals as goal
-
-pub loop-s-init : goal.loop-s-init
-loop-s-init c =
-    (omega arith, stages_all c.args.d.now (eleven_right c.args.d.now c.args.p) c.args.p c.args.body.stages c.requires.0.stages)
-
-pub loop-s-preserved : goal.loop-s-preserved
-loop-s-preserved c =
-    let n = plan_lanes c.args.d.now in
-    (omega (arith, c.loop-s-test.true), stages_next n (over_items n (eleven_right c.args.d.now c.args.p)) c.args.body.stages c.loop-s.s _ c.loop-s-test.true c.loop-s.invariant.1 (item_none _ (sym c.eleven_items.ensures ∙ c.in-Fine.is)))
-
-pub returns-in-At : goal.returns-in-At
-returns-in-At c =
-    let n = plan_lanes c.args.d.now in
-    ap item_of (stages_fault n (over_items n (eleven_right c.args.d.now c.args.p)) c.args.body.stages c.loop-s.s _ c.loop-s-test.true c.loop-s.invariant.1 _ (item_some _ _ (sym c.eleven_items.ensures ∙ c.in-At.is)))
 
 pub returns : goal.returns
 returns c =
-    let n = plan_lanes c.args.d.now in
-    ap item_of (stages_end n (over_items n (eleven_right c.args.d.now c.args.p)) c.args.body.stages c.loop-s.s _ c.loop-s-test.false c.loop-s.invariant.1)
+    let d = c.args.part.now.d.now in
+    let right = eleven_right d c.args.part.now.p in
+    c.first_of_stages.ensures (over_items (plan_lanes d) right) (plan_lanes d) (λ s h r e. search rules)
+    ∙ ap item_of (stages_all d right c.args.part.now.p c.args.part.now.body.stages c.args.part.now.of.stages)

@@ -7,4 +7,4 @@ use Rattle.plan_slot_tests.proofs.computed.refusal11.Goals as goal
 
 pub returns : goal.returns
 returns c =
-    record { value = c.eleven_parts-fault.ensures; room_after = c.clear.ensures ∙ ap (λ (n : ℕ). replicate n 0) c.room-1.given }
+    record { value = c.eleven_parts-fault.ensures; room_after = c.clear.ensures ∙ ap (λ (n : ℕ). replicate n 0) c.eleven_parts-fault.auto.room }

@@ -1,38 +1,24 @@
-use mathlib.Core.Path.{◌≡◌, sym, ap, ◌∙◌}
-use Prim.Native.Nat.{◌+◌, ◌*◌}
-use native.Mathlib.Omega.{arith}
+-- An item is passed with seven others where their slots are empty, and these are right.
+-- Assumes nothing.
+use mathlib.Core.Path.{ap, sym, ◌∙◌}
+use Prim.Native.Nat.{ℕ, ◌+◌, ◌*◌, ◌-◌}
+use borrow.Author.Rules.{rules}
 use Rattle.plan_record.specs.Record.{plan_lanes, slots_of}
-use Rattle.plan_slots.specs.Slots.{ten_right}
 use Rattle.words.specs.Found.{item_of}
-use Rattle.plan_slot_tests.proofs.ItemLaws.{item_is, stage_start, stage_next, stage_eight, stage_fault, stage_end}
+use Rattle.words.specs.Tests.{first_from}
+use Rattle.plan_slots.specs.Slots.{ten_right, over_items}
 use Rattle.plan_slot_tests.specs.EmptyRuns.{eighth_empty}
+use Rattle.plan_slot_tests.proofs.ItemLaws.{stage_start}
 use Rattle.plan_slot_tests.proofs.EmptyRunLaws.{ten_eight}
 use Rattle.plan_slot_tests.proofs.later.ten_items.Goals as goal
 
-pub loop-j-init : goal.loop-j-init
-loop-j-init c = (omega arith, stage_start _ _ _)
-
-pub loop-j-preserved-then-eighth_empty : goal.loop-j-preserved-then-eighth_empty
-loop-j-preserved-then-eighth_empty c =
-    let n = plan_lanes c.args.d.now in
-    let at : 32 * c.args.body.lanes + c.loop-j.j ≡ slots_of c.args.d.now + c.loop-j.j = omega (arith, c.requires.0.lanes) in
-    let told = c.eighth_empty.ensures ∙ ap (eighth_empty c.args.d.now c.args.p (c.args.s + 1)) at in
-    let eight = ten_eight c.args.d.now c.args.p c.args.s c.loop-j.j (sym told ∙ c.if-eighth_empty.true) in
-    let (fits, on) = stage_eight n (ten_right c.args.d.now c.args.p) (c.args.s + 1) c.loop-j.j _ c.loop-j.invariant.1 (omega (arith, c.loop-j-test.true, c.requires.0.lanes)) eight in
-    (omega (arith, fits, c.requires.0.lanes), on)
-
-pub loop-j-preserved : goal.loop-j-preserved
-loop-j-preserved c =
-    let n = plan_lanes c.args.d.now in
-    (omega arith, stage_next n (ten_right c.args.d.now c.args.p) (c.args.s + 1) c.loop-j.j _ c.loop-j.invariant.1 (omega (arith, c.loop-j-test.true, c.requires.0.lanes)) (sym c.ten_right.ensures ∙ c.if-ten_right.true))
-
-pub returns-else-ten_right : goal.returns-else-ten_right
-returns-else-ten_right c =
-    let n = plan_lanes c.args.d.now in
-    let item = item_is c.args.d.now c.args.p c.args.body (c.args.s + 1) c.loop-j.j _ c.requires.0 c.item_at.ensures in
-    ap item_of (stage_fault n (ten_right c.args.d.now c.args.p) (c.args.s + 1) c.loop-j.j _ c.loop-j.invariant.1 c.item_at.result item (omega (arith, c.loop-j-test.true, c.requires.0.lanes)) (sym c.ten_right.ensures ∙ c.if-ten_right.false))
-
 pub returns : goal.returns
 returns c =
-    let n = plan_lanes c.args.d.now in
-    ap item_of (stage_end n (ten_right c.args.d.now c.args.p) (c.args.s + 1) c.loop-j.j _ c.loop-j.invariant.1 (omega (arith, c.requires.0.lanes)))
+    let d = c.args.part.now.d.now in
+    let p = c.args.part.now.p in
+    let right = ten_right d p in
+    let empty = λ (j : ℕ). eighth_empty d p (c.args.s + 1) (32 * c.args.part.now.body.lanes + j) in
+    c.first_wrong.ensures right empty (λ j h l b e. search rules) (λ j h l b e. search rules)
+    (λ j h e. ten_eight d p c.args.s j (ap (λ (n : ℕ). eighth_empty d p (c.args.s + 1) (32 * n + j)) (sym c.args.part.now.of.lanes) ∙ e))
+    ∙ ap (λ (n : ℕ). item_of (first_from (over_items n right) (32 * n - 0) (32 * n * (c.args.s + 1) + 0))) c.args.part.now.of.lanes
+    ∙ ap item_of (stage_start (plan_lanes d) (over_items (plan_lanes d) right) (slots_of d * (c.args.s + 1)))

@@ -11,27 +11,27 @@ use Rattle.plan_slot_tests.proofs.later.ten_part.Goals as goal
 
 pub loop-s-init : goal.loop-s-init
 loop-s-init c =
-    (c.requires.1, refl, stages_first c.args.d.now (ten_right c.args.d.now c.args.p) c.args.p c.args.body.stages c.requires.0.stages c.requires.1 (ten_first c.args.d.now c.args.p))
+    (refl, stages_first c.args.part.now.d.now (ten_right c.args.part.now.d.now c.args.part.now.p) c.args.part.now.p c.args.part.now.body.stages c.args.part.now.of.stages c.requires.0 (ten_first c.args.part.now.d.now c.args.part.now.p))
 
 pub ten_stage-requires : goal.ten_stage-requires
 ten_stage-requires c =
-    (c.requires.0, c.loop-s-test.true, omega (arith, c.loop-s.invariant.1, c.requires.2))
+    (omega (arith, c.loop-s-test.true), omega (arith, c.loop-s.invariant.0, c.requires.1))
 
 pub loop-s-preserved : goal.loop-s-preserved
 loop-s-preserved c =
-    let n = plan_lanes c.args.d.now in
-    (c.loop-s-test.true, c.table-1.given ∙ c.loop-s.invariant.1, stages_next n (over_items n (ten_right c.args.d.now c.args.p)) c.args.body.stages (c.loop-s.s + 1) _ c.loop-s-test.true c.loop-s.invariant.2 (item_none _ (sym c.ten_stage.ensures ∙ c.in-Fine.is)))
+    let n = plan_lanes c.args.part.now.d.now in
+    (c.ten_stage.auto.table ∙ c.loop-s.invariant.0, stages_next n (over_items n (ten_right c.args.part.now.d.now c.args.part.now.p)) c.args.part.now.body.stages (c.loop-s.s + 1) _ (omega (arith, c.loop-s-test.true)) c.loop-s.invariant.1 (item_none _ (sym c.ten_stage.ensures ∙ c.in_default.is)))
 
-pub shape_of-table-in-At : goal.shape_of-table-in-At
-shape_of-table-in-At c =
-    c.table-1.given ∙ c.loop-s.invariant.1
+pub shape_of-table-in-Some : goal.shape_of-table-in-Some
+shape_of-table-in-Some c =
+    c.ten_stage.auto.table ∙ c.loop-s.invariant.0
 
-pub returns-in-At : goal.returns-in-At
-returns-in-At c =
-    let n = plan_lanes c.args.d.now in
-    (ap item_of (stages_fault n (over_items n (ten_right c.args.d.now c.args.p)) c.args.body.stages (c.loop-s.s + 1) _ c.loop-s-test.true c.loop-s.invariant.2 _ (item_some _ _ (sym c.ten_stage.ensures ∙ c.in-At.is))))
+pub returns-in-Some : goal.returns-in-Some
+returns-in-Some c =
+    let n = plan_lanes c.args.part.now.d.now in
+    ap item_of (stages_fault n (over_items n (ten_right c.args.part.now.d.now c.args.part.now.p)) c.args.part.now.body.stages (c.loop-s.s + 1) _ (omega (arith, c.loop-s-test.true)) c.loop-s.invariant.1 _ (item_some _ _ (sym c.ten_stage.ensures ∙ c.in-Some.is)))
 
 pub returns : goal.returns
 returns c =
-    let n = plan_lanes c.args.d.now in
-    (ap item_of (stages_end n (over_items n (ten_right c.args.d.now c.args.p)) c.args.body.stages (c.loop-s.s + 1) _ c.loop-s-test.false c.loop-s.invariant.2))
+    let n = plan_lanes c.args.part.now.d.now in
+    ap item_of (stages_end n (over_items n (ten_right c.args.part.now.d.now c.args.part.now.p)) c.args.part.now.body.stages (c.loop-s.s + 1) _ (omega arith) c.loop-s.invariant.1)

@@ -6,4 +6,4 @@ use Rattle.plan_slot_tests.proofs.later.ten_stage.Goals as goal
 
 pub ten_items-requires : goal.ten_items-requires
 ten_items-requires c =
-    (c.requires.0, c.requires.1, filled_with c.args.table.now _ (position_puts c.args.d.now c.args.p c.args.s) c.requires.2 c.fill_positions.ensures)
+    (c.requires.0, filled_with c.args.table.now _ (position_puts c.args.part.now.d.now c.args.part.now.p c.args.s) c.requires.1 c.fill_positions.ensures)

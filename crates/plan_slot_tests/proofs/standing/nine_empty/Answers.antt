@@ -10,10 +10,10 @@ use Rattle.plan_slot_tests.proofs.standing.nine_empty.Goals as goal
 
 pub returns-then-eighth_empty : goal.returns-then-eighth_empty
 returns-then-eighth_empty c =
-    let e : 32 * c.args.body.lanes + c.args.x ≡ slots_of c.args.d.now + c.args.x = omega (arith, c.requires.0.lanes) in
-    c.eighth_empty-then-eighth_empty.ensures ∙ ap (eighth_empty c.args.d.now c.args.p c.args.s) e
-    ∙ sym (ap (λ (t : Bool). t && eighth_empty c.args.d.now c.args.p c.args.s (slots_of c.args.d.now + c.args.x)) (sym c.eighth_empty.ensures ∙ c.if-eighth_empty.true))
+    let e : 32 * c.args.part.now.body.lanes + c.args.x ≡ slots_of c.args.part.now.d.now + c.args.x = omega (arith, c.args.part.now.of.lanes) in
+    c.eighth_empty-then-eighth_empty.ensures ∙ ap (eighth_empty c.args.part.now.d.now c.args.part.now.p c.args.s) e
+    ∙ sym (ap (λ (t : Bool). t && eighth_empty c.args.part.now.d.now c.args.part.now.p c.args.s (slots_of c.args.part.now.d.now + c.args.x)) (sym c.eighth_empty.ensures ∙ c.if-eighth_empty.true))
 
-pub returns : goal.returns
-returns c =
-    sym (ap (λ (t : Bool). t && eighth_empty c.args.d.now c.args.p c.args.s (slots_of c.args.d.now + c.args.x)) (sym c.eighth_empty.ensures ∙ c.if-eighth_empty.false))
+pub returns-else-eighth_empty : goal.returns-else-eighth_empty
+returns-else-eighth_empty c =
+    c.if-eighth_empty.false ∙ sym (ap (λ (t : Bool). t && eighth_empty c.args.part.now.d.now c.args.part.now.p c.args.s (slots_of c.args.part.now.d.now + c.args.x)) (sym c.eighth_empty.ensures ∙ c.if-eighth_empty.false))

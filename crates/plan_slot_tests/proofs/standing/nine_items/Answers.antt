@@ -11,11 +11,11 @@ use Rattle.plan_slot_tests.proofs.standing.nine_items.Goals as goal
 
 pub returns-then-pin_right : goal.returns-then-pin_right
 returns-then-pin_right c =
-    let right = nine_zero c.args.d.now c.args.p c.args.s ∙ (sym (c.pin_right.ensures ∙ ap pin_right c.level_slot.ensures) ∙ c.if-pin_right.true) in
-    c.nine_later.ensures ∙ ap item_of (zero_right (plan_lanes c.args.d.now) (nine_right c.args.d.now c.args.p) c.args.s (lanes_range c.args.d.now).0 right)
+    let right = nine_zero c.args.part.now.d.now c.args.part.now.p c.args.s ∙ (sym (c.pin_right.ensures ∙ ap pin_right c.level_slot.ensures) ∙ c.if-pin_right.true) in
+    c.nine_later.ensures ∙ ap item_of (zero_right (plan_lanes c.args.part.now.d.now) (nine_right c.args.part.now.d.now c.args.part.now.p) c.args.s (lanes_range c.args.part.now.d.now).0 right)
 
 pub returns : goal.returns
 returns c =
-    let item = item_is c.args.d.now c.args.p c.args.body c.args.s 0 _ c.requires.0 c.item_at.ensures in
-    let wrong = nine_zero c.args.d.now c.args.p c.args.s ∙ (sym (c.pin_right.ensures ∙ ap pin_right c.level_slot.ensures) ∙ c.if-pin_right.false) in
-    ap item_of (zero_fault (plan_lanes c.args.d.now) (nine_right c.args.d.now c.args.p) c.args.s (lanes_range c.args.d.now).0 c.item_at.result item wrong)
+    let item = item_is c.args.part.now.d.now c.args.part.now.p c.args.part.now.body c.args.s 0 _ c.args.part.now.of c.item_at.ensures in
+    let wrong = nine_zero c.args.part.now.d.now c.args.part.now.p c.args.s ∙ (sym (c.pin_right.ensures ∙ ap pin_right c.level_slot.ensures) ∙ c.if-pin_right.false) in
+    ap item_of (zero_fault (plan_lanes c.args.part.now.d.now) (nine_right c.args.part.now.d.now c.args.part.now.p) c.args.s (lanes_range c.args.part.now.d.now).0 c.item_at.result item wrong)

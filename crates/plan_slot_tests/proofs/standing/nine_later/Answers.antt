@@ -1,34 +1,22 @@
-use mathlib.Core.Path.{refl, sym, ap, ◌∙◌}
-use native.Mathlib.Omega.{arith}
-use Rattle.plan_record.specs.Record.{plan_lanes}
-use Rattle.plan_slots.specs.Slots.{nine_right}
+-- An item is passed with seven others where their slots and positions are empty, and these are right.
+-- Assumes nothing.
+use mathlib.Core.Path.{ap, ◌∙◌}
+use mathlib.Core.Bool.{◌&&◌}
+use Prim.Native.Nat.{ℕ, ◌+◌, ◌*◌, ◌-◌}
+use borrow.Author.Rules.{rules}
+use Rattle.plan_record.specs.Record.{slots_of}
 use Rattle.words.specs.Found.{item_of}
-use Rattle.plan_slot_tests.proofs.ItemLaws.{item_is, stage_next, stage_eight, stage_fault, stage_end}
+use Rattle.words.specs.Tests.{first_from}
+use Rattle.plan_slots.specs.Slots.{nine_right, over_items}
+use Rattle.plan_slot_tests.specs.EmptyRuns.{eighth_empty}
 use Rattle.plan_slot_tests.proofs.EmptyRunLaws.{nine_eight}
 use Rattle.plan_slot_tests.proofs.standing.nine_later.Goals as goal
 
-pub loop-x-init : goal.loop-x-init
-loop-x-init c = (omega arith, omega arith, refl)
-
-pub loop-x-preserved-then-nine_empty : goal.loop-x-preserved-then-nine_empty
-loop-x-preserved-then-nine_empty c =
-    let n = plan_lanes c.args.d.now in
-    let eight = nine_eight c.args.d.now c.args.p c.args.s c.loop-x.x c.loop-x.invariant.0 (sym c.nine_empty.ensures ∙ c.if-nine_empty.true) in
-    let (fits, on) = stage_eight n (nine_right c.args.d.now c.args.p) c.args.s c.loop-x.x _ c.loop-x.invariant.2 (omega (arith, c.loop-x-test.true, c.requires.0.lanes)) eight in
-    (omega arith, omega (arith, fits, c.requires.0.lanes), on)
-
-pub loop-x-preserved : goal.loop-x-preserved
-loop-x-preserved c =
-    let n = plan_lanes c.args.d.now in
-    (omega arith, omega arith, stage_next n (nine_right c.args.d.now c.args.p) c.args.s c.loop-x.x _ c.loop-x.invariant.2 (omega (arith, c.loop-x-test.true, c.requires.0.lanes)) (sym c.nine_right.ensures ∙ c.if-nine_right.true))
-
-pub returns-else-nine_right : goal.returns-else-nine_right
-returns-else-nine_right c =
-    let n = plan_lanes c.args.d.now in
-    let item = item_is c.args.d.now c.args.p c.args.body c.args.s c.loop-x.x _ c.requires.0 c.item_at.ensures in
-    ap item_of (stage_fault n (nine_right c.args.d.now c.args.p) c.args.s c.loop-x.x _ c.loop-x.invariant.2 c.item_at.result item (omega (arith, c.loop-x-test.true, c.requires.0.lanes)) (sym c.nine_right.ensures ∙ c.if-nine_right.false))
-
 pub returns : goal.returns
 returns c =
-    let n = plan_lanes c.args.d.now in
-    ap item_of (stage_end n (nine_right c.args.d.now c.args.p) c.args.s c.loop-x.x _ c.loop-x.invariant.2 (omega (arith, c.requires.0.lanes)))
+    let d = c.args.part.now.d.now in
+    let p = c.args.part.now.p in
+    let right = nine_right d p in
+    let empty = λ (x : ℕ). eighth_empty d p c.args.s x && eighth_empty d p c.args.s (slots_of d + x) in
+    c.first_wrong.ensures right empty (λ x h l b e. search rules) (λ x h l b e. search rules) (λ x h e. nine_eight d p c.args.s x h e)
+    ∙ ap (λ (n : ℕ). item_of (first_from (over_items n right) (32 * n - 1) (32 * n * c.args.s + 1))) c.args.part.now.of.lanes

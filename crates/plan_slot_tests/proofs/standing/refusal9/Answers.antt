@@ -6,8 +6,8 @@ use Rattle.words.proofs.FoundLaws.{pass_start, pass_fault, pass_next, pass_end}
 use Rattle.plan_slot_tests.proofs.ItemLaws.{form_majors, form_ready}
 use Rattle.plan_slot_tests.proofs.standing.refusal9.Goals as goal
 
-pub parts_of-parts-requires : goal.parts_of-parts-requires
-parts_of-parts-requires c = form_majors c.args.d.now c.requires.0
+pub parts_of-p-end-requires : goal.parts_of-p-end-requires
+parts_of-p-end-requires c = form_majors c.args.d.now c.requires.0
 
 pub first_body-at-requires : goal.first_body-at-requires
 first_body-at-requires c = form_majors c.args.d.now c.requires.0
@@ -15,20 +15,20 @@ first_body-at-requires c = form_majors c.args.d.now c.requires.0
 pub loop-p-init : goal.loop-p-init
 unfolding refusal9
 loop-p-init c =
-    (omega arith, c.first_body-at.ensures.0, pass_start (λ q. bad_item c.args.d.now (nine_right c.args.d.now q) q) c.parts_of-parts.result ∙ ap (lowest (λ q. bad_item c.args.d.now (nine_right c.args.d.now q) q)) c.parts_of-parts.ensures.0)
+    (c.first_body-at.ensures.0, pass_start (λ q. bad_item c.args.d.now (nine_right c.args.d.now q) q) c.parts_of-p-end.result ∙ ap (lowest (λ q. bad_item c.args.d.now (nine_right c.args.d.now q) q)) c.parts_of-p-end.ensures.0)
 
-pub body_at-body-requires : goal.body_at-body-requires
-body_at-body-requires c =
-    form_ready c.args.d.now c.requires.0 _ c.loop-p.p c.loop-p.at c.parts_of-parts.ensures.0 c.loop-p-test.true c.loop-p.invariant.1
+pub at-part-requires : goal.at-part-requires
+at-part-requires c =
+    form_ready c.args.d.now c.requires.0 _ c.loop-p.p c.loop-p.at c.parts_of-p-end.ensures.0 c.loop-p-test.true c.loop-p.invariant.0
 
 pub loop-p-preserved : goal.loop-p-preserved
 loop-p-preserved c =
-    (omega (arith, c.loop-p-test.true), c.body_at-body.ensures.end, pass_next (λ q. bad_item c.args.d.now (nine_right c.args.d.now q) q) _ c.loop-p.p _ c.loop-p.invariant.2 c.loop-p-test.true c.nine_part.result c.nine_part.ensures c.in-Fine.is)
+    (c.at-part.ensures.2.end, pass_next (λ q. bad_item c.args.d.now (nine_right c.args.d.now q) q) _ c.loop-p.p _ c.loop-p.invariant.1 c.loop-p-test.true c.nine_part.result (rw (c.at-part.ensures.0, c.at-part.ensures.1) at c.nine_part.ensures) c.in_default.is)
 
-pub returns-in-At : goal.returns-in-At
-returns-in-At c =
-    pass_fault (λ q. bad_item c.args.d.now (nine_right c.args.d.now q) q) _ c.loop-p.p _ c.loop-p.invariant.2 c.loop-p-test.true c.nine_part.result c.nine_part.ensures _ c.in-At.is
+pub returns-in-Some : goal.returns-in-Some
+returns-in-Some c =
+    pass_fault (λ q. bad_item c.args.d.now (nine_right c.args.d.now q) q) _ c.loop-p.p _ c.loop-p.invariant.1 c.loop-p-test.true c.nine_part.result (rw (c.at-part.ensures.0, c.at-part.ensures.1) at c.nine_part.ensures) _ c.in-Some.is
 
 pub returns : goal.returns
 returns c =
-    pass_end (λ q. bad_item c.args.d.now (nine_right c.args.d.now q) q) _ c.loop-p.p _ c.loop-p.invariant.2 c.loop-p-test.false
+    pass_end (λ q. bad_item c.args.d.now (nine_right c.args.d.now q) q) _ c.loop-p.p _ c.loop-p.invariant.1 (omega arith)

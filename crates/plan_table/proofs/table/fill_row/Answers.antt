@@ -9,5 +9,5 @@ put_body-requires c =
 
 pub returns : goal.returns
 returns c =
-    row_filled _ _ _ _ _ c.args.body c.counts_of-counts.result c.put_body.ensures c.put_counts.ensures
+    row_filled _ _ _ _ _ c.args.part.now.body c.counts_of-counts.result c.put_body.ensures c.put_counts.ensures
     c.requires.0.countable.body c.counts_of-counts.ensures

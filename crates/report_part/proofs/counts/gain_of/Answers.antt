@@ -27,4 +27,4 @@ returns c =
     let inside-in : let a = c.args in length a.set.now / 2 ≤ a.n * c.count_lanes-held.result.rounds = pairs_inside c.requires _ (rounds-in) in
     gain_is c.requires c.args.stages c.count_lanes-held.result.bits c.count_lanes-held.result.lanes c.count_lanes-held.result.rounds (c.args.n * c.count_lanes-held.result.rounds - length c.args.set.now / 2) _
     (ap (λ (x : Counted). x.bits) c.count_lanes-held.ensures) (ap (λ (x : Counted). x.lanes) c.count_lanes-held.ensures) (rounds-in)
-    (omega (arith, inside-in)) c.words_of.ensures
+    (omega (arith, inside-in)) c.part_words.ensures

@@ -1,6 +1,7 @@
 -- `report_part::outcome::judge`: each way through has its outcome; the table of lanes that are accepted is theirs.
 -- Assumes nothing.
-use mathlib.Core.Path.{◌≡◌, sym, ◌∙◌}
+use mathlib.Core.Path.{◌≡◌, sym, ap, ◌∙◌}
+use Rattle.std.specs.Prelude.{Err}
 use mathlib.Core.Option.{none}
 use Prim.Native.Nat.{ℕ, ◌^◌, ◌≤◌, ◌<◌}
 use lib.ListN.{length, get_or}
@@ -16,13 +17,13 @@ use Rattle.report_part.proofs.outcome.judge.Goals as goal
 pub returns-then-set-gt-SET_WORDS : goal.returns-then-set-gt-SET_WORDS
 returns-then-set-gt-SET_WORDS c =
     let b = became_refused c.args.n c.args.set.now _ (nowhere 1) _ (handed_many c.args.n c.args.set.now c.args.lanes.now c.if-set-gt-SET_WORDS.true) in
-    record { value = c.refused.ensures ∙ b.0; lanes_lie = b.1 }
+    record { value = ap Err c.nowhere.ensures ∙ b.0; lanes_lie = b.1 }
 
-pub returns-in-At : goal.returns-in-At
-returns-in-At c =
-    let bad = item_some _ _ (sym c.check_form.ensures ∙ c.in-At.is) in
+pub returns-in-Some : goal.returns-in-Some
+returns-in-Some c =
+    let bad = item_some _ _ (sym c.check_form.ensures ∙ c.in-Some.is) in
     let b = became_refused c.args.n c.args.set.now _ (at_item 2 _) _ (handed_bad c.args.n c.args.set.now c.if-set-gt-SET_WORDS.false c.args.lanes.now _ bad) in
-    record { value = c.refused-in-At.ensures ∙ b.0; lanes_lie = b.1 }
+    record { value = ap Err c.at_item.ensures ∙ b.0; lanes_lie = b.1 }
 
 pub returns-then-set-eq0 : goal.returns-then-set-eq0
 returns-then-set-eq0 c =
@@ -30,7 +31,7 @@ returns-then-set-eq0 c =
     let form_in : broken (pairs_of c.args.set.now) ≡ none = item_none _ (sym c.check_form.ensures ∙ c.in_default.is) in
     let a = c.args in
     let b = became_refused a.n a.set.now _ (nowhere 3) _ (handed_empty a.n a.set.now (few-in) a.lanes.now (form_in) c.if-set-eq0.true) in
-    record { value = c.refused-then-set-eq0.ensures ∙ b.0; lanes_lie = b.1 }
+    record { value = ap Err c.nowhere-then-set-eq0.ensures ∙ b.0; lanes_lie = b.1 }
 
 pub fill_lanes-requires : goal.fill_lanes-requires
 fill_lanes-requires c =
@@ -44,14 +45,14 @@ fill_lanes-requires c =
       marks = search rules;
     }
 
-pub returns-in-At-fill_lanes : goal.returns-in-At-fill_lanes
-returns-in-At-fill_lanes c =
+pub returns-in-Some-fill_lanes : goal.returns-in-Some-fill_lanes
+returns-in-Some-fill_lanes c =
     let few-in : length c.args.set.now ≤ 16384 = c.if-set-gt-SET_WORDS.false in
     let form_in : broken (pairs_of c.args.set.now) ≡ none = item_none _ (sym c.check_form.ensures ∙ c.in_default.is) in
     let a = c.args in
-    let wrong = item_some _ _ (sym c.fill_lanes.ensures.value ∙ c.in-At-fill_lanes.is) in
+    let wrong = item_some _ _ (sym c.fill_lanes.ensures.value ∙ c.in-Some-fill_lanes.is) in
     let b = became_refused a.n a.set.now _ (at_item 27 _) _ (handed_fault a.n a.set.now (few-in) a.lanes.now (form_in) c.if-set-eq0.false _ wrong) in
-    record { value = c.refused-in-At-fill_lanes.ensures ∙ b.0; lanes_lie = b.1 }
+    record { value = ap Err c.at_item-in-Some-fill_lanes.ensures ∙ b.0; lanes_lie = b.1 }
 
 pub returns : goal.returns
 returns c =

@@ -9,11 +9,11 @@ use Rattle.run_form.proofs.form.part_form.Goals as goal
 pub returns-then-not-head_form : goal.returns-then-not-head_form
 returns-then-not-head_form c = part_bad _ _ _ _ _ _ (sym c.head_form.ensures ∙ c.if-not-head_form.true)
 
-pub body_form-requires : goal.body_form-requires
+pub invariant_of-part : goal.invariant_of-part
 unfolding end_at
-body_form-requires c =
+invariant_of-part c =
     let ends = head_ends _ _ _ _ (sym c.head_form.ensures ∙ c.if-not-head_form.false) in
-    record { lanes = c.requires.0; inside = omega (arith, ends.1) }
+    record { inside = record { lanes = c.args.rest.now.edition; inside = omega (arith, c.args.rest.now.within, ends.1) } }
 
 pub returns : goal.returns
 returns c = part_rest _ _ _ _ _ _ _ (sym c.head_form.ensures ∙ c.if-not-head_form.false) c.body_form.ensures

@@ -4,8 +4,8 @@ use Prim.Native.Nat.{◌-◌}
 use Rattle.run_form.proofs.BlockFormLaws.{PartsGoing}
 use Rattle.run_form.proofs.form.parts_form.Given as goal
 
-abbrev pub invariant-loop-o : goal.invariant-loop-o
-invariant-loop-o l = PartsGoing l.n l.words l.s l.t l.e l.at l.o
+abbrev pub invariant-loop-script : goal.invariant-loop-script
+invariant-loop-script l = PartsGoing l.script.lanes l.script.words.now l.states.old l.states.new l.end l.block.at l.at
 
-abbrev pub decreases-loop-o : goal.decreases-loop-o
-decreases-loop-o l = l.e - l.o
+abbrev pub decreases-loop-script : goal.decreases-loop-script
+decreases-loop-script l = l.end - l.at

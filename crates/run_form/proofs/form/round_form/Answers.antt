@@ -1,27 +1,15 @@
-use mathlib.Core.Path.{◌≡◌}
+-- Each pair is tested by itself.
+-- Assumes nothing.
+use mathlib.Core.Bool.{Bool}
 use Prim.Native.Nat.{ℕ}
-use native.Mathlib.Omega.{arith}
-use Rattle.words.specs.Tests.{all_below}
-use Rattle.words.proofs.TestLaws.{all_on, all_fault}
+use borrow.Author.Rules.{rules}
+use Rattle.run_machine.specs.Part.{read_word_at, read_mask_at}
 use Rattle.run_form.specs.PartForm.{read_form}
-use mathlib.Core.Path.{refl, sym, ap₂, ◌∙◌}
 use Rattle.run_form.proofs.form.round_form.Goals as goal
-
-pub loop-i-init : goal.loop-i-init
-unfolding all_below
-loop-i-init c = (omega arith, refl)
-
-pub returns-then-not-pair_form : goal.returns-then-not-pair_form
-returns-then-not-pair_form c =
-    let good = c.pair_form.ensures ∙ ap₂ (λ (w m : ℕ). read_form w m c.args.s c.args.t) c.pair.ensures.0 c.pair.ensures.1 in
-    sym (all_fault _ _ _ c.loop-i-test.true (sym good ∙ c.if-not-pair_form.true))
-
-pub loop-i-preserved : goal.loop-i-preserved
-loop-i-preserved c =
-    let good = c.pair_form.ensures ∙ ap₂ (λ (w m : ℕ). read_form w m c.args.s c.args.t) c.pair.ensures.0 c.pair.ensures.1 in
-    (omega arith, all_on _ _ c.loop-i.invariant.1 (sym good ∙ c.if-not-pair_form.false))
 
 pub returns : goal.returns
 returns c =
-    let e : c.loop-i.i ≡ c.args.n = omega arith in
-    sym (rw e at c.loop-i.invariant.1)
+    let n = c.args.part.now.script.lanes in
+    let W = c.args.part.now.script.words.now in
+    let f : ℕ → Bool = λ i. read_form (read_word_at n W c.args.part.now.at c.args.r i) (read_mask_at n W c.args.part.now.at c.args.r i) c.args.states.old c.args.states.new in
+    c.all_below.ensures f (λ i h b e. search rules)

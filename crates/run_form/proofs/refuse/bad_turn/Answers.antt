@@ -1,24 +1,16 @@
-use Prim.Native.Nat.{◌-◌}
-use native.Mathlib.Omega.{arith}
-use borrow.Author.Tests.{lt-ltb, le-ltb}
+-- Each turn is tested by itself.
+-- Assumes nothing.
+use mathlib.Core.Bool.{Bool}
+use Prim.Native.Nat.{ℕ, ◌-◌}
+use borrow.Author.Rules.{rules}
+use borrow.Author.Tests.{tests}
+use lib.Dec.{ltb}
 use lib.ListN.{length, get_or}
-use Rattle.words.proofs.FoundLaws.{look_fault, look_next, look_end}
-use Rattle.run_form.proofs.RefuseLaws.{turn_good, first_turn}
+use Rattle.run_machine.specs.Run.{bad_turn}
 use Rattle.run_form.proofs.refuse.bad_turn.Goals as goal
 
-pub loop-i-init : goal.loop-i-init
-loop-i-init c = (omega arith, c.blocks_of-blocks.ensures, first_turn _ _)
-
-pub overflow_cast-turns : goal.overflow_cast-turns
-overflow_cast-turns c = omega (arith, c.type_inv.turns c.loop-i.i)
-
-pub returns-then-blocks-turns : goal.returns-then-blocks-turns
-returns-then-blocks-turns c =
-    look_fault (turn_good c.args.starts.now c.args.turns.now) (length c.args.turns.now) c.loop-i.i _ c.loop-i.invariant.2 (omega arith) (le-ltb (get_or c.args.turns.now c.loop-i.i 0) (length c.args.starts.now - 1) (omega arith))
-
-pub loop-i-preserved : goal.loop-i-preserved
-loop-i-preserved c =
-    (omega arith, c.loop-i.invariant.1, look_next (turn_good c.args.starts.now c.args.turns.now) (length c.args.turns.now) c.loop-i.i _ c.loop-i.invariant.2 (omega arith) (lt-ltb (get_or c.args.turns.now c.loop-i.i 0) (length c.args.starts.now - 1) (omega arith)))
-
 pub returns : goal.returns
-returns c = look_end _ _ c.loop-i.i _ c.loop-i.invariant.2 (omega arith)
+unfolding bad_turn
+returns c =
+    let named : ℕ → Bool = λ i. ltb (get_or c.args.turns.now i 0) (length c.args.starts.now - 1) in
+    c.first_not.ensures named (λ i h b e. search (rules, tests))

@@ -11,13 +11,13 @@ use Rattle.run_turns.proofs.capture.capture.Goals as goal
 
 pub loop-l-init : goal.loop-l-init
 unfolding list_of
-loop-l-init c = (omega arith, c.normal-l-end.ensures, search rules, refl)
+loop-l-init c = (c.normal-l-end.ensures, search rules, refl)
 
 pub loop-l-preserved : goal.loop-l-preserved
 loop-l-preserved c =
-    (omega arith, c.loop-l.invariant.1, simp length-set c.loop-l.invariant.2, capture_more _ _ _ _ c.args.room.now _ _ _ c.loop-l.invariant.3 (omega arith) c.capture_word.ensures)
+    (c.loop-l.invariant.0, simp length-set c.loop-l.invariant.1, capture_more _ _ _ _ c.args.room.now _ _ _ c.loop-l.invariant.2 (omega (arith, c.args.part.now.captures.places c.loop-l.l (omega arith), c.args.part.now.part.inside.lanes.most)) c.capture_word.ensures)
 
 pub returns : goal.returns
 returns c =
-    let e : c.loop-l.l ≡ normal_at c.args.words.now c.args.at = omega arith in
-    c.loop-l.invariant.3 ∙ ap (sets c.args.room.now captured_from) (capture_end _ _ _ _ _ _ _ e)
+    let e : c.loop-l.l ≡ normal_at c.args.part.now.part.script.words.now c.args.part.now.part.at = omega arith in
+    c.loop-l.invariant.2 ∙ ap (sets c.args.room.now captured_from) (capture_end _ _ _ _ _ _ _ e)

@@ -1,7 +1,6 @@
 -- `run_turns::capture::capture` meets its contract. The invariant: l words are captured.
 -- Assumes nothing.
 use mathlib.Core.Path.{◌≡◌}
-use Prim.Native.Nat.{◌-◌, ◌≤◌}
 use lib.ListN.{length, drop}
 use lib.Seq.{sets}
 use Rattle.words.specs.Section.{list_of}
@@ -12,7 +11,5 @@ use Rattle.run_turns.proofs.capture.capture.Given as goal
 
 abbrev pub invariant-loop-l : goal.invariant-loop-l
 invariant-loop-l l =
-    (l.l ≤ l.l-end) × (l.l-end ≡ normal_at l.words l.at) × (length l.room ≡ block_room) × (l.room ≡ sets l.initial.room captured_from (list_of (captured_word l.n l.words l.at l.k l.initial.room (drop captured_from l.initial.room)) l.l))
-
-abbrev pub decreases-loop-l : goal.decreases-loop-l
-decreases-loop-l l = l.l-end - l.l
+    (l.l-end ≡ normal_at l.part.part.script.words.now l.part.part.at) × (length l.room ≡ block_room) × (l.room ≡ sets l.initial.room captured_from
+    (list_of (captured_word l.part.part.script.lanes l.part.part.script.words.now l.part.part.at l.k l.initial.room (drop captured_from l.initial.room)) l.l))

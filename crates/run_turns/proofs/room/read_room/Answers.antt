@@ -7,12 +7,11 @@ use Rattle.run_turns.proofs.BlockTurnLaws.{read_room_is}
 use Rattle.run_turns.proofs.room.read_room.Goals as goal
 
 pub slice_bounds-read_turn-end-2 : goal.slice_bounds-read_turn-end-2
-slice_bounds-read_turn-end-2 c = sym (length-take-le _ c.args.room.now (omega arith))
+slice_bounds-read_turn-end-2 c = sym (length-take-le _ c.args.room.now (omega (arith, c.args.turn.now.part.inside.lanes.most)))
 
 pub read_turn-requires : goal.read_turn-requires
-read_turn-requires c =
-    (c.requires.0, c.requires.1, length-take-le _ c.args.room.now (omega arith))
+read_turn-requires c = length-take-le _ c.args.room.now (omega (arith, c.args.turn.now.part.inside.lanes.most))
 
 pub returns : goal.returns
 returns c =
-    read_room_is _ c.requires.0.lanes _ _ c.args.room.now c.requires.2 _ _ _ _ c.read_turn.ensures c.clear.ensures
+    read_room_is _ c.args.turn.now.part.inside.lanes _ _ c.args.room.now c.requires _ _ _ _ c.read_turn.ensures (c.fill.ensures.after (λ y e. e))

@@ -7,12 +7,12 @@ use Rattle.run_turns.proofs.BlockTurnLaws.{stage_room_is}
 use Rattle.run_turns.proofs.room.stage_room.Goals as goal
 
 pub slice_bounds-stage_turn-end-2 : goal.slice_bounds-stage_turn-end-2
-slice_bounds-stage_turn-end-2 c = sym (length-take-le _ c.args.room.now (omega arith))
+slice_bounds-stage_turn-end-2 c = sym (length-take-le _ c.args.room.now (omega (arith, c.args.part.now.part.inside.lanes.most)))
 
 pub stage_turn-requires : goal.stage_turn-requires
 stage_turn-requires c =
-    (c.requires.0, c.requires.3, c.requires.1, length-take-le _ c.args.room.now (omega arith))
+    (c.requires.0, length-take-le _ c.args.room.now (omega (arith, c.args.part.now.part.inside.lanes.most)))
 
 pub returns : goal.returns
 returns c =
-    stage_room_is _ c.requires.0.lanes _ _ c.args.room.now c.requires.4 _ _ _ c.requires.2.places c.stage_turn.ensures c.capture.ensures
+    stage_room_is _ c.args.part.now.part.inside.lanes _ _ c.args.room.now c.requires.1 _ _ _ c.args.part.now.captures.places c.stage_turn.ensures c.capture.ensures

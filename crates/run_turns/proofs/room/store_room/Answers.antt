@@ -8,5 +8,5 @@ use Rattle.run_turns.proofs.room.store_room.Goals as goal
 
 pub returns : goal.returns
 returns c =
-    let few : normal_at c.args.words.now c.args.at ≤ 256 = omega (arith, c.requires.1.few) in
+    let few : normal_at c.args.turn.now.part.part.script.words.now c.args.turn.now.part.part.at ≤ 256 = omega (arith, c.args.turn.now.part.captures.few, c.args.turn.now.part.part.inside.lanes.most) in
     store_room_is _ _ _ _ _ c.args.room.now _ few c.store.ensures

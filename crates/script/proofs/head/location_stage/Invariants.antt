@@ -1,7 +1,7 @@
 -- The sums so far: where the stages passed end, and how many of them end at or before the location.
 -- Assumes nothing.
 use mathlib.Core.Path.{◌≡◌}
-use Prim.Native.Nat.{◌-◌, ◌*◌, ◌≤◌}
+use Prim.Native.Nat.{◌*◌, ◌≤◌}
 use Rattle.words.specs.Sum.{sum_to}
 use Rattle.plan_record.specs.Record.{stage_locations}
 use Rattle.script.proofs.HeadLaws.{ended_by}
@@ -9,7 +9,4 @@ use Rattle.script.proofs.head.location_stage.Given as goal
 
 abbrev pub invariant-loop-s : goal.invariant-loop-s
 invariant-loop-s l =
-    (l.s ≤ l.stages) × (l.end ≡ sum_to (stage_locations l.d l.p) l.s) × (l.end ≤ 4294967295 * l.s) × (l.ended ≡ ended_by l.d l.p l.l l.s) × (l.ended ≤ l.s)
-
-abbrev pub decreases-loop-s : goal.decreases-loop-s
-decreases-loop-s l = l.stages - l.s
+    (l.end ≡ sum_to (stage_locations l.part.d.now l.part.p) l.s) × (l.end ≤ 4294967295 * l.s) × (l.ended ≡ ended_by l.part.d.now l.part.p l.l l.s) × (l.ended ≤ l.s)

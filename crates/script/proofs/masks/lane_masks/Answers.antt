@@ -1,4 +1,4 @@
-use mathlib.Core.Path.{◌≡◌, refl, ap, ◌∙◌}
+use mathlib.Core.Path.{◌≡◌, refl}
 use Prim.Native.Nat.{◌+◌, ◌*◌}
 use native.Mathlib.Omega.{arith}
 use Rattle.words.specs.Bit.{word_of}
@@ -8,17 +8,16 @@ use Rattle.script.proofs.masks.lane_masks.Goals as goal
 
 pub loop-k-init : goal.loop-k-init
 unfolding word_of
-loop-k-init c = (omega arith, refl, refl, refl)
+loop-k-init c = (refl, refl, refl)
 
 pub loop-k-preserved : goal.loop-k-preserved
 loop-k-preserved c = (
-  omega arith,
-  word_more (λ i. xora_bit c.args.d.now c.args.p c.args.s (32 * c.args.w + i)) c.loop-k.k c.loop-k.xora c.masks_at-bits.result.xora (λ i. xora_lt c.args.d.now c.args.p c.args.s (32 * c.args.w + i)) (omega arith) c.loop-k.invariant.1 c.masks_at-bits.ensures.xora,
-  word_more (λ i. xorb_bit c.args.d.now c.args.p c.args.s (32 * c.args.w + i)) c.loop-k.k c.loop-k.xorb c.masks_at-bits.result.xorb (λ i. xorb_lt c.args.d.now c.args.p c.args.s (32 * c.args.w + i)) (omega arith) c.loop-k.invariant.2 c.masks_at-bits.ensures.xorb,
-  word_more (λ i. orb_bit c.args.d.now c.args.p c.args.s (32 * c.args.w + i)) c.loop-k.k c.loop-k.orb c.masks_at-bits.result.orb (λ i. orb_lt c.args.d.now c.args.p c.args.s (32 * c.args.w + i)) (omega arith) c.loop-k.invariant.3 c.masks_at-bits.ensures.orb,
+  word_more (λ i. xora_bit c.args.part.now.d.now c.args.part.now.p c.args.s (32 * c.args.w + i)) c.loop-k.k c.loop-k.xora c.masks_at-bits.result.xora (λ i. xora_lt c.args.part.now.d.now c.args.part.now.p c.args.s (32 * c.args.w + i)) (omega arith) c.loop-k.invariant.0 c.masks_at-bits.ensures.xora,
+  word_more (λ i. xorb_bit c.args.part.now.d.now c.args.part.now.p c.args.s (32 * c.args.w + i)) c.loop-k.k c.loop-k.xorb c.masks_at-bits.result.xorb (λ i. xorb_lt c.args.part.now.d.now c.args.part.now.p c.args.s (32 * c.args.w + i)) (omega arith) c.loop-k.invariant.1 c.masks_at-bits.ensures.xorb,
+  word_more (λ i. orb_bit c.args.part.now.d.now c.args.part.now.p c.args.s (32 * c.args.w + i)) c.loop-k.k c.loop-k.orb c.masks_at-bits.result.orb (λ i. orb_lt c.args.part.now.d.now c.args.part.now.p c.args.s (32 * c.args.w + i)) (omega arith) c.loop-k.invariant.2 c.masks_at-bits.ensures.orb,
 )
 
 pub returns : goal.returns
 returns c =
     let e : c.loop-k.k ≡ 32 = omega arith in
-    record { xora = c.loop-k.invariant.1 ∙ ap (word_of _) e; xorb = c.loop-k.invariant.2 ∙ ap (word_of _) e; orb = c.loop-k.invariant.3 ∙ ap (word_of _) e }
+    rw (c.loop-k.invariant.0, c.loop-k.invariant.1, c.loop-k.invariant.2, e)

@@ -27,4 +27,4 @@ cell_at-requires-6 c =
 
 pub returns : goal.returns
 returns c =
-    record { numbers_of = row_numbers _ _ c.requires.0 _ c.requires.1 _ c.requires.2 _ refl c.cell_at.ensures c.cell_at-3.ensures c.cell_at-5.ensures c.cell_at-6.ensures; last_value = (refl, c.cell_at-2.ensures, c.cell_at-4.ensures) }
+    record { numbers_of = row_numbers _ _ c.requires.0 _ c.requires.1 _ c.args.part.now.of _ refl c.cell_at.ensures c.cell_at-3.ensures c.cell_at-5.ensures c.cell_at-6.ensures; last_value = (refl, c.cell_at-2.ensures, c.cell_at-4.ensures) }

@@ -1,55 +1,22 @@
--- The part's script is written in the words that are lent for it; the room's first words are clear again.
+-- The part is part p of the plan.
 -- Assumes nothing.
-use mathlib.Core.Path.{refl}
-use native.Mathlib.Omega.{arith}
-use Rattle.script_layout.proofs.RowLaws.{next_in, next_is, lent_long, buildable, room_same, part_written}
+use Rattle.std.proofs.Common.{List, ℕ, ◌+◌, ap₂, ◌∙◌}
+use lib.Seq.{sets}
+use Rattle.plan_record.specs.Record.{plan_lanes}
+use Rattle.script_assembly.specs.WrittenSoFar.{length_of}
+use Rattle.script_layout.specs.Layout.{row_script}
+use Rattle.script_layout.proofs.RowLaws.{room_of_part}
 use Rattle.script_layout.proofs.parts.write_part.Goals as goal
 
-pub part_words-requires : goal.part_words-requires
-part_words-requires c = c.body_of-body.ensures.laid.lanes
-
-pub overflow_add-next : goal.overflow_add-next
-overflow_add-next c =
-    omega (arith, next_in c.args.d.now c.args.room.now c.requires.0.sound c.args.p c.requires.0.part c.numbers_of-x.result c.numbers_of-x.ensures.numbers_of c.args.at _ _ _ c.args.words.now c.body_of-body.ensures.lanes c.part_words.ensures.0 refl c.requires.0.fits, c.well_formed, c.ranges)
-
-pub offset_bounds-words-at : goal.offset_bounds-words-at
-offset_bounds-words-at c =
-    omega (arith, c.requires.0.fits, c.well_formed, c.ranges)
-
-pub slice_bounds-build_script-end : goal.slice_bounds-build_script-end
-slice_bounds-build_script-end c =
-    next_in c.args.d.now c.args.room.now c.requires.0.sound c.args.p c.requires.0.part c.numbers_of-x.result c.numbers_of-x.ensures.numbers_of c.args.at _ _ _ c.args.words.now c.body_of-body.ensures.lanes c.part_words.ensures.0 refl c.requires.0.fits
-
-pub build_script-requires : goal.build_script-requires
-build_script-requires c = (
-  buildable c.args.d.now c.args.room.now c.requires.0.sound c.args.p c.requires.0.part c.body_of-body.result c.body_of-body.ensures,
-  c.numbers_of-x.ensures.numbers_of,
-  omega (arith, c.requires.0.sound.ready.wide),
-  lent_long c.args.d.now c.args.room.now c.requires.0.sound c.args.p c.requires.0.part c.numbers_of-x.result c.numbers_of-x.ensures.numbers_of c.args.at _ _ _ c.args.words.now c.body_of-body.ensures.lanes c.part_words.ensures.0 refl c.requires.0.fits,
-  c.requires.1,
-)
-
-pub shape_of-room : goal.shape_of-room
-shape_of-room c =
-    c.build_script.auto.room
-
-pub shape_of-keys : goal.shape_of-keys
-shape_of-keys c =
-    c.build_script.auto.keys
-
-pub shape_of-scratch : goal.shape_of-scratch
-shape_of-scratch c =
-    c.build_script.auto.scratch
-
-pub shape_of-set : goal.shape_of-set
-shape_of-set c =
-    c.build_script.auto.set
+pub write_placed-requires : goal.write_placed-requires
+write_placed-requires c = (room_of_part c.part_of-part.ensures.0 c.part_of-part.ensures.1 c.requires.0, c.requires.1)
 
 pub returns : goal.returns
 returns c =
     record {
-      value = next_is c.args.d.now c.args.room.now c.requires.0.sound c.args.p c.requires.0.part c.numbers_of-x.result c.numbers_of-x.ensures.numbers_of c.args.at _ _ _ c.args.words.now c.body_of-body.ensures.lanes c.part_words.ensures.0 refl c.requires.0.fits;
-      room_unchanged = room_same c.args.d.now c.args.room.now c.requires.0.sound _ c.build_script.ensures.room_after;
-      words_after = part_written c.args.d.now c.args.room.now c.requires.0.sound c.args.p c.requires.0.part c.numbers_of-x.result c.numbers_of-x.ensures.numbers_of c.args.at _ _ _ c.args.words.now c.body_of-body.ensures.lanes c.part_words.ensures.0 refl c.requires.0.fits
-          c.args.last c.numbers_of-x.ensures.last_value _ c.build_script.auto.out c.build_script.ensures.out_after;
+      value = c.write_placed.ensures.value ∙ ap₂ (λ (d : List ℕ) (p : ℕ). c.args.at + length_of (plan_lanes d) d p) c.part_of-part.ensures.0 c.part_of-part.ensures.1;
+      room_unchanged = c.write_placed.ensures.room_unchanged;
+      words_after =
+          c.write_placed.ensures.words_after
+          ∙ ap₂ (λ (d : List ℕ) (p : ℕ). sets c.args.words.now c.args.at (row_script d c.args.room.now p c.args.last)) c.part_of-part.ensures.0 c.part_of-part.ensures.1;
     }

@@ -16,7 +16,7 @@ pub parts_before-end-requires : goal.parts_before-end-requires
 parts_before-end-requires c = omega (arith, (plan_formed _ _ c.requires.sound).head.majors, c.requires.stage)
 
 pub loop-k-init : goal.loop-k-init
-loop-k-init c = (omega arith, omega (arith, parts_are _ _ _ _ _ c.requires))
+loop-k-init c = omega (arith, parts_are _ _ _ _ _ c.requires)
 
 pub cell_at-p-requires : goal.cell_at-p-requires
 cell_at-p-requires c =
@@ -25,19 +25,19 @@ cell_at-p-requires c =
 
 pub cell_at-requires : goal.cell_at-requires
 cell_at-requires c =
-    let named : c.cell_at-p.result < parts_of c.args.d.now = omega (arith, c.cell_at-p.ensures, rank_in _ _ _ _ _ c.requires c.loop-k.k c.loop-k.invariant.0 (omega (arith, c.parts_before-end.ensures.0))) in
+    let named : c.cell_at-p.result < parts_of c.args.d.now = omega (arith, c.cell_at-p.ensures, rank_in _ _ _ _ _ c.requires c.loop-k.k c.loop-k.auto.k (omega (arith, c.parts_before-end.ensures.0))) in
     cell_in _ _ c.requires.sound _ (named) _ (omega arith)
 
 pub returns-then-cell_at-b : goal.returns-then-cell_at-b
 returns-then-cell_at-b c =
     let block : c.cell_at.result ≡ cell_at c.args.room.now (ranked_at c.args.room.now c.loop-k.k) col.block = c.cell_at.ensures ∙ ap (λ (p : ℕ). cell_at c.args.room.now p col.block) c.cell_at-p.ensures in
-    block_off _ _ _ _ _ c.requires c.loop-k.k c.loop-k.invariant.0 c.loop-k.invariant.1 (λ e. c.if-cell_at-b.true (block ∙ e))
+    block_off _ _ _ _ _ c.requires c.loop-k.k c.loop-k.auto.k c.loop-k.invariant (λ e. c.if-cell_at-b.true (block ∙ e))
 
 pub loop-k-preserved : goal.loop-k-preserved
 loop-k-preserved c =
     let block : c.cell_at.result ≡ cell_at c.args.room.now (ranked_at c.args.room.now c.loop-k.k) col.block = c.cell_at.ensures ∙ ap (λ (p : ℕ). cell_at c.args.room.now p col.block) c.cell_at-p.ensures in
-    (omega arith, block_on _ _ _ _ _ c.requires c.loop-k.k c.loop-k.invariant.0 (omega (arith, c.parts_before-end.ensures.0)) (sym (block) ∙ c.if-cell_at-b.false))
+    block_on _ _ _ _ _ c.requires c.loop-k.k c.loop-k.auto.k (omega (arith, c.parts_before-end.ensures.0)) (sym (block) ∙ c.if-cell_at-b.false)
 
 pub returns : goal.returns
 returns c =
-    omega (arith, to_in _ _ _ _ _ c.requires, c.parts_before-end.ensures.0, c.loop-k.invariant.1)
+    omega (arith, to_in _ _ _ _ _ c.requires, c.parts_before-end.ensures.0, c.loop-k.invariant)

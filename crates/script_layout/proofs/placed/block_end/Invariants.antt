@@ -1,11 +1,8 @@
 -- The loop's invariant: the ranks so far are the block's. The first rank of another block ends them, or the end of the major stage.
 -- Assumes nothing.
-use Prim.Native.Nat.{◌+◌, ◌-◌, ◌≤◌}
+use Prim.Native.Nat.{◌+◌, ◌≤◌}
 use Rattle.script_assembly.specs.WrittenSoFar.{first_rank}
 use Rattle.script_layout.proofs.placed.block_end.Given as goal
 
 abbrev pub invariant-loop-k : goal.invariant-loop-k
-invariant-loop-k l = (l.from ≤ l.k) × (l.k ≤ first_rank l.d l.s (l.b + 1))
-
-abbrev pub decreases-loop-k : goal.decreases-loop-k
-decreases-loop-k l = l.end - l.k
+invariant-loop-k l = l.k ≤ first_rank l.d l.s (l.b + 1)

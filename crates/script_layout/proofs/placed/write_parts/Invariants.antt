@@ -1,7 +1,7 @@
 -- The loop's invariant: the words of the parts before rank k stand from word `at` on.
 -- Assumes nothing.
 use mathlib.Core.Path.{◌≡◌}
-use Prim.Native.Nat.{◌+◌, ◌-◌, ◌≤◌}
+use Prim.Native.Nat.{◌+◌, ◌-◌}
 use lib.ListN.{length}
 use lib.Seq.{sets}
 use Rattle.plan_record.specs.Record.{plan_lanes}
@@ -10,14 +10,6 @@ use Rattle.script_layout.proofs.placed.write_parts.Given as goal
 
 abbrev pub invariant-loop-k : goal.invariant-loop-k
 invariant-loop-k l =
-    (l.from ≤ l.k)
-    × (l.k ≤ l.to)
-    × (l.room ≡ l.initial.room)
+    (l.room ≡ l.initial.room)
     × (l.next ≡ l.at + length (parts_words (plan_lanes l.d) l.d l.s (parts_in l.d l.s l.b) (l.k - l.from)))
     × (l.words ≡ sets l.initial.words l.at (parts_words (plan_lanes l.d) l.d l.s (parts_in l.d l.s l.b) (l.k - l.from)))
-    × (length l.keys ≡ length l.initial.keys)
-    × (length l.scratch ≡ length l.initial.scratch)
-    × (length l.set ≡ length l.initial.set)
-
-abbrev pub decreases-loop-k : goal.decreases-loop-k
-decreases-loop-k l = l.to - l.k

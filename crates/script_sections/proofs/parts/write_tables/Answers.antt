@@ -17,15 +17,15 @@ slice_bounds-write_sram-end c =
 
 pub slice_bounds-write_sram-end-2 : goal.slice_bounds-write_sram-end-2
 slice_bounds-write_sram-end-2 c =
-    let half : length (take (20 * c.args.body.lanes) c.args.out.now) ≡ 20 * c.args.body.lanes = length-take-le (20 * c.args.body.lanes) c.args.out.now (omega (arith, c.requires.1, c.requires.0.body.lanes)) in
+    let half : length (take (20 * c.args.part.now.body.lanes) c.args.out.now) ≡ 20 * c.args.part.now.body.lanes = length-take-le (20 * c.args.part.now.body.lanes) c.args.out.now (omega (arith, c.requires.1, c.requires.0.body.lanes)) in
     sym (half)
 
 pub write_sram-requires : goal.write_sram-requires
 write_sram-requires c =
-    let half : length (take (20 * c.args.body.lanes) c.args.out.now) ≡ 20 * c.args.body.lanes = length-take-le (20 * c.args.body.lanes) c.args.out.now (omega (arith, c.requires.1, c.requires.0.body.lanes)) in
+    let half : length (take (20 * c.args.part.now.body.lanes) c.args.out.now) ≡ 20 * c.args.part.now.body.lanes = length-take-le (20 * c.args.part.now.body.lanes) c.args.out.now (omega (arith, c.requires.1, c.requires.0.body.lanes)) in
     (c.requires.0, omega (arith, half, c.requires.0.body.lanes), c.requires.2)
 
 pub returns : goal.returns
 returns c =
-    let long : length c.write_sram.new.out ≡ 20 * c.args.body.lanes = omega (arith, ap length c.write_sram.ensures ∙ sram_length (plan_lanes c.args.d.now) c.args.d.now c.args.p, c.requires.0.body.lanes) in
-    two_parts (20 * c.args.body.lanes) c.args.out.now c.write_sram.new.out c.write_enables.new.out long ∙ ap₂ ◌++◌ c.write_sram.ensures c.write_enables.ensures
+    let long : length c.write_sram.new.out ≡ 20 * c.args.part.now.body.lanes = omega (arith, ap length c.write_sram.ensures ∙ sram_length (plan_lanes c.args.part.now.d.now) c.args.part.now.d.now c.args.part.now.p, c.requires.0.body.lanes) in
+    two_parts (20 * c.args.part.now.body.lanes) c.args.out.now c.write_sram.new.out c.write_enables.new.out long ∙ ap₂ ◌++◌ c.write_sram.ensures c.write_enables.ensures

@@ -10,4 +10,4 @@ later_entries-requires c =
 
 pub write_stage-requires : goal.write_stage-requires
 write_stage-requires c =
-    (c.requires.0, c.requires.1, record { is = c.later_entries.ensures; small = λ i l. entry_small c.args.d.now c.args.p c.args.s i }, c.requires.3)
+    (c.requires.0, c.requires.1, record { is = c.later_entries.ensures; small = λ i l. entry_small c.args.part.now.d.now c.args.part.now.p c.args.s i }, c.requires.3)

@@ -1,22 +1,22 @@
--- Three arrays of the full edition, lent as a word a lane each.
+-- The entries are lent, the masks are worked out lane by lane.
 -- Assumes nothing.
-use mathlib.Core.Path.{refl, sym}
-use Rattle.script_sections.proofs.ScriptLaws.{lent_long}
+use Rattle.std.proofs.Common.{rules}
+use Rattle.plan_record.specs.Record.{plan_lanes}
+use Rattle.script.specs.Script.{stage_entry, stage_section, xora_bit, xorb_bit, orb_bit, mask_word}
+use Rattle.script.proofs.SectionsLaws.{section_held, section_room}
 use Rattle.script_sections.proofs.stages.write_stage.Goals as goal
 
-pub slice_bounds-put_stage-end : goal.slice_bounds-put_stage-end
-slice_bounds-put_stage-end c =
-    sym (lent_long _ _ 256 refl c.requires.0.body.laid.lanes)
+pub write_section-requires-clause-room : goal.write_section-requires-clause-room
+write_section-requires-clause-room c =
+    let of = c.args.part.now.of in
+    section_room _ _ of.lanes of.laid.lanes (stage_entry (plan_lanes c.args.part.now.d.now) c.args.part.now.d.now c.args.part.now.p c.args.s) _ _ c.requires.2.is c.requires.2.small c.requires.3
 
-pub slice_bounds-put_stage-end-2 : goal.slice_bounds-put_stage-end-2
-slice_bounds-put_stage-end-2 c =
-    sym (lent_long _ _ 256 refl c.requires.0.body.laid.lanes)
+pub write_section-requires-clause-askable : goal.write_section-requires-clause-askable
+write_section-requires-clause-askable c = λ w h. (c.requires.0, c.requires.1, h)
 
-pub slice_bounds-put_stage-end-3 : goal.slice_bounds-put_stage-end-3
-slice_bounds-put_stage-end-3 c =
-    sym (lent_long _ _ 256 refl c.requires.0.body.laid.lanes)
-
-pub put_stage-requires : goal.put_stage-requires
-put_stage-requires c =
-    let room = lent_long _ _ 256 refl c.requires.0.body.laid.lanes in
-    (c.requires.0, c.requires.1, c.requires.2, record { first = room; second = room; third = room }, c.requires.3)
+pub returns : goal.returns
+unfolding stage_section
+returns c =
+    let d = c.args.part.now.d.now in
+    let p = c.args.part.now.p in
+    section_held _ _ c.args.part.now.of.lanes _ _ (mask_word (xora_bit d p c.args.s)) (mask_word (xorb_bit d p c.args.s)) (mask_word (orb_bit d p c.args.s)) _ (c.write_section.ensures _ _ _ (λ w h x e. search rules)) c.requires.2.is

@@ -1,9 +1,0 @@
--- The body's tables begin where the definition says.
--- Assumes nothing.
-use mathlib.Core.Path.{ap, ◌∙◌}
-use Prim.Native.Nat.{ℕ, ◌+◌}
-use Rattle.plan_record.specs.Record.{word_at}
-use Rattle.plan_record.proofs.bodies.table_word.Goals as goal
-
-pub returns : goal.returns
-returns c = c.word_in.ensures ∙ ap (λ (x : ℕ). word_at c.args.d.now (x + c.args.i)) c.requires.0.tables
