@@ -121,18 +121,22 @@ pub fn try_size(
     ensures held_after { held.new ≡ held_of (tried_lanes (tried_of lanes k set.now keys.now)) }
 {
     let n = set.len() / 2;
+    let mut ending = Ok(());
     let mut cur = 0;
-    for key in keys {
+    'pieces: for key in keys {
         let begin = (*key % 8192) as usize * k;
         let end = (begin + k).min(n);
-        for p in begin..end {
+        'pairs: for p in begin..end {
             match place(set, room, used, held, lanes, cur, p) {
                 Some(j) => cur = j,
-                None => return Err(Stuck { word: set[2 * p] }),
+                None => {
+                    ending = Err(Stuck { word: set[2 * p] });
+                    break 'pieces;
+                }
             }
         }
     }
-    Ok(())
+    ending
 }
 
 // Whether a pair from a to e has all 32 bits.
