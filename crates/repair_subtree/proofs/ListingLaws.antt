@@ -16,18 +16,9 @@ use Rattle.repair_nodes.specs.Clearing.{clearing}
 use Rattle.repair_nodes.proofs.PlacingLaws.{first_is, second_is}
 use Rattle.repair_nodes.proofs.JudgeLaws.{place_last, place_carry, place_split, placing_some, judged_known, judged_carry, judged_gate, judged_first, judged_second}
 use Rattle.repair_nodes.proofs.ReachLaws.{clearing_none, clearing_some, clearing_end, clearing_step}
-use Rattle.repair_subtree.specs.Subtree.{FirstBelow, SecondBelow, Added, SpotPuttable, Listable, Reachable}
+use Rattle.repair_subtree.specs.Subtree.{FirstBelow, SecondBelow, Added, SpotPuttable, Listable, Carried, Split, Reachable}
 use Rattle.repair_subtree.specs.declared.places.Place.{Place}
 use Rattle.repair_subtree.proofs.SubtreeLaws.{index_small, added_on}
-
--- the node is below its place, or at its level
-pub record Carried (gates levels list : List ℕ) (n h m q x : ℕ) : Type 0 where
-  pub listable : Listable gates levels list n h m q x
-  pub under : node_level levels x < h
-
-pub record Split (gates levels list : List ℕ) (n h m q x : ℕ) : Type 0 where
-  pub listable : Listable gates levels list n h m q x
-  pub level : node_level levels x ≡ h
 
 -- the placing at a place below
 abbrev pub placing_at : List ℕ → List ℕ → Place → ℕ → List Spot
@@ -84,6 +75,12 @@ module _ (gates levels list : List ℕ) (n h m q x : ℕ) where
 
       second-judged : Judged gates levels (h - 1) v
       second-judged = rw (ev ∙ sym (second_is gates x g e)) (judged_second gates levels h x c.listable.judged pos g c.level e)
+
+      pub first_known : (u < length levels) × (node_level levels u ≤ h - 1)
+      first_known = judged_known gates levels (h - 1) u first-judged
+
+      pub second_known : (v < length levels) × (node_level levels v ≤ h - 1)
+      second_known = judged_known gates levels (h - 1) v second-judged
 
       module _ (list₁ : List ℕ) (k : ℕ) (a : Added list n (spot q x ∷ []) list₁ k) (p r : Place) (b : FirstBelow h m q p) (d : SecondBelow h m q r) where
         split-is : placing gates levels h m q x ≡ spot q x ∷ (placing_at gates levels p u ++ placing_at gates levels r v)

@@ -110,6 +110,9 @@ added_on l l₁ l₂ n k j es fs a b =
       size = b.size ∙ a.size;
     }
 
+pub added_is : (l l₁ l₂ : List ℕ) (n k j : ℕ) (es : List Spot) → Added l n es l₁ k → l₂ ≡ l₁ → j ≡ k → Added l n es l₂ j
+added_is l l₁ l₂ n k j es a e f = record { count = f ∙ a.count; words = e ∙ a.words; size = ap length e ∙ a.size }
+
 -- ---- an empty subtree, by the two places below
 
 module _ (s : List ℕ) (h m q : ℕ) (pos : 0 < h) (e : slot_in s q ≡ empty) (p r : Place) (b : FirstBelow h m q p) (d : SecondBelow h m q r) where

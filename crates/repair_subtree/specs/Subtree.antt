@@ -5,7 +5,7 @@ use Rattle.std.proofs.lemmas.List.Edits.{sets}
 use Rattle.words.specs.Answer.{nowhere}
 use Rattle.words.specs.declared.refusals.Refusal.{Refusal}
 use Rattle.repair_nodes.specs.Stage.{Spot, spot_words}
-use Rattle.repair_nodes.specs.Placing.{placing, Judged}
+use Rattle.repair_nodes.specs.Placing.{node_level, placing, Judged}
 use Rattle.repair_nodes.specs.Clearing.{clearing}
 use Rattle.repair_subtree.specs.declared.places.Place.{Place}
 use Rattle.std.specs.declared.result.Result.{Result}
@@ -57,6 +57,15 @@ pub record SpotPuttable (list : List ℕ) (n q : ℕ) : Type 0 where
 pub record Listable (gates levels list : List ℕ) (n h m q x : ℕ) : Type 0 where
   pub judged : Judged gates levels h x
   pub room : 2 * (n + length (placing gates levels h m q x)) ≤ length list
+
+-- the node is below its place, or at its level
+pub record Carried (gates levels list : List ℕ) (n h m q x : ℕ) : Type 0 where
+  pub listable : Listable gates levels list n h m q x
+  pub under : node_level levels x < h
+
+pub record Split (gates levels list : List ℕ) (n h m q x : ℕ) : Type 0 where
+  pub listable : Listable gates levels list n h m q x
+  pub level : node_level levels x ≡ h
 
 -- what listing the slots that clearing reaches asks
 pub record Reachable (slots list : List ℕ) (n h m q : ℕ) : Type 0 where

@@ -10,7 +10,7 @@ ghost use Rattle.gatelist.specs.ListWords.{bad_list};
 ghost use Rattle.repair_nodes.specs.Stage.{spot, slot_in, empty_below};
 ghost use Rattle.repair_nodes.specs.Placing.{node_level, placing, bad_level, no_gate};
 ghost use Rattle.repair_nodes.specs.Clearing.{clearing};
-ghost use Rattle.repair_subtree.specs.Subtree.{judgement_of, refusal_of, worse_of, Added, SpotPuttable, Listable, Reachable};
+ghost use Rattle.repair_subtree.specs.Subtree.{judgement_of, refusal_of, worse_of, Added, SpotPuttable, Listable, Carried, Split, Reachable};
 
 use gatelist::{find_in, first_of, second_of};
 use places::Place;
@@ -116,7 +116,61 @@ fn put_spot(list: &mut [u32], n: usize, q: usize, node: Pin) -> usize
     n + 1
 }
 
-// Lists what placing a judged node puts: above its level it is carried down the same slot, at its level its gate is split to the two slots below.
+// A node above its level: its slot is listed, and the node is carried down the same slot.
+#[cycle(carry_down_split_gate)]
+pub fn carry_down(
+    gates: &[u32],
+    levels: &[u32],
+    list: &mut [u32],
+    n: usize,
+    at: Place,
+    node: Pin,
+) -> usize
+    requires { Carried gates.now levels.now list.old n at.level at.width at.index node.0 }
+    ensures { Added list.old n (placing gates.now levels.now at.level at.width at.index node.0) list.new result }
+{
+    let k = put_spot(list, n, at.index, node);
+    let below = at.first();
+    if level_of(levels, node) == below.level {
+        return split_gate(gates, levels, list, k, below, node);
+    }
+    carry_down(gates, levels, list, k, below, node)
+}
+
+// A node at its level: its slot is listed, and its gate is split to the two slots below.
+#[cycle(carry_down_split_gate)]
+pub fn split_gate(
+    gates: &[u32],
+    levels: &[u32],
+    list: &mut [u32],
+    n: usize,
+    at: Place,
+    node: Pin,
+) -> usize
+    requires { Split gates.now levels.now list.old n at.level at.width at.index node.0 }
+    ensures { Added list.old n (placing gates.now levels.now at.level at.width at.index node.0) list.new result }
+{
+    let mut k = put_spot(list, n, at.index, node);
+    if at.level == 0 {
+        return k;
+    }
+    let g = find_in(gates, node).unwrap();
+    let a = first_of(gates, g).pin();
+    let b = second_of(gates, g).pin();
+    let first = at.first();
+    let second = at.second();
+    if level_of(levels, a) == first.level {
+        k = split_gate(gates, levels, list, k, first, a);
+    } else {
+        k = carry_down(gates, levels, list, k, first, a);
+    }
+    if level_of(levels, b) == second.level {
+        return split_gate(gates, levels, list, k, second, b);
+    }
+    carry_down(gates, levels, list, k, second, b)
+}
+
+// Lists what placing a judged node puts: above its level it is carried, at its level split.
 pub fn list_placed(
     gates: &[u32],
     levels: &[u32],
@@ -128,20 +182,10 @@ pub fn list_placed(
     requires { Listable gates.now levels.now list.old n at.level at.width at.index node.0 }
     ensures { Added list.old n (placing gates.now levels.now at.level at.width at.index node.0) list.new result }
 {
-    let k = put_spot(list, n, at.index, node);
-    if at.level == 0 {
-        return k;
+    if level_of(levels, node) == at.level {
+        return split_gate(gates, levels, list, n, at, node);
     }
-    if level_of(levels, node) < at.level {
-        return list_placed(gates, levels, list, k, at.first(), node);
-    }
-    let g = find_in(gates, node).unwrap();
-    let a = first_of(gates, g).pin();
-    let b = second_of(gates, g).pin();
-    let first = at.first();
-    let second = at.second();
-    let j = list_placed(gates, levels, list, k, first, a);
-    list_placed(gates, levels, list, j, second, b)
+    carry_down(gates, levels, list, n, at, node)
 }
 
 // Lists the slots that clearing reaches.
