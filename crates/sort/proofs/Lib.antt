@@ -1,3 +1,4 @@
+pub mod MergeLaws
 pub mod SortEndLaws
 pub mod HalfSearchLaws
 pub mod SortLaws
