@@ -1,13 +1,23 @@
 -- Laws of a plan's gate list: those of `gatelist`, and on bits the code's operations are the definition's.
 -- Assumes nothing.
-use Rattle.std.proofs.Common.{◌≡◌, ℕ, zero, suc, ◌/◌, ◌%◌, ◌<◌, min, true, false, ◌&&◌, eqb, ltb, List, refl, ◌∙◌, ap₂, arith}
+use Rattle.std.proofs.Common.{◌≡◌, ℕ, zero, suc, ◌-◌, ◌/◌, ◌%◌, ◌<◌, min, true, false, ◌&&◌, eqb, ltb, List, refl, ◌∙◌, ap₂, arith}
 use mathlib.Core.Option.{none, some}
 use lib.Bits.{bit_and, bit_xor, differ}
 use Rattle.words.proofs.BitLaws.{differ_lt}
 use Rattle.sort.specs.HalfSearch.{Monotone, least}
 use Rattle.plan_record.specs.Record.{gates_of, gate_pin, gate_first, gate_second}
+use Rattle.words.specs.Tests.{first_from}
+use Rattle.words.proofs.FoundLaws.{look_start}
+use Rattle.gatelist.specs.GateList.{bad_over}
 use Rattle.gatelist.proofs.GateListLaws as over
-use Rattle.plan_gates.specs.Gates.{bad_gate, gate_of}
+use Rattle.plan_gates.specs.Gates.{gate_right, bad_gate, gate_of}
+
+-- ---- refusal 6, gate by gate
+
+-- the answer from the first gate on
+pub bad_from_lem : (d : List ℕ) → first_from (gate_right d) (gates_of d - 0) 0 ≡ bad_gate d
+unfolding bad_gate bad_over gate_right
+bad_from_lem d = look_start (gate_right d) (gates_of d)
 
 -- ---- a gate by its pin
 
