@@ -54,7 +54,7 @@ module _ (lanes : ℕ) (ws : List ℕ) (o : ℕ) (size : o ≡ 16384) where
   pub of_section : (s new : List ℕ) → new ≡ result_after (set_fitted lanes o (read_set lanes (pairs_of ws))) s → new ≡ result_after (set_fitted lanes 16384 (read_set lanes (pairs_of ws))) s
   of_section s new e = e ∙ ap (λ (x : Answer Packed). result_after x s) fitted-is
 
-room_size : (room set : List ℕ) → 16384 ≤ length room → length set ≡ length (take 16384 room) → length (set ++ drop 16384 room) ≡ length room
+pub room_size : (room set : List ℕ) → 16384 ≤ length room → length set ≡ length (take 16384 room) → length (set ++ drop 16384 room) ≡ length room
 room_size room set wide kept = omega (arith, length-append set (drop 16384 room), length-take-le 16384 room wide, length-drop 16384 room)
 
 -- the set at the front of 16384 words, which are the first of the room

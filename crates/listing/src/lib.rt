@@ -4,7 +4,7 @@
 mod answer;
 mod lines;
 
-ghost use Rattle.std.specs.Prelude.{◌≡◌, ◌≤◌, ◌<◌, length, take};
+ghost use Rattle.std.specs.Prelude.{◌≡◌, ◌≤◌, ◌<◌, length, take, replicate};
 ghost use Rattle.std.proofs.lemmas.List.Edits.{sets};
 ghost use Rattle.words.specs.Answer.{result_of};
 ghost use Rattle.reads.specs.ReadSet.{pairs_of};
@@ -56,7 +56,8 @@ fn rounds_of(
     }
 }
 
-// The answer to records, with the read section of its rounds. What the room, keys and scratch then hold is left open.
+// The answer to records, with the read section of its rounds. The room holds the read set, and is clear afterwards; what keys and scratch then
+// hold is left open.
 fn answer_to(
     s: &[u8],
     room: &mut [u32],
@@ -67,11 +68,19 @@ fn answer_to(
 ) -> Result<u32, Unlisted>
     requires { (16384 ≤ length room.old) × (length section.old ≡ 16384) × (length keys.old ≡ 8192) × (length scratch.old ≡ 8192) × (0 < lanes) × (lanes ≤ 256) }
     ensures value { result ≡ answer_to lanes (records s.now) }
+    ensures room_after { room.new ≡ replicate (length room.old) 0 }
     ensures section_after { section.new ≡ section_after lanes (records s.now) section.old }
 {
     match read_set_of(s, &mut room[..SET_WORDS], keys, scratch) {
-        Ok(n) => rounds_of(&room[..n], section, keys, scratch, lanes),
-        Err(byte) => Err(Unlisted::Record(byte)),
+        Ok(n) => {
+            let answer = rounds_of(&room[..n], section, keys, scratch, lanes);
+            clear(room);
+            answer
+        }
+        Err(byte) => {
+            clear(room);
+            Err(Unlisted::Record(byte))
+        }
     }
 }
 
@@ -115,7 +124,6 @@ pub fn list(
     let mut keys = [0u64; POSITIONS];
     let mut scratch = [0u64; POSITIONS];
     let answer = answer_to(records, room, &mut words, &mut keys, &mut scratch, lanes);
-    clear(room);
     let section = Section {
         words: &words,
         lanes,

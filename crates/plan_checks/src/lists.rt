@@ -18,10 +18,13 @@ pub fn check_lists(plan: &[u8], keys: &mut [u64], scratch: &mut [u64]) -> Result
     requires { (8192 ≤ length keys.old) × (8192 ≤ length scratch.old) }
     ensures { result ≡ verdict_of (list_refusal plan.now) }
 {
-    of_test(Reason::NoEdition, is_edition(edition_of(plan)))?;
-    of_test(Reason::PlanForm, plan_form(plan))?;
+    of_test(Reason::NoEdition.number(), is_edition(edition_of(plan)))?;
+    of_test(Reason::PlanForm.number(), plan_form(plan))?;
     of_gates(check_gates(plan))?;
-    of_lowest(Reason::WriteOuts, check_counts(plan, keys, scratch))
+    of_lowest(
+        Reason::WriteOuts.number(),
+        check_counts(plan, keys, scratch),
+    )
 }
 
 // Refusal 8.
@@ -35,5 +38,5 @@ pub fn check_totals(
     ensures value { result ≡ verdict_of (total_refusal plan.now) }
     ensures room_after { room.new ≡ allotted_room plan.now room.old }
 {
-    of_test(Reason::Totals, allot(plan, room, keys, scratch))
+    of_test(Reason::Totals.number(), allot(plan, room, keys, scratch))
 }

@@ -41,7 +41,7 @@ pub fn check_pins(plan: &[u8], room: &mut [u32]) -> Result<(), Refusal>
     ensures value { result ≡ verdict_of (pin_refusal plan.now) }
     ensures room_unchanged { room.new ≡ room.old }
 {
-    of_lowest(Reason::Slot, refusal9(plan))?;
-    of_lowest(Reason::NotInStageBefore, later_pins(plan, room))?;
-    of_lowest(Reason::ReadAndComputed, computed_pins(plan, room))
+    of_lowest(Reason::Slot.number(), refusal9(plan))?;
+    of_lowest(Reason::NotInStageBefore.number(), later_pins(plan, room))?;
+    of_lowest(Reason::ReadAndComputed.number(), computed_pins(plan, room))
 }

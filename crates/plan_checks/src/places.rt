@@ -15,6 +15,6 @@ pub fn check_places(plan: &[u8], room: &mut [u32], keys: &mut [u64]) -> Result<(
     ensures value { result ≡ verdict_of (place_refusal plan.now) }
     ensures room_unchanged { room.new ≡ room.old }
 {
-    of_lowest(Reason::NoPosition, refusal12(plan, room, keys))?;
-    of_lowest(Reason::TableEntry, refusal13(plan))
+    of_lowest(Reason::NoPosition.number(), refusal12(plan, room, keys))?;
+    of_lowest(Reason::TableEntry.number(), refusal13(plan))
 }

@@ -2,7 +2,6 @@
 ghost use Rattle.std.specs.Prelude.{◌≡◌, ◌^◌, ◌<◌};
 ghost use Rattle.std.proofs.Math.Option.{none};
 ghost use Rattle.words.specs.Answer.{at};
-ghost use Rattle.words.specs.Reasons.{number_of};
 ghost use Rattle.plan_refusals.specs.Refusals.{or_else, unless};
 ghost use Rattle.plan_refusals.specs.RefusalGroups.{Few};
 ghost use Rattle.plan_checks.specs.Verdicts.{verdict_of, lowest_place, list_place, unread_place, unread_number};
@@ -12,13 +11,18 @@ use words::found::Place;
 use words::refusals::{Reason, Refusal};
 
 // Refused at no place where a test fails.
-pub fn of_test(reason: Reason, right: bool) -> Result<(), Refusal>
-    ensures { result ≡ verdict_of (unless (number_of reason) right none) }
+// stays: a number and no `Reason`, here and in `of_lowest`, since both are public and took any number.
+pub fn of_test(number: u32, right: bool) -> Result<(), Refusal>
+    ensures { result ≡ verdict_of (unless number right none) }
 {
     if right {
         return Ok(());
     }
-    Err(Refusal::nowhere(reason))
+    Err(Refusal {
+        number,
+        part: 0,
+        item: 0,
+    })
 }
 
 pub fn of_gates(list: Option<usize>) -> Result<(), Refusal>
@@ -30,13 +34,18 @@ pub fn of_gates(list: Option<usize>) -> Result<(), Refusal>
     }
 }
 
-pub fn of_lowest(reason: Reason, found: Option<Place>) -> Result<(), Refusal>
+// Refused at the place that was found.
+pub fn of_lowest(number: u32, found: Option<Place>) -> Result<(), Refusal>
     requires { Few (lowest_place found) }
-    ensures { result ≡ verdict_of (or_else (number_of reason) (lowest_place found) none) }
+    ensures { result ≡ verdict_of (or_else number (lowest_place found) none) }
 {
     match found {
         None => Ok(()),
-        Some(place) => Err(Refusal::at(reason, place)),
+        Some(place) => Err(Refusal {
+            number,
+            part: place.part as u32,
+            item: place.item as u64,
+        }),
     }
 }
 

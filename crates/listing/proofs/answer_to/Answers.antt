@@ -1,10 +1,12 @@
 -- `listing::answer_to` meets its contract: a bad record, or what the rounds of the read set give.
 -- Assumes nothing.
-use mathlib.Core.Path.{sym, ◌∙◌}
+use mathlib.Core.Path.{sym, ap, ◌∙◌}
+use Prim.Native.Nat.{ℕ}
+use lib.ListN.{replicate}
 use lib.Seq.{length-take-le}
 use Rattle.listing_records.specs.Records.{records}
 use Rattle.listing_records.proofs.RecordBitLaws.{refused_in, keys_few}
-use Rattle.listing.proofs.AnswerToLaws.{to_bad, to_few, to_front, to_said, to_section}
+use Rattle.listing.proofs.AnswerToLaws.{to_bad, room_size, to_few, to_front, to_said, to_section}
 use Rattle.listing.proofs.answer_to.Goals as goal
 
 pub slice_bounds-read_set_of-end-2 : goal.slice_bounds-read_set_of-end-2
@@ -27,11 +29,16 @@ pub returns-in-Ok : goal.returns-in-Ok
 returns-in-Ok c =
     let is = sym c.in-Ok.is ∙ c.read_set_of.ensures.value in
     record {
-      value = to_said (records c.args.s.now) (keys_few _ 8192 0) c.args.room.now c.requires.0 c.read_set_of.ensures.set_after _ is c.args.lanes _ c.rounds_of.ensures.value;
-      section_after = to_section (records c.args.s.now) (keys_few _ 8192 0) c.args.room.now c.requires.0 c.read_set_of.ensures.set_after _ is c.args.lanes _ _ c.rounds_of.ensures.section_after;
+      value = to_said (records c.args.s.now) (keys_few _ 8192 0) c.args.room.now c.requires.0 c.read_set_of.ensures.set_after _ is c.args.lanes _ c.rounds_of-answer.ensures.value;
+      room_after = c.clear.ensures ∙ ap (λ (n : ℕ). replicate n 0) (room_size c.args.room.now c.read_set_of.new.set c.requires.0 c.read_set_of.auto.set);
+      section_after = to_section (records c.args.s.now) (keys_few _ 8192 0) c.args.room.now c.requires.0 c.read_set_of.ensures.set_after _ is c.args.lanes _ _ c.rounds_of-answer.ensures.section_after;
     }
 
 pub returns-in-Err : goal.returns-in-Err
 returns-in-Err c =
     let bad = to_bad c.args.lanes _ _ _ (refused_in _ _ _ (sym c.in-Err.is ∙ c.read_set_of.ensures.value)) in
-    record { value = bad.0; section_after = bad.1 }
+    record {
+      value = bad.0;
+      room_after = c.clear-in-Err.ensures ∙ ap (λ (n : ℕ). replicate n 0) (room_size c.args.room.now c.read_set_of.new.set c.requires.0 c.read_set_of.auto.set);
+      section_after = bad.1;
+    }

@@ -1,6 +1,6 @@
 -- `listing::list` meets its contract: the answer's text is the listing, and its length decides.
 -- Assumes nothing.
-use mathlib.Core.Path.{sym, ap, ◌∙◌}
+use mathlib.Core.Path.{refl, sym, ap, ◌∙◌}
 use native.Mathlib.Omega.{arith}
 use Rattle.std.specs.Prelude.{Err}
 use borrow.Author.Rules.{rules}
@@ -31,10 +31,10 @@ pub returns-then-out-n : goal.returns-then-out-n
 returns-then-out-n c =
     let known = sym c.is_edition.ensures ∙ c.if-not-is_edition.false in
     let l = lists_short c.args.edition c.args.records.now c.args.room.now c.args.out.now c.if-room-lt-ROOM_WORDS.false known c.answer_to-answer.ensures.section_after c.answer_to-answer.ensures.value c.text_length-n.ensures c.if-out-n.true in
-    record { value = ap Err c.nowhere-then-out-n.ensures ∙ l.0; room_after = cleared c.args.room.now _ _ c.if-room-lt-ROOM_WORDS.false c.answer_to-answer.auto.room c.clear-2.ensures; out_after = l.1 }
+    record { value = ap Err c.nowhere-then-out-n.ensures ∙ l.0; room_after = cleared c.args.room.now c.args.room.now _ c.if-room-lt-ROOM_WORDS.false refl c.answer_to-answer.ensures.room_after; out_after = l.1 }
 
 pub returns : goal.returns
 returns c =
     let known = sym c.is_edition.ensures ∙ c.if-not-is_edition.false in
     let l = lists_text c.args.edition c.args.records.now c.args.room.now c.args.out.now c.if-room-lt-ROOM_WORDS.false known c.answer_to-answer.ensures.section_after c.answer_to-answer.ensures.value c.text_length-n.ensures c.if-out-n.false c.put_text.ensures in
-    record { value = l.0; room_after = cleared c.args.room.now _ _ c.if-room-lt-ROOM_WORDS.false c.answer_to-answer.auto.room c.clear-2.ensures; out_after = l.1 }
+    record { value = l.0; room_after = cleared c.args.room.now c.args.room.now _ c.if-room-lt-ROOM_WORDS.false refl c.answer_to-answer.ensures.room_after; out_after = l.1 }

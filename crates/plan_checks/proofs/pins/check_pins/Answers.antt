@@ -17,7 +17,7 @@ pub returns-in_err-of_lowest : goal.returns-in_err-of_lowest
 returns-in_err-of_lowest c =
     let d = c.args.plan.now in
     record {
-      value = (let p = err_from_is_err_and c.from_residual.result c.from_residual.ensures.1 in rw (p.1, p.2) (pin_nine d _ (at_told 9 _ (refusal9 d) _ (lowest_told (refusal9 d) _ c.refusal9.ensures) c.in_err-of_lowest.ensures)));
+      value = (let p = err_from_is_err_and c.from_residual.result c.from_residual.ensures.1 in rw (p.1, p.2) (pin_nine d _ (at_told 9 _ (refusal9 d) _ (lowest_told (refusal9 d) _ c.refusal9.ensures) (rw c.number.ensures at c.in_err-of_lowest.ensures))));
       room_unchanged = refl;
     }
 
@@ -28,9 +28,10 @@ of_lowest-requires-2 c =
 pub returns-in_err-of_lowest-2 : goal.returns-in_err-of_lowest-2
 returns-in_err-of_lowest-2 c =
     let d = c.args.plan.now in
-    let nine = went_past 9 _ _ (at_told 9 _ (refusal9 d) _ (lowest_told (refusal9 d) _ c.refusal9.ensures) c.in_ok-of_lowest.ensures) in
+    let nine = went_past 9 _ _ (at_told 9 _ (refusal9 d) _ (lowest_told (refusal9 d) _ c.refusal9.ensures) (rw c.number.ensures at c.in_ok-of_lowest.ensures)) in
+    let told = rw c.number-2.ensures at c.in_err-of_lowest-2.ensures in
     record {
-      value = (let p = err_from_is_err_and c.from_residual-in_err-of_lowest-2.result c.from_residual-in_err-of_lowest-2.ensures.1 in rw (p.1, p.2) (pin_ten d _ nine (at_told 10 _ (refusal10 d) _ (lowest_told (refusal10 d) _ c.later_pins.ensures.value) c.in_err-of_lowest-2.ensures)));
+      value = (let p = err_from_is_err_and c.from_residual-in_err-of_lowest-2.result c.from_residual-in_err-of_lowest-2.ensures.1 in rw (p.1, p.2) (pin_ten d _ nine (at_told 10 _ (refusal10 d) _ (lowest_told (refusal10 d) _ c.later_pins.ensures.value) told)));
       room_unchanged = c.later_pins.ensures.room_unchanged;
     }
 
@@ -45,9 +46,9 @@ of_lowest-requires-3 c =
 pub returns : goal.returns
 returns c =
     let d = c.args.plan.now in
-    let nine = went_past 9 _ _ (at_told 9 _ (refusal9 d) _ (lowest_told (refusal9 d) _ c.refusal9.ensures) c.in_ok-of_lowest.ensures) in
-    let ten = went_past 10 _ _ (at_told 10 _ (refusal10 d) _ (lowest_told (refusal10 d) _ c.later_pins.ensures.value) c.in_ok-of_lowest-2.ensures) in
+    let nine = went_past 9 _ _ (at_told 9 _ (refusal9 d) _ (lowest_told (refusal9 d) _ c.refusal9.ensures) (rw c.number.ensures at c.in_ok-of_lowest.ensures)) in
+    let ten = went_past 10 _ _ (at_told 10 _ (refusal10 d) _ (lowest_told (refusal10 d) _ c.later_pins.ensures.value) (rw c.number-2.ensures at c.in_ok-of_lowest-2.ensures)) in
     record {
-      value = pin_eleven d _ nine ten (at_told 11 _ (refusal11 d) _ (lowest_told (refusal11 d) _ c.computed_pins.ensures.value) c.of_lowest-3.ensures);
+      value = pin_eleven d _ nine ten (at_told 11 _ (refusal11 d) _ (lowest_told (refusal11 d) _ c.computed_pins.ensures.value) (rw c.number-3.ensures at c.of_lowest-3.ensures));
       room_unchanged = c.computed_pins.ensures.room_unchanged ∙ c.later_pins.ensures.room_unchanged;
     }

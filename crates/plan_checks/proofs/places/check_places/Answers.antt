@@ -16,7 +16,7 @@ pub returns-in_err-of_lowest : goal.returns-in_err-of_lowest
 returns-in_err-of_lowest c =
     let d = c.args.plan.now in
     record {
-      value = (let p = err_from_is_err_and c.from_residual.result c.from_residual.ensures.1 in rw (p.1, p.2) (place_twelve d _ (at_told 12 _ (refusal12 d) _ (lowest_told (refusal12 d) _ c.refusal12.ensures.value) c.in_err-of_lowest.ensures)));
+      value = (let p = err_from_is_err_and c.from_residual.result c.from_residual.ensures.1 in rw (p.1, p.2) (place_twelve d _ (at_told 12 _ (refusal12 d) _ (lowest_told (refusal12 d) _ c.refusal12.ensures.value) (rw c.number.ensures at c.in_err-of_lowest.ensures))));
       room_unchanged = c.refusal12.ensures.room_unchanged;
     }
 
@@ -27,8 +27,8 @@ of_lowest-requires-2 c =
 pub returns : goal.returns
 returns c =
     let d = c.args.plan.now in
-    let twelve = went_past 12 _ _ (at_told 12 _ (refusal12 d) _ (lowest_told (refusal12 d) _ c.refusal12.ensures.value) c.in_ok-of_lowest.ensures) in
+    let twelve = went_past 12 _ _ (at_told 12 _ (refusal12 d) _ (lowest_told (refusal12 d) _ c.refusal12.ensures.value) (rw c.number.ensures at c.in_ok-of_lowest.ensures)) in
     record {
-      value = place_thirteen d _ twelve (at_told 13 _ (refusal13 d) _ (lowest_told (refusal13 d) _ c.refusal13.ensures) c.of_lowest-2.ensures);
+      value = place_thirteen d _ twelve (at_told 13 _ (refusal13 d) _ (lowest_told (refusal13 d) _ c.refusal13.ensures) (rw c.number-2.ensures at c.of_lowest-2.ensures));
       room_unchanged = c.refusal12.ensures.room_unchanged;
     }

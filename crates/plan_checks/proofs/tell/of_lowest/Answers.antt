@@ -1,8 +1,8 @@
 -- The place is a place's of the definitions.
 -- Assumes nothing.
-use Rattle.std.proofs.Common.{ap}
+use Rattle.std.proofs.Common.{ap, arith}
 use Rattle.plan_checks.specs.Verdicts.{lowest_place}
 use Rattle.plan_checks.proofs.tell.of_lowest.Goals as goal
 
-pub at-requires : goal.at-requires
-at-requires c = c.requires _ (ap lowest_place c.in-Some.is)
+pub overflow_cast-result : goal.overflow_cast-result
+overflow_cast-result c = omega (arith, c.requires _ (ap lowest_place c.in-Some.is))
