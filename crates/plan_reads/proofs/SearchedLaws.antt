@@ -37,7 +37,7 @@ use Rattle.plan_reads.specs.ReadsReady.{AllPlanned, AllWon, SetInForm}
 
 -- ---- the outcome
 
-size_of_lem : (n : ℕ) (ws : List ℕ) (x : Packed) → packed n (pairs_of ws) ≡ good x → size_of n (pairs_of ws) ≡ x.size
+pub size_of_lem : (n : ℕ) (ws : List ℕ) (x : Packed) → packed n (pairs_of ws) ≡ good x → size_of n (pairs_of ws) ≡ x.size
 unfolding size_found
 size_of_lem n ws x e = ap size_found (packed_placed n (pairs_of ws) x e).1
 

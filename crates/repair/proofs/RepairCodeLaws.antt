@@ -87,7 +87,7 @@ small_default (x ∷ s) h (suc i) = small_default s (λ j. h (suc j)) i
 
 -- ---- judgements
 
-judged_fine : (a b : Bool) (u : ⊤) → judgement_of a b ≡ Ok u → (a ≡ false) × (b ≡ false)
+pub judged_fine : (a b : Bool) (u : ⊤) → judgement_of a b ≡ Ok u → (a ≡ false) × (b ≡ false)
 judged_fine true b u f = let z : ◌≡◌ {A = ℕ} 0 1 = cc in absurd (omega arith)
 judged_fine false true u f = let z : ◌≡◌ {A = ℕ} 0 1 = cc in absurd (omega arith)
 judged_fine false false u f = (refl, refl)
