@@ -19,6 +19,7 @@ pub fn top_power(q: usize) -> usize
 }
 
 // Puts the pin at index q with value v, unless the slot is empty.
+#[inline(always)]
 fn put_slot(part: &Part, s: usize, q: usize, v: u32, table: &mut [u32])
     requires { (s < part.now.body.stages) × (1 ≤ q) × (q < 64 * part.now.body.lanes) }
     ensures { table.new ≡ after_puts table.old (held_at (slot_at part.now.d.now part.now.p s q) v) }
