@@ -13,6 +13,7 @@ pub struct Number {
 }
 
 // A digit's number.
+#[inline(always)]
 fn digit_of(b: u8) -> Option<u64>
     ensures { result ≡ item_of (digit_of b) }
 {

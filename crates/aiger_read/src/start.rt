@@ -62,7 +62,8 @@ fn header_of(bytes: &[u8]) -> Option<Start>
     None
 }
 
-// The byte behind so many lines, each one literal.
+// The byte behind so many lines, each one literal. A function of its own: among the code of an export its loop would keep the byte on the stack.
+#[inline(never)]
 fn lines_from(bytes: &[u8], most: u64, lines: u64, at: usize) -> Option<usize>
     ensures { result ≡ item_of (lines_from bytes.now most lines at) }
 {
