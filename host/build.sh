@@ -72,6 +72,14 @@ build_archive() {
     cp crates/capi/out/libcapi.a "$ARCHIVE/"
 }
 
+# needs_little: the archive needs memcpy and memset from outside and nothing else, as juolgesot.h says.
+needs_little() {
+    local needed
+    needed=$("$("$CC" -print-prog-name=nm)" -u "$ARCHIVE/libcapi.a" | awk 'NF == 2 { print $2 }' | sort -u | xargs)
+    echo "the archive needs from outside: $needed"
+    [ "$needed" = 'memcpy memset' ]
+}
+
 # over_gate: capi is proved once more, over the libraries that `rt ci` left, and built. Fails where others lie there (those have a
 # stamp, and `rt lib` takes them). `rt lib` would prove the libraries again.
 over_gate() {

@@ -1,3 +1,4 @@
+pub mod CopyLaws
 pub mod MergeLaws
 pub mod SortEndLaws
 pub mod HalfSearchLaws
